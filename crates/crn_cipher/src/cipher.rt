@@ -1,0 +1,23 @@
+ghost use Rattle.std.specs.Prelude.{◌≡◌};
+ghost use Rattle.crn_cipher.specs.Cipher.{Threefry};
+
+use crate::rounds::{add_key, first_four, last_four, schedule};
+
+/// The words of Threefry4x64 with 20 rounds at the counter `ctr` of `key`, for every key and counter.
+/// Takes no memory.
+///
+/// Source: Salmon, Moraes, Dror and Shaw, "Parallel Random Numbers: As Easy as 1, 2, 3", SC 2011;
+/// the rotations and the parity constant are those of Random123.
+#[inline(always)]
+#[tactic(auto, unfolding(crate::specs::Cipher::Threefry))]
+pub fn threefry(key: [u64; 4], ctr: [u64; 4]) -> [u64; 4]
+    ensures { result ≡ Threefry key ctr }
+{
+    let ks = schedule(key);
+    let x = first_four(add_key(key, ks, 0, ctr));
+    let x = last_four(add_key(key, ks, 1, x));
+    let x = first_four(add_key(key, ks, 2, x));
+    let x = last_four(add_key(key, ks, 3, x));
+    let x = first_four(add_key(key, ks, 4, x));
+    add_key(key, ks, 5, x)
+}

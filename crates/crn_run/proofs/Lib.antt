@@ -1,0 +1,4 @@
+pub mod Growing
+mod Beginning
+mod Running
+pub mod Costs

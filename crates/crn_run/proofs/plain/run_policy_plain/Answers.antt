@@ -1,0 +1,8 @@
+use Rattle.std.proofs.Common.{rules, ◌≡◌, ℕ, subst, arith}
+use Rattle.crn_stock.specs.Draws.{At}
+use Rattle.crn_run.proofs.plain.run_policy_plain.Goals as goal
+
+pub returns-clause-at : goal.returns-clause-at
+returns-clause-at c h =
+    let there : c.loop-number.number ≡ c.args.upto = search rules in
+    subst (λ (n : ℕ). At c.args.scenario.now.model c.args.policy.now c.args.scenario.now.key n c.loop-number.state) there (c.loop-number.invariant.at h)

@@ -1,0 +1,10 @@
+use Rattle.std.proofs.Common.{◌≡◌, ℕ}
+use Rattle.crn_stock.specs.Draws.{At, next_block}
+use Rattle.crn_run.specs.Runs.{StandsAt}
+use Rattle.crn_run.proofs.plain.run_policy_plain.Given as goal
+
+abbrev pub invariant-loop-number : goal.invariant-loop-number
+invariant-loop-number l = record {
+  stands : StandsAt l.scenario.model l.number l.state;
+  at : At l.scenario.model l.policy l.scenario.key (next_block l.from) l.from → At l.scenario.model l.policy l.scenario.key l.number l.state;
+}

@@ -1,0 +1,29 @@
+-- The states of all policies of a scenario between two blocks.
+use Rattle.std.specs.Prelude.{◌≡◌, ℕ, List, Some, length, reverse, slice_get}
+use Rattle.crn_stock.specs.Parts.{Parts}
+use Rattle.crn_stock.specs.Models.{ModelParts, total}
+use Rattle.crn_stock.specs.Rule.{rules_of}
+use Rattle.crn_stock.specs.Stock.{standing, at_start}
+use Rattle.crn_stock.specs.Scenarios.{ScenarioParts}
+use Rattle.crn_stock.specs.Draws.{Draws, At, IsOf, IsBetween, next_block}
+use Rattle.crn_stock.specs.declared.rules.Policy.{Policy}
+
+-- a state of the model that stands before block n
+pub record StandsAt (m : ModelParts) (n : ℕ) (v : Parts) : Type 0 where
+  pub of_model : IsOf m v
+  pub between : IsBetween v
+  pub next : next_block v ≡ n
+
+-- one state for each policy and no more, each before block n
+pub record IsCheckpointOf (s : ScenarioParts) (n : ℕ) (states : List Parts) : Type 0 where
+  pub count : length states ≡ length s.policies
+  pub stand : (i : ℕ) (v : Parts) → slice_get states i ≡ Some v → StandsAt s.model n v
+
+-- each policy's state is the one after the blocks below n
+abbrev pub EachAt : ScenarioParts → ℕ → List Parts → Type 0
+EachAt s n states = (i : ℕ) (p : Policy) (v : Parts) → slice_get s.policies i ≡ Some p → slice_get states i ≡ Some v → At s.model p s.key n v
+
+-- the costs by replication that a policy's state has after all blocks of the scenario
+unfoldable pub costs_of : ScenarioParts → Policy → List ℕ
+costs_of s p =
+    (standing (rules_of p s.model.costs) s.model.periods s.model.initial (at_start s.model.initial) (reverse (Draws s.model s.key 0 (total s.model)))).costs

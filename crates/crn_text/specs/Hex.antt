@@ -1,0 +1,17 @@
+-- Hexadecimal words: 64 bits in 16 digits of 0-9a-f.
+use Rattle.std.specs.Prelude.{ℕ, List, Bool, ◌&&◌, ◌||◌, ◌==◌, cond, length, nat_le}
+use Rattle.std.specs.List.{list_all}
+use Rattle.std.specs.Str.Parse.{digits_value}
+
+abbrev pub is_hex_digit : ℕ → Bool
+is_hex_digit b = (nat_le 48 b && nat_le b 57) || (nat_le 97 b && nat_le b 102)
+
+abbrev pub are_hex_digits : List ℕ → Bool
+are_hex_digits bytes = list_all is_hex_digit bytes
+
+unfoldable pub is_hex_word : List ℕ → Bool
+is_hex_word bytes = (length bytes == 16) && are_hex_digits bytes
+
+-- the number that a hexadecimal word writes, and 0 for any other text
+unfoldable pub word_of : List ℕ → ℕ
+word_of bytes = cond (is_hex_word bytes) (digits_value 16 bytes) 0

@@ -1,0 +1,17 @@
+//! The texts of crnsim: scenarios are read from TOML, reports are written as CSV.
+#![tactic(auto)]
+
+mod faults;
+mod fields;
+mod figures;
+mod hex;
+mod read;
+mod report_text;
+mod scenario;
+mod tree;
+
+pub use read::{ScenarioFault, read_scenario};
+pub use report_text::report;
+
+#[cfg(test)]
+mod tests;

@@ -1,0 +1,17 @@
+use Rattle.std.proofs.Common.{◌≡◌, ◌∙◌, ℕ, List, IfOk, ap, map, subst, sym}
+use Rattle.crn_stock.specs.Parts.{Parts}
+use Rattle.crn_stock.specs.Models.{ModelParts, total}
+use Rattle.crn_run.specs.Runs.{EachAt, IsCheckpointOf, costs_of}
+use Rattle.crn_run.proofs.Costs.{costs_at_end}
+use Rattle.crn_text.specs.Report.{IsReportText}
+use Rattle.crnsim.proofs.simulation.run_and_report.Goals as goal
+
+pub returns : goal.returns
+returns c =
+    let s = c.args.scenario.now in
+    let states = c.in_ok-end.end.states.items in
+    let upto : c.total.result ≡ total s.model = c.total.ensures ∙ ap total c.model.ensures in
+    let begun : EachAt s c.in_ok-start.start.next c.in_ok-start.start.states.items = subst (λ (n : ℕ). EachAt s n c.in_ok-start.start.states.items) (sym c.in_ok-start.ensures.next) c.in_ok-start.ensures.at in
+    let ended : EachAt s (total s.model) states = subst (λ (n : ℕ). EachAt s n states) upto (c.in_ok-end.ensures.at begun) in
+    let costs : map (λ v. v.costs) states ≡ map (costs_of s) s.policies = costs_at_end s states c.in_ok-end.ensures.of.count ended in
+    subst (λ (l : List (List ℕ)). IfOk c.report.result (λ text. IsReportText s l text.items)) costs c.report.ensures

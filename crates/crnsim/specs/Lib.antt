@@ -1,0 +1,3 @@
+pub mod Statuses
+pub mod Bytes
+pub mod Simulation

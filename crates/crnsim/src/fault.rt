@@ -1,0 +1,40 @@
+ghost use Rattle.std.specs.Prelude.{◌≡◌};
+ghost use Rattle.crnsim.specs.Statuses.{status_of};
+
+use crn_text::ScenarioFault;
+use thiserror::Error;
+
+/// Why the program gave no answer. Its text is the line that the program prints on standard error.
+#[derive(Clone, Copy, Debug, Drop, PartialEq, Eq, Error)]
+pub enum Fault {
+    /// The words after the program's name are refused.
+    #[error("crnsim: command line")]
+    CommandLine,
+    /// The input is no scenario that can be run.
+    #[error("crnsim: scenario {}", .0.number())]
+    Scenario(ScenarioFault),
+    /// A read failed, or the input is over 1,048,576 bytes.
+    #[error("crnsim: reading")]
+    Reading,
+    /// A write failed or took no byte.
+    #[error("crnsim: writing")]
+    Writing,
+    /// A growth was refused.
+    #[error("crnsim: memory")]
+    Memory,
+}
+
+impl Fault {
+    /// The status that the program ends with: 2 for the command line, 3 for the scenario, 5 for reading and
+    /// writing, 7 for want of memory.
+    pub fn status(&self) -> u8
+        ensures { result ≡ status_of self.now }
+    {
+        match self {
+            Fault::CommandLine => 2,
+            Fault::Scenario(_) => 3,
+            Fault::Reading | Fault::Writing => 5,
+            Fault::Memory => 7,
+        }
+    }
+}

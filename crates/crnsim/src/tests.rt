@@ -1,0 +1,206 @@
+// The program's engine on whole texts, with readers and writers that fail.
+
+mod fakes;
+
+use super::*;
+use crn_text::ScenarioFault;
+use fakes::{Narrow, Trickle};
+use std::alloc::AllocError;
+use std::test::Fail;
+
+const HEADER: &str = "policy,s,S,total,per_period,diff_total,diff_mean,diff_var,cov\n";
+
+const ROW_A: &str = "A,20,40,222,111/2,0,0/1,-,-\n";
+
+const ROW_B: &str = "B,60,80,359,359/4,137,137/1,-,-\n";
+
+// Four periods, demands of 1 to 4, lead times of 1, no policy yet.
+const MODEL: &str = "version = 1
+key = [\"0000000000000000\", \"0000000000000000\", \"0000000000000000\", \"0000000000000000\"]
+periods = 4
+replications = 1
+initial = 60
+ring = 2
+costs = { setup = 32, unit = 3, holding = 1, backlog = 5 }
+demand = { values = [1, 2, 3, 4], weights = [1, 2, 2, 1] }
+lead = { values = [1], weights = [1] }
+";
+
+const POLICY_A: &str = "[[policy]]\nname = \"A\"\ns = 20\nS = 40\n";
+
+const POLICY_B: &str = "[[policy]]\nname = \"B\"\ns = 60\nS = 80\n";
+
+// Each order comes late, so the stock stays below zero.
+const LATE: &str = "version = 1
+key = [\"0000000000000000\", \"0000000000000000\", \"0000000000000000\", \"0000000000000000\"]
+periods = 4
+replications = 1
+initial = 0
+ring = 2
+costs = { setup = 10, unit = 1, holding = 1, backlog = 4 }
+demand = { values = [2], weights = [1] }
+lead = { values = [2], weights = [1] }
+policy = [{ name = \"Q\", s = 1, S = 3 }]
+";
+
+fn joined(rt: &HostRuntime, parts: &[&str]) -> Result<String, AllocError> {
+    let mut text = String::new(rt.alloc());
+    for part in parts {
+        text.push_str(*part)?;
+    }
+    Ok(text)
+}
+
+// What the engine writes for a text, or why it doesn't.
+fn answer_to(rt: &HostRuntime, text: &str) -> Result<Vec<u8>, Fault> {
+    let mut reader = text.as_bytes();
+    let mut out = Vec::new(rt.alloc());
+    simulate(rt.alloc(), &mut reader, &mut out)?;
+    Ok(out)
+}
+
+#[test]
+fn worked_examples(rt: HostRuntime) -> Result<(), Fail> {
+    let table: [(&[&str], &[&str]); 4] = [
+        (&[MODEL, POLICY_A], &[HEADER, ROW_A]),
+        (&[MODEL, POLICY_A, POLICY_B], &[HEADER, ROW_A, ROW_B]),
+        (
+            &[MODEL, POLICY_B, POLICY_A],
+            &[
+                HEADER,
+                "B,60,80,359,359/4,0,0/1,-,-\n",
+                "A,20,40,222,111/2,-137,-137/1,-,-\n",
+            ],
+        ),
+        (&[LATE], &[HEADER, "Q,1,3,83,83/4,0,0/1,-,-\n"]),
+    ];
+    for (texts, report) in table {
+        let text = joined(&rt, texts)?;
+        let want = joined(&rt, report)?;
+        match answer_to(&rt, text.as_str()) {
+            Ok(out) => assert_eq!(rt; out.as_slice(), want.as_bytes()),
+            Err(fault) => assert!(rt; false, "{fault}"),
+        }
+    }
+    Ok(())
+}
+
+#[test]
+fn refused_inputs(rt: HostRuntime) -> Result<(), Fail> {
+    let refused: [&[&str]; 6] = [
+        &[],
+        &["version = 1\n"],
+        &[MODEL],
+        &[MODEL, POLICY_A, POLICY_A],
+        &[MODEL, POLICY_A, "colour = 1\n"],
+        &[MODEL, POLICY_A, "[[policy]"],
+    ];
+    for texts in refused {
+        let text = joined(&rt, texts)?;
+        assert_eq!(rt;
+            answer_to(&rt, text.as_str()).err(),
+            Some(Fault::Scenario(ScenarioFault::Refused)),
+            "{text}"
+        );
+    }
+    Ok(())
+}
+
+#[test]
+fn lines_and_statuses(rt: HostRuntime) -> Result<(), Fail> {
+    let table = [
+        (Fault::CommandLine, "crnsim: command line", 2u8),
+        (
+            Fault::Scenario(ScenarioFault::Refused),
+            "crnsim: scenario 1",
+            3,
+        ),
+        (Fault::Reading, "crnsim: reading", 5),
+        (Fault::Writing, "crnsim: writing", 5),
+        (Fault::Memory, "crnsim: memory", 7),
+    ];
+    for (fault, line, status) in table {
+        let text = fault.to_string(rt.alloc())?;
+        assert_eq!(rt; text.as_str(), line);
+        assert_eq!(rt; fault.status(), status, "{line}");
+    }
+    Ok(())
+}
+
+#[test]
+fn words_are_refused(rt: HostRuntime) -> Result<(), Fail> {
+    let mut words = vec![in rt.alloc(); "crnsim".to_string(rt.alloc())?]?;
+    assert_eq!(rt; refuse_words(words.as_slice()), Ok(()));
+    words.push("run".to_string(rt.alloc())?)?;
+    assert_eq!(rt; refuse_words(words.as_slice()), Err(Fault::CommandLine));
+    Ok(())
+}
+
+#[test]
+fn reads_that_fail(rt: HostRuntime) -> Result<(), Fail> {
+    let text = joined(&rt, &[MODEL, POLICY_A])?;
+    let report = joined(&rt, &[HEADER, ROW_A])?;
+    let reads = text.len() as u64 / 100 + 2;
+    for k in 1..reads + 2 {
+        let mut reader = Trickle::new(text.as_bytes(), 100, k);
+        let mut out = Vec::new(rt.alloc());
+        let answer = simulate(rt.alloc(), &mut reader, &mut out);
+        if k <= reads {
+            assert_eq!(rt; answer, Err(Fault::Reading), "at {k}");
+            assert_eq!(rt; out.len(), 0, "at {k}");
+        } else {
+            assert_eq!(rt; answer, Ok(()), "at {k}");
+            assert_eq!(rt; out.as_slice(), report.as_bytes());
+        }
+    }
+    Ok(())
+}
+
+#[test]
+fn writes_that_fail(rt: HostRuntime) -> Result<(), Fail> {
+    let text = joined(&rt, &[MODEL, POLICY_A])?;
+    let report = joined(&rt, &[HEADER, ROW_A])?;
+    let writes = report.len() as u64;
+    for takes_none in [false, true] {
+        for k in 1..writes + 2 {
+            let mut reader = text.as_bytes();
+            let mut out = Narrow::new(rt.alloc(), k, takes_none);
+            let answer = simulate(rt.alloc(), &mut reader, &mut out);
+            let want = if k <= writes {
+                Err(Fault::Writing)
+            } else {
+                Ok(())
+            };
+            assert_eq!(rt; answer, want, "at {k}");
+            assert_eq!(rt;
+                Some(out.taken()),
+                report.as_bytes().get(..out.taken().len()),
+                "at {k}"
+            );
+            assert_eq!(rt; out.taken().len() as u64, (k - 1).min(writes), "at {k}");
+        }
+    }
+    Ok(())
+}
+
+// The base with a comment that fills it to the limit, and one byte more.
+#[test]
+fn longest_input(rt: HostRuntime) -> Result<(), Fail> {
+    let base = joined(&rt, &[MODEL, POLICY_A, "#"])?;
+    let report = joined(&rt, &[HEADER, ROW_A])?;
+    let mut text = Vec::from_slice(rt.alloc(), base.as_bytes())?;
+    text.resize(1_048_576, b'x')?;
+    let mut reader = text.as_slice();
+    let mut out = Vec::new(rt.alloc());
+    assert_eq!(rt; simulate(rt.alloc(), &mut reader, &mut out), Ok(()));
+    assert_eq!(rt; out.as_slice(), report.as_bytes());
+    text.push(b'x')?;
+    let mut reader = text.as_slice();
+    let mut out = Vec::new(rt.alloc());
+    assert_eq!(rt;
+        simulate(rt.alloc(), &mut reader, &mut out),
+        Err(Fault::Reading)
+    );
+    assert_eq!(rt; out.len(), 0);
+    Ok(())
+}

@@ -1,0 +1,83 @@
+// A reader and a writer that fail at one call, counted from 1.
+
+use std::alloc::Global;
+use std::io;
+use std::io::{ErrorKind, Read, Write};
+
+/// Gives its bytes in steps. At one call it fails as if it was interrupted.
+#[derive(Drop)]
+pub struct Trickle<'a> {
+    left: &'a [u8],
+    step: usize,
+    calls: u64,
+    fails_at: u64,
+}
+
+impl<'a> Trickle<'a> {
+    pub fn new(left: &'a [u8], step: usize, fails_at: u64) -> Trickle<'a> {
+        Trickle {
+            left,
+            step,
+            calls: 0,
+            fails_at,
+        }
+    }
+}
+
+impl Read for Trickle<'_> {
+    fn read(&mut self, buf: &mut [u8]) -> io::Result<usize> {
+        self.calls = self.calls.saturating_add(1);
+        if self.calls == self.fails_at {
+            return Err(io::Error::from(ErrorKind::Interrupted));
+        }
+        let count = self.step.min(buf.len()).min(self.left.len());
+        buf[..count].copy_from_slice(&self.left[..count]);
+        self.left = &self.left[count..];
+        Ok(count)
+    }
+}
+
+/// Takes one byte a call. At one call it fails or takes none.
+#[derive(Drop)]
+pub struct Narrow {
+    taken: Vec<u8>,
+    calls: u64,
+    fails_at: u64,
+    takes_none: bool,
+}
+
+impl Narrow {
+    pub fn new(alloc: Global, fails_at: u64, takes_none: bool) -> Narrow {
+        Narrow {
+            taken: Vec::new(alloc),
+            calls: 0,
+            fails_at,
+            takes_none,
+        }
+    }
+
+    pub fn taken(&self) -> &[u8] {
+        self.taken.as_slice()
+    }
+}
+
+impl Write for Narrow {
+    fn write(&mut self, buf: &[u8]) -> io::Result<usize> {
+        self.calls = self.calls.saturating_add(1);
+        if self.calls == self.fails_at {
+            if self.takes_none {
+                return Ok(0);
+            }
+            return Err(io::Error::from(ErrorKind::Interrupted));
+        }
+        if buf.is_empty() {
+            return Ok(0);
+        }
+        self.taken.push(buf[0])?;
+        Ok(1)
+    }
+
+    fn flush(&mut self) -> io::Result<()> {
+        Ok(())
+    }
+}
