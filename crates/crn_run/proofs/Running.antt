@@ -1,31 +1,34 @@
 -- The state of one policy of a checkpoint, taken further.
-use Rattle.std.proofs.Common.{◌≡◌, ℕ, ◌<◌, ◌≤◌, List, length, Some, Option, slice_get, get_or, refl, subst, sym, ap, arith}
+use Rattle.std.proofs.Common.{◌≡◌, ℕ, ◌<◌, List, length, Some, Option, slice_get, get_or, refl, subst, sym, ap, arith}
 use Rattle.std.proofs.lemmas.Option.{slice_get_read, slice_get_within, slice_get-get_or}
 use Rattle.crn_stock.specs.declared.rules.Policy.{Policy}
 use Rattle.crn_stock.specs.Parts.{Parts}
-use Rattle.crn_stock.specs.Models.{ModelParts}
 use Rattle.crn_stock.specs.Scenarios.{ScenarioParts}
-use Rattle.crn_stock.specs.Draws.{At, next_block}
+use Rattle.crn_stock.specs.Draws.{At, OnwardAt, next_block}
 use Rattle.crn_run.specs.Runs.{StandsAt}
 
 -- v is the state that policy i's state of `start` at block `from` becomes at block `upto`
 abbrev pub Ran : ScenarioParts → List Parts → ℕ → ℕ → ℕ → Parts → Type 0
 Ran s start from upto i v = StandsAt s.model upto v
-    × ((p : Policy) (w : Parts) → slice_get s.policies i ≡ Some p → slice_get start i ≡ Some w → At s.model p s.key from w → At s.model p s.key upto v)
+    × ((p : Policy) (w : Parts) → slice_get s.policies i ≡ Some p → slice_get start i ≡ Some w
+    → (At s.model p s.key from w → At s.model p s.key upto v) × OnwardAt s.model p s.key w upto v)
 
 pub same_of : {A : Type 0} (o : Option A) (a b : A) → o ≡ Some a → o ≡ Some b → a ≡ b
 same_of o a b e f = cc
 
 pub ran : (s : ScenarioParts) (start : List Parts) (from upto i : ℕ) (p : Policy) (w v : Parts) → slice_get s.policies i ≡ Some p → slice_get start i ≡ Some w → next_block w ≡ from
-    → StandsAt s.model upto v → (At s.model p s.key (next_block w) w → At s.model p s.key upto v) → Ran s start from upto i v
-ran s start from upto i p w v is_policy is_state next stands at =
-    (stands, λ q u eq eu h.
-      let same_policy : q ≡ p = same_of (slice_get s.policies i) q p eq is_policy in
-      let same_state : u ≡ w = same_of (slice_get start i) u w eu is_state in
-      let before : At s.model q s.key from w = subst (λ (a : Parts). At s.model q s.key from a) same_state h in
-      let there : At s.model p s.key from w = subst (λ (a : Policy). At s.model a s.key from w) same_policy before in
-      let reached : At s.model p s.key upto v = at (subst (λ (n : ℕ). At s.model p s.key n w) (sym next) there) in
-      subst (λ (a : Policy). At s.model a s.key upto v) (sym same_policy) reached)
+    → StandsAt s.model upto v → (At s.model p s.key (next_block w) w → At s.model p s.key upto v) → OnwardAt s.model p s.key w upto v → Ran s start from upto i v
+ran s start from upto i p w v is_policy is_state next stands at onward = (
+  stands,
+  λ q u eq eu.
+      let same_policy : p ≡ q = same_of (slice_get s.policies i) p q is_policy eq in
+      let same_state : w ≡ u = same_of (slice_get start i) w u is_state eu in
+      let here : (At s.model p s.key from w → At s.model p s.key upto v) × OnwardAt s.model p s.key w upto v =
+      (λ h. at (subst (λ (n : ℕ). At s.model p s.key n w) (sym next) h), onward) in
+      let for_policy : (At s.model q s.key from w → At s.model q s.key upto v) × OnwardAt s.model q s.key w upto v =
+      subst (λ (a : Policy). (At s.model a s.key from w → At s.model a s.key upto v) × OnwardAt s.model a s.key w upto v) same_policy here in
+      subst (λ (a : Parts). (At s.model q s.key from a → At s.model q s.key upto v) × OnwardAt s.model q s.key a upto v) same_state for_policy,
+)
 
 -- what is read at a policy's place in a list with a state for each policy is the state there
 pub read_at : (xs : List Parts) (ps qs : List Policy) (i : ℕ) (x : Parts) → length xs ≡ length ps → qs ≡ ps → i < length qs → x ≡ get_or xs i x → slice_get xs i ≡ Some x
@@ -44,4 +47,4 @@ reached s start from upto i p v count (stands, on) before is_policy =
     let w : Parts = get_or start i v in
     let inside : i < length start = omega (arith, count, slice_get_within s.policies i p is_policy) in
     let is_state : slice_get start i ≡ Some w = slice_get-get_or start i v inside in
-    on p w is_policy is_state (before i p w is_policy is_state)
+    (on p w is_policy is_state).0 (before i p w is_policy is_state)

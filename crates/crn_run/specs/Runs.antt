@@ -3,9 +3,9 @@ use Rattle.std.specs.Prelude.{◌≡◌, ℕ, List, Some, length, reverse, slice
 use Rattle.crn_stock.specs.Parts.{Parts}
 use Rattle.crn_stock.specs.Models.{ModelParts, total}
 use Rattle.crn_stock.specs.Rule.{rules_of}
-use Rattle.crn_stock.specs.Stock.{standing, at_start}
+use Rattle.crn_stock.specs.States.{standing, from_start}
 use Rattle.crn_stock.specs.Scenarios.{ScenarioParts}
-use Rattle.crn_stock.specs.Draws.{Draws, At, IsOf, IsBetween, next_block}
+use Rattle.crn_stock.specs.Draws.{Draws, At, OnwardAt, IsOf, IsBetween, next_block}
 use Rattle.crn_stock.specs.declared.rules.Policy.{Policy}
 
 -- a state of the model that stands before block n
@@ -23,7 +23,11 @@ pub record IsCheckpointOf (s : ScenarioParts) (n : ℕ) (states : List Parts) : 
 abbrev pub EachAt : ScenarioParts → ℕ → List Parts → Type 0
 EachAt s n states = (i : ℕ) (p : Policy) (v : Parts) → slice_get s.policies i ≡ Some p → slice_get states i ≡ Some v → At s.model p s.key n v
 
+-- each policy's state is the one that its state of `start` becomes by the blocks from its next one to n - 1
+abbrev pub EachOnward : ScenarioParts → List Parts → ℕ → List Parts → Type 0
+EachOnward s start n states = (i : ℕ) (p : Policy) (w v : Parts) → slice_get s.policies i ≡ Some p → slice_get start i ≡ Some w → slice_get states i ≡ Some v → OnwardAt s.model p s.key w n v
+
 -- the costs by replication that a policy's state has after all blocks of the scenario
 unfoldable pub costs_of : ScenarioParts → Policy → List ℕ
 costs_of s p =
-    (standing (rules_of p s.model.costs) s.model.periods s.model.initial (at_start s.model.initial) (reverse (Draws s.model s.key 0 (total s.model)))).costs
+    (standing (rules_of p s.model.costs) s.model.periods s.model.initial (from_start s.model.initial) (reverse (Draws s.model s.key 0 (total s.model)))).costs

@@ -1,7 +1,7 @@
 ghost use Rattle.std.specs.Prelude.{◌≡◌, ◌≤◌, IfOk};
 ghost use Rattle.crn_stock.specs.Models.{IsPolicy, total};
-ghost use Rattle.crn_stock.specs.Draws.{At, next_block};
-ghost use Rattle.crn_run.specs.Runs.{IsCheckpointOf, StandsAt, EachAt};
+ghost use Rattle.crn_stock.specs.Draws.{At, OnwardAt, next_block};
+ghost use Rattle.crn_run.specs.Runs.{IsCheckpointOf, StandsAt, EachAt, EachOnward};
 
 use crate::checkpoint::Checkpoint;
 use crn_cipher::block;
@@ -25,6 +25,7 @@ pub fn run_plain(
     ensures next { IfOk result (λ c. c.next ≡ upto) }
     ensures of { IfOk result (λ c. IsCheckpointOf scenario.now upto c.states.items) }
     ensures at { IfOk result (λ c. EachAt scenario.now start.now.next start.now.states.items → EachAt scenario.now upto c.states.items) }
+    ensures onward { IfOk result (λ c. EachOnward scenario.now start.now.states.items upto c.states.items) }
 {
     let policies = scenario.policies();
     let mut states = Vec::with_capacity(alloc, policies.len())?;
@@ -51,6 +52,7 @@ fn run_policy_plain(
     ensures stands { IfOk result (λ s. StandsAt scenario.now.model upto s) }
     ensures at { IfOk result (λ s. At scenario.now.model policy.now scenario.now.key (next_block from.now) from.now
         → At scenario.now.model policy.now scenario.now.key upto s) }
+    ensures onward { IfOk result (λ s. OnwardAt scenario.now.model policy.now scenario.now.key from.now upto s) }
 {
     let model = scenario.model();
     let key = scenario.key();

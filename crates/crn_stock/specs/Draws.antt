@@ -7,13 +7,14 @@ use Rattle.crn_stock.specs.declared.rules.Policy.{Policy}
 use Rattle.crn_stock.specs.Parts.{Parts}
 use Rattle.crn_stock.specs.Models.{ModelParts, blocks_per_replication}
 use Rattle.crn_stock.specs.Rule.{rules_of}
-use Rattle.crn_stock.specs.Stock.{Draw, IsStateOf, IsOnward}
+use Rattle.crn_stock.specs.Stock.{Draw}
+use Rattle.crn_stock.specs.States.{IsStateOf, IsOnward}
 
--- the block of period p of replication r
+-- the block of period p of replication r, whose first block is the next one after those of replication r - 1
 abbrev pub block_of : ModelParts → ℕ → ℕ → ℕ
 block_of m r p = r * blocks_per_replication m.periods + p / STREAM_WORDS
 
--- its demand and lead time
+-- its demand and lead time, by one word of each stream of the block
 unfoldable pub draw_at : ModelParts → List ℕ → ℕ → ℕ → Draw
 draw_at m key r p = record {
   demand = Pick m.demand (slice_index (DemandWords key (block_of m r p)) (p % STREAM_WORDS));
@@ -25,7 +26,7 @@ abbrev pub joined : ℕ → (ℕ → List Draw) → List Draw
 joined zero f = []
 joined (suc n) f = joined n f ++ f n
 
--- the draw of a period, where its block is one of a to n - 1
+-- the draw of period p of replication r, where its block is one of a to n - 1
 abbrev pub draw_within : ModelParts → List ℕ → ℕ → ℕ → ℕ → ℕ → List Draw
 draw_within m key a n r p = cond (nat_le a (block_of m r p) && nat_lt (block_of m r p) n) (draw_at m key r p ∷ []) []
 
@@ -41,17 +42,17 @@ next_block v = length v.costs * blocks_per_replication v.periods + (v.period + (
 abbrev pub IsBetween : Parts → Type 0
 IsBetween v = v.period % STREAM_WORDS ≡ 0
 
--- a state is of a model
+-- a state is of a model: it has its sizes and its initial stock
 pub record IsOf (m : ModelParts) (v : Parts) : Type 0 where
   pub periods_are : v.periods ≡ m.periods
   pub replications_are : v.replications ≡ m.replications
   pub initial_is : v.initial ≡ m.initial
 
--- v are the parts of a policy's state after the draws ds
+-- v are the parts of a policy's state after the draws ds from the start
 abbrev pub StateOf : ModelParts → Policy → List Draw → Parts → Type 0
 StateOf m policy ds v = IsStateOf (rules_of policy m.costs) m.periods m.replications m.initial ds v
 
--- after the blocks below n
+-- v are the parts of a policy's state at block n: after the draws of all blocks below n
 abbrev pub At : ModelParts → Policy → List ℕ → ℕ → Parts → Type 0
 At m policy key n v = StateOf m policy (Draws m key 0 n) v
 
@@ -59,7 +60,7 @@ At m policy key n v = StateOf m policy (Draws m key 0 n) v
 abbrev pub Onward : ModelParts → Policy → Parts → List Draw → Parts → Type 0
 Onward m policy q ds v = IsOnward (rules_of policy m.costs) q ds v
 
--- before the blocks from its next one to n - 1
+-- v are the parts at block n of a policy's state that was q before its next block
 pub record OnwardAt (m : ModelParts) (policy : Policy) (key : List ℕ) (q : Parts) (n : ℕ) (v : Parts) : Type 0 where
   pub from : next_block q ≤ n
   pub onward : Onward m policy q (Draws m key (next_block q) n) v

@@ -1,4 +1,4 @@
--- A model as a value, and the ranges of costs, policies and models.
+-- A model as a value, and the ranges of cost rates, policies and models.
 use Rattle.std.specs.Prelude.{ℕ, ◌+◌, ◌-◌, ◌*◌, ◌/◌, ◌≤◌, ℤ, pos, ◌≤ℤ◌, All}
 use Rattle.crn_cipher.specs.declared.TheConstants.{STREAM_WORDS}
 use Rattle.crn_draw.specs.Spread.{Weighted}
@@ -14,17 +14,20 @@ pub record ModelParts : Type 0 where
   pub demand : Weighted
   pub lead : Weighted
 
+-- the cost rates of a model are within their ranges
 pub record AreCosts (c : Costs) : Type 0 where
   pub setup : c.setup ≤ 100000000
   pub unit : c.unit ≤ 10000
   pub holding : c.holding ≤ 10000
   pub backlog : c.backlog ≤ 10000
 
+-- an (s,S) policy of a scenario: s and S are within their range, and s is at most S
 pub record IsPolicy (p : Policy) : Type 0 where
   pub low : pos 0 ≤ℤ p.low
   pub order : p.low ≤ℤ p.high
   pub high : p.high ≤ℤ pos 1000000
 
+-- all parts of a model are within their ranges
 pub record IsModel (m : ModelParts) : Type 0 where
   pub periods_low : 1 ≤ m.periods
   pub periods_high : m.periods ≤ 1024
@@ -37,9 +40,10 @@ pub record IsModel (m : ModelParts) : Type 0 where
   pub lead_low : All (λ v. 1 ≤ v) m.lead.values
   pub lead_high : All (λ v. v ≤ 32) m.lead.values
 
--- the blocks that the periods of one replication take
+-- the blocks that the periods of one replication take, the last of them perhaps in part
 abbrev pub blocks_per_replication : ℕ → ℕ
 blocks_per_replication periods = (periods + (STREAM_WORDS - 1)) / STREAM_WORDS
 
+-- the blocks of all replications
 abbrev pub total : ModelParts → ℕ
 total m = m.replications * blocks_per_replication m.periods

@@ -1,13 +1,14 @@
 -- The state that is restored from amounts that were written down at a block.
 use Rattle.std.specs.Prelude.{◌≡◌, ℕ, ◌*◌, ◌/◌, ◌%◌, ◌≤◌, ℤ, pos, ◌+ℤ◌, ◌≤ℤ◌, List, length}
 use Rattle.crn_cipher.specs.declared.TheConstants.{STREAM_WORDS}
-use Rattle.crn_stock.specs.Parts.{Parts, AreInRange, period_cost}
+use Rattle.crn_stock.specs.Parts.{Parts, AreInRange, period_cost_limit}
 use Rattle.crn_stock.specs.Models.{ModelParts, blocks_per_replication, total}
 
--- the period that block n begins with
+-- the period that block n begins with, or 0 after the last block
 abbrev pub first_period : ModelParts → ℕ → ℕ
 first_period m n = STREAM_WORDS * (n % blocks_per_replication m.periods)
 
+-- the parts of a state of the model at block n, with these amounts of the replication under way
 abbrev pub restored : ModelParts → ℕ → ℤ → List ℕ → ℕ → List ℕ → Parts
 restored m n stock due running costs = record {
   periods = m.periods;
@@ -20,18 +21,18 @@ restored m n stock due running costs = record {
   running = running;
 }
 
--- the amounts are those of a state of the model before block n, as far as ranges tell
+-- these can be the amounts of a state of the model at block n, as far as ranges tell
 pub record CanRestore (m : ModelParts) (n : ℕ) (stock : ℤ) (due : List ℕ) (running : ℕ) (costs : List ℕ) : Type 0 where
   pub number : n ≤ total m
   pub count : length costs ≡ n / blocks_per_replication m.periods
   pub ranges : AreInRange (restored m n stock due running costs)
 
--- the ranges of the amounts of the replication under way
+-- the ranges of the amounts of a replication under way, before its period `period`
 pub record HasAmounts (initial : ℤ) (period : ℕ) (stock : ℤ) (on_order running : ℕ) : Type 0 where
   pub stock_low : pos 0 ≤ℤ (stock +ℤ pos (10000 * period))
   pub stock_high : stock ≤ℤ pos 1000000
   pub position_low : pos 0 ≤ℤ (stock +ℤ pos on_order +ℤ pos 10000)
   pub position_high : (stock +ℤ pos on_order) ≤ℤ pos 1000000
-  pub running_high : running ≤ period * period_cost
+  pub running_high : running ≤ period * period_cost_limit
   pub fresh_stock : period ≡ 0 → stock ≡ initial
   pub fresh_due : period ≡ 0 → on_order ≡ 0

@@ -7,7 +7,7 @@ use Rattle.std.proofs.lemmas.List.Elements.{All-cons, All-nil}
 use Rattle.std.proofs.lemmas.List.Sums.{sum_by-cons}
 use Rattle.std.specs.Prelude.{int_lt, is_some}
 use Rattle.toml.specs.Data.{Items, no_items, item, Members, get_member, as_integer}
-use Rattle.crn_draw.specs.Faults.{least_fault, rises, rises_from}
+use Rattle.crn_draw.specs.Faults.{least_fault, rises}
 use Rattle.crn_text.specs.Tree.{array_at, count_items, are_integers, integers_of, kept}
 use Rattle.crn_text.specs.Fields.{Entry, entry, numbers, is_within, are_within}
 use Rattle.crn_text.specs.declared.fields.Kind.TheVariants as kind
@@ -77,10 +77,10 @@ all_low low high (z ∷ zs) h =
     let f = first low high z zs h in
     All-cons (λ v. low ≤ v) (nat_abs z) (map nat_abs zs) (subst (λ (x : ℤ). low ≤ nat_abs x) (sym f.is) f.at_least) (all_low low high zs f.rest)
 
-above : (l n : ℕ) → int_lt (pos l) (pos n) ≡ true → nat_le (l + 1) n ≡ true
+above : (l n : ℕ) → int_lt (pos l) (pos n) ≡ true → nat_lt l n ≡ true
 above l n h = grind (arith, ints, nat_tests, h)
 
-rises_after : (low high l : ℕ) (zs : List ℤ) → are_within (pos low) (pos high) zs ≡ true → rise_above (Some (pos l)) zs ≡ true → rises_from (l + 1) (map nat_abs zs) ≡ true
+rises_after : (low high l : ℕ) (zs : List ℤ) → are_within (pos low) (pos high) zs ≡ true → rise_above (Some (pos l)) zs ≡ true → rises (l ∷ map nat_abs zs) ≡ true
 rises_after low high l [] h r = refl
 rises_after low high l (pos n ∷ zs) h r =
     let parts = and_parts (int_lt (pos l) (pos n)) (rise_above (Some (pos n)) zs) r in
@@ -88,12 +88,9 @@ rises_after low high l (pos n ∷ zs) h r =
     and_true _ _ (above l n parts.0) (rises_after low high n zs f.rest parts.1)
 rises_after low high l (negsuc n ∷ zs) h r = absurd (false≢true h)
 
-not_below : (n : ℕ) → nat_le 0 n ≡ true
-not_below n = grind (arith, nat_tests)
-
 pub do_rise : (low high : ℕ) (zs : List ℤ) → are_within (pos low) (pos high) zs ≡ true → rise_above None zs ≡ true → rises (map nat_abs zs) ≡ true
 do_rise low high [] h r = refl
-do_rise low high (pos n ∷ zs) h r = let f = first low high (pos n) zs h in and_true (nat_le 0 n) _ (not_below n) (rises_after low high n zs f.rest r)
+do_rise low high (pos n ∷ zs) h r = let f = first low high (pos n) zs h in rises_after low high n zs f.rest r
 do_rise low high (negsuc n ∷ zs) h r = absurd (false≢true h)
 
 pub total-sum : (low high : ℕ) (zs : List ℤ) → are_within (pos low) (pos high) zs ≡ true → total_of zs ≡ pos (sum (map nat_abs zs))

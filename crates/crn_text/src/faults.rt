@@ -14,6 +14,7 @@ use std::alloc::{AllocError, Global};
 use toml::value::Array;
 use toml::{Table, Value};
 
+// Whether a table, where there is one, keeps a rule.
 fn keeps_in(rule: Rule, fields: &[Field], table: Option<&Table>) -> bool
     ensures { result ≡ spec.keeps_in rule (map tables.entry_of fields.now) (option_map (λ t. table_view t.now) table.entry) }
 {
@@ -23,6 +24,7 @@ fn keeps_in(rule: Rule, fields: &[Field], table: Option<&Table>) -> bool
     }
 }
 
+// Whether each table among the policies keeps a rule.
 fn policies_keep(rule: Rule, policies: &Array) -> bool
     ensures { result ≡ list_all (tables.keeps rule tables.policy) (tables_of (array_view policies.now)) }
 {
@@ -36,6 +38,7 @@ fn policies_keep(rule: Rule, policies: &Array) -> bool
     true
 }
 
+// Whether each table that is looked at keeps a rule: the document, its inner tables and its policies.
 #[tactic(auto, unfolding(crate::specs::Faults::all_keep))]
 fn all_keep(rule: Rule, table: &Table) -> bool
     ensures { result ≡ spec.all_keep rule (table_view table.now) }
@@ -50,6 +53,7 @@ fn all_keep(rule: Rule, table: &Table) -> bool
         }
 }
 
+// Fault 2: the version is not 1.
 #[tactic(auto, unfolding(crate::specs::Faults::has_other_version))]
 fn has_other_version(table: &Table) -> bool
     ensures { result ≡ spec.has_other_version (table_view table.now) }
@@ -60,6 +64,7 @@ fn has_other_version(table: &Table) -> bool
     }
 }
 
+// Fault 3: a table has a key that is not one of its keys.
 #[tactic(auto, unfolding(crate::specs::Faults::has_unknown_key))]
 fn has_unknown_key(table: &Table) -> bool
     ensures { result ≡ spec.has_unknown_key (table_view table.now) }
@@ -67,6 +72,7 @@ fn has_unknown_key(table: &Table) -> bool
     !all_keep(Rule::Known, table)
 }
 
+// Fault 4: a table lacks one of its keys.
 #[tactic(auto, unfolding(crate::specs::Faults::lacks_key))]
 fn lacks_key(table: &Table) -> bool
     ensures { result ≡ spec.lacks_key (table_view table.now) }
@@ -74,6 +80,7 @@ fn lacks_key(table: &Table) -> bool
     !all_keep(Rule::Present, table)
 }
 
+// Fault 5: a value, or an entry of an array, is not of its kind.
 #[tactic(auto, unfolding(crate::specs::Faults::has_other_kind))]
 fn has_other_kind(table: &Table) -> bool
     ensures { result ≡ spec.has_other_kind (table_view table.now) }
@@ -81,6 +88,7 @@ fn has_other_kind(table: &Table) -> bool
     !all_keep(Rule::Kinds, table)
 }
 
+// Fault 6: a number, a list or the key is out of its range.
 #[tactic(auto, unfolding(crate::specs::Faults::breaks_range))]
 fn breaks_range(table: &Table) -> bool
     ensures { result ≡ spec.breaks_range (table_view table.now) }
@@ -97,6 +105,7 @@ fn have_other_lengths(draws: &Table) -> bool
     }
 }
 
+// Whether the numbers of an array rise strictly.
 fn rise(array: &Array) -> bool
     ensures { result ≡ spec.rise_above None (integers_of (array_view array.now)) }
 {
@@ -142,6 +151,7 @@ fn plus(total: i128, number: Option<i64>) -> i128
     }
 }
 
+// The sum of the numbers of an array.
 fn total_of(array: &Array) -> i128
     ensures { result ≡ spec.total_of (integers_of (array_view array.now)) }
 {
@@ -164,6 +174,7 @@ fn have_other_total(draws: &Table) -> bool
     }
 }
 
+// Fault 7: demand or lead has not as many weights as values.
 #[tactic(auto, unfolding(crate::specs::Faults::has_other_lengths))]
 fn has_other_lengths(table: &Table) -> bool
     ensures { result ≡ spec.has_other_lengths (table_view table.now) }
@@ -172,6 +183,7 @@ fn has_other_lengths(table: &Table) -> bool
         || table_at(table, "lead").is_some_and(have_other_lengths)
 }
 
+// Fault 8: the values of demand or lead do not rise strictly.
 #[tactic(auto, unfolding(crate::specs::Faults::has_values_out_of_order))]
 fn has_values_out_of_order(table: &Table) -> bool
     ensures { result ≡ spec.has_values_out_of_order (table_view table.now) }
@@ -180,6 +192,7 @@ fn has_values_out_of_order(table: &Table) -> bool
         || table_at(table, "lead").is_some_and(have_other_order)
 }
 
+// Fault 9: the weights of demand or lead are 0 in sum, or over 65,536.
 #[tactic(auto, unfolding(crate::specs::Faults::has_weights_out_of_range))]
 fn has_weights_out_of_range(table: &Table) -> bool
     ensures { result ≡ spec.has_weights_out_of_range (table_view table.now) }
@@ -188,6 +201,7 @@ fn has_weights_out_of_range(table: &Table) -> bool
         || table_at(table, "lead").is_some_and(have_other_total)
 }
 
+// Whether a policy's s is not above its S.
 fn has_levels_in_order(policy: &Table) -> bool
     ensures { result ≡ spec.has_levels_in_order (table_view policy.now) }
 {
@@ -210,6 +224,7 @@ fn have_levels_in_order(policies: &Array) -> bool
     true
 }
 
+// Fault 10: a policy's s is above its S.
 #[tactic(auto, unfolding(crate::specs::Faults::has_low_above_high))]
 fn has_low_above_high(table: &Table) -> bool
     ensures { result ≡ spec.has_low_above_high (table_view table.now) }
@@ -220,6 +235,7 @@ fn has_low_above_high(table: &Table) -> bool
     }
 }
 
+// The names that stand among the policies.
 fn names_of<'a>(alloc: Global, policies: &'a Array) -> Result<Vec<&'a str>, AllocError>
     ensures { IfOk result (λ v. map (λ n. n.now) v.items ≡ spec.names_in (array_view policies.now)) }
 {
@@ -258,6 +274,7 @@ fn are_name_bytes(bytes: &[u8]) -> bool
     true
 }
 
+// Whether a text has the form of a name: 1 to 16 of letters, digits, `_` and `-`.
 fn is_name(text: &str) -> bool
     ensures { result ≡ is_name text.now }
 {
@@ -286,6 +303,7 @@ fn is_among(names: &[&str], name: &str) -> bool
     false
 }
 
+// Whether no name stands twice. Each is compared with all later ones.
 fn all_differ(names: &[&str]) -> bool
     ensures { result ≡ spec.all_differ (map (λ n. n.now) names.now) }
 {
@@ -297,6 +315,7 @@ fn all_differ(names: &[&str]) -> bool
     true
 }
 
+// Fault 11: a policy's name has not the form of one, or stands twice.
 #[tactic(auto, unfolding(crate::specs::Faults::has_bad_name))]
 fn has_bad_name(alloc: Global, table: &Table) -> Result<bool, AllocError>
     ensures { IfOk result (λ b. b ≡ spec.has_bad_name (table_view table.now)) }
@@ -318,6 +337,7 @@ fn is_ring_size(number: i64) -> bool
     )
 }
 
+// Fault 12: the ring's size is not a power of two from 1 to 1,024.
 #[tactic(auto, unfolding(crate::specs::Faults::has_other_ring))]
 fn has_other_ring(table: &Table) -> bool
     ensures { result ≡ spec.has_other_ring (table_view table.now) }
@@ -328,6 +348,7 @@ fn has_other_ring(table: &Table) -> bool
     }
 }
 
+// Fault 13: the number of policies is not 1 to 16.
 #[tactic(auto, unfolding(crate::specs::Faults::has_other_policy_count))]
 fn has_other_policy_count(table: &Table) -> bool
     ensures { result ≡ spec.has_other_policy_count (table_view table.now) }

@@ -185,6 +185,7 @@ pub const POLICY: [Field; 3] = [
     },
 ];
 
+// Whether a value is of a kind. An empty list is of every kind of list.
 fn is_of(kind: Kind, value: &Value) -> bool
     ensures { result ≡ spec.is_of kind (view value.now) }
 {
@@ -217,6 +218,7 @@ pub fn is_within(low: i64, high: i64, number: Option<i64>) -> bool
     }
 }
 
+// Whether each number of an array is in a range.
 fn are_within(low: i64, high: i64, array: &Array) -> bool
     ensures { result ≡ spec.are_within low high (integers_of (array_view array.now)) }
 {
@@ -228,6 +230,7 @@ fn are_within(low: i64, high: i64, array: &Array) -> bool
     true
 }
 
+// Whether each text of an array is a hexadecimal word.
 fn are_words(array: &Array) -> bool
     ensures { result ≡ list_all is_hex_word (texts_of (array_view array.now)) }
 {
@@ -241,6 +244,7 @@ fn are_words(array: &Array) -> bool
     true
 }
 
+// Whether a value is in the range of its kind. A value of another kind breaks no range.
 fn is_in_range(kind: Kind, value: &Value) -> bool
     ensures { result ≡ spec.is_in_range kind (view value.now) }
 {
@@ -258,6 +262,7 @@ fn is_in_range(kind: Kind, value: &Value) -> bool
     }
 }
 
+// Whether what stands at a key keeps a rule.
 fn keeps_at(rule: Rule, kind: Kind, value: Option<&Value>) -> bool
     ensures { result ≡ spec.keeps_at rule kind (option_map (λ x. view x.now) value.entry) }
 {
@@ -270,6 +275,7 @@ fn keeps_at(rule: Rule, kind: Kind, value: Option<&Value>) -> bool
     }
 }
 
+// Whether what stands at each key of a table keeps a rule.
 fn keeps_at_all(rule: Rule, fields: &[Field], table: &Table) -> bool
     ensures { result ≡ spec.keeps_at_all rule (map spec.entry_of fields.now) (table_view table.now) }
 {
@@ -292,6 +298,7 @@ fn is_key(fields: &[Field], key: &str) -> bool
     false
 }
 
+// Whether each key of a table is one of these.
 fn knows_all(fields: &[Field], table: &Table) -> bool
     ensures { result ≡ spec.knows_all (map spec.entry_of fields.now) (table_view table.now) }
 {

@@ -1,7 +1,7 @@
 // The figures of a report's rows.
 
 ghost use Rattle.std.specs.Prelude.{◌≡◌, ◌+◌, ◌*◌, ◌≤◌, ◌<◌, ◌^◌, All, IfOk, ℕ, List, length, map, sum, Some, slice_get};
-ghost use Rattle.crn_stock.specs.Parts.{Parts, period_cost};
+ghost use Rattle.crn_stock.specs.Parts.{Parts, period_cost_limit};
 ghost use Rattle.crn_stock.specs.Draws.{IsOf};
 ghost use Rattle.crn_text.specs.Report.{IsFigures, AreFigures};
 
@@ -22,7 +22,7 @@ pub(crate) struct Figures {
 // The sum of the costs of all replications.
 fn total_of(costs: &[u64]) -> u64
     requires few { length costs.now ≤ 256 }
-    requires high { All (λ k. k ≤ 1024 * period_cost) costs.now }
+    requires high { All (λ k. k ≤ 1024 * period_cost_limit) costs.now }
     ensures sum { result ≡ sum costs.now }
     ensures high { result < 2 ^ 63 }
 {

@@ -16,6 +16,7 @@ use std::alloc::{AllocError, Global};
 use toml::value::Array;
 use toml::{Table, Value};
 
+// A number without its sign, and 0 where there is none. Where no fault holds none has a minus.
 fn natural(number: Option<i64>) -> u64
     ensures { result ≡ spec.natural number }
 {
@@ -32,6 +33,7 @@ pub fn replications(table: &Table) -> u64
     natural(integer_at(table, "replications"))
 }
 
+// The number at a key of a table, and 0 where there is none.
 fn natural_in(table: Option<&Table>, key: &str) -> u64
     ensures { result ≡ spec.natural_in key.now (option_map (λ t. table_view t.now) table.entry) }
 {
@@ -52,6 +54,7 @@ fn costs_of(table: Option<&Table>) -> Costs
     }
 }
 
+// The numbers of an array.
 fn naturals_of(alloc: Global, array: &Array) -> Result<Vec<u32>, AllocError>
     requires { are_within (pos 0) (pos 65536) (integers_of (array_view array.now)) ≡ true }
     ensures { IfOk result (λ v. v.items ≡ map nat_abs (integers_of (array_view array.now))) }
@@ -65,6 +68,7 @@ fn naturals_of(alloc: Global, array: &Array) -> Result<Vec<u32>, AllocError>
     Ok(naturals)
 }
 
+// The numbers at a key of a table.
 fn naturals_in(alloc: Global, table: Option<&Table>, key: &str) -> Result<Vec<u32>, AllocError>
     requires { are_within (pos 0) (pos 65536) (spec.integers_in (option_and_then (array_at key.now) (option_map (λ t. table_view t.now) table))) ≡ true }
     ensures { IfOk result (λ v. v.items ≡ spec.naturals_in key.now (option_map (λ t. table_view t.now) table.entry)) }
@@ -78,6 +82,7 @@ fn naturals_in(alloc: Global, table: Option<&Table>, key: &str) -> Result<Vec<u3
     }
 }
 
+// Values with weights that are known to have no fault.
 fn weights_of(alloc: Global, table: Option<&Table>) -> Result<Weights, AllocError>
     requires draws { spec.AreDraws (option_map (λ t. table_view t.now) table) }
     ensures { IfOk result (λ w. w ≡ spec.weighted_of (option_map (λ t. table_view t.now) table.entry)) }
@@ -123,6 +128,7 @@ fn policies_at(alloc: Global, table: &Table) -> Result<Vec<Policy>, AllocError>
     }
 }
 
+// The word at a place of the key.
 fn word_at(value: Option<&Value>, place: usize) -> u64
     ensures { result ≡ spec.word_at place (option_map (λ x. view x.now) value.entry) }
 {

@@ -1,6 +1,7 @@
 // The program's engine on whole texts, with readers and writers that fail.
 
 mod fakes;
+mod runs;
 
 use super::*;
 use crn_text::ScenarioFault;

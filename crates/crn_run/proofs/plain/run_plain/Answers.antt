@@ -1,8 +1,5 @@
-use Rattle.std.proofs.Common.{rules, ◌≡◌, ◌++◌, ◌∷◌, [], ◌≤◌, ap, length, arith, Some, slice_get, ℕ, subst, sym, refl}
+use Rattle.std.proofs.Common.{rules, ◌≡◌, ◌++◌, ◌∷◌, [], ap, length, arith, Some, slice_get, ℕ, subst, sym}
 use Rattle.std.proofs.lemmas.Grind.{common_steps}
-use Rattle.std.proofs.lemmas.Option.{slice_get_read}
-use Rattle.crn_stock.specs.Parts.{Parts}
-use Rattle.crn_stock.specs.Draws.{next_block}
 use Rattle.crn_run.specs.Runs.{StandsAt}
 use Rattle.crn_run.proofs.Growing.{each-grown}
 use Rattle.crn_run.proofs.Running.{Ran, ran, read_at, read_policy, reached}
@@ -36,7 +33,7 @@ loop-i-preserved c =
     record {
       count = grind (arith, common_steps, grown, count);
       each = each-grown (Ran s start.states.items start.next c.args.upto) c.loop-i.states.items c.push.new.self.items v i grown count c.loop-i.invariant.each
-          (ran s start.states.items start.next c.args.upto i c.index-policies-i.result w v is_policy is_state (c.requires.of.stand i w is_state).next c.in_ok-state.ensures.stands c.in_ok-state.ensures.at);
+          (ran s start.states.items start.next c.args.upto i c.index-policies-i.result w v is_policy is_state (c.requires.of.stand i w is_state).next c.in_ok-state.ensures.stands c.in_ok-state.ensures.at c.in_ok-state.ensures.onward);
     }
 
 pub returns-clause-of : goal.returns-clause-of
@@ -48,3 +45,6 @@ returns-clause-of c = record {
 pub returns-clause-at : goal.returns-clause-at
 returns-clause-at c before i p v of_policy of_state =
     reached c.args.scenario.now c.args.start.now.states.items c.args.start.now.next c.args.upto i p v c.requires.of.count (c.loop-i.invariant.each i v of_state) before of_policy
+
+pub returns-clause-onward : goal.returns-clause-onward
+returns-clause-onward c i p w v of_policy of_start of_state = ((c.loop-i.invariant.each i v of_state).1 p w of_policy of_start).1

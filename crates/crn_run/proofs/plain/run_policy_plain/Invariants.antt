@@ -1,5 +1,4 @@
-use Rattle.std.proofs.Common.{◌≡◌, ℕ}
-use Rattle.crn_stock.specs.Draws.{At, next_block}
+use Rattle.crn_stock.specs.Draws.{At, OnwardAt, next_block}
 use Rattle.crn_run.specs.Runs.{StandsAt}
 use Rattle.crn_run.proofs.plain.run_policy_plain.Given as goal
 
@@ -7,4 +6,5 @@ abbrev pub invariant-loop-number : goal.invariant-loop-number
 invariant-loop-number l = record {
   stands : StandsAt l.scenario.model l.number l.state;
   at : At l.scenario.model l.policy l.scenario.key (next_block l.from) l.from → At l.scenario.model l.policy l.scenario.key l.number l.state;
+  onward : OnwardAt l.scenario.model l.policy l.scenario.key l.from l.number l.state;
 }

@@ -1,8 +1,7 @@
-use Rattle.std.proofs.Common.{rules, ◌≡◌, ◌++◌, subst, sym, ap, ◌∙◌, map, List, ℕ, length, arith, Some, slice_get}
+use Rattle.std.proofs.Common.{◌≡◌, ◌++◌, subst, sym, ◌∙◌, map, List, ℕ, Some, slice_get}
 use Rattle.crn_stock.specs.Parts.{Parts}
 use Rattle.crn_stock.specs.Draws.{IsOf}
-use Rattle.crn_stock.specs.declared.rules.Policy.{Policy}
-use Rattle.crn_text.specs.Report.{IsReportText, AreFigures, header_text, lines_text}
+use Rattle.crn_text.specs.Report.{AreFigures, header_text, lines_text}
 use Rattle.crn_text.proofs.report_text.report.Goals as goal
 
 pub all_figures-requires : goal.all_figures-requires

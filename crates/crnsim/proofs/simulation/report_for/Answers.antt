@@ -2,7 +2,6 @@ use Rattle.std.proofs.Common.{◌≡◌, ap, ◌∙◌, Err, Result, Vec, ℕ, G
 use Rattle.crn_stock.specs.Scenarios.{ScenarioParts}
 use Rattle.crn_text.specs.Reading.{scenario_of}
 use Rattle.crnsim.specs.declared.fault.Fault.{Fault}
-use Rattle.crnsim.specs.declared.fault.Fault.TheVariants as fault
 use Rattle.crnsim.proofs.simulation.report_for.Goals as goal
 
 err-inj : (a b : Fault) → Path (Result (Vec ℕ Global) Fault) (Err a) (Err b) → a ≡ b

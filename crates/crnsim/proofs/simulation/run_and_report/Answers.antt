@@ -1,7 +1,6 @@
 use Rattle.std.proofs.Common.{◌≡◌, ◌∙◌, ℕ, List, IfOk, ap, map, subst, sym}
-use Rattle.crn_stock.specs.Parts.{Parts}
-use Rattle.crn_stock.specs.Models.{ModelParts, total}
-use Rattle.crn_run.specs.Runs.{EachAt, IsCheckpointOf, costs_of}
+use Rattle.crn_stock.specs.Models.{total}
+use Rattle.crn_run.specs.Runs.{EachAt, costs_of}
 use Rattle.crn_run.proofs.Costs.{costs_at_end}
 use Rattle.crn_text.specs.Report.{IsReportText}
 use Rattle.crnsim.proofs.simulation.run_and_report.Goals as goal

@@ -1,4 +1,4 @@
-use Rattle.std.proofs.Common.{rules, ◌≡◌, ◌++◌, ◌∷◌, [], ◌+◌, ap, length, arith}
+use Rattle.std.proofs.Common.{rules, ◌≡◌, ◌++◌, ◌∷◌, [], ap, length, arith}
 use Rattle.std.proofs.lemmas.Grind.{common_steps}
 use Rattle.crn_run.proofs.Growing.{each-grown}
 use Rattle.crn_run.proofs.Beginning.{Begun, begun}
@@ -14,7 +14,7 @@ loop-policy-preserved c =
     record {
       count = grind (arith, common_steps, grown, count);
       each = each-grown (Begun s.model s.key) c.loop-policy.states.items c.push.new.self.items v c.loop-policy._policy grown count c.loop-policy.invariant.each
-          (begun s.model c.model.result.now s.key c.loop-policy._policy v c.model.ensures made.start made.of_model made.next made.between);
+          (begun s.model c.model.result.now s.key c.loop-policy._policy v c.model.ensures made.at made.of_model made.next made.between);
     }
 
 pub returns-clause-of : goal.returns-clause-of

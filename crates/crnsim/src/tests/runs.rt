@@ -1,0 +1,61 @@
+// Runs by blocks: five periods in two blocks, always a demand of 3 and a lead time of 1.
+
+use crn_run::{Checkpoint, run_plain};
+use crn_text::read_scenario;
+use std::test::Fail;
+
+const FIVE_PERIODS: &str = "version = 1
+key = [\"0000000000000000\", \"0000000000000000\", \"0000000000000000\", \"0000000000000000\"]
+periods = 5
+replications = 1
+initial = 10
+ring = 2
+costs = { setup = 7, unit = 2, holding = 1, backlog = 4 }
+demand = { values = [3], weights = [1] }
+lead = { values = [1], weights = [1] }
+policy = [{ name = \"A\", s = 5, S = 10 }, { name = \"B\", s = 4, S = 10 }]
+";
+
+// What each policy's state shows: the stock, the cost so far, and the costs of whole replications.
+type Shown = (i64, u64, Option<u64>);
+
+fn shown(checkpoint: &Checkpoint, policy: usize) -> Option<Shown> {
+    let state = checkpoint.states.get(policy)?;
+    Some((
+        state.stock(),
+        state.running(),
+        state.costs().first().copied(),
+    ))
+}
+
+#[test]
+fn block_by_block(rt: HostRuntime) -> Result<(), Fail> {
+    let Ok(scenario) = read_scenario(rt.alloc(), FIVE_PERIODS.as_bytes()) else {
+        assert!(rt; false, "the scenario is refused");
+        return Ok(());
+    };
+    let total = scenario.model().total();
+    assert_eq!(rt; total, 2);
+    let start = Checkpoint::start(rt.alloc(), &scenario)?;
+    let middle = run_plain(rt.alloc(), &scenario, &start, 1)?;
+    let end = run_plain(rt.alloc(), &scenario, &middle, 2)?;
+    let at_once = run_plain(rt.alloc(), &scenario, &start, 2)?;
+    let table = [
+        (&start, 0, Some((10, 0, None)), Some((10, 0, None))),
+        (&middle, 1, Some((4, 35, None)), Some((-2, 45, None))),
+        (&end, 2, Some((10, 0, Some(55))), Some((10, 0, Some(49)))),
+        (
+            &at_once,
+            2,
+            Some((10, 0, Some(55))),
+            Some((10, 0, Some(49))),
+        ),
+    ];
+    for (checkpoint, next, a, b) in table {
+        assert_eq!(rt; checkpoint.next, next);
+        assert_eq!(rt; shown(checkpoint, 0), a, "at {next}");
+        assert_eq!(rt; shown(checkpoint, 1), b, "at {next}");
+        assert_eq!(rt; checkpoint.states.len(), 2);
+    }
+    Ok(())
+}
