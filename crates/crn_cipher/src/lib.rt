@@ -7,11 +7,13 @@
 ghost use Rattle.std.specs.Prelude.{◌≡◌};
 
 mod cipher;
+pub mod laws;
 mod rounds;
+mod rounds_undone;
 mod stream;
 
-pub use cipher::threefry;
-pub use stream::Block;
+pub use cipher::{threefry, unthreefry};
+pub use stream::{Block, StreamId};
 
 /// The words of one stream, demand or lead time, in a block: one word for each of four periods.
 pub const STREAM_WORDS: u32 = 4;

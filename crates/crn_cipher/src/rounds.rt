@@ -16,7 +16,7 @@ pub(crate) fn schedule(key: [u64; 4]) -> [u64; 5]
 
 #[inline(always)]
 #[tactic(auto, using(crate::proofs::Words::rotate_left_is_rotl))]
-fn turned(x: u64, k: u32) -> u64
+pub(crate) fn turned(x: u64, k: u32) -> u64
     requires above { 0 < k }
     requires below { k < 64 }
     ensures { result ≡ rotl x k }

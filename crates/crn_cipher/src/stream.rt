@@ -16,3 +16,14 @@ pub struct Block {
     pub ghost demand_words: { demand ≡ DemandWords key number },
     pub ghost lead_words: { lead ≡ LeadWords key number },
 }
+
+/// The blocks `first` to `total - 1` of the stream of `key`.
+#[derive(Clone, Copy, Debug, PartialEq, Eq)]
+pub struct StreamId {
+    /// The key of the stream.
+    pub key: [u64; 4],
+    /// The number of the first block.
+    pub first: u64,
+    /// The number of the block that would follow the last.
+    pub total: u64,
+}

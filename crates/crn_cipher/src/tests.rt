@@ -44,6 +44,7 @@ fn words_of_random123(rt: HostRuntime) -> Result<(), Fail> {
         let ctr = four_at(&words, 1).unwrap_or([0; 4]);
         let want = four_at(&words, 2);
         assert_eq!(rt; Some(threefry(key, ctr)), want, "{line}");
+        assert_eq!(rt; unthreefry(key, want.unwrap_or([0; 4])), ctr, "{line}");
         lines = lines.wrapping_add(1);
         if let Some(held) = in_block(key, ctr) {
             assert_eq!(rt; Some(held), want, "{line}");

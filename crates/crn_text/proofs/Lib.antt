@@ -6,3 +6,4 @@ pub mod Draws
 pub mod Sound
 pub mod Policies
 mod FiguresOf
+mod HexWritten

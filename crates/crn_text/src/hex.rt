@@ -1,6 +1,7 @@
 // Hexadecimal words.
 
-ghost use Rattle.std.specs.Prelude.{◌≡◌};
+ghost use Rattle.std.specs.Prelude.{◌≡◌, ◌<◌, false};
+ghost use Rattle.std.specs.Fmt.{digit_glyph};
 ghost use Rattle.crn_text.specs.Hex as spec;
 
 fn is_hex_digit(byte: u8) -> bool
@@ -39,4 +40,28 @@ pub fn word_of(text: &str) -> u64
         Ok(word) => word,
         Err(_) => unreachable!(),
     }
+}
+
+fn glyph(digit: u64) -> u8
+    requires { digit < 16 }
+    ensures { result ≡ digit_glyph false digit }
+{
+    if digit < 10 {
+        b'0' + digit as u8
+    } else {
+        b'a' - 10 + digit as u8
+    }
+}
+
+/// The hexadecimal word that writes a number.
+pub fn hex_word(word: u64) -> [u8; 16]
+    ensures { result ≡ spec.hex_word word }
+{
+    let mut text = [b'0'; 16];
+    let mut rest = word;
+    for i in 0..16usize {
+        text[15 - i] = glyph(rest % 16);
+        rest /= 16;
+    }
+    text
 }

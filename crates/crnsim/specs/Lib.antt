@@ -1,3 +1,4 @@
 pub mod Statuses
 pub mod Bytes
 pub mod Simulation
+pub mod CommandLine

@@ -2,17 +2,20 @@
 //! standard output.
 #![tactic(auto)]
 
-ghost use Rattle.std.specs.Prelude.{◌≤◌, ◌↔◌, IsOk, length};
-
+mod block_words;
+mod command_line;
 mod fault;
 mod input;
 mod output;
 mod simulation;
 
+pub use block_words::write_words;
+pub use command_line::{Command, read_words};
 pub use fault::Fault;
+use output::write_text;
 pub use simulation::simulate;
 use std::env;
-use std::io::ErrorKind;
+use std::io::{ErrorKind, Write};
 use std::process::ExitCode;
 
 fn main(rt: HostRuntime) -> ExitCode {
@@ -27,31 +30,32 @@ fn main(rt: HostRuntime) -> ExitCode {
 }
 
 fn run(rt: &HostRuntime) -> Result<(), Fault> {
-    refuse_words(words_of(rt)?.as_slice())?;
-    simulate(rt.alloc(), &mut rt.stdin(), &mut rt.stdout())
+    let alloc = rt.alloc();
+    match read_words(alloc, words_of(rt)?.as_slice())? {
+        Command::Run => simulate(alloc, &mut rt.stdin(), &mut rt.stdout()),
+        Command::Words { key, n } => write_words(alloc, key, n, &mut rt.stdout()),
+        Command::Help { text } => write_help(&mut rt.stdout(), text.as_str()),
+    }
 }
 
-// The words of the command line, the program's name first. A word that is no text is refused.
+// The words after the program's name. A word that is no text is refused.
 fn words_of(rt: &HostRuntime) -> Result<Vec<String>, Fault> {
     let words = match env::args(rt) {
         Ok(words) => words,
         Err(e) if e.kind() == ErrorKind::OutOfMemory => return Err(Fault::Memory),
         Err(_) => return Err(Fault::CommandLine),
     };
-    match words.collect(rt.alloc()) {
+    match words.skip(1).collect(rt.alloc()) {
         Ok(words) => Ok(words),
         Err(_) => Err(Fault::Memory),
     }
 }
 
-// The program has no command: no word may follow its name.
-fn refuse_words(words: &[String]) -> Result<(), Fault>
-    ensures { IsOk result ↔ (length words.now ≤ 1) }
-{
-    if words.len() > 1 {
-        return Err(Fault::CommandLine);
+fn write_help<W: Write>(writer: &mut W, text: &str) -> Result<(), Fault> {
+    match write_text(writer, text.as_bytes()) {
+        Ok(()) => Ok(()),
+        Err(_) => Err(Fault::Writing),
     }
-    Ok(())
 }
 
 #[cfg(test)]

@@ -2,6 +2,7 @@
 
 mod fakes;
 mod runs;
+mod words;
 
 use super::*;
 use crn_text::ScenarioFault;
@@ -125,15 +126,6 @@ fn lines_and_statuses(rt: HostRuntime) -> Result<(), Fail> {
         assert_eq!(rt; text.as_str(), line);
         assert_eq!(rt; fault.status(), status, "{line}");
     }
-    Ok(())
-}
-
-#[test]
-fn words_are_refused(rt: HostRuntime) -> Result<(), Fail> {
-    let mut words = vec![in rt.alloc(); "crnsim".to_string(rt.alloc())?]?;
-    assert_eq!(rt; refuse_words(words.as_slice()), Ok(()));
-    words.push("run".to_string(rt.alloc())?)?;
-    assert_eq!(rt; refuse_words(words.as_slice()), Err(Fault::CommandLine));
     Ok(())
 }
 

@@ -1,0 +1,35 @@
+ghost use Rattle.std.specs.Prelude.{◌≡◌, ◌≢◌, IfErr, OnOk};
+ghost use Rattle.std.specs.Io.KnownBytes.{Appends, Keeps};
+ghost use Rattle.crn_text.specs.BlockWords.{words_text};
+ghost use Rattle.crnsim.specs.Bytes.{AppendsFront};
+
+use crate::fault::Fault;
+use crate::output::write_text;
+use crn_text::words_text;
+use std::alloc::Global;
+use std::io::Write;
+
+/// Writes the words of block `n` of the stream of `key` as two lines. Reads nothing.
+///
+/// # Errors
+///
+/// - `Memory` where a growth was refused: nothing was written.
+/// - `Writing` where a write fails or takes no byte: a front of the lines went out.
+pub fn write_words<W: Write>(
+    alloc: Global,
+    key: [u64; 4],
+    n: u64,
+    writer: &mut W,
+) -> Result<(), Fault>
+    ensures wrote { OnOk result (Appends (W.contents writer.old) (W.contents writer.new) (words_text key n)) }
+    ensures kept { IfErr result (λ e. e ≢ Fault.Writing → Keeps (W.contents writer.old) (W.contents writer.new)) }
+    ensures front { IfErr result (λ e. e ≡ Fault.Writing → AppendsFront (W.contents writer.old) (W.contents writer.new) (words_text key n)) }
+{
+    let Ok(text) = words_text(alloc, key, n) else {
+        return Err(Fault::Memory);
+    };
+    match write_text(writer, text.as_slice()) {
+        Ok(()) => Ok(()),
+        Err(_) => Err(Fault::Writing),
+    }
+}

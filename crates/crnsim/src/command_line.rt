@@ -1,0 +1,153 @@
+// The words of the command line.
+
+ghost use Rattle.std.specs.Prelude.{◌≡◌, ◌⊎◌, ℕ, ◌<◌, ◌^◌, Some, ◌↔◌, IfErr, IfSome, IsTrue, decimal};
+ghost use Rattle.crnsim.specs.CommandLine.{key_word_of};
+
+use crate::fault::Fault;
+use clap::error::ErrorKind;
+use clap::{Arg, ArgMatches};
+use crn_text::hex::{is_hex_word, word_of};
+use itoa::Buffer;
+use std::alloc::{AllocError, Global};
+
+/// What the program is asked for.
+#[derive(Debug, Drop, PartialEq, Eq)]
+pub enum Command {
+    /// The report of the scenario on standard input.
+    Run,
+    /// The words of block `n` of the stream of `key`.
+    Words { key: [u64; 4], n: u64 },
+    /// The program's help.
+    Help { text: String },
+}
+
+const ABOUT: &str =
+    "Compares (s,S) inventory policies by common random numbers: every policy meets the very \
+same demands and delivery times, and the report has whole costs and exact differences.";
+
+const EXAMPLE: &str = "Without a command the program runs a scenario, as by `run`.
+
+Example:
+  crnsim < examples/two_policies.toml";
+
+const RUN_ABOUT: &str =
+    "Reads a scenario in TOML on standard input and writes its report in CSV on standard output";
+
+const WORDS_ABOUT: &str =
+    "Writes the words of one block of the random stream, to be compared with Random123's \
+threefry4x64: a line of demand words and a line of lead time words";
+
+const KEY_WORDS: [&str; 4] = ["K0", "K1", "K2", "K3"];
+
+/// Reads the words that follow the program's name, with `clap`: no word or `run` for a run, `words` with four key
+/// words of 16 digits `0-9a-f` and the number of a block in decimal for its words, and requests for help.
+///
+/// # Errors
+///
+/// `CommandLine` where the words are none of these, `Memory` where a growth was refused.
+pub fn read_words<'a>(alloc: Global, words: &'a [String]) -> Result<Command, Fault>
+    ensures { IfErr result (λ e. (e ≡ Fault.CommandLine) ⊎ (e ≡ Fault.Memory)) }
+{
+    let Ok(parser) = parser(alloc) else {
+        return Err(Fault::Memory);
+    };
+    match parser.try_get_matches_from(words) {
+        Ok(matches) => command_of(&matches),
+        Err(e) => match e.kind() {
+            ErrorKind::OutOfMemory => Err(Fault::Memory),
+            ErrorKind::DisplayHelp => match e.to_string(alloc) {
+                Ok(text) => Ok(Command::Help { text }),
+                Err(_) => Err(Fault::Memory),
+            },
+            _ => Err(Fault::CommandLine),
+        },
+    }
+}
+
+// What `clap` knows of the commands.
+fn parser<'a>(alloc: Global) -> Result<clap::Command<'a>, AllocError> {
+    let run = clap::Command::new(alloc, "run").about(RUN_ABOUT);
+    let mut words = clap::Command::new(alloc, "words").about(WORDS_ABOUT);
+    for name in KEY_WORDS {
+        let key_word = Arg::new(alloc, name)
+            .required(true)
+            .help("A word of the key: 16 digits of 0-9a-f");
+        words = words.arg(key_word)?;
+    }
+    let number = Arg::new(alloc, "N")
+        .required(true)
+        .help("The number of the block, in decimal");
+    let words = words.arg(number)?;
+    clap::Command::new(alloc, "crnsim")
+        .about(ABOUT)
+        .after_help(EXAMPLE)
+        .no_binary_name(true)
+        .subcommand(run)?
+        .subcommand(words)
+}
+
+fn command_of(matches: &ArgMatches<'_>) -> Result<Command, Fault>
+    ensures { IfErr result (λ e. e ≡ Fault.CommandLine) }
+{
+    match matches.subcommand() {
+        None | Some(("run", _)) => Ok(Command::Run),
+        Some(("words", words)) => block_words(words),
+        Some(_) => Err(Fault::CommandLine),
+    }
+}
+
+// The block whose words are asked for.
+fn block_words(words: &ArgMatches<'_>) -> Result<Command, Fault>
+    ensures { IfErr result (λ e. e ≡ Fault.CommandLine) }
+{
+    let mut key = [0; 4];
+    for i in 0..4usize {
+        match words.get_str(KEY_WORDS[i]) {
+            Some(text) => match key_word(text) {
+                Some(word) => key[i] = word,
+                None => return Err(Fault::CommandLine),
+            },
+            None => return Err(Fault::CommandLine),
+        }
+    }
+    match words.get_str("N") {
+        Some(text) => match number(text) {
+            Some(n) => Ok(Command::Words { key, n }),
+            None => Err(Fault::CommandLine),
+        },
+        None => Err(Fault::CommandLine),
+    }
+}
+
+// A word of the key from its 16 digits.
+fn key_word(text: &str) -> Option<u64>
+    ensures { result ≡ key_word_of text.now }
+{
+    if is_hex_word(text) {
+        Some(word_of(text))
+    } else {
+        None
+    }
+}
+
+// A number from its decimal digits, in the one spelling that it has.
+fn number(text: &str) -> Option<u64>
+    ensures spelt { IfSome result (λ n. text.now ≡ decimal n) }
+    ensures every { (n : ℕ) → n < 2 ^ 64 → text.now ≡ decimal n → result ≡ Some n }
+{
+    match text.parse::<u64>() {
+        Ok(n) => {
+            if !spells(text, n) {
+                return None;
+            }
+            Some(n)
+        }
+        Err(_) => None,
+    }
+}
+
+fn spells(text: &str, n: u64) -> bool
+    ensures { IsTrue result ↔ (text.now ≡ decimal n) }
+{
+    Buffer::new().format(n) == text
+}
