@@ -39,6 +39,9 @@ threefry4x64: a line of demand words and a line of lead time words";
 
 const KEY_WORDS: [&str; 4] = ["K0", "K1", "K2", "K3"];
 
+const WORDS_EXAMPLE: &str = "Example, block 0 of the zero key:
+  crnsim words 0000000000000000 0000000000000000 0000000000000000 0000000000000000 0";
+
 /// Reads the words that follow the program's name, with `clap`: no word or `run` for a run, `words` with four key
 /// words of 16 digits `0-9a-f` and the number of a block in decimal for its words, and requests for help.
 ///
@@ -67,7 +70,9 @@ pub fn read_words<'a>(alloc: Global, words: &'a [String]) -> Result<Command, Fau
 // What `clap` knows of the commands.
 fn parser<'a>(alloc: Global) -> Result<clap::Command<'a>, AllocError> {
     let run = clap::Command::new(alloc, "run").about(RUN_ABOUT);
-    let mut words = clap::Command::new(alloc, "words").about(WORDS_ABOUT);
+    let mut words = clap::Command::new(alloc, "words")
+        .about(WORDS_ABOUT)
+        .after_help(WORDS_EXAMPLE);
     for name in KEY_WORDS {
         let key_word = Arg::new(alloc, name)
             .required(true)
@@ -79,6 +84,7 @@ fn parser<'a>(alloc: Global) -> Result<clap::Command<'a>, AllocError> {
         .help("The number of the block, in decimal");
     let words = words.arg(number)?;
     clap::Command::new(alloc, "crnsim")
+        .bin_name("crnsim")?
         .about(ABOUT)
         .after_help(EXAMPLE)
         .no_binary_name(true)
