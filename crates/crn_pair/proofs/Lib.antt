@@ -1,1 +1,5 @@
+mod Estimates
+mod Gathering
 mod LowestTerms
+mod Products
+mod Stripped

@@ -1,10 +1,16 @@
-//! Exact fractions for the comparison of policies.
+//! Exact fractions and paired differences for the comparison of policies.
 #![tactic(auto)]
 
 mod common_divisor;
+mod compare;
+mod fault;
 mod fraction;
+mod moments;
+mod pair;
 
+pub use fault::PairFault;
 pub use fraction::Fraction;
+pub use pair::Pair;
 
 #[cfg(test)]
 mod tests;

@@ -1,5 +1,8 @@
 use super::*;
+use std::process::Abort;
 use std::test::Fail;
+
+mod vectors;
 
 #[test]
 fn lowest_terms(rt: HostRuntime) -> Result<(), Fail> {
@@ -21,5 +24,128 @@ fn lowest_terms(rt: HostRuntime) -> Result<(), Fail> {
             "{num}/{den}"
         );
     }
+    Ok(())
+}
+
+// What a pair tells, as numbers.
+#[derive(Clone, Copy)]
+struct Told {
+    total: i128,
+    mean: (i128, u64),
+    variance: Option<(i128, u64)>,
+    covariance: Option<(i128, u64)>,
+}
+
+fn terms(fraction: Option<Fraction>) -> Option<(i128, u64)> {
+    match fraction {
+        Some(fraction) => Some((fraction.num, fraction.den)),
+        None => None,
+    }
+}
+
+fn tells(rt: &impl Abort, a: &[u64], b: &[u64], told: Told) -> Result<(), Fail> {
+    let pair = Pair::of(a, b)?;
+    let mean = pair.mean_diff();
+    assert_eq!(rt; pair.diff_total(), told.total, "the total");
+    assert_eq!(rt; (mean.num, mean.den), told.mean, "the mean");
+    assert_eq!(rt; terms(pair.var_of_mean()), told.variance, "the variance");
+    assert_eq!(rt; terms(pair.covariance()), told.covariance, "the covariance");
+    Ok(())
+}
+
+#[test]
+fn three_replications(rt: HostRuntime) -> Result<(), Fail> {
+    let told = Told {
+        total: 9,
+        mean: (3, 1),
+        variance: Some((7, 1)),
+        covariance: Some((-1, 2)),
+    };
+    tells(&rt, &[3, 5, 10], &[1, 6, 2], told)
+}
+
+#[test]
+fn one_replication_unlike_the_others(rt: HostRuntime) -> Result<(), Fail> {
+    let told = Told {
+        total: 4,
+        mean: (1, 1),
+        variance: Some((1, 1)),
+        covariance: Some((0, 1)),
+    };
+    tells(&rt, &[0, 0, 0, 4], &[0, 0, 0, 0], told)
+}
+
+#[test]
+fn one_replication(rt: HostRuntime) -> Result<(), Fail> {
+    let told = Told {
+        total: 230_000_000_000_000,
+        mean: (230_000_000_000_000, 1),
+        variance: None,
+        covariance: None,
+    };
+    tells(&rt, &[230_000_000_000_000], &[0], told)
+}
+
+// Half of the replications at one end of the range, the others at the other end: with the limit L the
+// sum over pairs is 128 * 128 * (2 L)^2.
+#[test]
+fn the_widest_spread(rt: HostRuntime) -> Result<(), Fail> {
+    let limit = 230_000_000_000_000;
+    let mut a = vec![in rt.alloc(); limit; 128]?;
+    a.resize(256, 0)?;
+    let mut b = vec![in rt.alloc(); 0; 128]?;
+    b.resize(256, limit)?;
+    let told = Told {
+        total: 0,
+        mean: (0, 1),
+        variance: Some((10_580_000_000_000_000_000_000_000_000, 51)),
+        covariance: Some((-677_120_000_000_000_000_000_000_000_000, 51)),
+    };
+    tells(&rt, &a, &b, told)
+}
+
+// Costs by a rule, compared by another program.
+#[test]
+fn as_many_replications_as_may_be(rt: HostRuntime) -> Result<(), Fail> {
+    let mut a = Vec::new(rt.alloc());
+    let mut b = Vec::new(rt.alloc());
+    for r in 0..256u64 {
+        a.push(7_919 * r * r % 100_003)?;
+        b.push(104_729 * r % 99_991)?;
+    }
+    let told = Told {
+        total: -75_564,
+        mean: (-18_891, 64),
+        variance: Some((6_664_629_360_167, 1_044_480)),
+        covariance: Some((812_859_443_241, 21_760)),
+    };
+    tells(&rt, &a, &b, told)
+}
+
+#[test]
+fn refused_lists(rt: HostRuntime) -> Result<(), Fail> {
+    let many = vec![in rt.alloc(); 0u64; 257]?;
+    let high = [230_000_000_000_001];
+    let table: [(&[u64], &[u64], PairFault); 7] = [
+        (&[1], &[], PairFault::Lengths),
+        (&many, &[0], PairFault::Lengths),
+        (&high, &[], PairFault::Lengths),
+        (&[], &[], PairFault::Empty),
+        (&many, &many, PairFault::TooMany),
+        (&high, &[0], PairFault::Entry),
+        (&[0], &high, PairFault::Entry),
+    ];
+    for (a, b, fault) in table {
+        assert_eq!(rt; Pair::of(a, b), Err(fault), "{fault}");
+    }
+    Ok(())
+}
+
+#[test]
+fn numbers_of_faults(rt: HostRuntime) -> Result<(), Fail> {
+    assert_eq!(rt; PairFault::Lengths as u8, 1, "lengths");
+    assert_eq!(rt; PairFault::Empty as u8, 2, "empty");
+    assert_eq!(rt; PairFault::TooMany as u8, 3, "too many");
+    assert_eq!(rt; PairFault::Entry as u8, 4, "an entry");
     Ok(())
 }

@@ -1,0 +1,136 @@
+-- Sums that a loop gathers over two lists, place by place.
+use Rattle.std.proofs.Common.{◌≡◌, ℕ, zero, suc, ◌*◌, ◌+◌, ◌<◌, ◌≤◌, Bool, true, false, nat_le, ℤ, pos, ◌*ℤ◌, ◌+ℤ◌, ◌-ℤ◌, unsigned_abs, List, [], ◌∷◌, length, map, drop, get_or, ◌&&◌, arith, refl, sym, ap, subst, ◌∙◌}
+use Rattle.std.proofs.lemmas.Int.{ints, unsigned_abs-mul}
+use Rattle.std.proofs.lemmas.Bool.{leb-true, false≢true}
+use Rattle.std.proofs.Math.Nat.{mul-le-mul_left}
+use Rattle.crn_pair.specs.Limits.{cost_limit, are_costs}
+use Rattle.crn_pair.specs.Places.{products, AreSums, AreWithin}
+use Rattle.crn_pair.specs.Sums.{signed, differences, total, over_pairs}
+use Rattle.crn_pair.proofs.Products.{pairs_are}
+use Rattle.crn_pair.specs.declared.moments.Moments.{Moments}
+
+-- the sums over the first i places, by what is left to gather
+pub record Gathers (xs ys : List ℤ) (i : ℕ) (m : Moments) : Type 0 where
+  pub x_left : m.x +ℤ total (drop i xs) ≡ total xs
+  pub y_left : m.y +ℤ total (drop i ys) ≡ total ys
+  pub products_left : m.products +ℤ products (drop i xs) (drop i ys) ≡ products xs ys
+  pub within : AreWithin i m
+
+pub gathers_none : (xs ys : List ℤ) (m : Moments) → m.x ≡ pos 0 → m.y ≡ pos 0 → m.products ≡ pos 0 → Gathers xs ys 0 m
+gathers_none xs ys m x y p = record {
+  x_left = omega (arith, ints, x);
+  y_left = omega (arith, ints, y);
+  products_left = omega (arith, ints, p);
+  within = record { x_low = omega (arith, ints, x); y_low = omega (arith, ints, y); products_low = omega (arith, ints, p) };
+}
+
+pub gathers_more : (xs ys : List ℤ) (i : ℕ) (x y : ℤ) (m m' : Moments)
+    → drop i xs ≡ x ∷ drop (suc i) xs → drop i ys ≡ y ∷ drop (suc i) ys
+    → m'.x ≡ m.x +ℤ x → m'.y ≡ m.y +ℤ y → m'.products ≡ m.products +ℤ (x *ℤ y)
+    → unsigned_abs x ≤ cost_limit → unsigned_abs y ≤ cost_limit
+    → Gathers xs ys i m → Gathers xs ys (i + 1) m'
+gathers_more xs ys i x y m m' at_x at_y new_x new_y new_products low_x low_y g =
+    let old_x : m.x +ℤ total (drop i xs) ≡ total xs = g.x_left in
+    let old_y : m.y +ℤ total (drop i ys) ≡ total ys = g.y_left in
+    let old_p : m.products +ℤ products (drop i xs) (drop i ys) ≡ products xs ys = g.products_left in
+    let head_x : total (drop i xs) ≡ x +ℤ total (drop (suc i) xs) = ap total at_x in
+    let head_y : total (drop i ys) ≡ y +ℤ total (drop (suc i) ys) = ap total at_y in
+    let head_p : products (drop i xs) (drop i ys) ≡ (x *ℤ y) +ℤ products (drop (suc i) xs) (drop (suc i) ys) =
+    ap (λ (l : List ℤ). products l (drop i ys)) at_x ∙ ap (λ (l : List ℤ). products (x ∷ drop (suc i) xs) l) at_y in
+    let size : unsigned_abs (x *ℤ y) ≡ unsigned_abs x * unsigned_abs y = unsigned_abs-mul x y in
+    let low_p : unsigned_abs x * unsigned_abs y ≤ cost_limit * cost_limit = omega (arith, mul-le-mul_left (unsigned_abs x) low_y, low_x) in
+    let w_x : unsigned_abs m.x ≤ i * cost_limit = g.within.x_low in
+    let w_y : unsigned_abs m.y ≤ i * cost_limit = g.within.y_low in
+    let w_p : unsigned_abs m.products ≤ i * (cost_limit * cost_limit) = g.within.products_low in
+    let one_on : suc i ≡ i + 1 = omega arith in
+    subst (λ (n : ℕ). Gathers xs ys n m') one_on (record {
+      x_left = omega (arith, ints, old_x, head_x, new_x);
+      y_left = omega (arith, ints, old_y, head_y, new_y);
+      products_left = omega (arith, ints, old_p, head_p, new_products);
+      within = record {
+        x_low = omega (arith, ints, w_x, low_x, new_x);
+        y_low = omega (arith, ints, w_y, low_y, new_y);
+        products_low = omega (arith, ints, w_p, low_p, size, new_products);
+      };
+    })
+
+pub gathers_all : (xs ys : List ℤ) (n : ℕ) (m : Moments) → drop n xs ≡ [] → drop n ys ≡ [] → Gathers xs ys n m → AreSums xs ys m
+gathers_all xs ys n m end_x end_y g =
+    let left_x : m.x +ℤ total (drop n xs) ≡ total xs = g.x_left in
+    let left_y : m.y +ℤ total (drop n ys) ≡ total ys = g.y_left in
+    let left_p : m.products +ℤ products (drop n xs) (drop n ys) ≡ products xs ys = g.products_left in
+    let none_x = ap total end_x in
+    let none_y = ap total end_y in
+    let none_p = ap (λ (l : List ℤ). products l (drop n ys)) end_x in
+    record {
+      x_is = omega (arith, ints, left_x, none_x);
+      y_is = omega (arith, ints, left_y, none_y);
+      products_are = omega (arith, ints, left_p, none_p);
+    }
+
+-- sums within a lower number of places are within a higher one
+pub within_more : (i n : ℕ) (m : Moments) → i ≤ n → AreWithin i m → AreWithin n m
+within_more i n m few w =
+    let x : unsigned_abs m.x ≤ i * cost_limit = w.x_low in
+    let y : unsigned_abs m.y ≤ i * cost_limit = w.y_low in
+    let p : unsigned_abs m.products ≤ i * (cost_limit * cost_limit) = w.products_low in
+    record { x_low = omega (arith, x, few); y_low = omega (arith, y, few); products_low = omega (arith, p, few) }
+
+-- ---- the lists that are gathered over
+
+pub difference_at : (a b : List ℕ) (i d e : ℕ) → i < length a → length b ≡ length a → drop i (differences a b) ≡ (pos (get_or a i d) -ℤ pos (get_or b i e)) ∷ drop (suc i) (differences a b)
+difference_at [] b i d e inside same = absurd (omega arith)
+difference_at (x ∷ a) [] i d e inside same = absurd (omega arith)
+difference_at (x ∷ a) (y ∷ b) zero d e inside same = refl
+difference_at (x ∷ a) (y ∷ b) (suc i) d e inside same = difference_at a b i d e (omega arith) (omega (arith, same))
+
+pub no_difference_past : (a b : List ℕ) (i : ℕ) → length a ≤ i → drop i (differences a b) ≡ []
+no_difference_past [] b zero past = refl
+no_difference_past [] b (suc i) past = refl
+no_difference_past (x ∷ a) b zero past = absurd (omega arith)
+no_difference_past (x ∷ a) [] (suc i) past = refl
+no_difference_past (x ∷ a) (y ∷ b) (suc i) past = no_difference_past a b i (omega arith)
+
+pub signed_at : (a : List ℕ) (i d : ℕ) → i < length a → drop i (signed a) ≡ pos (get_or a i d) ∷ drop (suc i) (signed a)
+signed_at [] i d inside = absurd (omega arith)
+signed_at (x ∷ a) zero d inside = refl
+signed_at (x ∷ a) (suc i) d inside = signed_at a i d (omega arith)
+
+pub no_signed_past : (a : List ℕ) (i : ℕ) → length a ≤ i → drop i (signed a) ≡ []
+no_signed_past [] zero past = refl
+no_signed_past [] (suc i) past = refl
+no_signed_past (x ∷ a) zero past = absurd (omega arith)
+no_signed_past (x ∷ a) (suc i) past = no_signed_past a i (omega arith)
+
+and_true_left : (p q : Bool) → (p && q) ≡ true → p ≡ true
+and_true_left true q e = refl
+and_true_left false q e = e
+
+and_true_right : (p q : Bool) → (p && q) ≡ true → q ≡ true
+and_true_right true q e = e
+and_true_right false q e = absurd (false≢true e)
+
+pub cost_at : (a : List ℕ) (i d : ℕ) → are_costs a ≡ true → i < length a → get_or a i d ≤ cost_limit
+cost_at [] i d all inside = absurd (omega arith)
+cost_at (x ∷ a) zero d all inside = leb-true x cost_limit (and_true_left (nat_le x cost_limit) (are_costs a) all)
+cost_at (x ∷ a) (suc i) d all inside = cost_at a i d (and_true_right (nat_le x cost_limit) (are_costs a) all) (omega arith)
+
+-- from sums over places to the sum over pairs of places
+pub spread_is : (xs ys : List ℤ) (m : Moments) → length ys ≡ length xs → AreSums xs ys m → pos (length xs) *ℤ m.products -ℤ m.x *ℤ m.y ≡ over_pairs xs ys
+spread_is xs ys m same sums =
+    let x : m.x ≡ total xs = sums.x_is in
+    let y : m.y ≡ total ys = sums.y_is in
+    let p : m.products ≡ products xs ys = sums.products_are in
+    ap (λ (z : ℤ). pos (length xs) *ℤ z -ℤ m.x *ℤ m.y) p
+    ∙ ap (λ (z : ℤ). pos (length xs) *ℤ products xs ys -ℤ z *ℤ m.y) x
+    ∙ ap (λ (z : ℤ). pos (length xs) *ℤ products xs ys -ℤ total xs *ℤ z) y
+    ∙ sym (pairs_are xs ys same)
+
+pub length-differences : (a b : List ℕ) → length b ≡ length a → length (differences a b) ≡ length a
+length-differences [] b e = refl
+length-differences (x ∷ a) [] e = absurd (omega arith)
+length-differences (x ∷ a) (y ∷ b) e = ap suc (length-differences a b (omega (arith, e)))
+
+pub length-signed : (a : List ℕ) → length (signed a) ≡ length a
+length-signed [] = refl
+length-signed (x ∷ a) = ap suc (length-signed a)

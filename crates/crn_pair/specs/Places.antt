@@ -1,0 +1,23 @@
+-- Sums over the replications themselves, from which the code works out the sums over their pairs.
+use Rattle.std.specs.Prelude.{◌≡◌, ℕ, ◌*◌, ◌≤◌, ℤ, pos, ◌+ℤ◌, ◌*ℤ◌, List, [], ◌∷◌, unsigned_abs}
+use Rattle.crn_pair.specs.Limits.{cost_limit}
+use Rattle.crn_pair.specs.Sums.{total}
+use Rattle.crn_pair.specs.declared.moments.Moments.{Moments}
+
+-- the sum of the products of two lists place by place
+abbrev pub products : List ℤ → List ℤ → ℤ
+products [] ys = pos 0
+products (x ∷ xs) [] = pos 0
+products (x ∷ xs) (y ∷ ys) = (x *ℤ y) +ℤ products xs ys
+
+-- the sums of two lists
+pub record AreSums (xs ys : List ℤ) (m : Moments) : Type 0 where
+  pub x_is : m.x ≡ total xs
+  pub y_is : m.y ≡ total ys
+  pub products_are : m.products ≡ products xs ys
+
+-- sums over n places of values up to the limit are no higher than this
+pub record AreWithin (n : ℕ) (m : Moments) : Type 0 where
+  pub x_low : unsigned_abs m.x ≤ n * cost_limit
+  pub y_low : unsigned_abs m.y ≤ n * cost_limit
+  pub products_low : unsigned_abs m.products ≤ n * (cost_limit * cost_limit)

@@ -1,0 +1,14 @@
+-- What is refused of two lists of costs.
+use Rattle.std.specs.Prelude.{ℕ, List, ◌&&◌, not, if◌then◌else◌, Option, Some, None, length, nat_eq, nat_le}
+use Rattle.crn_pair.specs.declared.fault.PairFault.{PairFault}
+use Rattle.crn_pair.specs.declared.fault.PairFault.TheVariants.{Lengths, Empty, TooMany, Entry}
+use Rattle.crn_pair.specs.Limits.{are_costs}
+
+-- the fault of the least number that two lists of costs have
+abbrev pub least_fault : List ℕ → List ℕ → Option PairFault
+least_fault a b =
+    if not (nat_eq (length a) (length b)) then Some Lengths
+    else if nat_eq (length a) 0 then Some Empty
+    else if not (nat_le (length a) 256) then Some TooMany
+    else if not (are_costs a && are_costs b) then Some Entry
+    else None

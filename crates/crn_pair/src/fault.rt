@@ -1,0 +1,29 @@
+use std::error::Error;
+use std::fmt;
+
+/// Why two lists of costs are not compared. Where several faults hold, the one of the least number is
+/// answered.
+#[derive(Clone, Copy, Debug, PartialEq, Eq)]
+pub enum PairFault {
+    /// The lists have different lengths.
+    Lengths = 1,
+    /// The lists are empty.
+    Empty = 2,
+    /// The lists have more than 256 entries.
+    TooMany = 3,
+    /// An entry is over 230,000,000,000,000.
+    Entry = 4,
+}
+
+impl fmt::Display for PairFault {
+    fn fmt<W: fmt::Write>(&self, f: &mut fmt::Formatter<W>) -> fmt::Result {
+        f.write_str(match self {
+            PairFault::Lengths => "the lists of costs differ in length",
+            PairFault::Empty => "there are no costs",
+            PairFault::TooMany => "there are more than 256 costs",
+            PairFault::Entry => "a cost is over 230000000000000",
+        })
+    }
+}
+
+impl Error for PairFault {}
