@@ -2,9 +2,10 @@
 use Rattle.std.proofs.Common.{◌≡◌, ℕ, ◌<◌, List, [], ◌∷◌, length, map, Some, Option, slice_get, slice_index_or, get_or, option_map, subst, sym, ap, ◌∙◌, refl, arith}
 use Rattle.std.proofs.lemmas.Option.{slice_get_read, slice_get-map}
 use Rattle.crn_stock.specs.Parts.{Parts}
-use Rattle.crn_stock.specs.Models.{ModelParts}
+use Rattle.crn_stock.specs.Models.{ModelParts, total}
+use Rattle.crn_run.specs.Runs.{StandsAt}
 use Rattle.crn_text.specs.declared.figures.Figures.{Figures}
-use Rattle.crn_text.specs.Report.{IsFigures}
+use Rattle.crn_text.specs.Rows.{IsFigures}
 
 abbrev pub FiguresAt : ModelParts → List (List ℕ) → ℕ → Figures → Type 0
 FiguresAt m costs i f = (a : List ℕ) → slice_get costs i ≡ Some a → IsFigures m a (slice_index_or costs 0 []) f
@@ -27,3 +28,7 @@ figures_at m m' vs i v base f same inside is base_is h a e =
     let here : IsFigures m v.costs base.costs f = subst (λ (n : ModelParts). IsFigures n v.costs base.costs f) same h in
     let costs : IsFigures m a base.costs f = subst (λ (c : List ℕ). IsFigures m c base.costs f) (sym (costs_at vs i v a inside is e)) here in
     subst (λ (c : List ℕ). IsFigures m a c f) (sym (first_costs vs base (omega (arith, inside)) base_is)) costs
+
+pub stands_at : (m m' : ModelParts) (vs : List Parts) (i : ℕ) (v : Parts) → m' ≡ m → i < length vs → v ≡ get_or vs i v
+    → ((k : ℕ) (w : Parts) → slice_get vs k ≡ Some w → StandsAt m (total m) w) → StandsAt m' (total m') v
+stands_at m m' vs i v same inside is stand = subst (λ (n : ModelParts). StandsAt n (total n) v) (sym same) (stand i v (slice_get_read vs (length vs) i v refl inside is))

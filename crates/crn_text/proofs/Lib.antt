@@ -1,9 +1,4 @@
-pub mod FirstFault
-pub mod HexWords
-pub mod ItemFacts
-pub mod Kept
-pub mod Draws
-pub mod Sound
-pub mod Policies
+mod Costs
 mod FiguresOf
-mod HexWritten
+mod Plainness
+mod Written

@@ -1,7 +1,7 @@
 -- The text of a block's words.
 use Rattle.std.specs.Prelude.{ℕ, List, [], ◌∷◌, ◌++◌, codes}
 use Rattle.crn_cipher.specs.Cipher.{DemandWords, LeadWords}
-use Rattle.crn_text.specs.Hex.{hex_word}
+use Rattle.crn_scenario.specs.Hex.{hex_word}
 
 -- each word in hexadecimal, with a space before it
 abbrev pub spaced : List ℕ → List ℕ

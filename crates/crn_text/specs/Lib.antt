@@ -1,7 +1,4 @@
-pub mod Hex
-pub mod Tree
-pub mod Fields
-pub mod Faults
-pub mod Reading
-pub mod Report
 pub mod BlockWords
+pub mod Plain
+pub mod Report
+pub mod Rows

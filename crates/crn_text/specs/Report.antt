@@ -1,32 +1,12 @@
--- The report of a scenario.
-use Rattle.std.specs.Prelude.{◌≡◌, ℕ, ◌*◌, ℤ, pos, ◌-ℤ◌, ◌*ℤ◌, List, [], ◌∷◌, ◌++◌, Some, codes, decimal, length, map, slice_get, slice_index_or, sum}
+-- The report of a scenario: rows of fields, with a comma between each two and a line feed at the end.
+use Rattle.std.specs.Prelude.{◌≡◌, ℕ, List, [], ◌∷◌, ◌++◌, Option, Some, None, codes, decimal, map}
 use Rattle.std.specs.Fmt.{signed_decimal}
 use Rattle.crn_pair.specs.declared.fraction.Fraction.{Fraction}
 use Rattle.crn_stock.specs.declared.rules.Policy.{Policy}
-use Rattle.crn_stock.specs.Models.{ModelParts}
 use Rattle.crn_stock.specs.Scenarios.{ScenarioParts}
 use Rattle.crn_run.specs.Runs.{costs_of}
 use Rattle.crn_text.specs.declared.figures.Figures.{Figures}
-
--- ---- the figures
-
--- the fraction, which is in lowest terms, is num / den
-abbrev pub IsQuotient : ℤ → ℕ → Fraction → Type 0
-IsQuotient num den f = (f.num *ℤ pos den) ≡ (num *ℤ pos f.den)
-
--- the figures of a policy with the costs a by replication, where the first policy has the costs b
-pub record IsFigures (m : ModelParts) (a b : List ℕ) (f : Figures) : Type 0 where
-  pub total_is : f.total ≡ sum a
-  pub per_period_is : IsQuotient (pos (sum a)) (m.replications * m.periods) f.per_period
-  pub diff_total_is : f.diff_total ≡ pos (sum a) -ℤ pos (sum b)
-  pub diff_mean_is : IsQuotient (pos (sum a) -ℤ pos (sum b)) m.replications f.diff_mean
-
--- those of each policy, where a list has the costs of each
-pub record AreFigures (m : ModelParts) (costs : List (List ℕ)) (figures : List Figures) : Type 0 where
-  pub count : length figures ≡ length costs
-  pub each : (i : ℕ) (f : Figures) → slice_get figures i ≡ Some f → (a : List ℕ) → slice_get costs i ≡ Some a → IsFigures m a (slice_index_or costs 0 []) f
-
--- ---- the text
+use Rattle.crn_text.specs.Rows.{AreFigures}
 
 abbrev pub comma : List ℕ
 comma = 44 ∷ []
@@ -34,35 +14,48 @@ comma = 44 ∷ []
 abbrev pub line_feed : List ℕ
 line_feed = 10 ∷ []
 
+-- fields, each after a comma
+abbrev pub further : List (List ℕ) → List ℕ
+further [] = []
+further (f ∷ fs) = comma ++ f ++ further fs
+
+-- a row
+unfoldable pub row_text : List (List ℕ) → List ℕ
+row_text [] = line_feed
+row_text (f ∷ fs) = f ++ further fs ++ line_feed
+
 -- num/den
 abbrev pub fraction_text : Fraction → List ℕ
 fraction_text f = signed_decimal f.num ++ codes "/" ++ decimal f.den
 
-unfoldable pub header_text : List ℕ
-header_text = codes "policy,s,S,total,per_period,diff_total,diff_mean,diff_var,cov" ++ line_feed
+-- the same, or a dash where there is none
+abbrev pub estimate_text : Option Fraction → List ℕ
+estimate_text None = codes "-"
+estimate_text (Some f) = fraction_text f
 
-abbrev pub policy_text : Policy → List ℕ
-policy_text p = p.name ++ comma ++ signed_decimal p.low ++ comma ++ signed_decimal p.high
+-- the names of the fields
+abbrev pub header : List (List ℕ)
+header =
+    codes "policy" ∷ codes "s" ∷ codes "S" ∷ codes "total" ∷ codes "per_period"
+    ∷ codes "diff_total" ∷ codes "diff_mean" ∷ codes "diff_var" ∷ codes "cov" ∷ []
 
-abbrev pub figures_text : Figures → List ℕ
-figures_text f = decimal f.total ++ comma ++ fraction_text f.per_period ++ comma ++ signed_decimal f.diff_total ++ comma ++ fraction_text f.diff_mean
-
--- a policy's row; one replication tells nothing of variance and covariance
-abbrev pub line_text : Policy → Figures → List ℕ
-line_text p f = policy_text p ++ comma ++ figures_text f ++ codes ",-,-" ++ line_feed
+-- a policy's fields
+abbrev pub fields : Policy → Figures → List (List ℕ)
+fields p f =
+    p.name ∷ signed_decimal p.low ∷ signed_decimal p.high ∷ decimal f.total ∷ fraction_text f.per_period
+    ∷ signed_decimal f.diff_total ∷ fraction_text f.diff_mean ∷ estimate_text f.diff_var ∷ estimate_text f.cov ∷ []
 
 -- a row for each policy
-abbrev pub lines_text : List Policy → List Figures → List ℕ
-lines_text [] fs = []
-lines_text (p ∷ ps) [] = []
-lines_text (p ∷ ps) (f ∷ fs) = line_text p f ++ lines_text ps fs
+abbrev pub rows_text : List Policy → List Figures → List ℕ
+rows_text [] fs = []
+rows_text (p ∷ ps) [] = []
+rows_text (p ∷ ps) (f ∷ fs) = row_text (fields p f) ++ rows_text ps fs
 
--- the text is the report of a scenario of one replication, where a list has the costs of each policy
+-- the text is the report of a scenario, where a list has the costs of each policy
 pub record IsReportText (s : ScenarioParts) (costs : List (List ℕ)) (text : List ℕ) : Type 0 where
-  pub one : s.model.replications ≡ 1
   pub figures : List Figures
   pub are : AreFigures s.model costs figures
-  pub text_is : text ≡ header_text ++ lines_text s.policies figures
+  pub text_is : text ≡ row_text header ++ rows_text s.policies figures
 
 -- the report of a scenario: that of the costs that its policies have after all its blocks
 abbrev pub IsReportOf : ScenarioParts → List ℕ → Type 0

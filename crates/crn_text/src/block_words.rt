@@ -3,8 +3,8 @@
 ghost use Rattle.std.specs.Prelude.{◌≡◌, ◌++◌, IfOk, OnOk};
 ghost use Rattle.crn_text.specs.BlockWords as spec;
 
-use crate::hex::hex_word;
 use crn_cipher::block;
+use crn_scenario::hex::hex_word;
 use std::alloc::{AllocError, Global};
 
 // Appends each word in hexadecimal, with a space before it.

@@ -1,19 +1,12 @@
-//! The texts of crnsim: scenarios are read from TOML, reports are written as CSV.
+//! The texts of crnsim: reports are written as CSV, and the words of a block as lines. Scenarios are read by
+//! `crn_scenario`, which is handed on here.
 #![tactic(auto)]
 
 mod block_words;
-mod faults;
-mod fields;
+mod field_texts;
 mod figures;
-pub mod hex;
-mod read;
 mod report_text;
-mod scenario;
-mod tree;
 
 pub use block_words::words_text;
-pub use read::{ScenarioFault, read_scenario};
+pub use crn_scenario::{ScenarioFault, read_scenario};
 pub use report_text::report;
-
-#[cfg(test)]
-mod tests;

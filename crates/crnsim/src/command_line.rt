@@ -6,7 +6,7 @@ ghost use Rattle.crnsim.specs.CommandLine.{key_word_of};
 use crate::fault::Fault;
 use clap::error::ErrorKind;
 use clap::{Arg, ArgMatches};
-use crn_text::hex::{is_hex_word, word_of};
+use crn_scenario::hex::{is_hex_word, word_of};
 use itoa::Buffer;
 use std::alloc::{AllocError, Global};
 

@@ -1,7 +1,7 @@
 ghost use Rattle.std.specs.Prelude.{◌≡◌, ◌≢◌, IfOk, IfErr, OnOk};
 ghost use Rattle.std.specs.Io.KnownBytes.{Keeps};
-ghost use Rattle.crn_text.specs.Reading.{IsRefused};
-ghost use Rattle.crn_text.specs.declared.read.ScenarioFault.{ScenarioFault};
+ghost use Rattle.crn_scenario.specs.Reading.{Refuses};
+ghost use Rattle.crn_scenario.specs.declared.scenario_fault.ScenarioFault.{ScenarioFault};
 ghost use Rattle.crn_text.specs.Report.{IsReportOf};
 ghost use Rattle.crnsim.specs.Simulation.{IsReportFor, WroteReport, WroteFront, ReadRefused};
 
@@ -19,7 +19,7 @@ use std::io::{Read, Write};
 ///
 /// # Errors
 /// - `Reading` where a read fails, for whatever cause, or where the input is over 1,048,576 bytes.
-/// - `Scenario` where the input is no scenario, or one of more than one replication.
+/// - `Scenario` where the input is no scenario, with the least of its faults.
 /// - `Memory` where a growth was refused.
 /// - `Writing` where a write fails or takes no byte. A front of the report, which may be empty, went out.
 ///
@@ -32,7 +32,7 @@ pub fn simulate<R: Read, W: Write>(
     ensures wrote { OnOk result (WroteReport (R.remaining reader.old) (R.remaining reader.new) (W.contents writer.old) (W.contents writer.new)) }
     ensures kept { IfErr result (λ e. e ≢ Fault.Writing → Keeps (W.contents writer.old) (W.contents writer.new)) }
     ensures front { IfErr result (λ e. e ≡ Fault.Writing → WroteFront (R.remaining reader.old) (R.remaining reader.new) (W.contents writer.old) (W.contents writer.new)) }
-    ensures scenario { (f : ScenarioFault) → result ≡ Err (Fault.Scenario f) → (f ≢ ScenarioFault.Memory) × ReadRefused (R.remaining reader.old) (R.remaining reader.new) }
+    ensures scenario { (f : ScenarioFault) → result ≡ Err (Fault.Scenario f) → (f ≢ ScenarioFault.Memory) × ReadRefused f (R.remaining reader.old) (R.remaining reader.new) }
 {
     let input = match read_input(alloc, reader) {
         Ok(input) => input,
@@ -49,7 +49,7 @@ pub fn simulate<R: Read, W: Write>(
 // The report for an input.
 fn report_for(alloc: Global, input: &[u8]) -> Result<Vec<u8>, Fault>
     ensures report { IfOk result (λ text. IsReportFor input.now text.items) }
-    ensures scenario { (f : ScenarioFault) → result ≡ Err (Fault.Scenario f) → (f ≢ ScenarioFault.Memory) × IsRefused input.now }
+    ensures scenario { (f : ScenarioFault) → result ≡ Err (Fault.Scenario f) → (f ≢ ScenarioFault.Memory) × Refuses f input.now }
     ensures no_writing { IfErr result (λ e. e ≢ Fault.Writing) }
 {
     let scenario = match read_scenario(alloc, input) {
@@ -69,13 +69,12 @@ fn scenario_fault(fault: ScenarioFault) -> Fault
 {
     match fault {
         ScenarioFault::Memory => Fault::Memory,
-        ScenarioFault::Refused => Fault::Scenario(fault),
+        _ => Fault::Scenario(fault),
     }
 }
 
 // Runs all policies over the whole stream and makes the report.
 fn run_and_report(alloc: Global, scenario: &Scenario) -> Result<Vec<u8>, AllocError>
-    requires { scenario.now.model.replications ≡ 1 }
     ensures { IfOk result (λ text. IsReportOf scenario.now text.items) }
 {
     let start = Checkpoint::start(alloc, scenario)?;

@@ -45,6 +45,24 @@ lead = { values = [2], weights = [1] }
 policy = [{ name = \"Q\", s = 1, S = 3 }]
 ";
 
+// Two replications of two blocks each.
+const TWO_REPLICATIONS: &str = "version = 1
+key = [\"0000000000000000\", \"0000000000000000\", \"0000000000000000\", \"0000000000000000\"]
+periods = 5
+replications = 2
+initial = 10
+ring = 2
+costs = { setup = 7, unit = 2, holding = 1, backlog = 4 }
+demand = { values = [3], weights = [1] }
+lead = { values = [1], weights = [1] }
+policy = [{ name = \"A\", s = 5, S = 10 }, { name = \"B\", s = 4, S = 10 }]
+";
+
+// A scenario's text with one line of it changed.
+fn changed(rt: &HostRuntime, text: &str, from: &str, to: &str) -> Result<String, AllocError> {
+    text.replace(rt.alloc(), from, to)
+}
+
 fn joined(rt: &HostRuntime, parts: &[&str]) -> Result<String, AllocError> {
     let mut text = String::new(rt.alloc());
     for part in parts {
@@ -63,7 +81,7 @@ fn answer_to(rt: &HostRuntime, text: &str) -> Result<Vec<u8>, Fault> {
 
 #[test]
 fn worked_examples(rt: HostRuntime) -> Result<(), Fail> {
-    let table: [(&[&str], &[&str]); 4] = [
+    let table: [(&[&str], &[&str]); 5] = [
         (&[MODEL, POLICY_A], &[HEADER, ROW_A]),
         (&[MODEL, POLICY_A, POLICY_B], &[HEADER, ROW_A, ROW_B]),
         (
@@ -75,6 +93,14 @@ fn worked_examples(rt: HostRuntime) -> Result<(), Fail> {
             ],
         ),
         (&[LATE], &[HEADER, "Q,1,3,83,83/4,0,0/1,-,-\n"]),
+        (
+            &[TWO_REPLICATIONS],
+            &[
+                HEADER,
+                "A,5,10,110,11/1,0,0/1,0/1,0/1\n",
+                "B,4,10,98,49/5,-12,-6/1,0/1,0/1\n",
+            ],
+        ),
     ];
     for (texts, report) in table {
         let text = joined(&rt, texts)?;
@@ -89,21 +115,56 @@ fn worked_examples(rt: HostRuntime) -> Result<(), Fail> {
 
 #[test]
 fn refused_inputs(rt: HostRuntime) -> Result<(), Fail> {
-    let refused: [&[&str]; 6] = [
-        &[],
-        &["version = 1\n"],
-        &[MODEL],
-        &[MODEL, POLICY_A, POLICY_A],
-        &[MODEL, POLICY_A, "colour = 1\n"],
-        &[MODEL, POLICY_A, "[[policy]"],
+    let refused: [(&[&str], ScenarioFault); 6] = [
+        (&[], ScenarioFault::Version),
+        (&["version = 1\n"], ScenarioFault::MissingKey),
+        (&[MODEL], ScenarioFault::MissingKey),
+        (&[MODEL, POLICY_A, POLICY_A], ScenarioFault::Name),
+        (
+            &[MODEL, POLICY_A, "colour = 1\n"],
+            ScenarioFault::UnknownKey,
+        ),
+        (&[MODEL, POLICY_A, "[[policy]"], ScenarioFault::NoDocument),
     ];
-    for texts in refused {
+    for (texts, fault) in refused {
         let text = joined(&rt, texts)?;
         assert_eq!(rt;
             answer_to(&rt, text.as_str()).err(),
-            Some(Fault::Scenario(ScenarioFault::Refused)),
+            Some(Fault::Scenario(fault)),
             "{text}"
         );
+    }
+    Ok(())
+}
+
+#[test]
+fn a_ring_of_three(rt: HostRuntime) -> Result<(), Fail> {
+    let base = joined(&rt, &[MODEL, POLICY_A, POLICY_B])?;
+    let text = changed(&rt, base.as_str(), "ring = 2", "ring = 3")?;
+    match answer_to(&rt, text.as_str()) {
+        Ok(_) => assert!(rt; false, "a ring of three blocks is accepted"),
+        Err(fault) => {
+            let line = fault.to_string(rt.alloc())?;
+            assert_eq!(rt; line.as_str(), "crnsim: scenario 12");
+            assert_eq!(rt; fault.status(), 3);
+        }
+    }
+    Ok(())
+}
+
+#[test]
+fn every_ring_size(rt: HostRuntime) -> Result<(), Fail> {
+    let base = joined(&rt, &[MODEL, POLICY_A, POLICY_B])?;
+    let report = joined(&rt, &[HEADER, ROW_A, ROW_B])?;
+    for size in [
+        "1", "2", "4", "8", "16", "32", "64", "128", "256", "512", "1024",
+    ] {
+        let line = joined(&rt, &["ring = ", size])?;
+        let text = changed(&rt, base.as_str(), "ring = 2", line.as_str())?;
+        match answer_to(&rt, text.as_str()) {
+            Ok(out) => assert_eq!(rt; out.as_slice(), report.as_bytes(), "{size}"),
+            Err(fault) => assert!(rt; false, "{fault}"),
+        }
     }
     Ok(())
 }
@@ -113,8 +174,13 @@ fn lines_and_statuses(rt: HostRuntime) -> Result<(), Fail> {
     let table = [
         (Fault::CommandLine, "crnsim: command line", 2u8),
         (
-            Fault::Scenario(ScenarioFault::Refused),
+            Fault::Scenario(ScenarioFault::NoDocument),
             "crnsim: scenario 1",
+            3,
+        ),
+        (
+            Fault::Scenario(ScenarioFault::PolicyCount),
+            "crnsim: scenario 13",
             3,
         ),
         (Fault::Reading, "crnsim: reading", 5),

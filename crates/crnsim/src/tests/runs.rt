@@ -59,3 +59,19 @@ fn block_by_block(rt: HostRuntime) -> Result<(), Fail> {
     }
     Ok(())
 }
+
+// Two policies over the first and only block.
+#[test]
+fn one_block(rt: HostRuntime) -> Result<(), Fail> {
+    let text = super::joined(&rt, &[super::MODEL, super::POLICY_A, super::POLICY_B])?;
+    let Ok(scenario) = read_scenario(rt.alloc(), text.as_bytes()) else {
+        assert!(rt; false, "the scenario is refused");
+        return Ok(());
+    };
+    let start = Checkpoint::start(rt.alloc(), &scenario)?;
+    let end = run_plain(rt.alloc(), &scenario, &start, 1)?;
+    assert_eq!(rt; end.next, 1);
+    assert_eq!(rt; shown(&end, 0), Some((60, 0, Some(222))));
+    assert_eq!(rt; shown(&end, 1), Some((60, 0, Some(359))));
+    Ok(())
+}

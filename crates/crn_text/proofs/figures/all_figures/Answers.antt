@@ -1,7 +1,7 @@
 use Rattle.std.proofs.Common.{rules, ◌≡◌, ◌++◌, ◌∷◌, [], map, arith}
 use Rattle.std.proofs.lemmas.Grind.{common_steps}
 use Rattle.crn_run.proofs.Growing.{each-grown}
-use Rattle.crn_text.proofs.FiguresOf.{FiguresAt, figures_at}
+use Rattle.crn_text.proofs.FiguresOf.{FiguresAt, figures_at, stands_at}
 use Rattle.crn_text.proofs.figures.all_figures.Goals as goal
 
 pub loop-i-preserved : goal.loop-i-preserved
@@ -20,3 +20,11 @@ loop-i-preserved c =
 
 pub returns : goal.returns
 returns c = record { count = grind (arith, common_steps, c.loop-i.invariant.count); each = c.loop-i.invariant.each }
+
+pub figures_of-requires-clause-state : goal.figures_of-requires-clause-state
+figures_of-requires-clause-state c =
+    stands_at c.args.scenario.now.model c.model.result.now c.args.states.now c.loop-i.i c.index-states-i.result c.model.ensures c.loop-i-test.true c.index-states-i.is c.requires.stand
+
+pub figures_of-requires-clause-base : goal.figures_of-requires-clause-base
+figures_of-requires-clause-base c =
+    stands_at c.args.scenario.now.model c.model.result.now c.args.states.now 0 c.index-states-0.result c.model.ensures (omega (arith, c.loop-i-test.true)) c.index-states-0.is c.requires.stand

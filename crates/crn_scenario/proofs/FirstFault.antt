@@ -1,0 +1,70 @@
+-- What the first fault of a tree says: the numbers of the faults rise, so the first that holds is the least.
+use Rattle.std.proofs.Common.{◌≡◌, ℕ, ◌<◌, ◌≤◌, Bool, true, false, List, [], ◌∷◌, Some, None, refl, arith, lit<}
+use Rattle.std.proofs.lemmas.Bool.{false≢true}
+use Rattle.std.proofs.lemmas.Bool.Decides.{nat_tests}
+use Rattle.std.specs.Prelude.{⊤}
+use Rattle.toml.specs.Data.{Members}
+use Rattle.crn_scenario.specs.Faults.{holds_at, first_true, faults, IsLeast, HasNone}
+use Rattle.crn_scenario.specs.declared.scenario_fault.ScenarioFault.{ScenarioFault}
+use Rattle.crn_scenario.specs.declared.scenario_fault.ScenarioFault.TheVariants as fault
+use Rattle.crn_scenario.specs.Reading.{number_of, IsDocument, Refuses}
+
+abbrev AreAbove : ℕ → List (ℕ × Bool) → Type 0
+AreAbove n [] = ⊤
+AreAbove n (p ∷ ps) = (n < p.0) × AreAbove p.0 ps
+
+absent : (n j : ℕ) (ps : List (ℕ × Bool)) → AreAbove n ps → j ≤ n → holds_at j ps ≡ false
+absent n j [] h le = refl
+absent n j ((k, b) ∷ ps) h le =
+    let more : holds_at j ps ≡ false = absent k j ps h.1 (omega arith) in
+    let here : n < k = h.0 in
+    grind (arith, nat_tests, more, here)
+
+none_at : (j : ℕ) (ps : List (ℕ × Bool)) → first_true ps ≡ None → holds_at j ps ≡ false
+none_at j [] h = refl
+none_at j ((k, true) ∷ ps) h = cc
+none_at j ((k, false) ∷ ps) h = let more : holds_at j ps ≡ false = none_at j ps h in grind (arith, nat_tests, more)
+
+first_at : (k : ℕ) (ps : List (ℕ × Bool)) → first_true ps ≡ Some k → holds_at k ps ≡ true
+first_at k [] e = cc
+first_at k ((m, true) ∷ ps) e = let same : m ≡ k = cc in grind (arith, nat_tests, same)
+first_at k ((m, false) ∷ ps) e = let more : holds_at k ps ≡ true = first_at k ps e in grind (arith, nat_tests, more)
+
+first_below : (n k : ℕ) (ps : List (ℕ × Bool)) → AreAbove n ps → first_true ps ≡ Some k → (j : ℕ) → j < k → holds_at j ps ≡ false
+first_below n k [] h e j less = refl
+first_below n k ((m, true) ∷ ps) h e j less =
+    let same : m ≡ k = cc in
+    let more : holds_at j ps ≡ false = absent m j ps h.1 (omega arith) in
+    grind (arith, nat_tests, more, same)
+first_below n k ((m, false) ∷ ps) h e j less = let more : holds_at j ps ≡ false = first_below m k ps h.1 e j less in grind (arith, nat_tests, more)
+
+rising : (ms : Members) → AreAbove 0 (faults ms)
+rising ms = (lit< tt, (lit< tt, (lit< tt, (lit< tt, (lit< tt, (lit< tt, (lit< tt, (lit< tt, (lit< tt, (lit< tt, (lit< tt, (lit< tt, tt))))))))))))
+
+-- where there is none, no fault holds
+pub no_fault : (ms : Members) → first_true (faults ms) ≡ None → HasNone ms
+no_fault ms e = record { none = λ k h. false≢true (cc (none_at k (faults ms) e)) }
+
+-- else it is the least that holds
+least : (ms : Members) (k : ℕ) → first_true (faults ms) ≡ Some k → IsLeast ms k
+least ms k e = record {
+  holds = first_at k (faults ms) e;
+  none_below = λ j less h. false≢true (cc (first_below 0 k (faults ms) (rising ms) e j less));
+}
+
+-- and it is what the document is refused for
+pub refused : (f : ScenarioFault) (bytes : List ℕ) (ms : Members) → IsDocument bytes ms → first_true (faults ms) ≡ Some (number_of f) → Refuses f bytes
+refused fault.NoDocument bytes ms d e = absurd (false≢true (first_at 1 (faults ms) e))
+refused fault.Version bytes ms d e = record { tree = ms; document = d; least = least ms 2 e }
+refused fault.UnknownKey bytes ms d e = record { tree = ms; document = d; least = least ms 3 e }
+refused fault.MissingKey bytes ms d e = record { tree = ms; document = d; least = least ms 4 e }
+refused fault.Kind bytes ms d e = record { tree = ms; document = d; least = least ms 5 e }
+refused fault.Range bytes ms d e = record { tree = ms; document = d; least = least ms 6 e }
+refused fault.Lengths bytes ms d e = record { tree = ms; document = d; least = least ms 7 e }
+refused fault.Order bytes ms d e = record { tree = ms; document = d; least = least ms 8 e }
+refused fault.WeightSum bytes ms d e = record { tree = ms; document = d; least = least ms 9 e }
+refused fault.Levels bytes ms d e = record { tree = ms; document = d; least = least ms 10 e }
+refused fault.Name bytes ms d e = record { tree = ms; document = d; least = least ms 11 e }
+refused fault.RingSize bytes ms d e = record { tree = ms; document = d; least = least ms 12 e }
+refused fault.PolicyCount bytes ms d e = record { tree = ms; document = d; least = least ms 13 e }
+refused fault.Memory bytes ms d e = tt

@@ -1,0 +1,9 @@
+pub mod FirstFault
+pub mod LaterNames
+pub mod HexWords
+pub mod ItemFacts
+pub mod Kept
+pub mod Draws
+pub mod Sound
+pub mod Policies
+mod HexWritten

@@ -1,0 +1,114 @@
+-- What a tree without a fault gives: the conditions of a model and of a scenario.
+use Rattle.std.proofs.Common.{◌≡◌, ℕ, ◌≤◌, [], Bool, true, false, ◌||◌, codes, Option, Some, refl, sym, subst, lit<, arith, ℤ, pos, All}
+use Rattle.std.proofs.lemmas.Int.{ints}
+use Rattle.std.specs.Prelude.{◌≤ℤ◌}
+use Rattle.toml.specs.Data.{Members, get_member}
+use Rattle.crn_stock.specs.Models.{IsModel, AreCosts, ModelParts}
+use Rattle.crn_stock.specs.declared.rules.Costs.{Costs}
+use Rattle.crn_draw.specs.Spread.{Weighted}
+use Rattle.crn_scenario.specs.Tree.{integer_at, table_at}
+use Rattle.crn_scenario.specs.Fields.{Entry, entry, number}
+use Rattle.crn_scenario.specs.Fields as fields
+use Rattle.crn_scenario.specs.declared.fields.Kind.TheVariants as kind
+use Rattle.crn_scenario.specs.Faults.{HasNone, has_other_lengths, has_values_out_of_order, has_weights_out_of_range, has_other_lengths_in, has_other_order_in, has_other_total_in}
+use Rattle.crn_scenario.specs.Reading.{natural, integer, naturals_in, costs_of, weighted_of, AreDraws, model_of}
+use Rattle.crn_scenario.proofs.Kept.{Kept, kept_at, top_kept, IsNumber, number_kept, costs_kept, demand_kept, lead_kept, one}
+use Rattle.crn_scenario.proofs.Draws.{draw_fields, draws, values_high, values_low}
+
+-- neither of two
+neither : (a b : Bool) → (a || b) ≡ false → (a ≡ false) × (b ≡ false)
+neither true b h = cc
+neither false b h = (refl, h)
+
+lengths : (ms : Members) → HasNone ms → (has_other_lengths_in (table_at (codes "demand") ms) ≡ false) × (has_other_lengths_in (table_at (codes "lead") ms) ≡ false)
+unfolding has_other_lengths
+lengths ms h = neither (has_other_lengths_in (table_at (codes "demand") ms)) (has_other_lengths_in (table_at (codes "lead") ms)) (one (has_other_lengths ms) (h.none 7))
+
+orders : (ms : Members) → HasNone ms → (has_other_order_in (table_at (codes "demand") ms) ≡ false) × (has_other_order_in (table_at (codes "lead") ms) ≡ false)
+unfolding has_values_out_of_order
+orders ms h = neither (has_other_order_in (table_at (codes "demand") ms)) (has_other_order_in (table_at (codes "lead") ms)) (one (has_values_out_of_order ms) (h.none 8))
+
+totals : (ms : Members) → HasNone ms → (has_other_total_in (table_at (codes "demand") ms) ≡ false) × (has_other_total_in (table_at (codes "lead") ms) ≡ false)
+unfolding has_weights_out_of_range
+totals ms h = neither (has_other_total_in (table_at (codes "demand") ms)) (has_other_total_in (table_at (codes "lead") ms)) (one (has_weights_out_of_range ms) (h.none 9))
+
+draws_at : (low high : ℕ) (o : Option Members) (t : Members) → high ≤ 65536 → o ≡ Some t → Kept (draw_fields low high) t → has_other_lengths_in o ≡ false → has_other_order_in o ≡ false → has_other_total_in o ≡ false → AreDraws o
+draws_at low high o t le e k a b c =
+    subst (λ (x : Option Members). AreDraws x) (sym e) (draws low high t le k (subst (λ (x : Option Members). has_other_lengths_in x ≡ false) e a) (subst (λ (x : Option Members). has_other_order_in x ≡ false) e b) (subst (λ (x : Option Members). has_other_total_in x ≡ false) e c))
+
+pub demand_draws : (ms : Members) → HasNone ms → AreDraws (table_at (codes "demand") ms)
+demand_draws ms h =
+    let t = demand_kept ms h in
+    draws_at 0 10000 (table_at (codes "demand") ms) t.members (omega arith) t.is t.kept (lengths ms h).0 (orders ms h).0 (totals ms h).0
+
+pub lead_draws : (ms : Members) → HasNone ms → AreDraws (table_at (codes "lead") ms)
+lead_draws ms h =
+    let t = lead_kept ms h in
+    draws_at 1 32 (table_at (codes "lead") ms) t.members (omega arith) t.is t.kept (lengths ms h).1 (orders ms h).1 (totals ms h).1
+
+-- ---- the model
+
+nowhere : Entry
+nowhere = entry [] kind.Integer
+
+-- a number within a range, as the reader takes it
+pub record IsTaken (low high n : ℕ) (z : ℤ) : Type 0 where
+  pub low_is : low ≤ n
+  pub high_is : n ≤ high
+  pub signed : z ≡ pos n
+
+pub taken : (low high : ℕ) (o : Option ℤ) → IsNumber low high o → IsTaken low high (natural o) (integer o)
+taken low high o h =
+    subst (λ (x : Option ℤ). IsTaken low high (natural x) (integer x)) (sym h.is) (record { low_is = h.at_least; high_is = h.at_most; signed = refl })
+
+pub periods : (ms : Members) → HasNone ms → IsTaken 1 1024 (natural (integer_at (codes "periods") ms)) (integer (integer_at (codes "periods") ms))
+periods ms h = taken 1 1024 (integer_at (codes "periods") ms) (number_kept 1 1024 (get_member (codes "periods") ms) (kept_at fields.top ms 2 nowhere (top_kept ms h) (lit< tt)))
+
+pub replications : (ms : Members) → HasNone ms → IsTaken 1 256 (natural (integer_at (codes "replications") ms)) (integer (integer_at (codes "replications") ms))
+replications ms h = taken 1 256 (integer_at (codes "replications") ms) (number_kept 1 256 (get_member (codes "replications") ms) (kept_at fields.top ms 3 nowhere (top_kept ms h) (lit< tt)))
+
+initial : (ms : Members) → HasNone ms → IsTaken 0 1000000 (natural (integer_at (codes "initial") ms)) (integer (integer_at (codes "initial") ms))
+initial ms h = taken 0 1000000 (integer_at (codes "initial") ms) (number_kept 0 1000000 (get_member (codes "initial") ms) (kept_at fields.top ms 4 nowhere (top_kept ms h) (lit< tt)))
+
+costs_in : (t : Members) → Kept fields.costs t → AreCosts (costs_of (Some t))
+costs_in t k = record {
+  setup = (taken 0 100000000 _ (number_kept 0 100000000 (get_member (codes "setup") t) (kept_at fields.costs t 0 nowhere k (lit< tt)))).high_is;
+  unit = (taken 0 10000 _ (number_kept 0 10000 (get_member (codes "unit") t) (kept_at fields.costs t 1 nowhere k (lit< tt)))).high_is;
+  holding = (taken 0 10000 _ (number_kept 0 10000 (get_member (codes "holding") t) (kept_at fields.costs t 2 nowhere k (lit< tt)))).high_is;
+  backlog = (taken 0 10000 _ (number_kept 0 10000 (get_member (codes "backlog") t) (kept_at fields.costs t 3 nowhere k (lit< tt)))).high_is;
+}
+
+pub costs_fit : (ms : Members) → HasNone ms → AreCosts (costs_of (table_at (codes "costs") ms))
+costs_fit ms h =
+    let t = costs_kept ms h in
+    subst (λ (o : Option Members). AreCosts (costs_of o)) (sym t.is) (costs_in t.members t.kept)
+
+pub from_low : (low high n : ℕ) (z : ℤ) → IsTaken low high n z → pos 0 ≤ℤ z
+from_low low high n z h = let e : z ≡ pos n = h.signed in omega (arith, ints)
+
+pub to_high : (low high n : ℕ) (z : ℤ) → IsTaken low high n z → z ≤ℤ pos high
+to_high low high n z h = let e : z ≡ pos n = h.signed in let k : n ≤ high = h.high_is in omega (arith, ints)
+
+pub model_fits : (ms : Members) → HasNone ms → IsModel (model_of ms)
+model_fits ms h =
+    let d = demand_kept ms h in
+    let l = lead_kept ms h in
+    record {
+      periods_low = (periods ms h).low_is;
+      periods_high = (periods ms h).high_is;
+      replications_low = (replications ms h).low_is;
+      replications_high = (replications ms h).high_is;
+      initial_low = from_low 0 1000000 _ _ (initial ms h);
+      initial_high = to_high 0 1000000 _ _ (initial ms h);
+      costs = costs_fit ms h;
+      demand = subst (λ (o : Option Members). All (λ v. v ≤ 10000) (naturals_in (codes "values") o)) (sym d.is) (values_high 0 10000 d.members d.kept);
+      lead_low = subst (λ (o : Option Members). All (λ v. 1 ≤ v) (naturals_in (codes "values") o)) (sym l.is) (values_low 1 32 l.members l.kept);
+      lead_high = subst (λ (o : Option Members). All (λ v. v ≤ 32) (naturals_in (codes "values") o)) (sym l.is) (values_high 1 32 l.members l.kept);
+    }
+
+abbrev pub parts : ℕ → ℕ → ℤ → Costs → Weighted → Weighted → ModelParts
+parts p r i c d l = record { periods = p; replications = r; initial = i; costs = c; demand = d; lead = l }
+
+-- a model with the parts that the tree says
+pub same_model : (ms : Members) (p r : ℕ) (i : ℤ) (c : Costs) (d l : Weighted) → p ≡ natural (integer_at (codes "periods") ms) → r ≡ natural (integer_at (codes "replications") ms) → i ≡ integer (integer_at (codes "initial") ms) → c ≡ costs_of (table_at (codes "costs") ms) → d ≡ weighted_of (table_at (codes "demand") ms) → l ≡ weighted_of (table_at (codes "lead") ms) → parts p r i c d l ≡ model_of ms
+same_model ms p r i c d l e f g h k m = cc

@@ -1,0 +1,10 @@
+use Rattle.std.proofs.Common.{sym}
+use Rattle.toml.specs.View.{table_view}
+use Rattle.crn_scenario.specs.Reading.{IsDocument}
+use Rattle.crn_scenario.proofs.FirstFault.{refused}
+use Rattle.crn_scenario.proofs.read.read_scenario.Goals as goal
+
+pub returns-in-Some-clause-refuses : goal.returns-in-Some-clause-refuses
+returns-in-Some-clause-refuses c =
+    let document : IsDocument c.args.bytes.now (table_view c.in-Ok.table) = record { text = c.in-Ok.ensures.ok.0; tree = c.in-Ok.ensures.ok.1 } in
+    refused c.in-Some.fault c.args.bytes.now (table_view c.in-Ok.table) document (sym (rw c.in-Some.is at c.in_ok-fault.ensures))

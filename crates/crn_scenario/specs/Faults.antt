@@ -1,0 +1,229 @@
+-- The faults of a scenario's tree, each a fact of the tree by itself: a key that is absent and a value of
+-- another kind are faults of their own, and break no other rule.
+use Rattle.std.specs.Prelude.{◌≡◌, ℕ, ◌<◌, ℤ, pos, ◌+ℤ◌, List, [], ◌∷◌, Bool, true, false, not, ◌&&◌, ◌||◌, ◌==◌, if◌then◌else◌, Option, Some, None, int_le, int_lt, nat_le, option_and_then, codes}
+use Rattle.std.specs.List.{list_all}
+use Rattle.std.specs.Str.{bytes_eq}
+use Rattle.toml.specs.Data.{Data, Items, no_items, item, Members, as_table}
+use Rattle.crn_stock.specs.Scenarios.{is_name}
+use Rattle.crn_scenario.specs.Tree.{integer_at, text_at, array_at, table_at, integers_of, tables_of, count_items, kept}
+use Rattle.crn_scenario.specs.Fields.{Entry, keeps, is_within}
+use Rattle.crn_scenario.specs.Fields as fields
+use Rattle.crn_scenario.specs.declared.fields.Rule.{Rule}
+use Rattle.crn_scenario.specs.declared.fields.Rule.TheVariants as rule
+
+-- ---- the tables that are looked at: the top, what stands at `costs`, `demand` and `lead` where it is a table,
+-- and the tables in the array at `policy`
+
+abbrev pub keeps_in : Rule → List Entry → Option Members → Bool
+keeps_in r es None = true
+keeps_in r es (Some ms) = keeps r es ms
+
+-- the tables among the policies
+abbrev pub policies_in : Option Items → List Members
+policies_in None = []
+policies_in (Some ds) = tables_of ds
+
+abbrev pub policies_at : Members → List Members
+policies_at ms = policies_in (array_at (codes "policy") ms)
+
+-- whether each of the tables keeps a rule
+unfoldable pub all_keep : Rule → Members → Bool
+all_keep r ms =
+    keeps r fields.top ms
+    && keeps_in r fields.costs (table_at (codes "costs") ms)
+    && keeps_in r fields.demand (table_at (codes "demand") ms)
+    && keeps_in r fields.lead (table_at (codes "lead") ms)
+    && list_all (keeps r fields.policy) (policies_at ms)
+
+-- ---- fault 2: the version is not 1
+
+abbrev pub is_version : Option ℤ → Bool
+is_version None = false
+is_version (Some z) = is_within (pos 1) (pos 1) (Some z)
+
+unfoldable pub has_other_version : Members → Bool
+has_other_version ms = not (is_version (integer_at (codes "version") ms))
+
+-- ---- fault 3: a table has a key that is not one of its keys
+
+unfoldable pub has_unknown_key : Members → Bool
+has_unknown_key ms = not (all_keep rule.Known ms)
+
+-- ---- fault 4: a table lacks one of its keys
+
+unfoldable pub lacks_key : Members → Bool
+lacks_key ms = not (all_keep rule.Present ms)
+
+-- ---- fault 5: a value, or an entry of an array, is not of its kind
+
+unfoldable pub has_other_kind : Members → Bool
+has_other_kind ms = not (all_keep rule.Kinds ms)
+
+-- ---- fault 6: a number, a list or the key is out of its range
+
+unfoldable pub breaks_range : Members → Bool
+breaks_range ms = not (all_keep rule.Ranges ms)
+
+-- ---- faults 7, 8 and 9: values and weights, of demand and of lead
+
+abbrev pub have_other_lengths : Option Items → Option Items → Bool
+have_other_lengths None ws = false
+have_other_lengths (Some vs) None = false
+have_other_lengths (Some vs) (Some ws) = not (count_items vs == count_items ws)
+
+-- whether each number is above the one before
+abbrev pub is_above : Option ℤ → ℤ → Bool
+is_above None z = true
+is_above (Some last) z = int_lt last z
+
+abbrev pub rise_above : Option ℤ → List ℤ → Bool
+rise_above last [] = true
+rise_above last (z ∷ zs) = is_above last z && rise_above (Some z) zs
+
+abbrev pub have_other_order : Option Items → Bool
+have_other_order None = false
+have_other_order (Some vs) = not (rise_above None (integers_of vs))
+
+-- a sum with one number more, where there is one
+abbrev pub plus : ℤ → Option ℤ → ℤ
+plus total None = total
+plus total (Some z) = total +ℤ z
+
+abbrev pub total_of : List ℤ → ℤ
+total_of [] = pos 0
+total_of (z ∷ zs) = z +ℤ total_of zs
+
+abbrev pub have_other_total : Option Items → Bool
+have_other_total None = false
+have_other_total (Some ws) = not (is_within (pos 1) (pos 65536) (Some (total_of (integers_of ws))))
+
+abbrev pub has_other_lengths_in : Option Members → Bool
+has_other_lengths_in None = false
+has_other_lengths_in (Some ms) = have_other_lengths (array_at (codes "values") ms) (array_at (codes "weights") ms)
+
+abbrev pub has_other_order_in : Option Members → Bool
+has_other_order_in None = false
+has_other_order_in (Some ms) = have_other_order (array_at (codes "values") ms)
+
+abbrev pub has_other_total_in : Option Members → Bool
+has_other_total_in None = false
+has_other_total_in (Some ms) = have_other_total (array_at (codes "weights") ms)
+
+-- fault 7: not as many weights as values
+unfoldable pub has_other_lengths : Members → Bool
+has_other_lengths ms = has_other_lengths_in (table_at (codes "demand") ms) || has_other_lengths_in (table_at (codes "lead") ms)
+
+-- fault 8: the values do not rise strictly
+unfoldable pub has_values_out_of_order : Members → Bool
+has_values_out_of_order ms = has_other_order_in (table_at (codes "demand") ms) || has_other_order_in (table_at (codes "lead") ms)
+
+-- fault 9: the sum of the weights is not in 1..=65536
+unfoldable pub has_weights_out_of_range : Members → Bool
+has_weights_out_of_range ms = has_other_total_in (table_at (codes "demand") ms) || has_other_total_in (table_at (codes "lead") ms)
+
+-- ---- fault 10: a policy's s is above its S
+
+abbrev pub are_in_order : Option ℤ → Option ℤ → Bool
+are_in_order None high = true
+are_in_order (Some low) None = true
+are_in_order (Some low) (Some high) = int_le low high
+
+abbrev pub has_levels_in_order : Members → Bool
+has_levels_in_order ms = are_in_order (integer_at (codes "s") ms) (integer_at (codes "S") ms)
+
+unfoldable pub has_low_above_high : Members → Bool
+has_low_above_high ms = not (list_all has_levels_in_order (policies_at ms))
+
+-- ---- fault 11: a policy's name has not the form of one, or stands twice
+
+abbrev pub name_of : Data → Option (List ℕ)
+name_of d = option_and_then (text_at (codes "name")) (as_table d)
+
+-- the names that stand among the policies
+abbrev pub names_in : Items → List (List ℕ)
+names_in no_items = []
+names_in (item d ds) = kept (name_of d) (names_in ds)
+
+abbrev pub names_at : Option Items → List (List ℕ)
+names_at None = []
+names_at (Some ds) = names_in ds
+
+abbrev pub is_among : List (List ℕ) → List ℕ → Bool
+is_among [] name = false
+is_among (n ∷ names) name = bytes_eq n name || is_among names name
+
+abbrev pub all_differ : List (List ℕ) → Bool
+all_differ [] = true
+all_differ (name ∷ names) = not (is_among names name) && all_differ names
+
+abbrev pub are_good_names : List (List ℕ) → Bool
+are_good_names names = list_all is_name names && all_differ names
+
+unfoldable pub has_bad_name : Members → Bool
+has_bad_name ms = not (are_good_names (names_at (array_at (codes "policy") ms)))
+
+-- ---- fault 12: the ring is not a power of two in 1..=1024
+
+abbrev pub is_one_of : List ℕ → ℤ → Bool
+is_one_of [] z = false
+is_one_of (n ∷ ns) z = is_within (pos n) (pos n) (Some z) || is_one_of ns z
+
+unfoldable pub is_ring_size : ℤ → Bool
+is_ring_size z = is_one_of (1 ∷ 2 ∷ 4 ∷ 8 ∷ 16 ∷ 32 ∷ 64 ∷ 128 ∷ 256 ∷ 512 ∷ 1024 ∷ []) z
+
+abbrev pub is_other_ring : Option ℤ → Bool
+is_other_ring None = false
+is_other_ring (Some z) = not (is_ring_size z)
+
+unfoldable pub has_other_ring : Members → Bool
+has_other_ring ms = is_other_ring (integer_at (codes "ring") ms)
+
+-- ---- fault 13: the number of policies is not in 1..=16
+
+abbrev pub is_other_count : Option Items → Bool
+is_other_count None = false
+is_other_count (Some ds) = not (nat_le 1 (count_items ds) && nat_le (count_items ds) 16)
+
+unfoldable pub has_other_policy_count : Members → Bool
+has_other_policy_count ms = is_other_count (array_at (codes "policy") ms)
+
+-- ---- all of them
+
+-- the numbers of the faults, each with whether it holds
+abbrev pub faults : Members → List (ℕ × Bool)
+faults ms =
+    (2, has_other_version ms)
+    ∷ (3, has_unknown_key ms)
+    ∷ (4, lacks_key ms)
+    ∷ (5, has_other_kind ms)
+    ∷ (6, breaks_range ms)
+    ∷ (7, has_other_lengths ms)
+    ∷ (8, has_values_out_of_order ms)
+    ∷ (9, has_weights_out_of_range ms)
+    ∷ (10, has_low_above_high ms)
+    ∷ (11, has_bad_name ms)
+    ∷ (12, has_other_ring ms)
+    ∷ (13, has_other_policy_count ms)
+    ∷ []
+
+abbrev pub holds_at : ℕ → List (ℕ × Bool) → Bool
+holds_at k [] = false
+holds_at k (p ∷ ps) = ((k == p.0) && p.1) || holds_at k ps
+
+-- the first number that holds
+abbrev pub first_true : List (ℕ × Bool) → Option ℕ
+first_true [] = None
+first_true (p ∷ ps) = if p.1 then Some p.0 else first_true ps
+
+-- fault k holds
+abbrev pub Fault : Members → ℕ → Type 0
+Fault ms k = holds_at k (faults ms) ≡ true
+
+-- no fault holds
+pub record HasNone (ms : Members) : Type 0 where
+  pub none : (k : ℕ) → ¬ Fault ms k
+
+-- fault k holds, and none with a lower number
+pub record IsLeast (ms : Members) (k : ℕ) : Type 0 where
+  pub holds : Fault ms k
+  pub none_below : (j : ℕ) → j < k → ¬ Fault ms j

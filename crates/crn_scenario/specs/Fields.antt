@@ -1,0 +1,140 @@
+-- The keys of a scenario's tables: which they are, what may stand at each, and in which range.
+use Rattle.std.specs.Prelude.{ℕ, ℤ, pos, List, [], ◌∷◌, Bool, true, false, ◌&&◌, ◌||◌, ◌==◌, not, Option, Some, None, is_some, int_le, codes}
+use Rattle.std.specs.List.{list_all}
+use Rattle.std.specs.Str.{bytes_eq}
+use Rattle.toml.specs.Data.{Data, Items, Members, no_members, member, get_member, as_integer, as_str, as_array, as_table}
+use Rattle.crn_scenario.specs.Hex.{is_hex_word}
+use Rattle.crn_scenario.specs.Tree.{integers_of, texts_of, count_items, are_integers, are_texts, are_tables}
+use Rattle.crn_scenario.specs.declared.fields.Field.{Field}
+use Rattle.crn_scenario.specs.declared.fields.Kind.{Kind}
+use Rattle.crn_scenario.specs.declared.fields.Kind.TheVariants as kind
+use Rattle.crn_scenario.specs.declared.fields.Rule.{Rule}
+use Rattle.crn_scenario.specs.declared.fields.Rule.TheVariants as rule
+
+-- a key with what may stand there
+pub record Entry : Type 0 where
+  pub name : List ℕ
+  pub kind : Kind
+
+abbrev pub entry : List ℕ → Kind → Entry
+entry name k = record { name = name; kind = k }
+
+-- the same of the code's table
+abbrev pub entry_of : Field → Entry
+entry_of f = record { name = f.name.now; kind = f.kind }
+
+-- ---- the tables
+
+abbrev pub number : ℕ → ℕ → Kind
+number low high = kind.Number (pos low) (pos high)
+
+abbrev pub numbers : ℕ → ℕ → Kind
+numbers low high = kind.Numbers (pos low) (pos high)
+
+abbrev pub top : List Entry
+top =
+    entry (codes "version") kind.Integer
+    ∷ entry (codes "key") kind.Words
+    ∷ entry (codes "periods") (number 1 1024)
+    ∷ entry (codes "replications") (number 1 256)
+    ∷ entry (codes "initial") (number 0 1000000)
+    ∷ entry (codes "ring") kind.Integer
+    ∷ entry (codes "costs") kind.Table
+    ∷ entry (codes "demand") kind.Table
+    ∷ entry (codes "lead") kind.Table
+    ∷ entry (codes "policy") kind.Tables
+    ∷ []
+
+abbrev pub costs : List Entry
+costs =
+    entry (codes "setup") (number 0 100000000)
+    ∷ entry (codes "unit") (number 0 10000)
+    ∷ entry (codes "holding") (number 0 10000)
+    ∷ entry (codes "backlog") (number 0 10000)
+    ∷ []
+
+abbrev pub demand : List Entry
+demand = entry (codes "values") (numbers 0 10000) ∷ entry (codes "weights") (numbers 0 65536) ∷ []
+
+abbrev pub lead : List Entry
+lead = entry (codes "values") (numbers 1 32) ∷ entry (codes "weights") (numbers 0 65536) ∷ []
+
+abbrev pub policy : List Entry
+policy =
+    entry (codes "name") kind.Text
+    ∷ entry (codes "s") (number 0 1000000)
+    ∷ entry (codes "S") (number 0 1000000)
+    ∷ []
+
+-- ---- what stands at a key against what may stand there
+
+-- whether it is an array that passes a test
+abbrev pub is_array_of : (Items → Bool) → Option Items → Bool
+is_array_of test None = false
+is_array_of test (Some ds) = test ds
+
+-- whether a value is of a kind
+abbrev pub is_of : Kind → Data → Bool
+is_of kind.Integer d = is_some (as_integer d)
+is_of (kind.Number low high) d = is_some (as_integer d)
+is_of (kind.Numbers low high) d = is_array_of are_integers (as_array d)
+is_of kind.Text d = is_some (as_str d)
+is_of kind.Words d = is_array_of are_texts (as_array d)
+is_of kind.Table d = is_some (as_table d)
+is_of kind.Tables d = is_array_of are_tables (as_array d)
+
+-- ranges, which no value of another kind breaks
+abbrev pub is_within : ℤ → ℤ → Option ℤ → Bool
+is_within low high None = true
+is_within low high (Some z) = int_le low z && int_le z high
+
+abbrev pub are_within : ℤ → ℤ → List ℤ → Bool
+are_within low high [] = true
+are_within low high (z ∷ zs) = is_within low high (Some z) && are_within low high zs
+
+-- not empty, and each number in the range
+abbrev pub is_list_within : ℤ → ℤ → Option Items → Bool
+is_list_within low high None = true
+is_list_within low high (Some ds) = not (count_items ds == 0) && are_within low high (integers_of ds)
+
+-- four, each a hexadecimal word
+abbrev pub are_four_words : Option Items → Bool
+are_four_words None = true
+are_four_words (Some ds) = (count_items ds == 4) && list_all is_hex_word (texts_of ds)
+
+abbrev pub is_in_range : Kind → Data → Bool
+is_in_range kind.Integer d = true
+is_in_range (kind.Number low high) d = is_within low high (as_integer d)
+is_in_range (kind.Numbers low high) d = is_list_within low high (as_array d)
+is_in_range kind.Text d = true
+is_in_range kind.Words d = are_four_words (as_array d)
+is_in_range kind.Table d = true
+is_in_range kind.Tables d = true
+
+-- ---- what a table must keep: that its keys are known, that none is missing, that kinds and that ranges are right
+
+abbrev pub keeps_at : Rule → Kind → Option Data → Bool
+keeps_at rule.Known k o = true
+keeps_at rule.Present k o = is_some o
+keeps_at rule.Kinds k None = true
+keeps_at rule.Kinds k (Some d) = is_of k d
+keeps_at rule.Ranges k None = true
+keeps_at rule.Ranges k (Some d) = is_in_range k d
+
+abbrev pub keeps_at_all : Rule → List Entry → Members → Bool
+keeps_at_all r [] ms = true
+keeps_at_all r (e ∷ es) ms = keeps_at r e.kind (get_member e.name ms) && keeps_at_all r es ms
+
+abbrev pub is_key : List Entry → List ℕ → Bool
+is_key [] key = false
+is_key (e ∷ es) key = bytes_eq e.name key || is_key es key
+
+abbrev pub knows_all : List Entry → Members → Bool
+knows_all es no_members = true
+knows_all es (member key d ms) = is_key es key && knows_all es ms
+
+abbrev pub keeps : Rule → List Entry → Members → Bool
+keeps rule.Known es ms = knows_all es ms
+keeps rule.Present es ms = keeps_at_all rule.Present es ms
+keeps rule.Kinds es ms = keeps_at_all rule.Kinds es ms
+keeps rule.Ranges es ms = keeps_at_all rule.Ranges es ms

@@ -1,0 +1,5 @@
+pub mod Hex
+pub mod Tree
+pub mod Fields
+pub mod Faults
+pub mod Reading

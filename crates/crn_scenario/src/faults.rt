@@ -1,0 +1,404 @@
+// The faults of a scenario's tree, each by itself, and the first of them.
+
+ghost use Rattle.std.specs.Prelude.{◌≡◌, ◌^◌, pos, ◌+ℤ◌, ◌≤ℤ◌, map, option_map, option_copied, IfOk};
+ghost use Rattle.std.specs.List.{list_all};
+ghost use Rattle.toml.specs.View.{view, table_view, array_view};
+ghost use Rattle.crn_stock.specs.Scenarios.{is_name, is_name_byte};
+ghost use Rattle.crn_scenario.specs.Tree.{integers_of, tables_of};
+ghost use Rattle.crn_scenario.specs.Fields as tables;
+ghost use Rattle.crn_scenario.specs.Faults as spec;
+ghost use Rattle.crn_scenario.specs.Reading.{number_of};
+
+use crate::fields::{COSTS, DEMAND, Field, LEAD, POLICY, Rule, TOP, is_within, keeps};
+use crate::scenario_fault::ScenarioFault;
+use crate::tree::{array_at, count_items, integer_at, table_at, text_at};
+use std::alloc::{AllocError, Global};
+use std::collections::BTreeSet;
+use toml::value::Array;
+use toml::{Table, Value};
+
+// Whether a table, where there is one, keeps a rule.
+fn keeps_in(rule: Rule, fields: &[Field], table: Option<&Table>) -> bool
+    ensures { result ≡ spec.keeps_in rule (map tables.entry_of fields.now) (option_map (λ t. table_view t.now) table.entry) }
+{
+    match table {
+        Some(table) => keeps(rule, fields, table),
+        None => true,
+    }
+}
+
+// Whether each table among the policies keeps a rule.
+fn policies_keep(rule: Rule, policies: &Array) -> bool
+    ensures { result ≡ list_all (tables.keeps rule tables.policy) (tables_of (array_view policies.now)) }
+{
+    'items: for item in policies {
+        if let Some(policy) = item.as_table() {
+            if !keeps(rule, &POLICY, policy) {
+                return false;
+            }
+        }
+    }
+    true
+}
+
+// Whether each table that is looked at keeps a rule: the document, its inner tables and its policies.
+#[tactic(auto, unfolding(crate::specs::Faults::all_keep))]
+fn all_keep(rule: Rule, table: &Table) -> bool
+    ensures { result ≡ spec.all_keep rule (table_view table.now) }
+{
+    keeps(rule, &TOP, table)
+        && keeps_in(rule, &COSTS, table_at(table, "costs"))
+        && keeps_in(rule, &DEMAND, table_at(table, "demand"))
+        && keeps_in(rule, &LEAD, table_at(table, "lead"))
+        && match array_at(table, "policy") {
+            Some(policies) => policies_keep(rule, policies),
+            None => true,
+        }
+}
+
+// Fault 2: the version is not 1.
+#[tactic(auto, unfolding(crate::specs::Faults::has_other_version))]
+fn has_other_version(table: &Table) -> bool
+    ensures { result ≡ spec.has_other_version (table_view table.now) }
+{
+    match integer_at(table, "version") {
+        Some(version) => !is_within(1, 1, Some(version)),
+        None => true,
+    }
+}
+
+// Fault 3: a table has a key that is not one of its keys.
+#[tactic(auto, unfolding(crate::specs::Faults::has_unknown_key))]
+fn has_unknown_key(table: &Table) -> bool
+    ensures { result ≡ spec.has_unknown_key (table_view table.now) }
+{
+    !all_keep(Rule::Known, table)
+}
+
+// Fault 4: a table lacks one of its keys.
+#[tactic(auto, unfolding(crate::specs::Faults::lacks_key))]
+fn lacks_key(table: &Table) -> bool
+    ensures { result ≡ spec.lacks_key (table_view table.now) }
+{
+    !all_keep(Rule::Present, table)
+}
+
+// Fault 5: a value, or an entry of an array, is not of its kind.
+#[tactic(auto, unfolding(crate::specs::Faults::has_other_kind))]
+fn has_other_kind(table: &Table) -> bool
+    ensures { result ≡ spec.has_other_kind (table_view table.now) }
+{
+    !all_keep(Rule::Kinds, table)
+}
+
+// Fault 6: a number, a list or the key is out of its range.
+#[tactic(auto, unfolding(crate::specs::Faults::breaks_range))]
+fn breaks_range(table: &Table) -> bool
+    ensures { result ≡ spec.breaks_range (table_view table.now) }
+{
+    !all_keep(Rule::Ranges, table)
+}
+
+fn have_other_lengths(draws: &Table) -> bool
+    ensures { result ≡ spec.has_other_lengths_in (Some (table_view draws.now)) }
+{
+    match (array_at(draws, "values"), array_at(draws, "weights")) {
+        (Some(values), Some(weights)) => count_items(values) != count_items(weights),
+        _ => false,
+    }
+}
+
+// Whether the numbers of an array rise strictly.
+fn rise(array: &Array) -> bool
+    ensures { result ≡ spec.rise_above None (integers_of (array_view array.now)) }
+{
+    let mut last = None;
+    'items: for item in array {
+        if let Some(number) = item.as_integer() {
+            if !is_above(last, number) {
+                return false;
+            }
+            last = Some(number);
+        }
+    }
+    true
+}
+
+fn is_above(last: Option<i64>, number: i64) -> bool
+    ensures { result ≡ spec.is_above last number }
+{
+    match last {
+        Some(last) => last < number,
+        None => true,
+    }
+}
+
+fn have_other_order(draws: &Table) -> bool
+    ensures { result ≡ spec.has_other_order_in (Some (table_view draws.now)) }
+{
+    match array_at(draws, "values") {
+        Some(values) => !rise(values),
+        None => false,
+    }
+}
+
+// The sum of a list of fewer than 2^64 numbers is far within 128 bits.
+fn plus(total: i128, number: Option<i64>) -> i128
+    requires low { pos 0 ≤ℤ (total +ℤ pos (2 ^ 126)) }
+    requires high { total ≤ℤ pos (2 ^ 126) }
+    ensures { result ≡ spec.plus total number }
+{
+    match number {
+        Some(number) => total + i128::from(number),
+        None => total,
+    }
+}
+
+// The sum of the numbers of an array.
+fn total_of(array: &Array) -> i128
+    ensures { result ≡ spec.total_of (integers_of (array_view array.now)) }
+{
+    let mut total = 0;
+    'items: for item in array {
+        total = plus(total, item.as_integer());
+    }
+    total
+}
+
+fn have_other_total(draws: &Table) -> bool
+    ensures { result ≡ spec.has_other_total_in (Some (table_view draws.now)) }
+{
+    match array_at(draws, "weights") {
+        Some(weights) => {
+            let total = total_of(weights);
+            !(1 <= total && total <= 65_536)
+        }
+        None => false,
+    }
+}
+
+// Fault 7: demand or lead has not as many weights as values.
+#[tactic(auto, unfolding(crate::specs::Faults::has_other_lengths))]
+fn has_other_lengths(table: &Table) -> bool
+    ensures { result ≡ spec.has_other_lengths (table_view table.now) }
+{
+    table_at(table, "demand").is_some_and(have_other_lengths)
+        || table_at(table, "lead").is_some_and(have_other_lengths)
+}
+
+// Fault 8: the values of demand or lead do not rise strictly.
+#[tactic(auto, unfolding(crate::specs::Faults::has_values_out_of_order))]
+fn has_values_out_of_order(table: &Table) -> bool
+    ensures { result ≡ spec.has_values_out_of_order (table_view table.now) }
+{
+    table_at(table, "demand").is_some_and(have_other_order)
+        || table_at(table, "lead").is_some_and(have_other_order)
+}
+
+// Fault 9: the weights of demand or lead are 0 in sum, or over 65,536.
+#[tactic(auto, unfolding(crate::specs::Faults::has_weights_out_of_range))]
+fn has_weights_out_of_range(table: &Table) -> bool
+    ensures { result ≡ spec.has_weights_out_of_range (table_view table.now) }
+{
+    table_at(table, "demand").is_some_and(have_other_total)
+        || table_at(table, "lead").is_some_and(have_other_total)
+}
+
+// Whether a policy's s is not above its S.
+fn has_levels_in_order(policy: &Table) -> bool
+    ensures { result ≡ spec.has_levels_in_order (table_view policy.now) }
+{
+    match (integer_at(policy, "s"), integer_at(policy, "S")) {
+        (Some(low), Some(high)) => low <= high,
+        _ => true,
+    }
+}
+
+fn have_levels_in_order(policies: &Array) -> bool
+    ensures { result ≡ list_all spec.has_levels_in_order (tables_of (array_view policies.now)) }
+{
+    'items: for item in policies {
+        if let Some(policy) = item.as_table() {
+            if !has_levels_in_order(policy) {
+                return false;
+            }
+        }
+    }
+    true
+}
+
+// Fault 10: a policy's s is above its S.
+#[tactic(auto, unfolding(crate::specs::Faults::has_low_above_high))]
+fn has_low_above_high(table: &Table) -> bool
+    ensures { result ≡ spec.has_low_above_high (table_view table.now) }
+{
+    match array_at(table, "policy") {
+        Some(policies) => !have_levels_in_order(policies),
+        None => false,
+    }
+}
+
+// The names that stand among the policies.
+fn names_of<'a>(alloc: Global, policies: &'a Array) -> Result<Vec<&'a str>, AllocError>
+    ensures { IfOk result (λ v. map (λ n. n.now) v.items ≡ spec.names_in (array_view policies.now)) }
+{
+    let mut names = Vec::new(alloc);
+    'items: for item in policies {
+        if let Some(name) = name_of(item) {
+            names.push(name)?;
+        }
+    }
+    Ok(names)
+}
+
+fn name_of<'a>(item: &'a Value) -> Option<&'a str>
+    ensures { option_copied result ≡ spec.name_of (view item.now) }
+{
+    match item.as_table() {
+        Some(policy) => text_at(policy, "name"),
+        None => None,
+    }
+}
+
+fn is_name_byte(byte: u8) -> bool
+    ensures { result ≡ is_name_byte byte }
+{
+    matches!(byte, b'A'..=b'Z' | b'a'..=b'z' | b'0'..=b'9' | b'_' | b'-')
+}
+
+fn are_name_bytes(bytes: &[u8]) -> bool
+    ensures { result ≡ list_all is_name_byte bytes.now }
+{
+    for byte in bytes {
+        if !is_name_byte(*byte) {
+            return false;
+        }
+    }
+    true
+}
+
+// Whether a text has the form of a name: 1 to 16 of letters, digits, `_` and `-`.
+fn is_name(text: &str) -> bool
+    ensures { result ≡ is_name text.now }
+{
+    1 <= text.len() && text.len() <= 16 && are_name_bytes(text.as_bytes())
+}
+
+fn are_names(names: &[&str]) -> bool
+    ensures { result ≡ list_all is_name (map (λ n. n.now) names.now) }
+{
+    for name in names {
+        if !is_name(*name) {
+            return false;
+        }
+    }
+    true
+}
+
+// Whether no name stands twice. From the last name on, each is put among the later ones, which are kept in order:
+// many policies of different names cost no more than to sort them.
+fn all_differ(alloc: Global, names: &[&str]) -> Result<bool, AllocError>
+    ensures { IfOk result (λ b. b ≡ spec.all_differ (map (λ n. n.now) names.now)) }
+{
+    let mut later = BTreeSet::new(alloc);
+    for i in 0..names.len() {
+        let is_new = later.insert(names[names.len() - 1 - i])?;
+        if !is_new {
+            return Ok(false);
+        }
+    }
+    Ok(true)
+}
+
+// Fault 11: a policy's name has not the form of one, or stands twice.
+#[tactic(auto, unfolding(crate::specs::Faults::has_bad_name))]
+fn has_bad_name(alloc: Global, table: &Table) -> Result<bool, AllocError>
+    ensures { IfOk result (λ b. b ≡ spec.has_bad_name (table_view table.now)) }
+{
+    let Some(policies) = array_at(table, "policy") else {
+        return Ok(false);
+    };
+    let names = names_of(alloc, policies)?;
+    if !are_names(names.as_slice()) {
+        return Ok(true);
+    }
+    Ok(!all_differ(alloc, names.as_slice())?)
+}
+
+#[tactic(auto, unfolding(crate::specs::Faults::is_ring_size))]
+fn is_ring_size(number: i64) -> bool
+    ensures { result ≡ spec.is_ring_size number }
+{
+    matches!(
+        number,
+        1 | 2 | 4 | 8 | 16 | 32 | 64 | 128 | 256 | 512 | 1024
+    )
+}
+
+// Fault 12: the ring's size is not a power of two from 1 to 1,024.
+#[tactic(auto, unfolding(crate::specs::Faults::has_other_ring))]
+fn has_other_ring(table: &Table) -> bool
+    ensures { result ≡ spec.has_other_ring (table_view table.now) }
+{
+    match integer_at(table, "ring") {
+        Some(ring) => !is_ring_size(ring),
+        None => false,
+    }
+}
+
+// Fault 13: the number of policies is not 1 to 16.
+#[tactic(auto, unfolding(crate::specs::Faults::has_other_policy_count))]
+fn has_other_policy_count(table: &Table) -> bool
+    ensures { result ≡ spec.has_other_policy_count (table_view table.now) }
+{
+    match array_at(table, "policy") {
+        Some(policies) => {
+            let count = count_items(policies);
+            !(1 <= count && count <= 16)
+        }
+        None => false,
+    }
+}
+
+/// The fault with the least number that holds of a tree, if one does. `AllocError` where a growth was refused.
+pub fn first_fault(alloc: Global, table: &Table) -> Result<Option<ScenarioFault>, AllocError>
+    ensures { IfOk result (λ o. option_map number_of o ≡ spec.first_true (spec.faults (table_view table.now))) }
+{
+    if has_other_version(table) {
+        return Ok(Some(ScenarioFault::Version));
+    }
+    if has_unknown_key(table) {
+        return Ok(Some(ScenarioFault::UnknownKey));
+    }
+    if lacks_key(table) {
+        return Ok(Some(ScenarioFault::MissingKey));
+    }
+    if has_other_kind(table) {
+        return Ok(Some(ScenarioFault::Kind));
+    }
+    if breaks_range(table) {
+        return Ok(Some(ScenarioFault::Range));
+    }
+    if has_other_lengths(table) {
+        return Ok(Some(ScenarioFault::Lengths));
+    }
+    if has_values_out_of_order(table) {
+        return Ok(Some(ScenarioFault::Order));
+    }
+    if has_weights_out_of_range(table) {
+        return Ok(Some(ScenarioFault::WeightSum));
+    }
+    if has_low_above_high(table) {
+        return Ok(Some(ScenarioFault::Levels));
+    }
+    if has_bad_name(alloc, table)? {
+        return Ok(Some(ScenarioFault::Name));
+    }
+    if has_other_ring(table) {
+        return Ok(Some(ScenarioFault::RingSize));
+    }
+    if has_other_policy_count(table) {
+        return Ok(Some(ScenarioFault::PolicyCount));
+    }
+    Ok(None)
+}

@@ -1,0 +1,54 @@
+// Reads scenarios.
+
+ghost use Rattle.std.specs.Prelude.{IfOk, IfErr};
+ghost use Rattle.crn_scenario.specs.Reading as spec;
+
+use crate::faults::first_fault;
+use crate::scenario::scenario_of;
+use crate::scenario_fault::ScenarioFault;
+use crn_stock::Scenario;
+use std::alloc::Global;
+
+/// Reads a scenario from a TOML document: any spelling of the tree that it names.
+///
+/// The bytes are UTF-8 and a document for the `toml` crate. Each table has the keys listed here, all of them and no other:
+///
+/// | Table | Key | What stands there |
+/// |---|---|---|
+/// | the document | `version` | 1 |
+/// | | `key` | four texts, each of 16 digits of `0-9a-f` |
+/// | | `periods` | 1 to 1,024 |
+/// | | `replications` | 1 to 256 |
+/// | | `initial` | the stock at the beginning, 0 to 1,000,000 |
+/// | | `ring` | a power of two from 1 to 1,024 |
+/// | `costs` | `setup` | 0 to 100,000,000 |
+/// | | `unit`, `holding`, `backlog` | 0 to 10,000 |
+/// | `demand` | `values` | rising strictly, each 0 to 10,000 |
+/// | | `weights` | as many as values, each 0 to 65,536, and 1 to 65,536 in sum |
+/// | `lead` | `values` | rising strictly, each 1 to 32 |
+/// | | `weights` | as in `demand` |
+/// | each `policy`, of 1 to 16 | `name` | 1 to 16 of `A-Z a-z 0-9 _ -`, unlike the other policies' |
+/// | | `s`, `S` | 0 to 1,000,000, with `s` at most `S` |
+///
+/// # Errors
+///
+/// Where a rule is broken, the fault with the least number of those that hold: each [`ScenarioFault`] says its
+/// rule. `Memory` where a growth was refused. Nothing is kept.
+pub fn read_scenario(alloc: Global, bytes: &[u8]) -> Result<Scenario, ScenarioFault>
+    ensures reads { IfOk result (λ s. spec.Reads bytes.now s) }
+    ensures refuses { IfErr result (λ f. spec.Refuses f bytes.now) }
+{
+    let table = match toml::table_from_slice(alloc, bytes) {
+        Ok(table) => table,
+        Err(e) => {
+            if e.is_memory() {
+                return Err(ScenarioFault::Memory);
+            }
+            return Err(ScenarioFault::NoDocument);
+        }
+    };
+    match first_fault(alloc, &table)? {
+        Some(fault) => Err(fault),
+        None => Ok(scenario_of(alloc, &table)?),
+    }
+}

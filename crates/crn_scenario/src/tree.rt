@@ -1,0 +1,99 @@
+// Looks into a document's tree.
+
+ghost use Rattle.std.specs.Prelude.{◌≡◌, map, option_map, option_copied, IfOk};
+ghost use Rattle.toml.specs.Data.{get_member};
+ghost use Rattle.toml.specs.View.{view, table_view, array_view};
+ghost use Rattle.crn_scenario.specs.Tree as spec;
+
+use toml::value::Array;
+use toml::{Table, Value};
+
+/// What stands at a key.
+pub fn member_at<'a>(table: &'a Table, key: &str) -> Option<&'a Value>
+    ensures { option_map (λ x. view x.now) result ≡ get_member key.now (table_view table.now) }
+{
+    table.get(key)
+}
+
+/// The whole number at a key, where one stands there.
+pub fn integer_at(table: &Table, key: &str) -> Option<i64>
+    ensures { result ≡ spec.integer_at key.now (table_view table.now) }
+{
+    match member_at(table, key) {
+        Some(value) => value.as_integer(),
+        None => None,
+    }
+}
+
+/// The text at a key, where one stands there.
+pub fn text_at<'a>(table: &'a Table, key: &str) -> Option<&'a str>
+    ensures { option_copied result ≡ spec.text_at key.now (table_view table.now) }
+{
+    match member_at(table, key) {
+        Some(value) => value.as_str(),
+        None => None,
+    }
+}
+
+/// The array at a key, where one stands there.
+pub fn array_at<'a>(table: &'a Table, key: &str) -> Option<&'a Array>
+    ensures { option_map (λ a. array_view a.now) result ≡ spec.array_at key.now (table_view table.now) }
+{
+    match member_at(table, key) {
+        Some(value) => value.as_array(),
+        None => None,
+    }
+}
+
+/// The table at a key, where one stands there.
+pub fn table_at<'a>(table: &'a Table, key: &str) -> Option<&'a Table>
+    ensures { option_map (λ t. table_view t.now) result ≡ spec.table_at key.now (table_view table.now) }
+{
+    match member_at(table, key) {
+        Some(value) => value.as_table(),
+        None => None,
+    }
+}
+
+/// How many entries an array has.
+pub fn count_items(array: &Array) -> usize
+    ensures { result ≡ spec.count_items (array_view array.now) }
+{
+    array.len()
+}
+
+/// Whether each entry is a whole number.
+pub fn are_integers(array: &Array) -> bool
+    ensures { result ≡ spec.are_integers (array_view array.now) }
+{
+    'items: for item in array {
+        if !item.is_integer() {
+            return false;
+        }
+    }
+    true
+}
+
+/// Whether each entry is a text.
+pub fn are_texts(array: &Array) -> bool
+    ensures { result ≡ spec.are_texts (array_view array.now) }
+{
+    'items: for item in array {
+        if !item.is_str() {
+            return false;
+        }
+    }
+    true
+}
+
+/// Whether each entry is a table.
+pub fn are_tables(array: &Array) -> bool
+    ensures { result ≡ spec.are_tables (array_view array.now) }
+{
+    'items: for item in array {
+        if !item.is_table() {
+            return false;
+        }
+    }
+    true
+}

@@ -1,8 +1,0 @@
-use Rattle.std.proofs.Common.{◌≡◌, drop, None}
-use Rattle.toml.specs.View.{items_view}
-use Rattle.crn_text.specs.Tree.{integers_of}
-use Rattle.crn_text.specs.Faults.{rise_above}
-use Rattle.crn_text.proofs.faults.rise.Given as goal
-
-abbrev pub invariant-items : goal.invariant-items
-invariant-items l = rise_above l.last (integers_of (items_view (drop l.item-index l.item-items))) ≡ rise_above None (integers_of (items_view l.item-items))

@@ -1,8 +1,0 @@
-use Rattle.std.proofs.Common.{◌≡◌, ◌++◌, map, drop}
-use Rattle.toml.specs.View.{items_view}
-use Rattle.crn_text.specs.Tree.{tables_of}
-use Rattle.crn_text.specs.Reading.{policy_of}
-use Rattle.crn_text.proofs.scenario.policies_of.Given as goal
-
-abbrev pub invariant-items : goal.invariant-items
-invariant-items l = l.policies.items ++ map policy_of (tables_of (items_view (drop l.item-index l.item-items))) ≡ map policy_of (tables_of (items_view l.item-items))

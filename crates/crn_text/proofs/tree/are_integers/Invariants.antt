@@ -1,7 +1,0 @@
-use Rattle.std.proofs.Common.{◌≡◌, drop}
-use Rattle.toml.specs.View.{items_view}
-use Rattle.crn_text.specs.Tree.{are_integers}
-use Rattle.crn_text.proofs.tree.are_integers.Given as goal
-
-abbrev pub invariant-items : goal.invariant-items
-invariant-items l = are_integers (items_view (drop l.item-index l.item-items)) ≡ are_integers (items_view l.item-items)
