@@ -18,6 +18,9 @@ pub use stream::{Block, StreamId};
 /// The words of one stream, demand or lead time, in a block: one word for each of four periods.
 pub const STREAM_WORDS: u32 = 4;
 
+/// The words of a block, over all its streams: the demand words come first, then the lead words.
+pub const BLOCK_WORDS: usize = 8;
+
 /// Block `n` of the stream of `key`, for every `n`: the cipher's words at the counters `(n, 0, 0, 0)`
 /// for the demands and `(n, 1, 0, 0)` for the lead times. Takes no memory.
 #[inline(always)]

@@ -1,6 +1,7 @@
 // The cipher and its blocks against values from outside.
 
-ghost use Rattle.std.specs.Prelude.{◌<◌};
+ghost use Rattle.std.specs.Prelude.{◌≡◌, ◌<◌};
+ghost use Rattle.crn_cipher.specs.Cipher.{BlockWords};
 
 mod vectors;
 
@@ -68,5 +69,51 @@ fn first_block_of_the_zero_key(rt: HostRuntime) -> Result<(), Fail> {
             0xee29_ec84_6bd2_e40b
         ]
     );
+    Ok(())
+}
+
+// Block 0 of the key of all ones, from Random123: its outputs at the counters (0, 0, 0, 0) and (0, 1, 0, 0).
+const ONES: [u64; 4] = [u64::MAX; 4];
+
+const ONES_BLOCK: [u64; BLOCK_WORDS] = [
+    0x6213_0176_f963_5528,
+    0xc3f0_3b67_633e_f3b7,
+    0x9f45_83cf_ecf3_8e0c,
+    0x3f4c_486e_9ff6_cb2a,
+    0x7c6c_fecb_2037_36b2,
+    0x1106_6d6c_ba57_c1c1,
+    0xc653_a42e_8112_ca7c,
+    0x79ea_1ef4_77ff_5930,
+];
+
+// A block's words, one by one.
+#[tactic(auto, using(crate::proofs::Blocks::listed))]
+fn stored(block: Block) -> [u64; BLOCK_WORDS]
+    ensures { result ≡ BlockWords block.key block.number }
+{
+    [
+        block.word(0),
+        block.word(1),
+        block.word(2),
+        block.word(3),
+        block.word(4),
+        block.word(5),
+        block.word(6),
+        block.word(7),
+    ]
+}
+
+#[test]
+fn words_of_a_block_in_order(rt: HostRuntime) -> Result<(), Fail> {
+    assert_eq!(rt; stored(block(ONES, 0)), ONES_BLOCK);
+    Ok(())
+}
+
+#[test]
+fn a_block_of_its_stored_words(rt: HostRuntime) -> Result<(), Fail> {
+    let made = block(ONES, 0);
+    let again = Block::from_words(ONES, 0, stored(made));
+    assert_eq!(rt; (again.key, again.number), (ONES, 0));
+    assert_eq!(rt; again, made);
     Ok(())
 }

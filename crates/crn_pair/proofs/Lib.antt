@@ -3,3 +3,4 @@ mod Gathering
 mod LowestTerms
 mod Products
 mod Stripped
+mod Unique

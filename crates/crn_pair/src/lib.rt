@@ -5,6 +5,7 @@ mod common_divisor;
 mod compare;
 mod fault;
 mod fraction;
+pub mod laws;
 mod moments;
 mod pair;
 

@@ -106,9 +106,6 @@ not_true : (b : Bool) → not b ≡ false → b ≡ true
 not_true true e = refl
 not_true false e = cc
 
-same_some : {T : Type 0} (o : Option T) (a b : T) → o ≡ Some a → o ≡ Some b → a ≡ b
-same_some o a b h k = cc
-
 lengths_agree : (o p : Option Items) (vs ws : Items) → o ≡ Some vs → p ≡ Some ws → have_other_lengths o p ≡ false → count_items vs ≡ count_items ws
 lengths_agree o p vs ws e f h =
     let k : have_other_lengths (Some vs) (Some ws) ≡ false = subst (λ (x : Option Items). have_other_lengths x (Some ws) ≡ false) e (subst (λ (x : Option Items). have_other_lengths o x ≡ false) f h) in

@@ -1,0 +1,13 @@
+//! Laws of the definitions that contracts cite. They compute nothing.
+
+ghost use Rattle.std.specs.Prelude.{◌≡◌, ℕ, ℤ, ◌≤◌};
+ghost use Rattle.crn_pair.specs.Sums.{IsQuotient};
+ghost use Rattle.crn_pair.specs.declared.fraction.Fraction.{Fraction};
+
+/// A quotient has just one fraction: two that are num / den have the same terms. So a contract that says
+/// of which quotient a fraction is leaves nothing open.
+#[tactic(auto, using(crate::proofs::Unique::same_num, crate::proofs::Unique::same_den))]
+pub fn one_fraction()
+    ensures num { (num : ℤ) (den : ℕ) (f g : Fraction) → 1 ≤ den → IsQuotient num den f → IsQuotient num den g → f.num ≡ g.num }
+    ensures den { (num : ℤ) (den : ℕ) (f g : Fraction) → 1 ≤ den → IsQuotient num den f → IsQuotient num den g → f.den ≡ g.den }
+{}

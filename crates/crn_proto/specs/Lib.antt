@@ -1,0 +1,10 @@
+pub mod Stream
+pub mod Broadcast
+pub mod Ring
+pub mod Opening
+pub mod Lawful
+pub mod Chains
+pub mod Views
+pub mod Laws
+pub mod Machine
+pub mod Traces

@@ -1,0 +1,10 @@
+pub mod Allowed
+pub mod Beginning
+pub mod Bounds
+pub mod Ending
+pub mod Filling
+pub mod Fresh
+pub mod Gauging
+pub mod Remembering
+pub mod Rooms
+pub mod Rows

@@ -1,0 +1,25 @@
+use Rattle.std.proofs.Common.{◌≡◌, ℕ, ◌+◌, ◌∙◌, ap, sym, subst, arith, length}
+use Rattle.crn_ring.specs.Gates.{Passes, LeastOf}
+use Rattle.crn_ring.specs.Plays.{Gauged}
+use Rattle.crn_ring.specs.declared.view.View.{View}
+use Rattle.crn_proto.specs.Ring.{ProducerMay, producer_after}
+use Rattle.crn_proto.proofs.Chains.{reaches_join, reaches_more}
+use Rattle.crn_ring.proofs.Gauging.{gauged_more, least_more}
+use Rattle.crn_ring.proofs.ring.Ring.gauge.Goals as goal
+
+pub loop-r-preserved : goal.loop-r-preserved
+loop-r-preserved c = let inv = c.loop-r.invariant in let e = c.load_gate-count.ensures in let x : ℕ = c.load_gate-count.result in
+    let size : ℕ = c.args.self.now.spec.size in
+    let p : Passes size c.args.n x = c.lets_in.ensures.passes c.if-not-lets_in.false in (
+      e.own.0 ∙ inv.0,
+      e.own.1 ∙ inv.1,
+      subst (Gauged size c.args.n (c.loop-r.r + 1) c.args.seat.now.me.0) (sym (ap (λ m. m.0) e.view))
+          (gauged_more size c.args.n c.loop-r.r x c.args.seat.now.me.0 c.loop-r.seat.me.0 inv.2 (let l : length c.loop-r.seat.me.0.producer.gates ≡ c.args.self.now.spec.readers = e.gates in omega arith) p),
+      reaches_join (ProducerMay c.args.self.now.spec) producer_after _ _ _ c.loop-r.r 1 inv.3 e.moved,
+      subst (λ (t : View × ℕ). LeastOf (c.loop-r.r + 1) t.0.producer.gates t.1) (λ i. ((sym (ap (λ m. m.0) e.view)) i, (sym c.min-least.ensures) i))
+          (least_more c.loop-r.r c.loop-r.seat.me.0.producer.gates c.loop-r.least x inv.4 (let l : length c.loop-r.seat.me.0.producer.gates ≡ c.args.self.now.spec.readers = e.gates in omega arith)),
+    )
+
+pub returns-then-not-lets_in-clause-moved : goal.returns-then-not-lets_in-clause-moved
+returns-then-not-lets_in-clause-moved c = let spec = c.args.self.now.spec in
+    reaches_more (ProducerMay spec) producer_after _ _ (c.loop-r.r + 1) spec.readers (omega arith) (reaches_join (ProducerMay spec) producer_after _ _ _ c.loop-r.r 1 c.loop-r.invariant.3 c.load_gate-count.ensures.moved)

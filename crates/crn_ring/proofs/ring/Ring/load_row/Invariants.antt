@@ -1,0 +1,13 @@
+use Rattle.std.proofs.Common.{◌≡◌, ℕ, ◌<◌, length}
+use Rattle.std.specs.Prelude.{take, slice_index}
+use Rattle.crn_cipher.specs.Cipher.{block_word}
+use Rattle.crn_cipher.specs.declared.TheConstants.{BLOCK_WORDS}
+use Rattle.crn_proto.specs.Chains.{ReaderReaches}
+use Rattle.crn_ring.specs.Plays.{read_many}
+use Rattle.crn_ring.proofs.ring.Ring.load_row.Given as goal
+
+abbrev pub invariant-loop-i : goal.invariant-loop-i
+invariant-loop-i l = (l.seat.table_id ≡ l.initial.seat.table_id) × (l.seat.id ≡ l.initial.seat.id) × (length l.words ≡ BLOCK_WORDS)
+    × (l.seat.me ≡ (read_many (take l.i l.words) l.initial.seat.me.0, l.initial.seat.me.1))
+    × ((j : ℕ) → j < l.i → slice_index l.words j ≡ block_word l.self.spec.id.key l.fn.n j)
+    × ReaderReaches l.initial.seat.me.0.reader l.i l.seat.me.0.reader

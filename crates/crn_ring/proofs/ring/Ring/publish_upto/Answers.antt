@@ -1,0 +1,32 @@
+use Rattle.std.proofs.Common.{rules, ap, subst, ◌≡◌, ℕ, ◌+◌, ◌*◌, ◌/◌, arith}
+use Rattle.crn_proto.proofs.Chains.{reaches_one}
+use Rattle.crn_cipher.specs.declared.TheConstants.{BLOCK_WORDS}
+use Rattle.crn_proto.specs.Ring.{ProducerMay, producer_after, Publish}
+use Rattle.crn_ring.proofs.Allowed.{publishes}
+use Rattle.crn_ring.specs.Plays.{by_producer, publishing}
+use Rattle.crn_ring.proofs.ring.Ring.publish_upto.Goals as goal
+
+pub store-requires : goal.store-requires
+store-requires c = let at = c.requires.at in let p = c.args.seat.now.me.0.producer in
+    let stored : p.stored ≡ BLOCK_WORDS * c.args.count = at.1 in
+    let some = at.2 in
+    let upto : c.args.n ≡ p.published + c.args.count = at.3 in
+    let whole : p.stored ≡ BLOCK_WORDS * (p.stored / BLOCK_WORDS) = omega arith in
+    let value : 2 * c.args.n ≡ 2 * (p.published + p.stored / BLOCK_WORDS) = omega arith in (
+      search rules,
+      omega (arith, c.args.self.now.counted),
+      rw c.args.self.now.keyed (publishes _ _ _ _ c.requires.own.0.1 c.requires.own.1 _ value (at.0, whole, omega arith)),
+    )
+
+pub returns-clause-moved : goal.returns-clause-moved
+returns-clause-moved c = let at = c.requires.at in let spec = c.args.self.now.spec in let p = c.args.seat.now.me.0.producer in
+    let stored : p.stored ≡ BLOCK_WORDS * c.args.count = at.1 in
+    let some = at.2 in
+    let whole : p.stored ≡ BLOCK_WORDS * (p.stored / BLOCK_WORDS) = omega arith in
+    reaches_one (ProducerMay spec) producer_after (publishing c.args.seat.now.me.0) 0 p _ (at.0, whole, omega arith) (ap (λ m. m.0.producer) c.store.ensures.2)
+
+pub returns-clause-view : goal.returns-clause-view
+returns-clause-view c = let p = c.args.seat.now.me.0.producer in
+    let stored : p.stored ≡ BLOCK_WORDS * c.args.count = c.requires.at.1 in
+    let many : p.stored / BLOCK_WORDS ≡ c.args.count = omega arith in
+    subst (λ (z : ℕ). c.store.new.seat.me ≡ (by_producer (Publish z) 0 c.args.seat.now.me.0, c.args.seat.now.me.1)) many c.store.ensures.2

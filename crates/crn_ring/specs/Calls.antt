@@ -1,0 +1,102 @@
+-- What the calls of a ring, a producer and a reader speak of.
+use Rattle.std.specs.Prelude.{◌≡◌, ℕ, ◌+◌, ◌<◌, List, length, slice_get, Some, drop}
+use Rattle.atomic_table.specs.declared.shared.Seat.{Seat}
+use Rattle.crn_cipher.specs.declared.stream.Block.{Block}
+use Rattle.crn_proto.specs.declared.spec.RingSpec.{RingSpec}
+use Rattle.crn_proto.specs.declared.actor_parts.ProducerPart.{ProducerPart}
+use Rattle.crn_proto.specs.declared.actor_parts.ReaderPart.{ReaderPart}
+use Rattle.crn_proto.specs.declared.fault.RingFault.{RingFault}
+use Rattle.crn_proto.specs.declared.fault.RingFault.TheVariants.{Size, Readers, Stream, Memory}
+use Rattle.crn_proto.specs.Ring.{open_producer, open_reader}
+use Rattle.crn_proto.specs.Opening.{IsRingSize, IsReaderCount, IsStream}
+use Rattle.crn_ring.specs.declared.view.View.{View}
+use Rattle.crn_ring.specs.declared.ring.Ring.{Ring}
+use Rattle.crn_ring.specs.declared.producer_end.Producer.{Producer}
+use Rattle.crn_ring.specs.declared.reader_end.Reader.{Reader}
+use Rattle.crn_ring.specs.declared.answers.Publish.{Publish}
+use Rattle.crn_ring.specs.declared.answers.Publish.TheVariants as One
+use Rattle.crn_ring.specs.declared.answers.PublishMany.{PublishMany}
+use Rattle.crn_ring.specs.declared.answers.PublishMany.TheVariants as Many
+use Rattle.crn_ring.specs.declared.answers.Take.{Take}
+use Rattle.crn_ring.specs.declared.answers.Take.TheVariants as Next
+use Rattle.crn_ring.specs.declared.answers.Batch.{Batch}
+use Rattle.crn_ring.specs.declared.answers.Batch.TheVariants as Several
+use Rattle.crn_ring.specs.Parts.{Publishes, IsFull, Takes, SeesNothing, SeesEnd}
+
+abbrev pub spec_of : Ring → RingSpec
+spec_of ring = ring.spec
+
+-- the part of the ring's state that is the producer's, or a reader's
+abbrev pub producer_part : Producer → ProducerPart
+producer_part p = p.seat.me.0.producer
+
+abbrev pub reader_part : Reader → ReaderPart
+reader_part r = r.seat.me.0.reader
+
+abbrev pub number_of : Reader → ℕ
+number_of r = r.number
+
+-- the ring that the producer, or a reader, was opened with
+abbrev pub producer_spec : Producer → RingSpec
+producer_spec p = p.seat.me.0.spec
+
+abbrev pub reader_spec : Reader → RingSpec
+reader_spec r = r.seat.me.0.spec
+
+-- The seat is at this ring's table.
+abbrev pub IsAt : Ring → Seat (Unit {0}) View → Type 0
+IsAt ring seat = (seat.table_id ≡ ring.table.shared.table_id) × (seat.me.0.spec ≡ ring.spec)
+
+-- The producer, or the reader, is this ring's.
+abbrev pub IsProducerOf : Ring → Producer → Type 0
+IsProducerOf ring p = IsAt ring p.seat
+
+abbrev pub IsReaderOf : Ring → Reader → Type 0
+IsReaderOf ring r = IsAt ring r.seat
+
+-- Reader x is number r of this ring, as it is at open.
+abbrev pub IsFresh : Ring → ℕ → Reader → Type 0
+IsFresh ring r x = IsReaderOf ring x × (number_of x ≡ r) × (reader_part x ≡ open_reader (spec_of ring))
+
+abbrev pub AllFresh : Ring → List Reader → Type 0
+AllFresh ring xs = (r : ℕ) (x : Reader) → slice_get xs r ≡ Some x → IsFresh ring r x
+
+-- The ring, its producer and its readers in order, as they are at open.
+pub record IsOpened (spec : RingSpec) (ring : Ring) (p : Producer) (readers : List Reader) : Type 0 where
+  pub as_given : spec_of ring ≡ spec
+  pub producer_of : IsProducerOf ring p
+  pub producer_open : producer_part p ≡ open_producer spec
+  pub count : length readers ≡ spec.readers
+  pub readers_open : AllFresh ring readers
+
+-- The least fault that holds.
+abbrev pub Refuses : RingSpec → RingFault → Type 0
+Refuses spec Size = ¬ (IsRingSize spec.size)
+Refuses spec Readers = IsRingSize spec.size × ¬ (IsReaderCount spec.readers)
+Refuses spec Stream = IsRingSize spec.size × IsReaderCount spec.readers × ¬ (IsStream spec.id)
+Refuses spec Memory = IsRingSize spec.size × IsReaderCount spec.readers × IsStream spec.id
+
+-- The first `count` of these are the ring's blocks from n on.
+abbrev pub FollowOn : RingSpec → ℕ → ℕ → List Block → Type 0
+FollowOn spec n count blocks = (j : ℕ) (b : Block) → j < count → slice_get blocks j ≡ Some b → (b.key ≡ spec.id.key) × (b.number ≡ n + j)
+
+-- The producer's part after each answer of `try_publish`, and after each of `publish_batch` of m blocks.
+abbrev pub AfterPublish : RingSpec → ProducerPart → ProducerPart → Publish → Type 0
+AfterPublish spec p p' One.Done = Publishes spec p p' 1 1
+AfterPublish spec p p' (One.Full r taken) = IsFull spec p p' r taken
+
+abbrev pub AfterPublishMany : RingSpec → ProducerPart → ProducerPart → ℕ → PublishMany → Type 0
+AfterPublishMany spec p p' m (Many.Done count) = Publishes spec p p' m count
+AfterPublishMany spec p p' m (Many.Full r taken) = IsFull spec p p' r taken
+
+-- A reader's part after each answer of `try_take`.
+abbrev pub AfterTake : RingSpec → ReaderPart → ReaderPart → Take → Type 0
+AfterTake spec q q' (Next.Got b) = Takes q q' 1 1 × (b.key ≡ spec.id.key) × (b.number ≡ q.taken)
+AfterTake spec q q' (Next.Empty published) = SeesNothing q q' published
+AfterTake spec q q' (Next.Ended published) = SeesEnd q q' published
+
+-- A reader's part and the blocks lent, after each answer of `take_batch`.
+abbrev pub AfterBatch : RingSpec → ReaderPart → ReaderPart → List Block → List Block → Batch → Type 0
+AfterBatch spec q q' out out' (Several.Got count) = Takes q q' (length out) count × FollowOn spec q.taken count out' × (drop count out' ≡ drop count out)
+AfterBatch spec q q' out out' (Several.Empty published) = SeesNothing q q' published × (out' ≡ out)
+AfterBatch spec q q' out out' (Several.Ended published) = SeesEnd q q' published × (out' ≡ out)

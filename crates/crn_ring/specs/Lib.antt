@@ -1,0 +1,7 @@
+pub mod Holds
+pub mod Gates
+pub mod Plays
+pub mod Parts
+pub mod Calls
+pub mod Rooms
+pub mod Closes

@@ -1,0 +1,89 @@
+//! How a ring is opened.
+ghost use Rattle.std.specs.Prelude.{◌≡◌, ◌+◌, ◌≤◌, ◌<◌, ◌*◌, [], length, vec_capacity, IfOk, IfErr};
+ghost use Rattle.crn_proto.specs.Ring.{open_words, word_count};
+ghost use Rattle.crn_ring.specs.Holds.{opened};
+ghost use Rattle.crn_ring.specs.Calls.{IsOpened, AllFresh, Refuses};
+
+use crate::plays::CutsReader;
+use crate::producer_end::Producer;
+use crate::reader_end::Reader;
+use crate::ring::{Place, Ring};
+use atomic_table::Table;
+use crn_cipher::BLOCK_WORDS;
+use crn_proto::{RingFault, RingSpec};
+use std::alloc::{AllocError, Global};
+
+// The words at open.
+fn blank(alloc: Global, spec: RingSpec) -> Result<Vec<u64>, AllocError>
+    requires { (spec.readers ≤ 16) × (spec.size ≤ 1024) × (spec.id.first ≤ 65536) }
+    ensures { IfOk result (λ w. (w.items ≡ open_words spec) × (length w.items ≡ word_count spec)) }
+{
+    let readers = spec.readers as usize;
+    let mut words = vec![in alloc; 2 * spec.id.first; 1]?;
+    words.resize(1 + readers, spec.id.first)?;
+    words.resize(1 + readers + BLOCK_WORDS * spec.size as usize, 0)?;
+    Ok(words)
+}
+
+impl Ring {
+    // Cuts a seat for each reader off the first seat, which is left with the producer.
+    fn cut_all(&self, mut seat: Place, mut readers: Vec<Reader>) -> (Place, Vec<Reader>)
+        requires own { seat.table_id ≡ self.now.table.shared.table_id }
+        requires first { seat.me.0 ≡ opened self.now.spec 0 }
+        requires room { (readers.items ≡ []) × (self.now.spec.readers ≤ vec_capacity readers) }
+        ensures own { result.0.table_id ≡ self.now.table.shared.table_id }
+        ensures producer { result.0.me.0 ≡ opened self.now.spec self.now.spec.readers }
+        ensures readers { (length result.1.items ≡ self.now.spec.readers) × AllFresh self.now result.1.items }
+    {
+        for r in 0..self.spec.readers {
+            let cut = self.table.shared.split_seat::<CutsReader>(&mut seat);
+            readers.push_reserved(Reader {
+                seat: cut,
+                number: r,
+                taken: self.spec.id.first,
+                ended: false,
+            });
+        }
+        (seat, readers)
+    }
+
+    /// A ring with nothing in it, its producer, and its readers in order of their numbers. They stand before block
+    /// `spec.id.first`.
+    ///
+    /// Refuses, the least first: [`RingFault::Size`] where the size is no power of two from 1 to 1,024;
+    /// [`RingFault::Readers`] where the readers are not 1 to 16; [`RingFault::Stream`] where the total is over 65,536 or
+    /// below `first`; [`RingFault::Memory`] where a request for memory was refused. On a refusal nothing is kept. It is
+    /// the only call of this crate that takes memory.
+    pub fn open(alloc: Global, spec: RingSpec) -> Result<(Ring, Producer, Vec<Reader>), RingFault>
+        ensures refused { IfErr result (λ f. Refuses spec f) }
+        ensures opened { IfOk result (λ r. IsOpened spec r.0 r.1 r.2.items) }
+    {
+        if !spec.size.is_power_of_two() || spec.size > 1024 {
+            return Err(RingFault::Size);
+        }
+        if spec.readers == 0 || spec.readers > 16 {
+            return Err(RingFault::Readers);
+        }
+        if spec.id.total > 65_536 || spec.id.first > spec.id.total {
+            return Err(RingFault::Stream);
+        }
+        let Ok(words) = blank(alloc, spec) else {
+            return Err(RingFault::Memory);
+        };
+        let Ok(readers) = Vec::with_capacity(alloc, spec.readers as usize) else {
+            return Err(RingFault::Memory);
+        };
+        let Ok((table, seat)) = Table::of_words(alloc, words.as_slice(), &spec) else {
+            return Err(RingFault::Memory);
+        };
+        let ring = Ring { table, spec };
+        let (seat, readers) = ring.cut_all(seat, readers);
+        let producer = Producer {
+            seat,
+            published: spec.id.first,
+            ended: false,
+            least: spec.id.first,
+        };
+        Ok((ring, producer, readers))
+    }
+}
