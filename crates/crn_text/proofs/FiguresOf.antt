@@ -1,6 +1,6 @@
 -- The figures of one policy among those of all.
 use Rattle.std.proofs.Common.{◌≡◌, ℕ, ◌<◌, List, [], ◌∷◌, length, map, Some, Option, slice_get, slice_index_or, get_or, option_map, subst, sym, ap, ◌∙◌, refl, arith}
-use Rattle.std.proofs.lemmas.Option.{slice_get_read, slice_get-map, same_Some}
+use Rattle.std.proofs.lemmas.Option.{slice_get_read, slice_get-map}
 use Rattle.crn_stock.specs.Parts.{Parts}
 use Rattle.crn_stock.specs.Models.{ModelParts, total}
 use Rattle.crn_run.specs.Runs.{StandsAt}
@@ -10,10 +10,13 @@ use Rattle.crn_text.specs.Rows.{IsFigures}
 abbrev pub FiguresAt : ModelParts → List (List ℕ) → ℕ → Figures → Type 0
 FiguresAt m costs i f = (a : List ℕ) → slice_get costs i ≡ Some a → IsFigures m a (slice_index_or costs 0 []) f
 
+same_of : {A : Type 0} (o : Option A) (a b : A) → o ≡ Some a → o ≡ Some b → a ≡ b
+same_of o a b e f = cc
+
 costs_at : (vs : List Parts) (i : ℕ) (v : Parts) (a : List ℕ) → i < length vs → v ≡ get_or vs i v → slice_get (map (λ w. w.costs) vs) i ≡ Some a → a ≡ v.costs
 costs_at vs i v a inside is e =
     let there : slice_get vs i ≡ Some v = slice_get_read vs (length vs) i v refl inside is in
-    same_Some a v.costs (sym e ∙ slice_get-map (λ w. w.costs) vs i ∙ ap (option_map (λ w. w.costs)) there)
+    same_of (slice_get (map (λ w. w.costs) vs) i) a v.costs e (slice_get-map (λ w. w.costs) vs i ∙ ap (option_map (λ w. w.costs)) there)
 
 first_costs : (vs : List Parts) (v : Parts) → 0 < length vs → v ≡ get_or vs 0 v → slice_index_or (map (λ w. w.costs) vs) 0 [] ≡ v.costs
 first_costs [] v some is = absurd (omega arith)

@@ -1,4 +1,5 @@
 mod Costs
 mod FiguresOf
 mod Plainness
+mod ReadBack
 mod Written

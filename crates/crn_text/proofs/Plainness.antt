@@ -1,5 +1,5 @@
 -- A row of plain fields is written as it is.
-use Rattle.std.proofs.Common.{◌≡◌, ℕ, ℤ, pos, negsuc, ◌+◌, ◌%◌, ◌<◌, ◌^◌, ◌&&◌, ◌||◌, nat_le, nat_eq, Bool, true, false, List, [], ◌∷◌, ◌++◌, length, codes, decimal, suc, refl, arith}
+use Rattle.std.proofs.Common.{◌≡◌, ℕ, ℤ, pos, negsuc, ◌+◌, ◌%◌, ◌<◌, ◌^◌, ◌&&◌, nat_le, true, false, List, [], ◌∷◌, ◌++◌, length, codes, decimal, suc, refl, arith}
 use Rattle.std.proofs.lemmas.Bool.{and_parts}
 use Rattle.std.proofs.lemmas.Bool.Decides.{nat_tests}
 use Rattle.std.proofs.lemmas.Fmt.{decimal_by_steps_wide}

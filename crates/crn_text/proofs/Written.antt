@@ -1,5 +1,5 @@
 -- Rows that a writer has written one after another.
-use Rattle.std.proofs.Common.{◌≡◌, ℕ, ◌+◌, ◌<◌, false, List, [], ◌∷◌, ◌++◌, Result, Ok, Err, Option, Some, None, Vec, Global, length, take, get_or, zero, suc, refl, ap, sym, ◌∙◌, append_assoc, subst, arith}
+use Rattle.std.proofs.Common.{◌≡◌, ℕ, ◌+◌, ◌<◌, false, List, [], ◌∷◌, ◌++◌, Result, Ok, Err, Option, Some, None, Vec, Global, length, take, get_or, zero, suc, ap, sym, ◌∙◌, append_assoc, subst, arith}
 use Rattle.std.proofs.lemmas.List.{append-nil}
 use Rattle.std.specs.Result.{OnOk, is_err}
 use Rattle.std.specs.Io.KnownBytes.{Appends, Keeps}

@@ -11,7 +11,7 @@ use crn_stock::Policy;
 use itoa::Buffer;
 use std::alloc::{AllocError, Global};
 
-fn put_number<I: itoa::Integer>(text: &mut Vec<u8>, number: I) -> Result<(), AllocError>
+pub(crate) fn put_number<I: itoa::Integer>(text: &mut Vec<u8>, number: I) -> Result<(), AllocError>
     ensures { OnOk result (text.new.items ≡ text.old.items ++ I.text number) }
 {
     text.extend_from_slice(Buffer::new().format(number).as_bytes())

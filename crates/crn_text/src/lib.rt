@@ -1,12 +1,18 @@
-//! The texts of crnsim: reports are written as CSV, and the words of a block as lines. Scenarios are read by
-//! `crn_scenario`, which is handed on here.
+//! The texts of crnsim: reports are written as CSV, and the words of a block and traces as lines; schedules are read.
+//! Scenarios are read by `crn_scenario`, which is handed on here.
 #![tactic(auto)]
 
 mod block_words;
 mod field_texts;
 mod figures;
 mod report_text;
+mod schedule_fault;
+mod schedules;
+mod traces;
 
 pub use block_words::words_text;
 pub use crn_scenario::{ScenarioFault, read_scenario};
 pub use report_text::report;
+pub use schedule_fault::ScheduleFault;
+pub use schedules::read_schedule;
+pub use traces::trace_text;

@@ -2,3 +2,4 @@ pub mod Statuses
 pub mod Bytes
 pub mod Simulation
 pub mod CommandLine
+pub mod Replay

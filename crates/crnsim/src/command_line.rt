@@ -17,6 +17,9 @@ pub enum Command {
     Run,
     /// The words of block `n` of the stream of `key`.
     Words { key: [u64; 4], n: u64 },
+    /// The trace of the schedule on standard input, for a ring of so many slots and readers that carries the blocks
+    /// 0 to `total` - 1 of the zero key.
+    Replay { size: u64, readers: u32, total: u64 },
     /// The program's help.
     Help { text: String },
 }
@@ -42,8 +45,34 @@ const KEY_WORDS: [&str; 4] = ["K0", "K1", "K2", "K3"];
 const WORDS_EXAMPLE: &str = "Example, block 0 of the zero key:
   crnsim words 0000000000000000 0000000000000000 0000000000000000 0000000000000000 0";
 
+const REPLAY_ABOUT: &str =
+    "Reads a schedule on standard input and writes its trace: the steps of the ring's actors, one load or store each, \
+and where they lead to. The ring carries blocks 0 to TOTAL - 1 of the zero key";
+
+const REPLAY_EXAMPLE: &str =
+    "A schedule has a line for each step, with the actor that makes it: `p` is the producer, `e` \
+the producer as it ends the stream, `r0` reader 0 and `l0` reader 0 as it leaves.
+
+Example, two readers that look for a block of an empty stream:
+  printf 'r0\nr1\np\nr0\n' | crnsim replay 1 2 0";
+
+const RING_ARGS: [(&str, &str); 3] = [
+    (
+        "SIZE",
+        "The slots of the ring: a power of two from 1 to 1024",
+    ),
+    (
+        "READERS",
+        "The readers, from 1 to 16, which are numbered from 0",
+    ),
+    ("TOTAL", "The blocks in all, from 0 to 65536"),
+];
+
 /// Reads the words that follow the program's name, with `clap`: no word or `run` for a run, `words` with four key
-/// words of 16 digits `0-9a-f` and the number of a block in decimal for its words, and requests for help.
+/// words of 16 digits `0-9a-f` and the number of a block in decimal for its words, `replay` with the size, the
+/// readers and the total of a ring in decimal for a trace, and requests for help.
+///
+/// It judges spelling and types alone: whether there is such a ring is for [`replay_run`](crate::replay_run) to say.
 ///
 /// # Errors
 ///
@@ -83,13 +112,20 @@ fn parser<'a>(alloc: Global) -> Result<clap::Command<'a>, AllocError> {
         .required(true)
         .help("The number of the block, in decimal");
     let words = words.arg(number)?;
+    let mut replay = clap::Command::new(alloc, "replay")
+        .about(REPLAY_ABOUT)
+        .after_help(REPLAY_EXAMPLE);
+    for (name, help) in RING_ARGS {
+        replay = replay.arg(Arg::new(alloc, name).required(true).help(help))?;
+    }
     clap::Command::new(alloc, "crnsim")
         .bin_name("crnsim")?
         .about(ABOUT)
         .after_help(EXAMPLE)
         .no_binary_name(true)
         .subcommand(run)?
-        .subcommand(words)
+        .subcommand(words)?
+        .subcommand(replay)
 }
 
 fn command_of(matches: &ArgMatches<'_>) -> Result<Command, Fault>
@@ -98,6 +134,7 @@ fn command_of(matches: &ArgMatches<'_>) -> Result<Command, Fault>
     match matches.subcommand() {
         None | Some(("run", _)) => Ok(Command::Run),
         Some(("words", words)) => block_words(words),
+        Some(("replay", words)) => ring(words),
         Some(_) => Err(Fault::CommandLine),
     }
 }
@@ -116,9 +153,34 @@ fn block_words(words: &ArgMatches<'_>) -> Result<Command, Fault>
             None => return Err(Fault::CommandLine),
         }
     }
-    match words.get_str("N") {
+    let n = number_at(words, "N")?;
+    Ok(Command::Words { key, n })
+}
+
+// The ring whose schedule is replayed.
+fn ring(words: &ArgMatches<'_>) -> Result<Command, Fault>
+    ensures { IfErr result (λ e. e ≡ Fault.CommandLine) }
+{
+    let size = number_at(words, "SIZE")?;
+    let readers = number_at(words, "READERS")?;
+    let total = number_at(words, "TOTAL")?;
+    match u32::try_from(readers) {
+        Ok(readers) => Ok(Command::Replay {
+            size,
+            readers,
+            total,
+        }),
+        Err(_) => Err(Fault::CommandLine),
+    }
+}
+
+// The number that an argument of this name spells.
+fn number_at(words: &ArgMatches<'_>, name: &str) -> Result<u64, Fault>
+    ensures { IfErr result (λ e. e ≡ Fault.CommandLine) }
+{
+    match words.get_str(name) {
         Some(text) => match number(text) {
-            Some(n) => Ok(Command::Words { key, n }),
+            Some(number) => Ok(number),
             None => Err(Fault::CommandLine),
         },
         None => Err(Fault::CommandLine),

@@ -1,5 +1,5 @@
 //! Compares (s,S) inventory policies by common random numbers: a scenario on standard input, its report on
-//! standard output.
+//! standard output. It also writes the words of blocks, and replays schedules of the ring that carries them.
 #![tactic(auto)]
 
 mod block_words;
@@ -7,12 +7,14 @@ mod command_line;
 mod fault;
 mod input;
 mod output;
+mod replay;
 mod simulation;
 
 pub use block_words::write_words;
 pub use command_line::{Command, read_words};
 pub use fault::Fault;
 use output::write_text;
+pub use replay::replay_run;
 pub use simulation::simulate;
 use std::env;
 use std::io::{ErrorKind, Write};
@@ -34,6 +36,18 @@ fn run(rt: &HostRuntime) -> Result<(), Fault> {
     match read_words(alloc, words_of(rt)?.as_slice())? {
         Command::Run => simulate(alloc, &mut rt.stdin(), &mut rt.stdout()),
         Command::Words { key, n } => write_words(alloc, key, n, &mut rt.stdout()),
+        Command::Replay {
+            size,
+            readers,
+            total,
+        } => replay_run(
+            alloc,
+            size,
+            readers,
+            total,
+            &mut rt.stdin(),
+            &mut rt.stdout(),
+        ),
         Command::Help { text } => write_help(&mut rt.stdout(), text.as_str()),
     }
 }

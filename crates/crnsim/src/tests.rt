@@ -1,11 +1,12 @@
 // The program's engine on whole texts, with readers and writers that fail.
 
 mod fakes;
+mod replays;
 mod runs;
 mod words;
 
 use super::*;
-use crn_text::ScenarioFault;
+use crn_text::{ScenarioFault, ScheduleFault};
 use fakes::{Narrow, Trickle};
 use std::alloc::AllocError;
 use std::test::Fail;
@@ -182,6 +183,11 @@ fn lines_and_statuses(rt: HostRuntime) -> Result<(), Fail> {
             Fault::Scenario(ScenarioFault::PolicyCount),
             "crnsim: scenario 13",
             3,
+        ),
+        (
+            Fault::Schedule(ScheduleFault::Line),
+            "crnsim: schedule 1",
+            4,
         ),
         (Fault::Reading, "crnsim: reading", 5),
         (Fault::Writing, "crnsim: writing", 5),

@@ -42,18 +42,36 @@ fn commands(rt: HostRuntime) -> Result<(), Fail> {
             "{text}"
         );
     }
+    // Whether there is such a ring is not judged here.
+    let rings = [
+        (["replay", "2", "1", "65536"], 2u64, 1u32, 65_536u64),
+        (["replay", "3", "1", "1"], 3, 1, 1),
+        (["replay", "2", "4294967295", "0"], 2, u32::MAX, 0),
+    ];
+    for (words, size, readers, total) in rings {
+        let replay = Command::Replay {
+            size,
+            readers,
+            total,
+        };
+        assert_eq!(rt; command(&rt, &words), Ok(replay));
+    }
     Ok(())
 }
 
 #[test]
 fn refused_words(rt: HostRuntime) -> Result<(), Fail> {
-    let table: [&[&str]; 22] = [
+    let table: [&[&str]; 26] = [
         &[""],
         &["walk"],
         &["Run"],
         &["run", "run"],
         &["run", "scenario.toml"],
-        &["replay", "2", "1", "1"],
+        &["replay", "2", "1"],
+        &["replay", "02", "1", "1"],
+        &["replay", "2", "4294967296", "1"],
+        &["replay", "2", "1", "-1"],
+        &["replay", "2", "1", "1", "1"],
         &["leg", "1"],
         &["--version"],
         &["-x"],
@@ -86,6 +104,10 @@ fn help(rt: HostRuntime) -> Result<(), Fail> {
             Ok(Command::Help { text }) => assert!(rt; text.as_str().contains("words"), "{text}"),
             _ => assert!(rt; false, "no help"),
         }
+    }
+    match command(&rt, &["replay", "--help"]) {
+        Ok(Command::Help { text }) => assert!(rt; text.as_str().contains("SIZE"), "{text}"),
+        _ => assert!(rt; false, "no help"),
     }
     Ok(())
 }

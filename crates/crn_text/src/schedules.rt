@@ -1,0 +1,141 @@
+// Schedules from their texts.
+
+ghost use Rattle.std.specs.Prelude.{◌≡◌, ◌⊎◌, ℕ, ◌<◌, ◌^◌, ◌↔◌, Some, IfOk, IfErr, IfSome, IsTrue, decimal, true, length};
+ghost use Rattle.crn_proto.specs.declared.schedule.Actor.{Actor};
+ghost use Rattle.crn_text.specs.Schedule as spec;
+
+use crate::schedule_fault::ScheduleFault;
+use crn_proto::Actor;
+use itoa::Buffer;
+use std::alloc::Global;
+
+// The first line without its line feed, and what follows it.
+fn cut_line<'a>(text: &'a [u8]) -> (&'a [u8], &'a [u8])
+    ensures cut { spec.IsCut text.now result.0.now result.1.now }
+    ensures shorter { 0 < length text.now → length result.1.now < length text.now }
+{
+    for i in 0..text.len() {
+        if text[i] == b'\n' {
+            return (&text[..i], &text[i + 1..]);
+        }
+    }
+    (text, &text[text.len()..])
+}
+
+fn spells(text: &str, number: u32) -> bool
+    ensures { IsTrue result ↔ (text.now ≡ decimal number) }
+{
+    Buffer::new().format(number) == text
+}
+
+// A number of 32 bits from its text, in the one spelling that it has.
+fn number_of_text(text: &str) -> Option<u32>
+    ensures spelt { IfSome result (λ n. text.now ≡ decimal n) }
+    ensures every { (n : ℕ) → n < 2 ^ 32 → text.now ≡ decimal n → result ≡ Some n }
+{
+    match text.parse::<u32>() {
+        Ok(number) => {
+            if !spells(text, number) {
+                return None;
+            }
+            Some(number)
+        }
+        Err(_) => None,
+    }
+}
+
+// A number of 32 bits from the bytes of its text.
+fn number_of_digits(digits: &[u8]) -> Option<u32>
+    ensures spelt { IfSome result (λ n. digits.now ≡ decimal n) }
+    ensures every { (n : ℕ) → n < 2 ^ 32 → digits.now ≡ decimal n → result ≡ Some n }
+{
+    match std::str::from_utf8(digits) {
+        Ok(text) => number_of_text(text),
+        Err(_) => None,
+    }
+}
+
+// The actor of a line.
+fn actor_of(line: &[u8]) -> Option<Actor>
+    ensures spelt { IfSome result (λ who. (line.now ≡ spec.actor_text who) × (spec.is_below (2 ^ 32) who ≡ true)) }
+    ensures every { (who : Actor) → spec.is_below (2 ^ 32) who ≡ true → line.now ≡ spec.actor_text who → result ≡ Some who }
+{
+    match line {
+        [b'p'] => Some(Actor::Producer),
+        [b'e'] => Some(Actor::Finish),
+        [b'r', digits @ ..] => match number_of_digits(digits) {
+            Some(r) => Some(Actor::Reader(r)),
+            None => None,
+        },
+        [b'l', digits @ ..] => match number_of_digits(digits) {
+            Some(r) => Some(Actor::Leave(r)),
+            None => None,
+        },
+        _ => None,
+    }
+}
+
+// The actors of all lines, whatever the readers' numbers are.
+fn read_lines(alloc: Global, bytes: &[u8]) -> Result<Vec<Actor>, ScheduleFault>
+    ensures schedule { IfOk result (λ actors. spec.IsScheduleOf bytes.now actors.items) }
+    ensures refuses { IfErr result (λ f. (f ≡ ScheduleFault.Memory) ⊎ ((f ≡ ScheduleFault.Line) × spec.HasNoSchedule bytes.now)) }
+{
+    let mut actors = Vec::new(alloc);
+    let mut rest = bytes;
+    while !rest.is_empty() {
+        let (line, after) = cut_line(rest);
+        match actor_of(line) {
+            Some(who) => {
+                if actors.push(who).is_err() {
+                    return Err(ScheduleFault::Memory);
+                }
+            }
+            None => return Err(ScheduleFault::Line),
+        }
+        rest = after;
+    }
+    Ok(actors)
+}
+
+fn is_below(readers: u32, who: Actor) -> bool
+    ensures { result ≡ spec.is_below readers who }
+{
+    match who {
+        Actor::Producer | Actor::Finish => true,
+        Actor::Reader(r) | Actor::Leave(r) => r < readers,
+    }
+}
+
+fn are_below(readers: u32, actors: &[Actor]) -> bool
+    ensures { result ≡ spec.are_below readers actors.now }
+{
+    for who in actors {
+        if !is_below(readers, *who) {
+            return false;
+        }
+    }
+    true
+}
+
+/// The schedule of a text, for a ring of so many readers: a line for each actor, ended by a line feed, which the
+/// last line may lack. `p` is the producer, `e` the producer as it ends the stream, `r` with a number that reader
+/// and `l` with a number that reader as it leaves. A number is in decimal, without a sign or leading zeros. The empty
+/// text is the empty schedule. A text has one schedule at most.
+///
+/// # Errors
+///
+/// - `Line` where a line is none of these, or a number is over 4,294,967,295. It comes before `Reader`, wherever
+///   the lines stand.
+/// - `Reader` where a reader's number is not below `readers`.
+/// - `Memory` where a growth was refused.
+pub fn read_schedule(alloc: Global, readers: u32, bytes: &[u8]) -> Result<Vec<Actor>, ScheduleFault>
+    ensures schedule { IfOk result (λ actors. spec.IsScheduleOf bytes.now actors.items) }
+    ensures known { IfOk result (λ actors. spec.are_below readers actors.items ≡ true) }
+    ensures refuses { IfErr result (λ f. spec.RefusesSchedule readers f bytes.now) }
+{
+    let actors = read_lines(alloc, bytes)?;
+    if !are_below(readers, actors.as_slice()) {
+        return Err(ScheduleFault::Reader);
+    }
+    Ok(actors)
+}
