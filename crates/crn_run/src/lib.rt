@@ -2,7 +2,25 @@
 #![tactic(auto)]
 
 mod checkpoint;
+mod fault;
+mod feeding;
+mod gate;
+mod jobs;
 mod plain;
+mod run;
+mod threads;
+mod worker;
 
 pub use checkpoint::Checkpoint;
+pub use fault::RunFault;
+pub use feeding::feed;
+pub use gate::{Gate, OpenGate};
 pub use plain::run_plain;
+pub use run::{Finished, run_all};
+pub use worker::{PolicyEnd, run_policy};
+
+// The most blocks that are published, or taken, at once.
+const BATCH: usize = 16;
+
+#[cfg(test)]
+mod tests;

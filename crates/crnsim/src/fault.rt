@@ -22,6 +22,12 @@ pub enum Fault {
     /// A write failed or took no byte.
     #[error("crnsim: writing")]
     Writing,
+    /// A thread was refused.
+    #[error("crnsim: thread")]
+    Thread,
+    /// A gate answered false. The program's own gates never do.
+    #[error("crnsim: gate")]
+    Gate,
     /// A growth was refused.
     #[error("crnsim: memory")]
     Memory,
@@ -29,7 +35,7 @@ pub enum Fault {
 
 impl Fault {
     /// The status that the program ends with: 2 for the command line, 3 for the scenario, 4 for the schedule, 5 for
-    /// reading and writing, 7 for want of memory.
+    /// reading and writing, 6 for a thread and a gate, 7 for want of memory.
     pub fn status(&self) -> u8
         ensures { result ≡ status_of self.now }
     {
@@ -38,6 +44,7 @@ impl Fault {
             Fault::Scenario(_) => 3,
             Fault::Schedule(_) => 4,
             Fault::Reading | Fault::Writing => 5,
+            Fault::Thread | Fault::Gate => 6,
             Fault::Memory => 7,
         }
     }

@@ -19,9 +19,11 @@ pub use simulation::simulate;
 use std::env;
 use std::io::{ErrorKind, Write};
 use std::process::ExitCode;
+use std::sync::Wait;
+use std::thread::Threads;
 
 fn main(rt: HostRuntime) -> ExitCode {
-    match run(&rt) {
+    match run(&rt, &rt) {
         Ok(()) => ExitCode::from(0),
         Err(fault) => {
             // Where this line can't be written the status still tells.
@@ -31,10 +33,11 @@ fn main(rt: HostRuntime) -> ExitCode {
     }
 }
 
-fn run(rt: &HostRuntime) -> Result<(), Fault> {
+// Answers the words of the command line, a run of policies on threads of `threads`.
+fn run<H: Threads + Wait + Sync>(rt: &HostRuntime, threads: &H) -> Result<(), Fault> {
     let alloc = rt.alloc();
     match read_words(alloc, words_of(rt)?.as_slice())? {
-        Command::Run => simulate(alloc, &mut rt.stdin(), &mut rt.stdout()),
+        Command::Run => simulate(threads, alloc, &mut rt.stdin(), &mut rt.stdout()),
         Command::Words { key, n } => write_words(alloc, key, n, &mut rt.stdout()),
         Command::Replay {
             size,

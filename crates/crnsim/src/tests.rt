@@ -8,7 +8,7 @@ mod words;
 use super::*;
 use crn_text::{ScenarioFault, ScheduleFault};
 use fakes::{Narrow, Trickle};
-use std::alloc::AllocError;
+use std::alloc::{AllocError, Global};
 use std::test::Fail;
 
 const HEADER: &str = "policy,s,S,total,per_period,diff_total,diff_mean,diff_var,cov\n";
@@ -73,10 +73,14 @@ fn joined(rt: &HostRuntime, parts: &[&str]) -> Result<String, AllocError> {
 }
 
 // What the engine writes for a text, or why it doesn't.
-fn answer_to(rt: &HostRuntime, text: &str) -> Result<Vec<u8>, Fault> {
+fn answer_to<H: Threads + Wait + Sync>(
+    rt: &H,
+    alloc: Global,
+    text: &str,
+) -> Result<Vec<u8>, Fault> {
     let mut reader = text.as_bytes();
-    let mut out = Vec::new(rt.alloc());
-    simulate(rt.alloc(), &mut reader, &mut out)?;
+    let mut out = Vec::new(alloc);
+    simulate(rt, alloc, &mut reader, &mut out)?;
     Ok(out)
 }
 
@@ -106,7 +110,7 @@ fn worked_examples(rt: HostRuntime) -> Result<(), Fail> {
     for (texts, report) in table {
         let text = joined(&rt, texts)?;
         let want = joined(&rt, report)?;
-        match answer_to(&rt, text.as_str()) {
+        match answer_to(&rt, rt.alloc(), text.as_str()) {
             Ok(out) => assert_eq!(rt; out.as_slice(), want.as_bytes()),
             Err(fault) => assert!(rt; false, "{fault}"),
         }
@@ -130,7 +134,7 @@ fn refused_inputs(rt: HostRuntime) -> Result<(), Fail> {
     for (texts, fault) in refused {
         let text = joined(&rt, texts)?;
         assert_eq!(rt;
-            answer_to(&rt, text.as_str()).err(),
+            answer_to(&rt, rt.alloc(), text.as_str()).err(),
             Some(Fault::Scenario(fault)),
             "{text}"
         );
@@ -142,7 +146,7 @@ fn refused_inputs(rt: HostRuntime) -> Result<(), Fail> {
 fn a_ring_of_three(rt: HostRuntime) -> Result<(), Fail> {
     let base = joined(&rt, &[MODEL, POLICY_A, POLICY_B])?;
     let text = changed(&rt, base.as_str(), "ring = 2", "ring = 3")?;
-    match answer_to(&rt, text.as_str()) {
+    match answer_to(&rt, rt.alloc(), text.as_str()) {
         Ok(_) => assert!(rt; false, "a ring of three blocks is accepted"),
         Err(fault) => {
             let line = fault.to_string(rt.alloc())?;
@@ -162,9 +166,26 @@ fn every_ring_size(rt: HostRuntime) -> Result<(), Fail> {
     ] {
         let line = joined(&rt, &["ring = ", size])?;
         let text = changed(&rt, base.as_str(), "ring = 2", line.as_str())?;
-        match answer_to(&rt, text.as_str()) {
+        match answer_to(&rt, rt.alloc(), text.as_str()) {
             Ok(out) => assert_eq!(rt; out.as_slice(), report.as_bytes(), "{size}"),
             Err(fault) => assert!(rt; false, "{fault}"),
+        }
+    }
+    Ok(())
+}
+
+// Small rings, on which the producer and the policies wait for one another all the time.
+#[test]
+fn the_same_bytes_in_every_run(rt: HostRuntime) -> Result<(), Fail> {
+    let base = joined(&rt, &[MODEL, POLICY_A, POLICY_B])?;
+    let report = joined(&rt, &[HEADER, ROW_A, ROW_B])?;
+    for line in ["ring = 1", "ring = 2"] {
+        let text = changed(&rt, base.as_str(), "ring = 2", line)?;
+        for run in 0..200 {
+            match answer_to(&rt, rt.alloc(), text.as_str()) {
+                Ok(out) => assert_eq!(rt; out.as_slice(), report.as_bytes(), "run {run}"),
+                Err(fault) => assert!(rt; false, "{fault}"),
+            }
         }
     }
     Ok(())
@@ -191,6 +212,8 @@ fn lines_and_statuses(rt: HostRuntime) -> Result<(), Fail> {
         ),
         (Fault::Reading, "crnsim: reading", 5),
         (Fault::Writing, "crnsim: writing", 5),
+        (Fault::Thread, "crnsim: thread", 6),
+        (Fault::Gate, "crnsim: gate", 6),
         (Fault::Memory, "crnsim: memory", 7),
     ];
     for (fault, line, status) in table {
@@ -209,7 +232,7 @@ fn reads_that_fail(rt: HostRuntime) -> Result<(), Fail> {
     for k in 1..reads + 2 {
         let mut reader = Trickle::new(text.as_bytes(), 100, k);
         let mut out = Vec::new(rt.alloc());
-        let answer = simulate(rt.alloc(), &mut reader, &mut out);
+        let answer = simulate(&rt, rt.alloc(), &mut reader, &mut out);
         if k <= reads {
             assert_eq!(rt; answer, Err(Fault::Reading), "at {k}");
             assert_eq!(rt; out.len(), 0, "at {k}");
@@ -230,7 +253,7 @@ fn writes_that_fail(rt: HostRuntime) -> Result<(), Fail> {
         for k in 1..writes + 2 {
             let mut reader = text.as_bytes();
             let mut out = Narrow::new(rt.alloc(), k, takes_none);
-            let answer = simulate(rt.alloc(), &mut reader, &mut out);
+            let answer = simulate(&rt, rt.alloc(), &mut reader, &mut out);
             let want = if k <= writes {
                 Err(Fault::Writing)
             } else {
@@ -257,13 +280,13 @@ fn longest_input(rt: HostRuntime) -> Result<(), Fail> {
     text.resize(1_048_576, b'x')?;
     let mut reader = text.as_slice();
     let mut out = Vec::new(rt.alloc());
-    assert_eq!(rt; simulate(rt.alloc(), &mut reader, &mut out), Ok(()));
+    assert_eq!(rt; simulate(&rt, rt.alloc(), &mut reader, &mut out), Ok(()));
     assert_eq!(rt; out.as_slice(), report.as_bytes());
     text.push(b'x')?;
     let mut reader = text.as_slice();
     let mut out = Vec::new(rt.alloc());
     assert_eq!(rt;
-        simulate(rt.alloc(), &mut reader, &mut out),
+        simulate(&rt, rt.alloc(), &mut reader, &mut out),
         Err(Fault::Reading)
     );
     assert_eq!(rt; out.len(), 0);

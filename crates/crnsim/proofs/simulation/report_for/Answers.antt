@@ -10,6 +10,6 @@ err-inj : (a b : Fault) → Path (Result (Vec ℕ Global) Fault) (Err a) (Err b)
 err-inj a b e = cc
 
 pub returns-in-Err-clause-scenario : goal.returns-in-Err-clause-scenario
-returns-in-Err-clause-scenario c f e =
+returns-in-Err-clause-scenario g c f e =
     let (same, not_memory) = c.scenario_fault.ensures.scenario f (err-inj _ _ e) in
     (not_memory, rw same c.in-Err.ensures.refuses)

@@ -1,0 +1,26 @@
+use Rattle.std.proofs.Common.{◌≡◌, Some, slice_get, length, refl, arith}
+use Rattle.std.proofs.lemmas.Option.{slice_get_read}
+use Rattle.crn_stock.specs.Draws.{next_block}
+use Rattle.crn_run.proofs.Advancing.{advances_none, advances_then, next_but}
+use Rattle.crn_run.proofs.worker.apply_all.Goals as goal
+
+pub loop-k-init : goal.loop-k-init
+loop-k-init g c = record {
+  advances = advances_none c.args.scenario.now.model c.args.rules.now c.args.scenario.now.key c.args.state.now c.requires.stands;
+  next = omega arith;
+  gate = c.requires.gate;
+}
+
+pub apply-requires-clause-stands : goal.apply-requires-clause-stands
+apply-requires-clause-stands g c = c.loop-k.invariant.advances.stands
+
+pub loop-k-preserved : goal.loop-k-preserved
+loop-k-preserved g c =
+    let b = c.index-blocks-k.result in
+    let is : slice_get c.args.blocks.now c.loop-k.k ≡ Some b =
+    slice_get_read c.args.blocks.now (length c.args.blocks.now) c.loop-k.k b refl (omega (arith, c.requires.blocks.0, c.loop-k-test.true)) c.index-blocks-k.is in
+    record {
+      advances = advances_then c.args.scenario.now.model c.args.rules.now c.args.scenario.now.key c.args.state.now c.loop-k.state c.apply.new.state c.loop-k.invariant.advances c.apply.ensures.advances;
+      next = next_but (next_block c.args.state.now) (next_block c.apply.new.state) b.number c.loop-k.k (c.requires.blocks.1 c.loop-k.k b c.loop-k-test.true is).1 c.apply.ensures.next;
+      gate = c.in-Some.ensures.passed.1;
+    }

@@ -1,0 +1,51 @@
+-- How the run of one policy ends.
+use Rattle.std.specs.Prelude.{◌≡◌, ℕ, ◌+◌, ◌<◌, Bool, true, false, List, Some, slice_get}
+use Rattle.crn_cipher.specs.declared.stream.Block.{Block}
+use Rattle.crn_stock.specs.Parts.{Parts}
+use Rattle.crn_stock.specs.Models.{ModelParts}
+use Rattle.crn_stock.specs.Scenarios.{ScenarioParts}
+use Rattle.crn_stock.specs.Draws.{At, OnwardAt, next_block}
+use Rattle.crn_stock.specs.declared.rules.Policy.{Policy}
+use Rattle.crn_ring.specs.declared.ring.Ring.{Ring}
+use Rattle.crn_ring.specs.declared.reader_end.Reader.{Reader}
+use Rattle.crn_ring.specs.Calls.{IsReaderOf, number_of, reader_part, spec_of}
+use Rattle.crn_run.specs.Runs.{StandsAt}
+use Rattle.crn_run.specs.declared.worker.PolicyEnd.{PolicyEnd}
+use Rattle.crn_run.specs.declared.worker.PolicyEnd.TheVariants.{Reached, Short, Held}
+
+-- w stands before block n, and is what policy number k's state v becomes by the blocks from its next one to n - 1
+pub record IsRun (s : ScenarioParts) (k : ℕ) (v : Parts) (n : ℕ) (w : Parts) : Type 0 where
+  pub stands : StandsAt s.model n w
+  pub at : (p : Policy) → slice_get s.policies k ≡ Some p → At s.model p s.key (next_block v) v → At s.model p s.key n w
+  pub onward : (p : Policy) → slice_get s.policies k ≡ Some p → OnwardAt s.model p s.key v n w
+
+-- x is reader number r of the ring; it has taken the blocks below n, and has seen the end there
+pub record HasReadAll (ring : Ring) (r n : ℕ) (x : Reader) : Type 0 where
+  pub of_ring : IsReaderOf ring x
+  pub number : number_of x ≡ r
+  pub ended : (reader_part x).seen_end ≡ true
+  pub taken : (reader_part x).taken ≡ n
+
+-- the end of a run of policy number k from the state v, by reader number r of the ring
+abbrev pub EndsAs : ScenarioParts → ℕ → Parts → Ring → ℕ → PolicyEnd → Type 0
+EndsAs s k v ring r (Reached w x) = IsRun s k v (spec_of ring).id.total w × HasReadAll ring r (spec_of ring).id.total x
+EndsAs s k v ring r (Short n w x) = (n < (spec_of ring).id.total) × IsRun s k v n w × HasReadAll ring r n x
+EndsAs s k v ring r (Held w) = IsRun s k v (next_block w) w
+
+-- whether the gate has held the run
+abbrev pub is_held : PolicyEnd → Bool
+is_held (Reached w x) = false
+is_held (Short n w x) = false
+is_held (Held w) = true
+
+-- ---- between two blocks of a run
+
+-- w is what v becomes by the blocks from its next one on: what leads to v by the blocks below leads to w
+pub record Advances (m : ModelParts) (p : Policy) (key : List ℕ) (v w : Parts) : Type 0 where
+  pub stands : StandsAt m (next_block w) w
+  pub at : At m p key (next_block v) v → At m p key (next_block w) w
+  pub onward : (q : Parts) → OnwardAt m p key q (next_block v) v → OnwardAt m p key q (next_block w) w
+
+-- the first `count` of these are the key's blocks from n on
+abbrev pub FollowFrom : List ℕ → ℕ → ℕ → List Block → Type 0
+FollowFrom key n count blocks = (j : ℕ) (b : Block) → j < count → slice_get blocks j ≡ Some b → (b.key ≡ key) × (b.number ≡ n + j)

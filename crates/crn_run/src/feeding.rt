@@ -1,0 +1,77 @@
+//! The producer's side of a run.
+ghost use Rattle.std.specs.Prelude.{◌≡◌, ℕ, ◌+◌, ◌<◌, ◌≤◌, true, false, length, slice_get, Some};
+ghost use Rattle.crn_cipher.specs.declared.stream.Block.{Block};
+ghost use Rattle.crn_ring.specs.Calls.{FollowOn, IsProducerOf, producer_part, spec_of};
+
+use crate::BATCH;
+use crn_cipher::{Block, block};
+use crn_ring::{Producer, PublishMany, Ring};
+use crossbeam_utils::Backoff;
+use std::sync::Wait;
+
+/// Publishes all blocks of the ring's stream that are not published, by batches of 16 at most, and then the end.
+/// Where the ring is full it tries again. Takes no memory.
+///
+/// Asks that this is the ring's producer, and that the end is not marked. It returns only if each reader takes its
+/// blocks or leaves. Source: Thompson, Farley, Barker, Gee and Stewart, "Disruptor: High performance alternative to
+/// bounded queues for exchanging data between concurrent threads", LMAX, 2011.
+pub fn feed<R: Wait>(rt: &R, ring: &Ring, producer: &mut Producer)
+    requires of { IsProducerOf ring.now producer.old }
+    requires running { (producer_part producer.old).ended ≡ false }
+    ensures of { IsProducerOf ring.now producer.new }
+    ensures published { (producer_part producer.new).published ≡ (spec_of ring.now).id.total }
+    ensures ended { (producer_part producer.new).ended ≡ true }
+{
+    let id = ring.spec().id;
+    let mut blocks = [block(id.key, id.first); BATCH];
+    for _ in rt.forever() {
+        let n = producer.published();
+        if n == id.total {
+            producer.finish(ring);
+            return;
+        }
+        let count = BATCH.min((id.total - n) as usize);
+        fill(id.key, n, &mut blocks, count);
+        publish_all(rt, ring, producer, &blocks[..count]);
+    }
+    unreachable!()
+}
+
+// Makes the first `count` of the blocks those of the key from block n on.
+fn fill(key: [u64; 4], n: u64, blocks: &mut [Block], count: usize)
+    requires room { (count ≤ length blocks.old) × (n + count ≤ 65536) }
+    ensures blocks { (j : ℕ) (b : Block) → j < count → slice_get blocks.new j ≡ Some b → (b.key ≡ key) × (b.number ≡ n + j) }
+{
+    for k in 0..count {
+        blocks[k] = block(key, n + k as u64);
+    }
+}
+
+// Publishes these blocks, which are the next ones, and tries again where there is no room.
+fn publish_all<R: Wait>(rt: &R, ring: &Ring, producer: &mut Producer, blocks: &[Block])
+    requires of { IsProducerOf ring.now producer.old }
+    requires running { (producer_part producer.old).ended ≡ false }
+    requires blocks { ((producer_part producer.old).published + length blocks.now ≤ (spec_of ring.now).id.total) × FollowOn (spec_of ring.now) (producer_part producer.old).published (length blocks.now) blocks.now }
+    ensures of { IsProducerOf ring.now producer.new }
+    ensures running { (producer_part producer.new).ended ≡ false }
+    ensures published { (producer_part producer.new).published ≡ (producer_part producer.old).published + length blocks.now }
+{
+    let backoff = Backoff::new();
+    let mut start = 0;
+    for _ in rt.forever() {
+        if start == blocks.len() {
+            return;
+        }
+        match producer.publish_batch(ring, &blocks[start..]) {
+            PublishMany::Done { count } => {
+                start += count;
+                backoff.reset();
+            }
+            PublishMany::Full {
+                reader: _,
+                taken: _,
+            } => backoff.snooze(),
+        }
+    }
+    unreachable!()
+}

@@ -1,0 +1,51 @@
+//! What may hold a policy's run.
+ghost use Rattle.std.specs.Prelude.{◌≡◌, Bool, true, false, ◌||◌, not, IfSome, IfNone, OnSome};
+
+/// What a policy's run asks before it applies a block. A gate that answers false holds the run before that block.
+///
+/// A gate's value stores whether it has answered false, and tells contracts so.
+pub trait Gate {
+    /// Whether it has answered false.
+    ghost refused: { Self → Bool };
+
+    /// Whether block `block` may be applied to the state of policy number `policy`.
+    ///
+    /// It may wait, on the thread of that policy; the others go on until they need a block that is not published
+    /// yet. After it the value says that it has answered false where it said so before or where this answer is false,
+    /// and nowhere else.
+    fn pass(&mut self, policy: u32, block: u64) -> bool
+        ensures told { refused self.new ≡ (refused self.old || not result) };
+}
+
+/// The gate that always passes. It takes no memory.
+#[derive(Clone, Copy, Debug, Default, PartialEq, Eq)]
+pub struct OpenGate;
+
+impl Gate for OpenGate {
+    ghost refused = { λ _. false };
+
+    #[inline(always)]
+    fn pass(&mut self, _policy: u32, _block: u64) -> bool {
+        true
+    }
+}
+
+/// The leave of a gate for one block, which `ask` alone gives.
+#[derive(Drop)]
+pub(crate) struct Permit {
+    block: u64,
+}
+
+/// Asks a gate that has not answered false for a block.
+#[inline(always)]
+pub(crate) fn ask<G: Gate>(gate: &mut G, policy: u32, block: u64) -> Option<Permit>
+    requires gate { G.refused gate.old ≡ false }
+    ensures passed { IfSome result (λ p. (p.block ≡ block) × (G.refused gate.new ≡ false)) }
+    ensures held { IfNone result (G.refused gate.new ≡ true) }
+{
+    if gate.pass(policy, block) {
+        Some(Permit { block })
+    } else {
+        None
+    }
+}

@@ -1,0 +1,104 @@
+//! The runs of all policies that are still to start.
+ghost use Rattle.std.specs.Prelude.{◌≡◌, ◌<◌, ◌≤◌, false, length, IfOk, IfErr};
+ghost use Rattle.crn_stock.specs.Models.{total};
+ghost use Rattle.crn_ring.specs.Calls.{AllFresh, IsOpened, number_of, spec_of};
+ghost use Rattle.crn_run.specs.Runs.{IsCheckpointOf};
+ghost use Rattle.crn_run.specs.Ends.{EndsAs};
+ghost use Rattle.crn_run.specs.Jobs.{AreJobs, CarriesFor, IsReady, ring_spec};
+
+use crate::checkpoint::Checkpoint;
+use crate::fault::RunFault;
+use crate::gate::Gate;
+use crate::worker::{PolicyEnd, run_policy};
+use crn_cipher::StreamId;
+use crn_proto::{RingFault, RingSpec};
+use crn_ring::{Producer, Reader, Ring};
+use crn_stock::{Scenario, State};
+use std::alloc::{AllocError, Global};
+use std::sync::Wait;
+
+/// A policy's run that is still to start.
+#[derive(Drop)]
+pub(crate) struct Job {
+    pub(crate) policy: u32,
+    pub(crate) reader: Reader,
+    pub(crate) state: State,
+}
+
+impl Job {
+    // Runs the policy on the thread that calls it.
+    pub(crate) fn run<R: Wait, G: Gate>(
+        self,
+        rt: &R,
+        ring: &Ring,
+        scenario: &Scenario,
+        gate: &mut G,
+    ) -> PolicyEnd
+        requires ready { IsReady scenario.now ring.now self }
+        requires ring { CarriesFor scenario.now ring.now }
+        requires gate { G.refused gate.old ≡ false }
+        ensures { EndsAs scenario.now self.policy self.state ring.now self.policy result }
+    {
+        let Job {
+            policy,
+            reader,
+            state,
+        } = self;
+        run_policy(rt, ring, reader, scenario, policy, state, gate)
+    }
+}
+
+// A ring of the scenario for the blocks from `first` to `upto - 1`, with a reader for each policy.
+pub(crate) fn open_ring(
+    alloc: Global,
+    scenario: &Scenario,
+    first: u64,
+    upto: u64,
+) -> Result<(Ring, Producer, Vec<Reader>), RunFault>
+    requires { (first ≤ upto) × (upto ≤ total scenario.now.model) }
+    ensures { IfOk result (λ r. IsOpened (ring_spec scenario.now first upto) r.0 r.1 r.2.items) }
+{
+    let _periods = scenario.model().periods();
+    let spec = RingSpec {
+        size: scenario.ring(),
+        readers: scenario.policies().len() as u32,
+        id: StreamId {
+            key: scenario.key(),
+            first,
+            total: upto,
+        },
+    };
+    match Ring::open(alloc, spec) {
+        Ok(opened) => Ok(opened),
+        Err(fault) => {
+            prove!(matches!(fault, RingFault::Memory));
+            Err(RunFault::Memory)
+        }
+    }
+}
+
+// A job for each policy, from a copy of its state in `start`. They stand as on a stack: the first policy's is the last.
+pub(crate) fn jobs_of(
+    alloc: Global,
+    ring: &Ring,
+    scenario: &Scenario,
+    start: &Checkpoint,
+    mut readers: Vec<Reader>,
+) -> Result<Vec<Job>, AllocError>
+    requires start { IsCheckpointOf scenario.now start.now.next start.now.states.items }
+    requires first { (spec_of ring.now).id.first ≡ start.now.next }
+    requires readers { (length readers.items ≡ length scenario.now.policies) × AllFresh ring.now readers.items }
+    ensures { IfOk result (λ jobs. AreJobs scenario.now ring.now start.now.states.items jobs.items) }
+{
+    let mut jobs = Vec::with_capacity(alloc, readers.len())?;
+    while let Some(reader) = readers.pop() {
+        let policy = reader.number();
+        let state = start.states[policy as usize].copy(alloc)?;
+        jobs.push(Job {
+            policy,
+            reader,
+            state,
+        })?;
+    }
+    Ok(jobs)
+}

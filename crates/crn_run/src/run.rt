@@ -1,0 +1,123 @@
+//! The run of all policies, each on a thread of its own.
+ghost use Rattle.std.specs.Prelude.{◌≡◌, ◌≤◌, false, length, All, IfOk, OnOk, vec_len, vec_capacity, []};
+ghost use Rattle.crn_stock.specs.Models.{total};
+ghost use Rattle.crn_run.specs.Runs.{IsCheckpointOf, EachAt, EachOnward};
+ghost use Rattle.crn_run.specs.Jobs.{AllReached, AreReaders, Gathers};
+
+use crate::checkpoint::Checkpoint;
+use crate::fault::RunFault;
+use crate::gate::Gate;
+use crate::jobs::{jobs_of, open_ring};
+use crate::threads::run_jobs;
+use crate::worker::PolicyEnd;
+use crn_ring::Reader;
+use crn_stock::{Scenario, State};
+use std::alloc::Global;
+use std::sync::Wait;
+use std::thread::Threads;
+
+/// What a run of all policies has come to.
+#[derive(Drop)]
+pub struct Finished {
+    /// Each policy's state where the run ends.
+    pub checkpoint: Checkpoint,
+    /// The readers of the run's ring in order of their numbers, one for each policy, as their threads handed them back.
+    pub readers: Vec<Reader>,
+}
+
+/// Runs all policies from `start` up to block `upto`, each on a thread of its own, while the calling thread feeds the
+/// scenario's ring. `start` stays as it is. What it comes to is what [`run_plain`](crate::run_plain) comes to.
+///
+/// Before each block the policy's gate is asked, by the policy's number and the block's. All memory of its own is asked
+/// for before the first thread starts, and every thread that was started is joined.
+///
+/// Asks that `start` is a checkpoint of the scenario, that `upto` is from `start.next` to the scenario's total, and that
+/// there is one gate for each policy, none of which has answered false. It returns only if every policy's run does.
+///
+/// # Errors
+/// The least that holds: [`RunFault::Thread`] where a thread was refused, and the ring was ended with nothing published;
+/// [`RunFault::Gate`] where a gate answered false; [`RunFault::Memory`] where a request for memory was refused. A gate
+/// that was asked keeps what it stored.
+pub fn run_all<R: Threads + Wait + Sync, G: Gate + Send>(
+    rt: &R,
+    alloc: Global,
+    scenario: &Scenario,
+    start: &Checkpoint,
+    upto: u64,
+    gates: &mut [G],
+) -> Result<Finished, RunFault>
+    requires of { IsCheckpointOf scenario.now start.now.next start.now.states.items }
+    requires from { start.now.next ≤ upto }
+    requires below { upto ≤ total scenario.now.model }
+    requires count { length gates.old ≡ length scenario.now.policies }
+    requires gates { All (λ g. G.refused g ≡ false) gates.old }
+    ensures next { IfOk result (λ f. f.checkpoint.next ≡ upto) }
+    ensures of { IfOk result (λ f. IsCheckpointOf scenario.now upto f.checkpoint.states.items) }
+    ensures at { IfOk result (λ f. EachAt scenario.now start.now.next start.now.states.items → EachAt scenario.now upto f.checkpoint.states.items) }
+    ensures onward { IfOk result (λ f. EachOnward scenario.now start.now.states.items upto f.checkpoint.states.items) }
+    ensures readers { IfOk result (λ f. AreReaders scenario.now start.now.next upto f.readers.items) }
+{
+    let count = scenario.policies().len();
+    let (ring, producer, readers) = open_ring(alloc, scenario, start.next, upto)?;
+    let jobs = jobs_of(alloc, &ring, scenario, start, readers)?;
+    let ends = Vec::with_capacity(alloc, count)?;
+    let states = Vec::with_capacity(alloc, count)?;
+    let readers = Vec::with_capacity(alloc, count)?;
+    let ends = run_jobs(rt, &ring, scenario, producer, jobs, gates, ends)?;
+    all_reached(ends.as_slice())?;
+    let (states, readers) = gather(ends, states, readers);
+    Ok(Finished {
+        checkpoint: Checkpoint { next: upto, states },
+        readers,
+    })
+}
+
+// Refuses ends of which one is short, or else one was held.
+fn all_reached(ends: &[PolicyEnd]) -> Result<(), RunFault>
+    ensures { OnOk result (AllReached ends.now) }
+{
+    let mut held = false;
+    for i in 0..ends.len() {
+        match &ends[i] {
+            PolicyEnd::Reached {
+                state: _,
+                reader: _,
+            } => {}
+            PolicyEnd::Short {
+                published: _,
+                state: _,
+                reader: _,
+            } => return Err(RunFault::Thread),
+            PolicyEnd::Held(_) => held = true,
+        }
+    }
+    if held { Err(RunFault::Gate) } else { Ok(()) }
+}
+
+// The states and the readers of ends that all reached the ring's total, those of the last end first.
+fn gather(
+    mut ends: Vec<PolicyEnd>,
+    mut states: Vec<State>,
+    mut readers: Vec<Reader>,
+) -> (Vec<State>, Vec<Reader>)
+    requires all { AllReached ends.items }
+    requires states { (states.items ≡ []) × (vec_len ends ≤ vec_capacity states) }
+    requires readers { (readers.items ≡ []) × (vec_len ends ≤ vec_capacity readers) }
+    ensures { Gathers ends.items result.0.items result.1.items }
+{
+    while let Some(end) = ends.pop() {
+        match end {
+            PolicyEnd::Reached { state, reader } => {
+                states.push_reserved(state);
+                readers.push_reserved(reader);
+            }
+            PolicyEnd::Short {
+                published: _,
+                state: _,
+                reader: _,
+            } => unreachable!(),
+            PolicyEnd::Held(_) => unreachable!(),
+        }
+    }
+    (states, readers)
+}

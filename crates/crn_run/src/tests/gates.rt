@@ -1,0 +1,201 @@
+// Gates that wait for one another, that hold a policy, and that count what they are asked for.
+ghost use Rattle.std.specs.Prelude.{◌≡◌, ◌≤◌, false, length, All, IfOk};
+ghost use Rattle.crn_stock.specs.Models.{total};
+ghost use Rattle.crn_run.specs.Runs.{IsCheckpointOf};
+
+use super::runs::has_come;
+use super::scenarios::{Slots, base, steady};
+use crate::{Checkpoint, Finished, Gate, RunFault, run_all};
+use crn_stock::Scenario;
+use std::alloc::Global;
+use std::sync::Wait;
+use std::sync::atomic::{AtomicBool, Ordering};
+use std::test::Fail;
+use std::thread;
+use std::thread::Threads;
+
+// Waits for a flag, for so many turns. Each is 1,000 yields of the thread.
+fn is_set_within(flag: &AtomicBool, turns: u32) -> bool {
+    for _ in 0..turns {
+        if flag.load(Ordering::SeqCst) {
+            return true;
+        }
+        for _ in 0..1_000 {
+            thread::yield_now();
+        }
+    }
+    false
+}
+
+// Runs all policies of a scenario under these gates, from their start to their end.
+fn run_under<R: Threads + Wait + Sync, G: Gate + Send>(
+    rt: &R,
+    alloc: Global,
+    scenario: &Scenario,
+    gates: &mut [G],
+) -> Result<Finished, RunFault>
+    requires count { length gates.old ≡ length scenario.now.policies }
+    requires gates { All (λ g. G.refused g ≡ false) gates.old }
+{
+    let start = Checkpoint::start(alloc, scenario)?;
+    run_all(rt, alloc, scenario, &start, scenario.model().total(), gates)
+}
+
+// Sets its own flag, and waits for the other gate's.
+#[derive(Drop)]
+struct Meeting<'a> {
+    own: &'a AtomicBool,
+    other: &'a AtomicBool,
+    has_refused: bool,
+}
+
+impl<'a> Gate for Meeting<'a> {
+    ghost refused = { λ g. g.has_refused };
+
+    fn pass(&mut self, _policy: u32, _block: u64) -> bool {
+        self.own.store(true, Ordering::SeqCst);
+        let passes = is_set_within(self.other, 5_000);
+        self.has_refused = self.has_refused || !passes;
+        passes
+    }
+}
+
+#[test]
+fn policies_run_side_by_side(rt: HostRuntime) -> Result<(), Fail> {
+    let scenario = base(rt.alloc())?;
+    let first = AtomicBool::new(false);
+    let second = AtomicBool::new(false);
+    let mut gates = [
+        Meeting {
+            own: &first,
+            other: &second,
+            has_refused: false,
+        },
+        Meeting {
+            own: &second,
+            other: &first,
+            has_refused: false,
+        },
+    ];
+    let answer = run_under(&rt, rt.alloc(), &scenario, &mut gates);
+    assert!(rt; has_come(&answer, 1, &[222], &[359]));
+    Ok(())
+}
+
+// Lets policy 1 begin late, and refuses where policy 0 has come two blocks ahead by then.
+#[derive(Drop)]
+struct Late<'a> {
+    is_ahead: &'a AtomicBool,
+    has_refused: bool,
+}
+
+impl<'a> Gate for Late<'a> {
+    ghost refused = { λ g. g.has_refused };
+
+    fn pass(&mut self, policy: u32, block: u64) -> bool {
+        if policy == 0 && block >= 2 {
+            self.is_ahead.store(true, Ordering::SeqCst);
+        }
+        let passes = policy != 1 || block != 0 || !is_set_within(self.is_ahead, 200);
+        self.has_refused = self.has_refused || !passes;
+        passes
+    }
+}
+
+#[test]
+fn a_late_reader_holds_the_ring(rt: HostRuntime) -> Result<(), Fail> {
+    let scenario = steady(rt.alloc(), Slots::One, 5, 2)?;
+    let is_ahead = AtomicBool::new(false);
+    let mut gates = [
+        Late {
+            is_ahead: &is_ahead,
+            has_refused: false,
+        },
+        Late {
+            is_ahead: &is_ahead,
+            has_refused: false,
+        },
+    ];
+    let answer = run_under(&rt, rt.alloc(), &scenario, &mut gates);
+    assert!(rt; has_come(&answer, 4, &[55, 55], &[49, 49]));
+    Ok(())
+}
+
+// Refuses one policy one block.
+#[derive(Clone, Copy)]
+pub(super) struct HoldsAt {
+    pub(super) policy: u32,
+    pub(super) block: u64,
+    pub(super) has_refused: bool,
+}
+
+impl Gate for HoldsAt {
+    ghost refused = { λ g. g.has_refused };
+
+    fn pass(&mut self, policy: u32, block: u64) -> bool {
+        let passes = policy != self.policy || block != self.block;
+        self.has_refused = self.has_refused || !passes;
+        passes
+    }
+}
+
+#[test]
+fn a_gate_that_refuses(rt: HostRuntime) -> Result<(), Fail> {
+    let scenario = steady(rt.alloc(), Slots::Two, 5, 2)?;
+    for block in 0..4 {
+        let gate = HoldsAt {
+            policy: 1,
+            block,
+            has_refused: false,
+        };
+        let mut gates = [gate; 2];
+        let answer = run_under(&rt, rt.alloc(), &scenario, &mut gates);
+        assert!(rt; matches!(answer, Err(RunFault::Gate)), "at block {block}");
+    }
+    Ok(())
+}
+
+// Passes, and counts the blocks that it was asked for while they came in order and for one policy.
+#[derive(Clone, Copy)]
+struct Counting {
+    policy: u32,
+    next: u64,
+}
+
+impl Gate for Counting {
+    ghost refused = { λ _. false };
+
+    fn pass(&mut self, policy: u32, block: u64) -> bool {
+        if policy == self.policy && block == self.next && block < 1 << 32 {
+            self.next = block + 1;
+        }
+        true
+    }
+}
+
+#[test]
+fn each_block_is_asked_for(rt: HostRuntime) -> Result<(), Fail> {
+    let scenario = steady(rt.alloc(), Slots::SixtyFour, 1_024, 1)?;
+    let mut gates = [
+        Counting { policy: 0, next: 0 },
+        Counting { policy: 1, next: 0 },
+    ];
+    let answer = run_under(&rt, rt.alloc(), &scenario, &mut gates);
+    assert!(rt; answer.is_ok());
+    assert_eq!(rt; (gates[0].next, gates[1].next), (256, 256));
+    Ok(())
+}
+
+#[test]
+fn faults(rt: HostRuntime) -> Result<(), Fail> {
+    let numbers = [
+        RunFault::Thread as u8,
+        RunFault::Gate as u8,
+        RunFault::Memory as u8,
+    ];
+    assert_eq!(rt; numbers, [1, 2, 90]);
+    assert!(rt; RunFault::Thread.to_string(rt.alloc())?.as_str() == "a thread was refused");
+    assert!(rt; RunFault::Gate.to_string(rt.alloc())?.as_str() == "a gate has held a policy");
+    assert!(rt; RunFault::Memory.to_string(rt.alloc())?.as_str() == "out of memory");
+    Ok(())
+}

@@ -1,0 +1,157 @@
+//! One thread for each policy.
+ghost use Rattle.std.specs.Prelude.{◌≡◌, ◌≤◌, true, false, [], length, OnOk, OnErr, IfOk, All, vec_len, vec_capacity};
+ghost use Rattle.std.specs.Slice.Iter.{iter_mut_rest};
+ghost use Rattle.crn_ring.specs.Calls.{IsProducerOf, producer_part};
+ghost use Rattle.crn_run.specs.Ends.{EndsAs};
+ghost use Rattle.crn_run.specs.Jobs.{AllReady, AreEnds, CarriesFor, IsReady};
+
+use crate::fault::RunFault;
+use crate::feeding::feed;
+use crate::gate::Gate;
+use crate::jobs::Job;
+use crate::worker::PolicyEnd;
+use crn_ring::{Producer, Ring};
+use crn_stock::Scenario;
+use std::slice::IterMut;
+use std::snapshot::Snapshot;
+use std::sync::Wait;
+use std::thread;
+use std::thread::{Promise, Scope, Threads};
+
+// What a thread promises: the end of the job that it was given.
+#[derive(Drop)]
+struct EndsJob {
+    ring: Snapshot<Ring>,
+    scenario: Snapshot<Scenario>,
+    job: Snapshot<Job>,
+}
+
+impl Promise<PolicyEnd> for EndsJob {
+    ghost use Rattle.crn_run.specs.Ends.{EndsAs};
+
+    ghost kept_by = { λ p e. EndsAs p.scenario.value p.job.value.policy p.job.value.state p.ring.value p.job.value.policy e };
+}
+
+// Starts a thread for the last job, goes on with those before it, and then joins that thread. Where no job is left it
+// feeds the ring, and where a thread is refused it ends the ring as it is.
+fn start_from<'s, 'e: 's, 'g: 's, R: Threads + Wait + Sync, G: Gate + Send>(
+    rt: &'e R,
+    scope: &'s Scope<'s, &'e ()>,
+    ring: &'e Ring,
+    scenario: &'e Scenario,
+    producer: &mut Producer,
+    jobs: &mut Vec<Job>,
+    mut gates: IterMut<'g, G>,
+    ends: &mut Vec<PolicyEnd>,
+) -> Result<(), RunFault>
+    requires count { length (iter_mut_rest gates) ≡ vec_len jobs.old }
+    requires gates { All (λ g. G.refused g ≡ false) (iter_mut_rest gates) }
+    requires producer { IsProducerOf ring.now producer.old × ((producer_part producer.old).ended ≡ false) }
+    requires ring { CarriesFor scenario.now ring.now }
+    requires jobs { AllReady scenario.now ring.now jobs.old.items }
+    requires room { (vec_len ends.old ≡ 0) × (vec_len jobs.old ≤ vec_capacity ends.old) }
+    ensures ends { OnOk result (AreEnds scenario.now ring.now jobs.old.items ends.new.items) }
+    ensures capacity { vec_capacity ends.old ≤ vec_capacity ends.new }
+    ensures ended { (producer_part producer.new).ended ≡ true }
+    ensures refused { OnErr result ((producer_part producer.new).published ≡ (producer_part producer.old).published) }
+{
+    let Some(job) = jobs.pop() else {
+        feed(rt, ring, producer);
+        return Ok(());
+    };
+    let Some(gate) = gates.next() else {
+        unreachable!();
+    };
+    let promise = EndsJob {
+        ring: Snapshot::of(ring),
+        scenario: Snapshot::of(scenario),
+        job: Snapshot::of(&job),
+    };
+    let work = move || -> PolicyEnd
+        requires ready { IsReady scenario.now ring.now job }
+        requires ring { CarriesFor scenario.now ring.now }
+        requires gate { G.refused gate.now ≡ false }
+        ensures { EndsAs scenario.entry.now job.policy job.state ring.entry.now job.policy result }
+    { job.run(rt, ring, scenario, gate) };
+    match scope.spawn_with(promise, work) {
+        Err(refused) => {
+            drop(refused);
+            producer.finish(ring);
+            Err(RunFault::Thread)
+        }
+        Ok(child) => {
+            let others = start_from(rt, scope, ring, scenario, producer, jobs, gates, ends);
+            let end = child.join(rt);
+            others?;
+            ends.push_reserved(end);
+            Ok(())
+        }
+    }
+}
+
+// As `start_from`, with all that changes its own.
+fn run_in_scope<'s, 'e: 's, 'g: 's, R: Threads + Wait + Sync, G: Gate + Send>(
+    rt: &'e R,
+    scope: &'s Scope<'s, &'e ()>,
+    ring: &'e Ring,
+    scenario: &'e Scenario,
+    mut producer: Producer,
+    mut jobs: Vec<Job>,
+    gates: IterMut<'g, G>,
+    mut ends: Vec<PolicyEnd>,
+) -> Result<Vec<PolicyEnd>, RunFault>
+    requires count { length (iter_mut_rest gates) ≡ vec_len jobs }
+    requires gates { All (λ g. G.refused g ≡ false) (iter_mut_rest gates) }
+    requires producer { IsProducerOf ring.now producer × ((producer_part producer).ended ≡ false) }
+    requires ring { CarriesFor scenario.now ring.now }
+    requires jobs { AllReady scenario.now ring.now jobs.items }
+    requires room { (vec_len ends ≡ 0) × (vec_len jobs ≤ vec_capacity ends) }
+    ensures { IfOk result (λ es. AreEnds scenario.now ring.now jobs.items es.items) }
+{
+    start_from(
+        rt,
+        scope,
+        ring,
+        scenario,
+        &mut producer,
+        &mut jobs,
+        gates,
+        &mut ends,
+    )?;
+    Ok(ends)
+}
+
+// Runs each job on a thread of its own, under the gate of its policy, and feeds the ring on the thread that calls it.
+// The jobs stand as on a stack; so do their ends. `ends` has the room for them.
+pub(crate) fn run_jobs<'r, R: Threads + Wait + Sync, G: Gate + Send>(
+    rt: &'r R,
+    ring: &'r Ring,
+    scenario: &'r Scenario,
+    producer: Producer,
+    jobs: Vec<Job>,
+    gates: &mut [G],
+    ends: Vec<PolicyEnd>,
+) -> Result<Vec<PolicyEnd>, RunFault>
+    requires count { length gates.old ≡ vec_len jobs }
+    requires gates { All (λ g. G.refused g ≡ false) gates.old }
+    requires producer { IsProducerOf ring.now producer × ((producer_part producer).ended ≡ false) }
+    requires ring { CarriesFor scenario.now ring.now }
+    requires jobs { AllReady scenario.now ring.now jobs.items }
+    requires room { (vec_len ends ≡ 0) × (vec_len jobs ≤ vec_capacity ends) }
+    ensures { IfOk result (λ es. AreEnds scenario.now ring.now jobs.items es.items) }
+{
+    let turns = gates.iter_mut();
+    thread::scope(
+        thread::scope_env(),
+        rt,
+        |scope| -> Result<Vec<PolicyEnd>, RunFault>
+            requires count { length (iter_mut_rest turns) ≡ vec_len jobs }
+            requires gates { All (λ g. G.refused g ≡ false) (iter_mut_rest turns) }
+            requires producer { IsProducerOf ring.now producer × ((producer_part producer).ended ≡ false) }
+            requires ring { CarriesFor scenario.now ring.now }
+            requires jobs { AllReady scenario.now ring.now jobs.items }
+            requires room { (vec_len ends ≡ 0) × (vec_len jobs ≤ vec_capacity ends) }
+            ensures { IfOk result (λ es. AreEnds scenario.entry.now ring.entry.now jobs.items es.items) }
+        { run_in_scope(rt, scope, ring, scenario, producer, jobs, turns, ends) },
+    )
+}

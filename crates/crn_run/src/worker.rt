@@ -1,0 +1,140 @@
+//! The run of one policy, on the thread that calls it.
+ghost use Rattle.std.specs.Prelude.{◌≡◌, ℕ, ◌+◌, ◌<◌, ◌≤◌, true, false, not, length, slice_get, Some};
+ghost use Rattle.crn_cipher.specs.declared.stream.Block.{Block};
+ghost use Rattle.crn_stock.specs.Models.{IsPolicy, total};
+ghost use Rattle.crn_stock.specs.Draws.{next_block};
+ghost use Rattle.crn_ring.specs.Calls.{IsReaderOf, number_of, reader_part, spec_of};
+ghost use Rattle.crn_run.specs.Runs.{StandsAt};
+ghost use Rattle.crn_run.specs.Ends.{Advances, EndsAs, is_held, FollowFrom};
+
+use crate::BATCH;
+use crate::gate::{Gate, Permit, ask};
+use crn_cipher::{Block, block};
+use crn_ring::{Batch, Reader, Ring};
+use crn_stock::laws::onward_from_itself;
+use crn_stock::{Policy, Scenario, State};
+use crossbeam_utils::Backoff;
+use std::sync::Wait;
+
+/// How the run of one policy has ended.
+#[derive(Drop)]
+pub enum PolicyEnd {
+    /// At the ring's total: the end was marked there, and every block below it was applied.
+    Reached {
+        /// The state at the total.
+        state: State,
+        /// The reader, which has seen the end.
+        reader: Reader,
+    },
+    /// Before the ring's total: the end was marked early, and every block below it was applied.
+    Short {
+        /// Where the end was marked.
+        published: u64,
+        /// The state there.
+        state: State,
+        /// The reader, which has seen the end.
+        reader: Reader,
+    },
+    /// The gate answered false: the state before the block that it was asked for. The reader has left the ring.
+    Held(State),
+}
+
+/// Takes the ring's blocks by batches of 16 at most, and applies each to the state of policy number `policy`, up to
+/// the end of the ring. Before each block the gate is asked, and where it answers false the state stands before that
+/// block, also where later ones were taken. Where the ring is empty it tries again. But for what the gate does it takes
+/// no memory.
+///
+/// Asks that the scenario has the policy; that the reader is one of the ring's, has not seen the end, and has taken the
+/// blocks below the state's next one; that the state is of the scenario's model and stands between two blocks; that the
+/// ring has the scenario's key and a total of at most the scenario's; and that the gate has not answered false. It
+/// returns only if the end is marked or the gate answers false.
+pub fn run_policy<R: Wait, G: Gate>(
+    rt: &R,
+    ring: &Ring,
+    mut reader: Reader,
+    scenario: &Scenario,
+    policy: u32,
+    mut state: State,
+    gate: &mut G,
+) -> PolicyEnd
+    requires policy { policy < length scenario.now.policies }
+    requires reader { IsReaderOf ring.now reader × ((reader_part reader).seen_end ≡ false) }
+    requires stands { StandsAt scenario.now.model (reader_part reader).taken state }
+    requires ring { ((spec_of ring.now).id.key ≡ scenario.now.key) × ((spec_of ring.now).id.total ≤ total scenario.now.model) }
+    requires gate { G.refused gate.old ≡ false }
+    ensures end { EndsAs scenario.now policy state ring.now (number_of reader) result }
+    ensures held { G.refused gate.new ≡ is_held result }
+{
+    let rules = &scenario.policies()[policy as usize];
+    onward_from_itself(&state);
+    let mut blocks = [block(scenario.key(), 0); BATCH];
+    let backoff = Backoff::new();
+    for _ in rt.forever() {
+        match reader.take_batch(ring, &mut blocks) {
+            Batch::Got { count } => {
+                if !apply_all(scenario, rules, policy, &blocks, count, &mut state, gate) {
+                    reader.leave(ring);
+                    return PolicyEnd::Held(state);
+                }
+                backoff.reset();
+            }
+            Batch::Empty { published: _ } => backoff.snooze(),
+            Batch::Ended { published } if published == ring.spec().id.total => {
+                return PolicyEnd::Reached { state, reader };
+            }
+            Batch::Ended { published } => {
+                return PolicyEnd::Short {
+                    published,
+                    state,
+                    reader,
+                };
+            }
+        }
+    }
+    unreachable!()
+}
+
+// Applies the first `count` blocks, which are the state's next ones, each after the gate has passed it. Answers whether
+// it has passed them all; the state stands before the first that it has not.
+fn apply_all<G: Gate>(
+    scenario: &Scenario,
+    rules: &Policy,
+    policy: u32,
+    blocks: &[Block],
+    count: usize,
+    state: &mut State,
+    gate: &mut G,
+) -> bool
+    requires rules { IsPolicy rules.now }
+    requires stands { StandsAt scenario.now.model (next_block state.old) state.old }
+    requires blocks { (count ≤ length blocks.now) × FollowFrom scenario.now.key (next_block state.old) count blocks.now }
+    requires below { next_block state.old + count ≤ total scenario.now.model }
+    requires gate { G.refused gate.old ≡ false }
+    ensures advances { Advances scenario.now.model rules.now scenario.now.key state.old state.new }
+    ensures all { result ≡ true → next_block state.new ≡ next_block state.old + count }
+    ensures gate { G.refused gate.new ≡ not result }
+{
+    for k in 0..count {
+        let next = &blocks[k];
+        match ask(gate, policy, next.number) {
+            None => return false,
+            Some(permit) => apply(scenario, rules, next, permit, state),
+        }
+    }
+    true
+}
+
+// Applies the state's next block, for which the gate has given its leave.
+#[inline(always)]
+fn apply(scenario: &Scenario, rules: &Policy, block: &Block, permit: Permit, state: &mut State)
+    requires permit { permit.block ≡ block.now.number }
+    requires rules { IsPolicy rules.now }
+    requires stands { StandsAt scenario.now.model (next_block state.old) state.old }
+    requires next { (block.now.number ≡ next_block state.old) × (block.now.key ≡ scenario.now.key) }
+    requires below { block.now.number < total scenario.now.model }
+    ensures advances { Advances scenario.now.model rules.now scenario.now.key state.old state.new }
+    ensures next { next_block state.new ≡ block.now.number + 1 }
+{
+    drop(permit);
+    state.take_block(scenario.model(), rules, block);
+}
