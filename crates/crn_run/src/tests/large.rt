@@ -1,4 +1,4 @@
-// Long runs: over 4,096 blocks, and all that a scenario can have.
+// Long runs: 4,096 blocks and more, and all that a scenario can have.
 ghost use Rattle.std.specs.Prelude.{◌≡◌, length};
 
 use super::runs::{has_come, have_costs, run_whole};
@@ -27,8 +27,10 @@ fn agree<R: Threads + Wait + Sync>(
 
 #[test]
 fn over_4096_blocks(rt: HostRuntime) -> Result<(), Fail> {
-    let scenario = steady(rt.alloc(), Slots::Two, 1_024, 17)?;
-    assert!(rt; matches!(agree(&rt, rt.alloc(), &scenario), Ok(true)));
+    for replications in [16, 17] {
+        let scenario = steady(rt.alloc(), Slots::Two, 1_024, replications)?;
+        assert!(rt; matches!(agree(&rt, rt.alloc(), &scenario), Ok(true)));
+    }
     Ok(())
 }
 
