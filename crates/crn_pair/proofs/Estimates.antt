@@ -1,5 +1,5 @@
 -- An estimate is a quotient where there are parts to divide by.
-use Rattle.std.proofs.Common.{◌≡◌, ◌<◌, ℕ, zero, suc, ℤ, arith, refl, Some}
+use Rattle.std.proofs.Common.{◌<◌, ℕ, zero, suc, ℤ, arith, refl, Some}
 use Rattle.crn_pair.specs.declared.fraction.Fraction.{Fraction}
 use Rattle.crn_pair.specs.Sums.{IsQuotient, IsQuotientIfAny}
 

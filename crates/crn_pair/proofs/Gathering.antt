@@ -1,7 +1,7 @@
 -- Sums that a loop gathers over two lists, place by place.
-use Rattle.std.proofs.Common.{◌≡◌, ℕ, zero, suc, ◌*◌, ◌+◌, ◌<◌, ◌≤◌, Bool, true, false, nat_le, ℤ, pos, ◌*ℤ◌, ◌+ℤ◌, ◌-ℤ◌, unsigned_abs, List, [], ◌∷◌, length, map, drop, get_or, ◌&&◌, arith, refl, sym, ap, subst, ◌∙◌}
+use Rattle.std.proofs.Common.{◌≡◌, ℕ, zero, suc, ◌*◌, ◌+◌, ◌<◌, ◌≤◌, true, nat_le, ℤ, pos, ◌*ℤ◌, ◌+ℤ◌, ◌-ℤ◌, unsigned_abs, List, [], ◌∷◌, length, drop, get_or, arith, refl, sym, ap, subst, ◌∙◌}
 use Rattle.std.proofs.lemmas.Int.{ints, unsigned_abs-mul}
-use Rattle.std.proofs.lemmas.Bool.{leb-true, false≢true}
+use Rattle.std.proofs.lemmas.Bool.{and_parts, leb-true}
 use Rattle.std.proofs.Math.Nat.{mul-le-mul_left}
 use Rattle.crn_pair.specs.Limits.{cost_limit, are_costs}
 use Rattle.crn_pair.specs.Places.{products, AreSums, AreWithin}
@@ -15,14 +15,6 @@ pub record Gathers (xs ys : List ℤ) (i : ℕ) (m : Moments) : Type 0 where
   pub y_left : m.y +ℤ total (drop i ys) ≡ total ys
   pub products_left : m.products +ℤ products (drop i xs) (drop i ys) ≡ products xs ys
   pub within : AreWithin i m
-
-pub gathers_none : (xs ys : List ℤ) (m : Moments) → m.x ≡ pos 0 → m.y ≡ pos 0 → m.products ≡ pos 0 → Gathers xs ys 0 m
-gathers_none xs ys m x y p = record {
-  x_left = omega (arith, ints, x);
-  y_left = omega (arith, ints, y);
-  products_left = omega (arith, ints, p);
-  within = record { x_low = omega (arith, ints, x); y_low = omega (arith, ints, y); products_low = omega (arith, ints, p) };
-}
 
 pub gathers_more : (xs ys : List ℤ) (i : ℕ) (x y : ℤ) (m m' : Moments)
     → drop i xs ≡ x ∷ drop (suc i) xs → drop i ys ≡ y ∷ drop (suc i) ys
@@ -102,18 +94,10 @@ no_signed_past [] (suc i) past = refl
 no_signed_past (x ∷ a) zero past = absurd (omega arith)
 no_signed_past (x ∷ a) (suc i) past = no_signed_past a i (omega arith)
 
-and_true_left : (p q : Bool) → (p && q) ≡ true → p ≡ true
-and_true_left true q e = refl
-and_true_left false q e = e
-
-and_true_right : (p q : Bool) → (p && q) ≡ true → q ≡ true
-and_true_right true q e = e
-and_true_right false q e = absurd (false≢true e)
-
 pub cost_at : (a : List ℕ) (i d : ℕ) → are_costs a ≡ true → i < length a → get_or a i d ≤ cost_limit
 cost_at [] i d all inside = absurd (omega arith)
-cost_at (x ∷ a) zero d all inside = leb-true x cost_limit (and_true_left (nat_le x cost_limit) (are_costs a) all)
-cost_at (x ∷ a) (suc i) d all inside = cost_at a i d (and_true_right (nat_le x cost_limit) (are_costs a) all) (omega arith)
+cost_at (x ∷ a) zero d all inside = leb-true x cost_limit (and_parts (nat_le x cost_limit) (are_costs a) all).0
+cost_at (x ∷ a) (suc i) d all inside = cost_at a i d (and_parts (nat_le x cost_limit) (are_costs a) all).1 (omega arith)
 
 -- from sums over places to the sum over pairs of places
 pub spread_is : (xs ys : List ℤ) (m : Moments) → length ys ≡ length xs → AreSums xs ys m → pos (length xs) *ℤ m.products -ℤ m.x *ℤ m.y ≡ over_pairs xs ys

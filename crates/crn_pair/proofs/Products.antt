@@ -1,7 +1,7 @@
 -- Sums over pairs of places come to sums over places.
-use Rattle.std.proofs.Common.{◌≡◌, ℕ, zero, suc, ◌*◌, ◌+◌, ◌≤◌, ℤ, pos, negsuc, neg_ℤ, ◌*ℤ◌, ◌+ℤ◌, ◌-ℤ◌, List, [], ◌∷◌, length, arith, refl, sym, ap, subst, ◌∙◌}
+use Rattle.std.proofs.Common.{◌≡◌, ℕ, suc, ◌*◌, ℤ, pos, ◌*ℤ◌, ◌+ℤ◌, ◌-ℤ◌, List, [], ◌∷◌, length, arith, ap, ◌∙◌}
 use Rattle.std.proofs.lemmas.Int.{ints}
-use Rattle.std.proofs.Math.IntN.{*ℤ_comm, suc_ℤ-*ℤ, +ℤ_one}
+use Rattle.std.proofs.Math.IntN.{*ℤ_comm, suc_ℤ-*ℤ}
 use borrow.Author.Differences.{up, down, sum_is_lem}
 use Rattle.crn_pair.specs.Places.{products}
 use Rattle.crn_pair.specs.Sums.{total, against, over_pairs}

@@ -2,7 +2,7 @@
 use Rattle.std.proofs.Common.{◌≡◌, ℕ, zero, suc, ◌+◌, ◌*◌, ◌/◌, ◌%◌, ◌<◌, ◌≤◌, ℤ, pos, ◌*ℤ◌, unsigned_abs, arith, refl, sym, ap, subst, ◌∙◌}
 use Rattle.std.proofs.lemmas.Int.{ints, unsigned_abs-mul}
 use Rattle.std.proofs.lemmas.Nat.Gcd.{IsGcd-from_zero, IsGcd-from_mod, same_from_IsGcd}
-use Rattle.std.proofs.Math.Nat.{div-add-mod, mul-le-mul_left, mod-lt, mod-eq_of_lt, add-mul-mod_self_right, one-dvd}
+use Rattle.std.proofs.Math.Nat.{div-add-mod, mul-le-mul_left, mod-lt, mod-eq_of_lt, add-mul-mod_self_right}
 use Rattle.std.specs.Int.{IsGcd}
 use Rattle.crn_pair.specs.LowestTerms.{AreInLowestTerms}
 use Rattle.crn_pair.specs.Sums.{IsQuotient}

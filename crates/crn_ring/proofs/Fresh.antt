@@ -1,5 +1,5 @@
 -- A fresh reader more.
-use Rattle.std.proofs.Common.{◌≡◌, ℕ, ◌<◌, List, [], ◌∷◌, ◌++◌, length, sym, ◌∙◌, ap, subst, arith, length-append, get_or, refl, false}
+use Rattle.std.proofs.Common.{◌≡◌, ℕ, ◌<◌, List, [], ◌∷◌, ◌++◌, length, sym, ◌∙◌, ap, subst, arith, length-append, get_or}
 use Rattle.std.proofs.Math.ListN.{get_or-append}
 use Rattle.std.proofs.lemmas.List.{get_or_push}
 use Rattle.std.proofs.lemmas.Option.{slice_get_within, get_or_from_slice_get, slice_get-get_or}
@@ -8,7 +8,7 @@ use mathlib.Core.Logic.{dite}
 use native.Mathlib.Decide.{ℕ_discrete}
 use Rattle.crn_ring.specs.declared.ring.Ring.{Ring}
 use Rattle.crn_ring.specs.declared.reader_end.Reader.{Reader}
-use Rattle.crn_ring.specs.Calls.{IsFresh, AllFresh, IsReaderOf}
+use Rattle.crn_ring.specs.Calls.{IsFresh, AllFresh}
 
 pub fresh_push : (ring : Ring) (xs : List Reader) (y : Reader) → AllFresh ring xs → IsFresh ring (length xs) y → AllFresh ring (xs ++ y ∷ [])
 fresh_push ring xs y all one r x e =
@@ -19,14 +19,3 @@ fresh_push ring xs y all one r x e =
     subst (λ (k : ℕ). IsFresh ring k x) (sym last) (subst (IsFresh ring (length xs)) same one))
     (λ other. let h : r < length xs = omega (arith, length-append xs (y ∷ [])) in
     all r x (slice_get-get_or xs r x h ∙ ap Some (sym (get_or-append xs (y ∷ []) x r h) ∙ read)))
-
-pub fresh_pop : (ring : Ring) (xs : List Reader) (y : Reader) → AllFresh ring (xs ++ y ∷ []) → AllFresh ring xs × IsFresh ring (length xs) y
-fresh_pop ring xs y all = (
-  λ r x e. let h : r < length xs = slice_get_within xs r x e in
-      all r x (slice_get-get_or (xs ++ y ∷ []) r x (omega (arith, length-append xs (y ∷ []))) ∙ ap Some (get_or-append xs (y ∷ []) x r h ∙ get_or_from_slice_get xs r x x e)),
-  all (length xs) y (slice_get-get_or (xs ++ y ∷ []) (length xs) y (omega (arith, length-append xs (y ∷ []))) ∙ ap Some (get_or_push xs y y (length xs) refl)),
-)
-
--- a fresh reader is of the ring and has not seen an end
-pub fresh_is : (ring : Ring) (r : ℕ) (y : Reader) → IsFresh ring r y → IsReaderOf ring y × (y.ended ≡ false)
-fresh_is ring r y f = (f.0, y.ends ∙ ap (λ p. p.seen_end) f.2)

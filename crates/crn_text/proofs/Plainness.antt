@@ -76,7 +76,3 @@ pub name_plain : (name : List ℕ) → is_name name ≡ true → is_plain name �
 name_plain name h =
     let (_, bytes) = and_parts (nat_le 1 (length name) && nat_le (length name) 16) (list_all is_name_byte name) h in
     bytes_plain name bytes
-
--- one field more
-pub plain_more : (f : List ℕ) (fs : List (List ℕ)) → is_plain f ≡ true → are_plain fs ≡ true → are_plain (f ∷ fs) ≡ true
-plain_more f fs h k = rw (h, k)

@@ -1,4 +1,4 @@
-use Rattle.std.proofs.Common.{rules, ◌≡◌, ◌≤◌, ◌<◌, ◌-ℤ◌, pos, unsigned_abs, length, true, ℕ, get_or, ℤ, FitsSigned, to_z, of_z, arith, refl, ap, sym, ◌∙◌, subst}
+use Rattle.std.proofs.Common.{◌≡◌, ◌≤◌, ◌<◌, ◌-ℤ◌, pos, unsigned_abs, length, get_or, ℤ, FitsSigned, to_z, of_z, arith, refl, ◌∙◌, subst}
 use Rattle.std.specs.Int.{w128}
 use Rattle.std.proofs.lemmas.Int.{ints, to_z-of_z}
 use Rattle.crn_pair.specs.Limits.{cost_limit}

@@ -1,4 +1,4 @@
-use Rattle.std.proofs.Common.{◌≡◌, ◌≤◌, ℕ, pos, ◌+ℤ◌, ◌-ℤ◌, ◌*ℤ◌, unsigned_abs, arith, ap, ◌∙◌, subst, ℤ}
+use Rattle.std.proofs.Common.{◌-ℤ◌, ◌*ℤ◌, arith, ap, ◌∙◌, ℤ}
 use Rattle.std.proofs.lemmas.Int.{ints}
 use Rattle.crn_pair.proofs.Stripped.{difference_is, difference_within}
 use Rattle.crn_pair.proofs.moments.Moments.over_pairs.Goals as goal

@@ -1,8 +1,7 @@
-use Rattle.std.proofs.Common.{rules, ◌≡◌, ◌≤◌, ℕ, ◌*◌, ◌-◌, pos, ◌+ℤ◌, ◌-ℤ◌, ◌*ℤ◌, arith, refl, ap, sym, ◌∙◌, subst, ℤ, length, to_z, of_z, FitsSigned}
+use Rattle.std.proofs.Common.{rules, ◌≡◌, ℕ, pos, ◌-ℤ◌, ◌*ℤ◌, arith, refl, ap, sym, ◌∙◌, length, FitsSigned}
 use Rattle.std.specs.Int.{w128}
-use Rattle.std.proofs.lemmas.Int.{ints, to_z-of_z}
+use Rattle.std.proofs.lemmas.Int.{to_z-of_z}
 use Rattle.crn_pair.specs.Sums.{signed, differences}
-use Rattle.crn_pair.proofs.Products.{pairs_are}
 use Rattle.crn_pair.proofs.Gathering.{spread_is, length-differences, length-signed}
 use Rattle.crn_pair.proofs.pair.Pair.made.Goals as goal
 
