@@ -1,8 +1,8 @@
 -- Numbers that rise strictly, read from the front.
-use Rattle.std.proofs.Common.{◌≡◌, ℕ, zero, suc, ◌+◌, ◌<◌, ◌≤◌, Bool, true, ◌&&◌, List, [], ◌∷◌, AllPairs, length, slice_index_or, refl, arith, nat_le, nat_lt}
+use Rattle.std.proofs.Common.{◌≡◌, ℕ, zero, suc, ◌+◌, ◌<◌, ◌≤◌, Bool, true, ◌&&◌, List, [], ◌∷◌, AllPairs, None, length, sum, slice_index_or, refl, arith, nat_le, nat_lt}
 use Rattle.std.proofs.lemmas.Bool.{and_parts}
 use Rattle.std.proofs.lemmas.Bool.Decides.{nat_tests}
-use Rattle.crn_draw.specs.Faults.{rises}
+use Rattle.crn_draw.specs.Faults.{rises, least_fault}
 
 -- whether the numbers rise strictly, and the first is at least `least`
 abbrev pub rises_from : ℕ → List ℕ → Bool
@@ -42,3 +42,8 @@ pairs-rise least (x ∷ xs) up zero (suc j) d lt inside =
 pairs-rise least (x ∷ xs) up (suc i) zero d lt inside = absurd (omega (arith, lt))
 pairs-rise least (x ∷ xs) up (suc i) (suc j) d lt inside =
     pairs-rise (x + 1) xs (and_parts (nat_le least x) (rises_from (x + 1) xs) up).1 i j d (omega (arith, lt)) (omega (arith, inside))
+
+-- nothing is refused of values and weights with all that is asked
+pub no_fault : (values weights : List ℕ) → 0 < length values → length values ≡ length weights → rises values ≡ true → 0 < sum weights → sum weights ≤ 65536
+    → least_fault values weights ≡ None
+no_fault values weights some same rising low high = rw rising (grind (arith, nat_tests, some, same, low, high))

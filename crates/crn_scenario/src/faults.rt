@@ -3,13 +3,14 @@
 ghost use Rattle.std.specs.Prelude.{◌≡◌, ◌^◌, pos, ◌+ℤ◌, ◌≤ℤ◌, map, option_map, option_copied, IfOk};
 ghost use Rattle.std.specs.List.{list_all};
 ghost use Rattle.toml.specs.View.{view, table_view, array_view};
-ghost use Rattle.crn_stock.specs.Scenarios.{is_name, is_name_byte};
+ghost use Rattle.crn_stock.specs.Scenarios.{is_name};
 ghost use Rattle.crn_scenario.specs.Tree.{integers_of, tables_of};
 ghost use Rattle.crn_scenario.specs.Fields as tables;
 ghost use Rattle.crn_scenario.specs.Faults as spec;
 ghost use Rattle.crn_scenario.specs.Reading.{number_of};
 
 use crate::fields::{COSTS, DEMAND, Field, LEAD, POLICY, Rule, TOP, is_within, keeps};
+use crate::names::is_name;
 use crate::scenario_fault::ScenarioFault;
 use crate::tree::{array_at, count_items, integer_at, table_at, text_at};
 use std::alloc::{AllocError, Global};
@@ -258,30 +259,6 @@ fn name_of<'a>(item: &'a Value) -> Option<&'a str>
         Some(policy) => text_at(policy, "name"),
         None => None,
     }
-}
-
-fn is_name_byte(byte: u8) -> bool
-    ensures { result ≡ is_name_byte byte }
-{
-    matches!(byte, b'A'..=b'Z' | b'a'..=b'z' | b'0'..=b'9' | b'_' | b'-')
-}
-
-fn are_name_bytes(bytes: &[u8]) -> bool
-    ensures { result ≡ list_all is_name_byte bytes.now }
-{
-    for byte in bytes {
-        if !is_name_byte(*byte) {
-            return false;
-        }
-    }
-    true
-}
-
-// Whether a text has the form of a name: 1 to 16 of letters, digits, `_` and `-`.
-fn is_name(text: &str) -> bool
-    ensures { result ≡ is_name text.now }
-{
-    1 <= text.len() && text.len() <= 16 && are_name_bytes(text.as_bytes())
 }
 
 fn are_names(names: &[&str]) -> bool

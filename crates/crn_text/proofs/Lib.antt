@@ -1,5 +1,4 @@
 mod Costs
 mod FiguresOf
-mod Plainness
+mod Ratios
 mod ReadBack
-mod Written

@@ -1,5 +1,4 @@
 pub mod BlockWords
-pub mod Plain
 pub mod Report
 pub mod Rows
 pub mod Schedule

@@ -1,28 +1,13 @@
--- The report of a scenario: rows of fields, with a comma between each two and a line feed at the end.
+-- The report of a scenario: rows of fields, as CSV.
 use Rattle.std.specs.Prelude.{◌≡◌, ℕ, List, [], ◌∷◌, ◌++◌, Option, Some, None, codes, decimal, map}
 use Rattle.std.specs.Fmt.{signed_decimal}
 use Rattle.crn_pair.specs.declared.fraction.Fraction.{Fraction}
 use Rattle.crn_stock.specs.declared.rules.Policy.{Policy}
 use Rattle.crn_stock.specs.Scenarios.{ScenarioParts}
 use Rattle.crn_run.specs.Runs.{costs_of}
+use Rattle.crn_rows.specs.Rows.{row_text}
 use Rattle.crn_text.specs.declared.figures.Figures.{Figures}
 use Rattle.crn_text.specs.Rows.{AreFigures}
-
-abbrev pub comma : List ℕ
-comma = 44 ∷ []
-
-abbrev pub line_feed : List ℕ
-line_feed = 10 ∷ []
-
--- fields, each after a comma
-abbrev pub further : List (List ℕ) → List ℕ
-further [] = []
-further (f ∷ fs) = comma ++ f ++ further fs
-
--- a row
-unfoldable pub row_text : List (List ℕ) → List ℕ
-row_text [] = line_feed
-row_text (f ∷ fs) = f ++ further fs ++ line_feed
 
 -- num/den
 abbrev pub fraction_text : Fraction → List ℕ

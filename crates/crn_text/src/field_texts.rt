@@ -2,7 +2,7 @@
 
 ghost use Rattle.std.specs.Prelude.{◌≡◌, ◌++◌, ◌∷◌, [], IfOk, OnOk, decimal, true};
 ghost use Rattle.std.specs.Fmt.{signed_decimal};
-ghost use Rattle.crn_text.specs.Plain.{is_plain, are_plain};
+ghost use Rattle.crn_rows.specs.Plain.{is_plain, are_plain};
 ghost use Rattle.crn_text.specs.Report as spec;
 
 use crate::figures::Figures;
@@ -17,7 +17,7 @@ pub(crate) fn put_number<I: itoa::Integer>(text: &mut Vec<u8>, number: I) -> Res
     text.extend_from_slice(Buffer::new().format(number).as_bytes())
 }
 
-#[tactic(auto, using(crate::proofs::Plainness::decimal_plain))]
+#[tactic(auto, using(crn_rows::proofs::Plainness::decimal_plain))]
 fn decimal_text(alloc: Global, number: u64) -> Result<Vec<u8>, AllocError>
     ensures text { IfOk result (λ text. text.items ≡ decimal number) }
     ensures plain { IfOk result (λ text. is_plain text.items ≡ true) }
@@ -27,7 +27,7 @@ fn decimal_text(alloc: Global, number: u64) -> Result<Vec<u8>, AllocError>
     Ok(text)
 }
 
-#[tactic(auto, using(crate::proofs::Plainness::signed_plain))]
+#[tactic(auto, using(crn_rows::proofs::Plainness::signed_plain))]
 fn signed_text(alloc: Global, number: i128) -> Result<Vec<u8>, AllocError>
     ensures text { IfOk result (λ text. text.items ≡ signed_decimal number) }
     ensures plain { IfOk result (λ text. is_plain text.items ≡ true) }
@@ -37,7 +37,7 @@ fn signed_text(alloc: Global, number: i128) -> Result<Vec<u8>, AllocError>
     Ok(text)
 }
 
-#[tactic(auto, using(crate::proofs::Plainness::ratio_plain))]
+#[tactic(auto, using(crate::proofs::Ratios::ratio_plain))]
 fn fraction_text(alloc: Global, fraction: Fraction) -> Result<Vec<u8>, AllocError>
     ensures text { IfOk result (λ text. text.items ≡ spec.fraction_text fraction) }
     ensures plain { IfOk result (λ text. is_plain text.items ≡ true) }

@@ -1,5 +1,5 @@
-//! The texts of crnsim: reports are written as CSV, and the words of a block and traces as lines; schedules are read.
-//! Scenarios are read by `crn_scenario`, which is handed on here.
+//! The texts of crnsim: checkpoints are written and read by `crn_checkpoint` and scenarios read by `crn_scenario`, which
+//! are handed on here. Reports are written as CSV, and the words of a block and traces as lines; schedules are read.
 #![tactic(auto)]
 
 mod block_words;
@@ -11,6 +11,7 @@ mod schedules;
 mod traces;
 
 pub use block_words::words_text;
+pub use crn_checkpoint::{CheckpointFault, read_checkpoint, write_checkpoint};
 pub use crn_scenario::{ScenarioFault, read_scenario};
 pub use report_text::report;
 pub use schedule_fault::ScheduleFault;

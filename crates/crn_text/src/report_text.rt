@@ -1,66 +1,43 @@
-ghost use Rattle.std.specs.Prelude.{◌≡◌, ◌<◌, ◌≤◌, IfOk, OnOk, true, length, map, All};
-ghost use Rattle.std.specs.Io.KnownBytes.{Appends};
-ghost use Rattle.csv.specs.Writing.{text_written};
+ghost use Rattle.std.specs.Prelude.{◌≡◌, ◌++◌, IfOk, true, length, map, All};
 ghost use Rattle.crn_stock.specs.Models.{total};
 ghost use Rattle.crn_stock.specs.Scenarios.{is_name};
 ghost use Rattle.crn_run.specs.Runs.{IsCheckpointOf};
-ghost use Rattle.crn_text.specs.Plain.{is_plain, are_plain, IsReady};
-ghost use Rattle.crn_text.specs.Report.{header, row_text, rows_text, fields, IsReportText};
+ghost use Rattle.crn_rows.specs.Rows.{row_text};
+ghost use Rattle.crn_text.specs.Report.{header, rows_text, fields, IsReportText};
 
 use crate::field_texts::{figure_texts, level_texts};
 use crate::figures::{Figures, all_figures};
+use crn_rows::Sheet;
 use crn_run::Checkpoint;
 use crn_stock::{Policy, Scenario};
-use csv::{Writer, WriterBuilder};
 use std::alloc::{AllocError, Global};
-use std::io::Write;
 
-// Writes a row of fields that call for no quotes.
-fn write_fields<W: Write + Drop>(writer: &mut Writer<W>, fields: &[&[u8]]) -> Result<(), AllocError>
-    requires ready { IsReady writer.old }
-    requires several { 1 < length fields.now }
-    requires plain { are_plain (map (λ f. f.now) fields.now) ≡ true }
-    ensures text { OnOk result (Appends (text_written W.contents writer.old) (text_written W.contents writer.new) (row_text (map (λ f. f.now) fields.now))) }
-    ensures ready { OnOk result (IsReady writer.new) }
+// The sheet with the row of the fields' names.
+fn with_header(sheet: Sheet) -> Result<Sheet, AllocError>
+    ensures { IfOk result (λ after. after ≡ sheet ++ row_text header) }
 {
-    if writer.write_fields(fields).is_err() {
-        return Err(AllocError);
-    }
-    Ok(())
+    sheet.with_row(&[
+        b"policy",
+        b"s",
+        b"S",
+        b"total",
+        b"per_period",
+        b"diff_total",
+        b"diff_mean",
+        b"diff_var",
+        b"cov",
+    ])
 }
 
-// The row of the fields' names.
-fn write_header<W: Write + Drop>(writer: &mut Writer<W>) -> Result<(), AllocError>
-    requires ready { IsReady writer.old }
-    ensures text { OnOk result (Appends (text_written W.contents writer.old) (text_written W.contents writer.new) (row_text header)) }
-    ensures ready { OnOk result (IsReady writer.new) }
-{
-    write_fields(
-        writer,
-        &[
-            b"policy",
-            b"s",
-            b"S",
-            b"total",
-            b"per_period",
-            b"diff_total",
-            b"diff_mean",
-            b"diff_var",
-            b"cov",
-        ],
-    )
-}
-
-fn write_row<W: Write + Drop>(
+// The sheet with the row of a policy and its figures.
+fn with_policy_row(
     alloc: Global,
-    writer: &mut Writer<W>,
+    sheet: Sheet,
     policy: &Policy,
     figures: &Figures,
-) -> Result<(), AllocError>
-    requires ready { IsReady writer.old }
-    requires name { is_name policy.now.name ≡ true }
-    ensures text { OnOk result (Appends (text_written W.contents writer.old) (text_written W.contents writer.new) (row_text (fields policy.now figures.now))) }
-    ensures ready { OnOk result (IsReady writer.new) }
+) -> Result<Sheet, AllocError>
+    requires { is_name policy.now.name ≡ true }
+    ensures { IfOk result (λ after. after ≡ sheet ++ row_text (fields policy.now figures.now)) }
 {
     let levels = level_texts(alloc, policy)?;
     let texts = figure_texts(alloc, figures)?;
@@ -73,29 +50,27 @@ fn write_row<W: Write + Drop>(
     let diff_mean = texts.diff_mean.as_slice();
     let diff_var = texts.diff_var.as_slice();
     let cov = texts.cov.as_slice();
-    write_fields(
-        writer,
-        &[
-            name, low, high, total, per_period, diff_total, diff_mean, diff_var, cov,
-        ],
-    )
+    sheet.with_row(&[
+        name, low, high, total, per_period, diff_total, diff_mean, diff_var, cov,
+    ])
 }
 
-fn write_rows<W: Write + Drop>(
+// The sheet with a row for each policy and its figures.
+fn with_policy_rows(
     alloc: Global,
-    writer: &mut Writer<W>,
+    sheet: Sheet,
     policies: &[Policy],
     figures: &[Figures],
-) -> Result<(), AllocError>
-    requires ready { IsReady writer.old }
+) -> Result<Sheet, AllocError>
     requires names { All (λ p. is_name p.name ≡ true) policies.now }
     requires count { length figures.now ≡ length policies.now }
-    ensures { OnOk result (Appends (text_written W.contents writer.old) (text_written W.contents writer.new) (rows_text policies.now figures.now)) }
+    ensures { IfOk result (λ after. after ≡ sheet ++ rows_text policies.now figures.now) }
 {
+    let mut sheet = sheet;
     for i in 0..policies.len() {
-        write_row(alloc, writer, &policies[i], &figures[i])?;
+        sheet = with_policy_row(alloc, sheet, &policies[i], &figures[i])?;
     }
-    Ok(())
+    Ok(sheet)
 }
 
 /// The report of a scenario from the states of all its policies at the end of the run, as CSV: a row with the
@@ -118,11 +93,7 @@ pub fn report(
     ensures { IfOk result (λ text. IsReportText scenario.now (map (λ v. v.costs) checkpoint.now.states.items) text.items) }
 {
     let figures = all_figures(alloc, scenario, &checkpoint.states)?;
-    let mut writer = WriterBuilder::new().from_writer(Vec::new(alloc));
-    write_header(&mut writer)?;
-    write_rows(alloc, &mut writer, scenario.policies(), &figures)?;
-    match writer.into_inner() {
-        Ok(text) => Ok(text),
-        Err(_) => Err(AllocError),
-    }
+    let sheet = with_header(Sheet::new(alloc))?;
+    let sheet = with_policy_rows(alloc, sheet, scenario.policies(), &figures)?;
+    sheet.into_text()
 }

@@ -1,5 +1,8 @@
 pub mod Statuses
 pub mod Bytes
+pub mod Inputs
 pub mod Simulation
+pub mod Legs
+pub mod Resumption
 pub mod CommandLine
 pub mod Replay

@@ -1,10 +1,9 @@
 -- What `simulate` reads and writes. `reading` and `reading'` are the bytes that the reader has left before and
 -- after, `held` and `held'` those that the writer holds; either may tell nothing.
-use Rattle.std.specs.Prelude.{ℕ, ◌≢◌, List, Option}
+use Rattle.std.specs.Prelude.{ℕ, List, Option}
 use Rattle.std.specs.Io.KnownBytes.{Appends}
 use Rattle.crn_stock.specs.Scenarios.{ScenarioParts}
-use Rattle.crn_scenario.specs.Reading.{Reads, Refuses}
-use Rattle.crn_scenario.specs.declared.scenario_fault.ScenarioFault.{ScenarioFault}
+use Rattle.crn_scenario.specs.Reading.{Reads}
 use Rattle.crn_text.specs.Report.{IsReportOf}
 use Rattle.crnsim.specs.Bytes.{AppendsFront, ReadAll}
 
@@ -29,9 +28,3 @@ pub record WroteFront (reading reading' held held' : Option (List ℕ)) : Type 0
   pub text : List ℕ
   pub answer : IsReportFor input text
   pub written : AppendsFront held held' text
-
--- the whole input was read, and it is refused for a fault
-pub record ReadRefused (f : ScenarioFault) (reading reading' : Option (List ℕ)) : Type 0 where
-  pub input : List ℕ
-  pub read : ReadAll reading reading' input
-  pub refused : Refuses f input

@@ -4,7 +4,7 @@ ghost use Rattle.crn_text.specs.BlockWords.{words_text};
 ghost use Rattle.crnsim.specs.Bytes.{AppendsFront};
 
 use crate::fault::Fault;
-use crate::output::write_text;
+use crate::steps::send;
 use crn_text::words_text;
 use std::alloc::Global;
 use std::io::Write;
@@ -28,8 +28,5 @@ pub fn write_words<W: Write>(
     let Ok(text) = words_text(alloc, key, n) else {
         return Err(Fault::Memory);
     };
-    match write_text(writer, text.as_slice()) {
-        Ok(()) => Ok(()),
-        Err(_) => Err(Fault::Writing),
-    }
+    send(writer, text.as_slice())
 }

@@ -20,6 +20,10 @@ pub enum Command {
     /// The trace of the schedule on standard input, for a ring of so many slots and readers that carries the blocks
     /// 0 to `total` - 1 of the zero key.
     Replay { size: u64, readers: u32, total: u64 },
+    /// The checkpoint at block `n` of the scenario on standard input.
+    Leg { n: u64 },
+    /// The report of the scenario on standard input, from the checkpoint in the file of this name on.
+    Resume { file: String },
     /// The program's help.
     Help { text: String },
 }
@@ -68,11 +72,34 @@ const RING_ARGS: [(&str, &str); 3] = [
     ("TOTAL", "The blocks in all, from 0 to 65536"),
 ];
 
+const LEG_ABOUT: &str =
+    "Reads a scenario on standard input, runs its blocks 0 to N - 1 and writes the checkpoint there: \
+a text from which `resume` goes on";
+
+const LEG_EXAMPLE: &str =
+    "N is at most the number of blocks of the scenario, a block for each 4 periods of a \
+replication or part of them.
+
+Example, a run that is cut half way:
+  crnsim leg 832 < examples/spare_part.toml > cut.csv";
+
+const RESUME_ABOUT: &str =
+    "Reads a scenario on standard input, goes on from the checkpoint of it in FILE and writes the report: after a leg it \
+is the report that `run` writes";
+
+const RESUME_EXAMPLE: &str = "The size of the ring may be another than that of the leg's scenario.
+
+Example, from the checkpoint that `leg` has written:
+  crnsim resume cut.csv < examples/spare_part.toml";
+
 /// Reads the words that follow the program's name, with `clap`: no word or `run` for a run, `words` with four key
 /// words of 16 digits `0-9a-f` and the number of a block in decimal for its words, `replay` with the size, the
-/// readers and the total of a ring in decimal for a trace, and requests for help.
+/// readers and the total of a ring in decimal for a trace, `leg` with the number of a block in decimal for a
+/// checkpoint, `resume` with the name of a file, which may be empty, for a report from its checkpoint on, and requests
+/// for help.
 ///
-/// It judges spelling and types alone: whether there is such a ring is for [`replay_run`](crate::replay_run) to say.
+/// It judges spelling and types alone: whether there is such a ring is for [`replay_run`](crate::replay_run) to say,
+/// and whether the scenario has such a block for [`leg`](crate::leg).
 ///
 /// # Errors
 ///
@@ -84,7 +111,7 @@ pub fn read_words<'a>(alloc: Global, words: &'a [String]) -> Result<Command, Fau
         return Err(Fault::Memory);
     };
     match parser.try_get_matches_from(words) {
-        Ok(matches) => command_of(&matches),
+        Ok(matches) => command_of(alloc, &matches),
         Err(e) => match e.kind() {
             ErrorKind::OutOfMemory => Err(Fault::Memory),
             ErrorKind::DisplayHelp => match e.to_string(alloc) {
@@ -124,17 +151,43 @@ fn parser<'a>(alloc: Global) -> Result<clap::Command<'a>, AllocError> {
         .after_help(EXAMPLE)
         .no_binary_name(true)
         .subcommand(run)?
+        .subcommand(leg_parser(alloc)?)?
+        .subcommand(resume_parser(alloc)?)?
         .subcommand(words)?
         .subcommand(replay)
 }
 
-fn command_of(matches: &ArgMatches<'_>) -> Result<Command, Fault>
-    ensures { IfErr result (λ e. e ≡ Fault.CommandLine) }
+fn leg_parser<'a>(alloc: Global) -> Result<clap::Command<'a>, AllocError> {
+    let number = Arg::new(alloc, "N")
+        .required(true)
+        .help("The block that comes next, in decimal");
+    clap::Command::new(alloc, "leg")
+        .about(LEG_ABOUT)
+        .after_help(LEG_EXAMPLE)
+        .arg(number)
+}
+
+fn resume_parser<'a>(alloc: Global) -> Result<clap::Command<'a>, AllocError> {
+    let file = Arg::new(alloc, "FILE")
+        .required(true)
+        .help("The name of the file that has the checkpoint");
+    clap::Command::new(alloc, "resume")
+        .about(RESUME_ABOUT)
+        .after_help(RESUME_EXAMPLE)
+        .arg(file)
+}
+
+fn command_of(alloc: Global, matches: &ArgMatches<'_>) -> Result<Command, Fault>
+    ensures { IfErr result (λ e. (e ≡ Fault.CommandLine) ⊎ (e ≡ Fault.Memory)) }
 {
     match matches.subcommand() {
         None | Some(("run", _)) => Ok(Command::Run),
         Some(("words", words)) => block_words(words),
         Some(("replay", words)) => ring(words),
+        Some(("leg", words)) => Ok(Command::Leg {
+            n: number_at(words, "N")?,
+        }),
+        Some(("resume", words)) => saved(alloc, words),
         Some(_) => Err(Fault::CommandLine),
     }
 }
@@ -171,6 +224,19 @@ fn ring(words: &ArgMatches<'_>) -> Result<Command, Fault>
             total,
         }),
         Err(_) => Err(Fault::CommandLine),
+    }
+}
+
+// The file whose checkpoint is gone on from.
+fn saved(alloc: Global, words: &ArgMatches<'_>) -> Result<Command, Fault>
+    ensures { IfErr result (λ e. (e ≡ Fault.CommandLine) ⊎ (e ≡ Fault.Memory)) }
+{
+    match words.get_str("FILE") {
+        Some(name) => match name.to_string(alloc) {
+            Ok(file) => Ok(Command::Resume { file }),
+            Err(_) => Err(Fault::Memory),
+        },
+        None => Err(Fault::CommandLine),
     }
 }
 

@@ -1,22 +1,25 @@
 ghost use Rattle.std.specs.Prelude.{◌≡◌};
 ghost use Rattle.crnsim.specs.Statuses.{status_of};
 
-use crn_text::{ScenarioFault, ScheduleFault};
+use crn_text::{CheckpointFault, ScenarioFault, ScheduleFault};
 use thiserror::Error;
 
 /// Why the program gave no answer. Its text is the line that the program prints on standard error.
 #[derive(Clone, Copy, Debug, Drop, PartialEq, Eq, Error)]
 pub enum Fault {
-    /// The words after the program's name are refused, or there is no such ring.
+    /// The words after the program's name are refused, there is no such ring, or a leg is longer than the run.
     #[error("crnsim: command line")]
     CommandLine,
     /// The input is no scenario that can be run.
     #[error("crnsim: scenario {}", .0.number())]
     Scenario(ScenarioFault),
+    /// The file is no checkpoint of the scenario.
+    #[error("crnsim: checkpoint {}", .0.number())]
+    Checkpoint(CheckpointFault),
     /// The input is no schedule for the ring.
     #[error("crnsim: schedule {}", .0.number())]
     Schedule(ScheduleFault),
-    /// A read failed, or the input is over 1,048,576 bytes.
+    /// A file was not opened, a read failed, or an input is over 1,048,576 bytes.
     #[error("crnsim: reading")]
     Reading,
     /// A write failed or took no byte.
@@ -34,15 +37,15 @@ pub enum Fault {
 }
 
 impl Fault {
-    /// The status that the program ends with: 2 for the command line, 3 for the scenario, 4 for the schedule, 5 for
-    /// reading and writing, 6 for a thread and a gate, 7 for want of memory.
+    /// The status that the program ends with: 2 for the command line, 3 for the scenario, 4 for the checkpoint and the
+    /// schedule, 5 for reading and writing, 6 for a thread and a gate, 7 for want of memory.
     pub fn status(&self) -> u8
         ensures { result ≡ status_of self.now }
     {
         match self {
             Fault::CommandLine => 2,
             Fault::Scenario(_) => 3,
-            Fault::Schedule(_) => 4,
+            Fault::Checkpoint(_) | Fault::Schedule(_) => 4,
             Fault::Reading | Fault::Writing => 5,
             Fault::Thread | Fault::Gate => 6,
             Fault::Memory => 7,

@@ -1,26 +1,33 @@
 //! Compares (s,S) inventory policies by common random numbers: a scenario on standard input, its report on
-//! standard output. It also writes the words of blocks, and replays schedules of the ring that carries them.
+//! standard output. A run can be cut at any block and resumed. It also writes the words of blocks, and replays schedules
+//! of the ring that carries them.
 #![tactic(auto)]
 
 mod block_words;
 mod command_line;
 mod fault;
 mod input;
+mod legs;
 mod output;
 mod replay;
+mod resumption;
 mod simulation;
+mod steps;
 
 pub use block_words::write_words;
 pub use command_line::{Command, read_words};
 pub use fault::Fault;
-use output::write_text;
+pub use legs::leg;
 pub use replay::replay_run;
+pub use resumption::resume;
 pub use simulation::simulate;
 use std::env;
-use std::io::{ErrorKind, Write};
+use std::fs::File;
+use std::io::ErrorKind;
 use std::process::ExitCode;
 use std::sync::Wait;
 use std::thread::Threads;
+use steps::send;
 
 fn main(rt: HostRuntime) -> ExitCode {
     match run(&rt, &rt) {
@@ -51,7 +58,18 @@ fn run<H: Threads + Wait + Sync>(rt: &HostRuntime, threads: &H) -> Result<(), Fa
             &mut rt.stdin(),
             &mut rt.stdout(),
         ),
-        Command::Help { text } => write_help(&mut rt.stdout(), text.as_str()),
+        Command::Leg { n } => leg(threads, alloc, n, &mut rt.stdin(), &mut rt.stdout()),
+        Command::Resume { file } => {
+            let mut saved = opened(rt, file.as_str())?;
+            resume(
+                threads,
+                alloc,
+                &mut saved,
+                &mut rt.stdin(),
+                &mut rt.stdout(),
+            )
+        }
+        Command::Help { text } => send(&mut rt.stdout(), text.as_bytes()),
     }
 }
 
@@ -68,10 +86,12 @@ fn words_of(rt: &HostRuntime) -> Result<Vec<String>, Fault> {
     }
 }
 
-fn write_help<W: Write>(writer: &mut W, text: &str) -> Result<(), Fault> {
-    match write_text(writer, text.as_bytes()) {
-        Ok(()) => Ok(()),
-        Err(_) => Err(Fault::Writing),
+// The file of this name, to be read.
+fn opened(rt: &HostRuntime, name: &str) -> Result<File, Fault> {
+    match File::open(rt, name) {
+        Ok(file) => Ok(file),
+        Err(e) if e.kind() == ErrorKind::OutOfMemory => Err(Fault::Memory),
+        Err(_) => Err(Fault::Reading),
     }
 }
 

@@ -6,8 +6,7 @@ ghost use Rattle.crn_text.specs.Schedule.{RefusesSchedule};
 ghost use Rattle.crnsim.specs.Replay.{replayed, CanOpen, IsTraceFor, WroteTrace, WroteTraceFront, ReadRefusedSchedule};
 
 use crate::fault::Fault;
-use crate::input::{InputFault, read_input};
-use crate::output::write_text;
+use crate::steps::{input_from, send};
 use crn_cipher::StreamId;
 use crn_proto::{Machine, RingFault, RingSpec};
 use crn_text::{ScheduleFault, read_schedule, trace_text};
@@ -43,16 +42,9 @@ pub fn replay_run<R: Read, W: Write>(
     ensures unread { IfErr result (λ e. e ≡ Fault.CommandLine → Keeps (R.remaining reader.old) (R.remaining reader.new)) }
 {
     let machine = open_ring(alloc, size, readers, total)?;
-    let input = match read_input(alloc, reader) {
-        Ok(input) => input,
-        Err(InputFault::Memory) => return Err(Fault::Memory),
-        Err(InputFault::Failed | InputFault::TooLong) => return Err(Fault::Reading),
-    };
+    let input = input_from(alloc, reader)?;
     let text = trace_for(alloc, machine, input.as_slice())?;
-    match write_text(writer, text.as_slice()) {
-        Ok(()) => Ok(()),
-        Err(_) => Err(Fault::Writing),
-    }
+    send(writer, text.as_slice())
 }
 
 // The ring before any step.

@@ -1,12 +1,13 @@
 // The program's engine on whole texts, with readers and writers that fail.
 
 mod fakes;
+mod legs;
 mod replays;
 mod runs;
 mod words;
 
 use super::*;
-use crn_text::{ScenarioFault, ScheduleFault};
+use crn_text::{CheckpointFault, ScenarioFault, ScheduleFault};
 use fakes::{Narrow, Trickle};
 use std::alloc::{AllocError, Global};
 use std::test::Fail;
@@ -206,6 +207,11 @@ fn lines_and_statuses(rt: HostRuntime) -> Result<(), Fail> {
             3,
         ),
         (
+            Fault::Checkpoint(CheckpointFault::NoCheckpoint),
+            "crnsim: checkpoint 1",
+            4,
+        ),
+        (
             Fault::Schedule(ScheduleFault::Line),
             "crnsim: schedule 1",
             4,
@@ -248,24 +254,12 @@ fn reads_that_fail(rt: HostRuntime) -> Result<(), Fail> {
 fn writes_that_fail(rt: HostRuntime) -> Result<(), Fail> {
     let text = joined(&rt, &[MODEL, POLICY_A])?;
     let report = joined(&rt, &[HEADER, ROW_A])?;
-    let writes = report.len() as u64;
     for takes_none in [false, true] {
-        for k in 1..writes + 2 {
+        for k in 1..report.len() as u64 + 2 {
             let mut reader = text.as_bytes();
             let mut out = Narrow::new(rt.alloc(), k, takes_none);
             let answer = simulate(&rt, rt.alloc(), &mut reader, &mut out);
-            let want = if k <= writes {
-                Err(Fault::Writing)
-            } else {
-                Ok(())
-            };
-            assert_eq!(rt; answer, want, "at {k}");
-            assert_eq!(rt;
-                Some(out.taken()),
-                report.as_bytes().get(..out.taken().len()),
-                "at {k}"
-            );
-            assert_eq!(rt; out.taken().len() as u64, (k - 1).min(writes), "at {k}");
+            assert!(rt; out.tells(answer, report.as_str()), "at {k}");
         }
     }
     Ok(())

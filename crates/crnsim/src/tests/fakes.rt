@@ -1,5 +1,6 @@
 // A reader and a writer that fail at one call, counted from 1.
 
+use crate::Fault;
 use std::alloc::Global;
 use std::io;
 use std::io::{ErrorKind, Read, Write};
@@ -60,8 +61,15 @@ impl Narrow {
         }
     }
 
-    pub fn taken(&self) -> &[u8] {
-        self.taken.as_slice()
+    /// Whether a text was handed on as it should be: whole, or up to the failing call with a writing fault.
+    pub fn tells(&self, answer: Result<(), Fault>, text: &str) -> bool {
+        let before = self.fails_at.saturating_sub(1) as usize;
+        let is_told = match answer {
+            Ok(()) => text.len() <= before,
+            Err(fault) => before < text.len() && fault == Fault::Writing,
+        };
+        let end = before.min(text.len());
+        is_told && self.taken.as_slice() == &text.as_bytes()[..end]
     }
 }
 

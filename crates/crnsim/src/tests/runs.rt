@@ -4,18 +4,6 @@ use crn_run::{Checkpoint, run_plain};
 use crn_text::read_scenario;
 use std::test::Fail;
 
-const FIVE_PERIODS: &str = "version = 1
-key = [\"0000000000000000\", \"0000000000000000\", \"0000000000000000\", \"0000000000000000\"]
-periods = 5
-replications = 1
-initial = 10
-ring = 2
-costs = { setup = 7, unit = 2, holding = 1, backlog = 4 }
-demand = { values = [3], weights = [1] }
-lead = { values = [1], weights = [1] }
-policy = [{ name = \"A\", s = 5, S = 10 }, { name = \"B\", s = 4, S = 10 }]
-";
-
 // What each policy's state shows: the stock, the cost so far, and the costs of whole replications.
 type Shown = (i64, u64, Option<u64>);
 
@@ -30,7 +18,13 @@ fn shown(checkpoint: &Checkpoint, policy: usize) -> Option<Shown> {
 
 #[test]
 fn block_by_block(rt: HostRuntime) -> Result<(), Fail> {
-    let Ok(scenario) = read_scenario(rt.alloc(), FIVE_PERIODS.as_bytes()) else {
+    let text = super::changed(
+        &rt,
+        super::TWO_REPLICATIONS,
+        "replications = 2",
+        "replications = 1",
+    )?;
+    let Ok(scenario) = read_scenario(rt.alloc(), text.as_bytes()) else {
         assert!(rt; false, "the scenario is refused");
         return Ok(());
     };

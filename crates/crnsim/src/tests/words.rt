@@ -10,7 +10,7 @@ const ZERO: &str = "0000000000000000";
 const ZERO_BLOCK: &str = "demand 09218ebde6c85537 55941f5266d86105 4bd25e16282434dc ee29ec846bd2e40b
 ";
 
-fn command(rt: &HostRuntime, words: &[&str]) -> Result<Command, Fault> {
+pub fn command(rt: &HostRuntime, words: &[&str]) -> Result<Command, Fault> {
     let mut list = Vec::new(rt.alloc());
     for word in words {
         let Ok(text) = word.to_string(rt.alloc()) else {
@@ -61,7 +61,7 @@ fn commands(rt: HostRuntime) -> Result<(), Fail> {
 
 #[test]
 fn refused_words(rt: HostRuntime) -> Result<(), Fail> {
-    let table: [&[&str]; 26] = [
+    let table: [&[&str]; 25] = [
         &[""],
         &["walk"],
         &["Run"],
@@ -72,7 +72,6 @@ fn refused_words(rt: HostRuntime) -> Result<(), Fail> {
         &["replay", "2", "4294967296", "1"],
         &["replay", "2", "1", "-1"],
         &["replay", "2", "1", "1", "1"],
-        &["leg", "1"],
         &["--version"],
         &["-x"],
         &["words"],
@@ -102,12 +101,12 @@ fn help(rt: HostRuntime) -> Result<(), Fail> {
     for words in table {
         match command(&rt, words) {
             Ok(Command::Help { text }) => assert!(rt; text.as_str().contains("words"), "{text}"),
-            _ => assert!(rt; false, "no help"),
+            _other => assert!(rt; false, "no help"),
         }
     }
     match command(&rt, &["replay", "--help"]) {
         Ok(Command::Help { text }) => assert!(rt; text.as_str().contains("SIZE"), "{text}"),
-        _ => assert!(rt; false, "no help"),
+        _other => assert!(rt; false, "no help"),
     }
     Ok(())
 }
@@ -131,19 +130,11 @@ fn words_of_blocks(rt: HostRuntime) -> Result<(), Fail> {
 fn words_cut_short(rt: HostRuntime) -> Result<(), Fail> {
     let mut whole = Vec::new(rt.alloc());
     assert_eq!(rt; write_words(rt.alloc(), [0; 4], 7, &mut whole), Ok(()));
+    let text = std::str::from_utf8(whole.as_slice())?;
     for k in [1u64, 2, 76, 148] {
         let mut out = Narrow::new(rt.alloc(), k, false);
-        assert_eq!(rt;
-            write_words(rt.alloc(), [0; 4], 7, &mut out),
-            Err(Fault::Writing),
-            "at {k}"
-        );
-        assert_eq!(rt; out.taken().len() as u64, k - 1, "at {k}");
-        assert_eq!(rt;
-            Some(out.taken()),
-            whole.as_slice().get(..out.taken().len()),
-            "at {k}"
-        );
+        let answer = write_words(rt.alloc(), [0; 4], 7, &mut out);
+        assert!(rt; answer.is_err() && out.tells(answer, text), "at {k}");
     }
     Ok(())
 }

@@ -1,0 +1,14 @@
+pub mod Lengths
+pub mod PlainFields
+pub mod PlainRows
+pub mod WrittenRows
+mod Places
+mod WholeRows
+mod Words
+mod Lists
+mod Dues
+mod Differing
+mod Restoring
+mod Turns
+mod Restorable
+mod Cuts

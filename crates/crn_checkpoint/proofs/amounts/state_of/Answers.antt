@@ -1,0 +1,16 @@
+use Rattle.std.proofs.Common.{◌≡◌, ◌∙◌, ℤ, w64, to_z, of_z}
+use Rattle.crn_rows.proofs.Fields.{back}
+use Rattle.crn_checkpoint.proofs.Restoring.{stock_small, same_state, can_too}
+use Rattle.crn_checkpoint.proofs.amounts.state_of.Goals as goal
+
+pub returns-in-Ok-clause-reads : goal.returns-in-Ok-clause-reads
+returns-in-Ok-clause-reads c = λ p v rest h e.
+    let read = c.in_ok-a.ensures p v rest h e in
+    let costs = c.as_slice.ensures.value ∙ read.costs_are in
+    same_state c.args.model.now c.args.next v _ _ _ _ _ h c.in-Ok.ensures.restored (back _ v.stock (stock_small _ _ v h) read.stock_is) read.due_is read.running_is costs
+
+pub returns-in-Err-Range-clause-reads : goal.returns-in-Err-Range-clause-reads
+returns-in-Err-Range-clause-reads c = λ p v rest h e.
+    let read = c.in_ok-a.ensures p v rest h e in
+    let costs = c.as_slice.ensures.value ∙ read.costs_are in
+    absurd (c.in-Err-Range.ensures.refused (λ k. cc k) (can_too c.args.model.now c.args.next v _ _ _ _ h (back _ v.stock (stock_small _ _ v h) read.stock_is) read.due_is read.running_is costs))

@@ -1,0 +1,5 @@
+pub mod CheckpointText
+pub mod Reading
+pub mod Cells
+pub mod Amounts
+pub mod Sizes

@@ -1,0 +1,67 @@
+-- What a text is a checkpoint of, and what a refusal says of it.
+use Rattle.std.specs.Prelude.{◌≡◌, ℕ, ◌^◌, ◌<◌, ◌≤◌, ⊤, List, All, None, length}
+use Rattle.crn_draw.specs.Faults.{least_fault}
+use Rattle.crn_stock.specs.Parts.{Parts, AreInRange}
+use Rattle.crn_stock.specs.Models.{IsModel, total}
+use Rattle.crn_stock.specs.Scenarios.{ScenarioParts, AreForScenario}
+use Rattle.crn_run.specs.Runs.{IsCheckpointOf, EachAt}
+use Rattle.crn_checkpoint.specs.CheckpointText.{checkpoint_text}
+use Rattle.crn_checkpoint.specs.declared.checkpoint_fault.CheckpointFault.{CheckpointFault}
+use Rattle.crn_checkpoint.specs.declared.checkpoint_fault.CheckpointFault.TheVariants as fault
+
+-- all parts of a scenario are within their ranges
+pub record IsScenario (s : ScenarioParts) : Type 0 where
+  pub key_length : length s.key ≡ 4
+  pub key_words : All (λ w. w < 2 ^ 64) s.key
+  pub model : IsModel s.model
+  pub demand : least_fault s.model.demand.values s.model.demand.weights ≡ None
+  pub lead : least_fault s.model.lead.values s.model.lead.weights ≡ None
+  pub others : AreForScenario s.ring s.policies
+
+-- a scenario, and a state for each of its policies before block `next`, are within their ranges
+pub record IsInRange (s : ScenarioParts) (next : ℕ) (states : List Parts) : Type 0 where
+  pub scenario : IsScenario s
+  pub next_high : next ≤ total s.model
+  pub states_of : IsCheckpointOf s next states
+  pub ranges : All AreInRange states
+
+-- the bytes are the text of a checkpoint: of these states of a scenario's policies before block `next`
+pub record IsTextOf (s : ScenarioParts) (next : ℕ) (states : List Parts) (bytes : List ℕ) : Type 0 where
+  pub ranges : IsInRange s next states
+  pub text_is : bytes ≡ checkpoint_text s next states
+
+-- two scenarios differ in their rings at most
+pub record IsSameButRing (s s' : ScenarioParts) : Type 0 where
+  pub key : s.key ≡ s'.key
+  pub model : s.model ≡ s'.model
+  pub policies : s.policies ≡ s'.policies
+
+-- the bytes are the text of no checkpoint, of whatever scenario
+abbrev pub IsNoCheckpoint : List ℕ → Type 0
+IsNoCheckpoint bytes = (s : ScenarioParts) (next : ℕ) (states : List Parts) → ¬ IsTextOf s next states bytes
+
+-- the bytes are the text of a checkpoint of another scenario than s
+pub record IsOfAnother (s : ScenarioParts) (bytes : List ℕ) : Type 0 where
+  pub scenario : ScenarioParts
+  pub next : ℕ
+  pub states : List Parts
+  pub is_text : IsTextOf scenario next states bytes
+  pub differs : ¬ IsSameButRing scenario s
+
+-- what a refusal says of the bytes: want of memory says nothing
+abbrev pub RefusesCheckpoint : ScenarioParts → CheckpointFault → List ℕ → Type 0
+RefusesCheckpoint s fault.NoCheckpoint bytes = IsNoCheckpoint bytes
+RefusesCheckpoint s fault.OtherScenario bytes = IsOfAnother s bytes
+RefusesCheckpoint s fault.Memory bytes = ⊤
+
+-- the number by which a fault is told
+abbrev pub number_of : CheckpointFault → ℕ
+number_of fault.NoCheckpoint = 1
+number_of fault.OtherScenario = 2
+number_of fault.Memory = 90
+
+-- the bytes are the text of a leg: of the states that the scenario's policies have after the blocks below `next`
+pub record IsLegOf (s : ScenarioParts) (next : ℕ) (bytes : List ℕ) : Type 0 where
+  pub states : List Parts
+  pub at : EachAt s next states
+  pub is_text : IsTextOf s next states bytes

@@ -1,0 +1,14 @@
+-- The parts of a model that its sizes and its weights give.
+use Rattle.crn_draw.specs.Spread.{Weighted}
+use Rattle.crn_stock.specs.Models.{ModelParts}
+use Rattle.crn_checkpoint.specs.declared.models.Sizes.{Sizes}
+
+abbrev pub parts_of : Sizes → Weighted → Weighted → ModelParts
+parts_of z demand lead = record {
+  periods = z.periods;
+  replications = z.replications;
+  initial = z.initial;
+  costs = z.costs;
+  demand = demand;
+  lead = lead;
+}

@@ -1,0 +1,29 @@
+// Why a text is refused as a checkpoint.
+
+ghost use Rattle.std.specs.Prelude.{◌≡◌};
+ghost use Rattle.crn_checkpoint.specs.Reading as spec;
+
+/// Why no checkpoint was read.
+#[derive(Clone, Copy, Debug, PartialEq, Eq)]
+pub enum CheckpointFault {
+    /// 1: the text is not spelt as a checkpoint, byte for byte, or one of its amounts is out of range.
+    NoCheckpoint,
+    /// 2: the text is a checkpoint of another scenario: its key, periods, replications, initial stock, cost rates,
+    /// demands, lead times or policies differ. The ring's size is not compared.
+    OtherScenario,
+    /// 90: a growth was refused. It says nothing of the text.
+    Memory,
+}
+
+impl CheckpointFault {
+    /// The number of the fault: 1 for no checkpoint, 2 for another scenario, 90 for want of memory.
+    pub fn number(&self) -> u8
+        ensures { result ≡ spec.number_of self.now }
+    {
+        match self {
+            CheckpointFault::NoCheckpoint => 1,
+            CheckpointFault::OtherScenario => 2,
+            CheckpointFault::Memory => 90,
+        }
+    }
+}

@@ -1,0 +1,176 @@
+// The scenario that the rows of a checkpoint say, and whether two are the same.
+
+ghost use Rattle.std.specs.Prelude.{◌≡◌, ◌≢◌, ◌↔◌, ◌≤◌, ◌<◌, ◌+◌, ℕ, List, drop, All, IfOk, IsTrue, MatchResult, Some, length, slice_get, true};
+ghost use Rattle.std.specs.List.{AllPairs};
+ghost use Rattle.crn_stock.specs.Parts.{Parts};
+ghost use Rattle.crn_stock.specs.Models.{IsPolicy, total};
+ghost use Rattle.crn_stock.specs.Scenarios.{ScenarioParts, AreForScenario, IsRingSize, is_name};
+ghost use Rattle.crn_run.specs.Runs.{IsCheckpointOf, StandsAt};
+ghost use Rattle.crn_checkpoint.specs.Cells.{AreRowsOf};
+ghost use Rattle.crn_checkpoint.specs.Reading.{IsSameButRing};
+
+use crate::cells::{after, natural_in, text_in};
+use crate::models::model_of;
+use crate::policies::{Policies, policies_of};
+use crate::unread::Unread;
+use crn_draw::Weights;
+use crn_rows::Row;
+use crn_run::Checkpoint;
+use crn_scenario::hex::word_of;
+use crn_scenario::names::is_name;
+use crn_stock::{Model, Policy, Scenario};
+use std::alloc::Global;
+
+// The most policies of a scenario.
+const POLICY_LIMIT: usize = 16;
+
+// A checkpoint and its scenario.
+#[derive(Drop)]
+pub(crate) struct Cut {
+    pub(crate) scenario: Scenario,
+    pub(crate) checkpoint: Checkpoint,
+}
+
+fn key_of(rows: &[Row]) -> [u64; 4]
+    ensures { (s : ScenarioParts) (next : ℕ) (states : List Parts) → AreRowsOf s next states rows.now → result ≡ s.key }
+{
+    [
+        word_of(text_in(rows, 1, 1)),
+        word_of(text_in(rows, 1, 2)),
+        word_of(text_in(rows, 1, 3)),
+        word_of(text_in(rows, 1, 4)),
+    ]
+}
+
+fn has_levels(policy: &Policy) -> bool
+    ensures { IsTrue result ↔ IsPolicy policy.now }
+{
+    policy.low >= 0 && policy.low <= policy.high && policy.high <= 1_000_000
+}
+
+fn is_new(policy: &Policy, others: &[Policy]) -> bool
+    ensures { IsTrue result ↔ All (λ p. policy.now.name ≢ p.name) others.now }
+{
+    others.iter().all(|other| policy.name != other.name)
+}
+
+// The policies after that at an index.
+fn later(policies: &[Policy], index: usize) -> &[Policy]
+    requires { index < length policies.now }
+    ensures { result.now ≡ drop (index + 1) policies.now }
+{
+    &policies[index + 1..]
+}
+
+fn all_differ(policies: &[Policy]) -> bool
+    ensures { IsTrue result ↔ AllPairs (λ p q. p.name ≢ q.name) policies.now }
+{
+    for i in 0..policies.len() {
+        if !is_new(&policies[i], later(policies, i)) {
+            return false;
+        }
+    }
+    true
+}
+
+fn are_policies(ring: u64, policies: &[Policy]) -> bool
+    requires { IsRingSize ring }
+    ensures { IsTrue result ↔ AreForScenario ring policies.now }
+{
+    (1..=POLICY_LIMIT).contains(&policies.len())
+        && policies.iter().all(has_levels)
+        && policies.iter().all(|policy| is_name(policy.name.as_str()))
+        && all_differ(policies)
+}
+
+fn same_weights(a: &Weights, b: &Weights) -> bool
+    ensures { IsTrue result ↔ (a.now ≡ b.now) }
+{
+    a.values() == b.values() && a.weights() == b.weights()
+}
+
+fn same_model(a: &Model, b: &Model) -> bool
+    ensures { IsTrue result ↔ (a.now ≡ b.now) }
+{
+    a.periods() == b.periods()
+        && a.replications() == b.replications()
+        && a.initial() == b.initial()
+        && a.costs() == b.costs()
+        && same_weights(a.demand(), b.demand())
+        && same_weights(a.lead(), b.lead())
+}
+
+fn same_policy(a: &Policy, b: &Policy) -> bool
+    ensures { IsTrue result ↔ (a.now ≡ b.now) }
+{
+    a == b
+}
+
+fn same_policies(a: &[Policy], b: &[Policy]) -> bool
+    ensures { IsTrue result ↔ (a.now ≡ b.now) }
+{
+    if a.len() != b.len() {
+        return false;
+    }
+    for i in 0..a.len() {
+        if !same_policy(&a[i], &b[i]) {
+            return false;
+        }
+    }
+    true
+}
+
+// Whether two scenarios differ in their rings at most.
+pub(crate) fn same_but_ring(a: &Scenario, b: &Scenario) -> bool
+    ensures { IsTrue result ↔ IsSameButRing a.now b.now }
+{
+    a.key() == b.key()
+        && same_model(a.model(), b.model())
+        && same_policies(a.policies(), b.policies())
+}
+
+// The policies with their states before block `next` that the rows of a checkpoint of the model say.
+fn policies_in(alloc: Global, model: &Model, next: u64, rows: &[Row]) -> Result<Policies, Unread>
+    ensures reads { (s : ScenarioParts) (n : ℕ) (states : List Parts) → AreRowsOf s n states rows.now → model.now ≡ s.model → next ≡ n
+        → MatchResult result (λ r. (r.policies.items ≡ s.policies) × (r.states.items ≡ states)) (λ f. f ≡ Unread.Memory) }
+    ensures count { IfOk result (λ r. length r.states.items ≡ length r.policies.items) }
+    ensures stand { IfOk result (λ r. (i : ℕ) (v : Parts) → slice_get r.states.items i ≡ Some v → StandsAt model.now next v) }
+{
+    let demands = natural_in(rows, 3, 2) as usize;
+    let leads = natural_in(rows, 3, 3) as usize;
+    let count = natural_in(rows, 3, 4) as usize;
+    if count > POLICY_LIMIT {
+        return Err(Unread::NoCheckpoint);
+    }
+    policies_of(
+        alloc,
+        model,
+        next,
+        after(after(after(rows, 4), demands), leads),
+        count,
+    )
+}
+
+// The checkpoint that the rows say, and its scenario with this ring, if all of it is within its ranges.
+pub(crate) fn cut_of(alloc: Global, ring: u64, rows: &[Row]) -> Result<Cut, Unread>
+    requires { IsRingSize ring }
+    ensures reads { (s : ScenarioParts) (next : ℕ) (states : List Parts) → AreRowsOf s next states rows.now
+        → MatchResult result (λ c. IsSameButRing s c.scenario × (next ≡ c.checkpoint.next) × (states ≡ c.checkpoint.states.items)) (λ f. f ≡ Unread.Memory) }
+    ensures ring { IfOk result (λ c. c.scenario.ring ≡ ring) }
+    ensures next { IfOk result (λ c. c.checkpoint.next ≤ total c.scenario.model) }
+    ensures of { IfOk result (λ c. IsCheckpointOf c.scenario c.checkpoint.next c.checkpoint.states.items) }
+{
+    let model = model_of(alloc, rows)?;
+    let next = natural_in(rows, 0, 2);
+    if next > model.total() {
+        return Err(Unread::NoCheckpoint);
+    }
+    let Policies { policies, states } = policies_in(alloc, &model, next, rows)?;
+    if !are_policies(ring, &policies) {
+        return Err(Unread::NoCheckpoint);
+    }
+    Ok(Cut {
+        scenario: Scenario::new(key_of(rows), ring, model, policies),
+        checkpoint: Checkpoint { next, states },
+    })
+}

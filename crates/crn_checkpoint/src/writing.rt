@@ -1,0 +1,72 @@
+// Checkpoints are written.
+
+ghost use Rattle.std.specs.Prelude.{◌≡◌, ◌^◌, ◌<◌, ◌≤◌, All, IfOk};
+ghost use Rattle.crn_stock.specs.Models.{total};
+ghost use Rattle.crn_stock.specs.Parts.{AreInRange};
+ghost use Rattle.crn_run.specs.Runs.{IsCheckpointOf};
+ghost use Rattle.crn_checkpoint.specs.CheckpointText as spec;
+ghost use Rattle.crn_checkpoint.specs.Reading.{IsScenario, IsTextOf};
+
+use crate::policy_rows::with_all_policy_rows;
+use crate::rows::with_end_row;
+use crate::scenario_rows::with_scenario_rows;
+use crn_rows::Sheet;
+use crn_run::Checkpoint;
+use crn_stock::{Scenario, State};
+use std::alloc::{AllocError, Global};
+
+// Contracts learn from this call that words are of 64 bits. It does nothing.
+fn tell_words(words: &[u64])
+    ensures { All (λ w. w < 2 ^ 64) words.now }
+{
+    for word in words {
+        let _word = *word;
+    }
+}
+
+// Contracts learn from this call that a scenario is within its ranges. It does nothing.
+fn tell_scenario(scenario: &Scenario)
+    ensures { IsScenario scenario.now }
+{
+    tell_words(&scenario.key());
+    let _ring = scenario.ring();
+    let _policies = scenario.policies();
+    let model = scenario.model();
+    let _periods = model.periods();
+    let _demands = model.demand().total();
+    let _leads = model.lead().total();
+}
+
+// Contracts learn from this call that states are within their ranges. It does nothing.
+fn tell_states(states: &[State])
+    ensures { All AreInRange states.now }
+{
+    for state in states {
+        let _period = state.period();
+    }
+}
+
+/// The text of a checkpoint of a scenario: rows of five fields, as CSV. First come the scenario's own, but for the size
+/// of its ring; then, for each policy in order, its levels, the amounts of its state, each amount that is due with its
+/// period, and the cost of each replication that is done; at last a row that ends the text.
+///
+/// # Errors
+///
+/// `AllocError` where a growth was refused.
+pub fn write_checkpoint(
+    alloc: Global,
+    scenario: &Scenario,
+    checkpoint: &Checkpoint,
+) -> Result<Vec<u8>, AllocError>
+    requires of { IsCheckpointOf scenario.now checkpoint.now.next checkpoint.now.states.items }
+    ensures text { IfOk result (λ text. text.items ≡ spec.checkpoint_text scenario.now checkpoint.now.next checkpoint.now.states.items) }
+    ensures in_range { IfOk result (λ text. checkpoint.now.next ≤ total scenario.now.model
+        → IsTextOf scenario.now checkpoint.now.next checkpoint.now.states.items text.items) }
+{
+    tell_scenario(scenario);
+    tell_states(&checkpoint.states);
+    let sheet = with_scenario_rows(Sheet::new(alloc), scenario, checkpoint.next)?;
+    let sheet = with_all_policy_rows(sheet, scenario.policies(), &checkpoint.states)?;
+    let sheet = with_end_row(sheet)?;
+    sheet.into_text()
+}

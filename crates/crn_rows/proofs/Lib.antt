@@ -1,0 +1,3 @@
+pub mod Plainness
+pub mod Reread
+pub mod Fields

@@ -1,0 +1,78 @@
+-- A row of plain fields is written as it is.
+use Rattle.std.proofs.Common.{◌≡◌, ℕ, ℤ, pos, negsuc, ◌+◌, ◌%◌, ◌<◌, ◌^◌, ◌&&◌, nat_le, nat_lt, true, false, List, [], ◌∷◌, ◌++◌, length, codes, decimal, suc, refl, arith}
+use Rattle.std.proofs.lemmas.Bool.{and_parts}
+use Rattle.std.proofs.lemmas.Bool.Decides.{nat_tests}
+use Rattle.std.proofs.lemmas.Fmt.{decimal_by_steps_wide}
+use lib.Signed.{mag}
+use Rattle.std.specs.Fmt.{signed_decimal}
+use Rattle.std.specs.Prelude.{Result, Ok, Err}
+use Rattle.std.specs.Result.{OnOk, is_err}
+use Rattle.std.specs.List.{list_all}
+use Rattle.csv.specs.Writing as csv
+use Rattle.csv.specs.Writing.{default_writer, needs_byte, needs_quotes, field_text, fields_text, is_blank}
+use Rattle.crn_rows.specs.Plain.{is_plain, is_plain_byte, are_plain, is_row, are_rows}
+use Rattle.crn_rows.specs.Rows.{row_text, rows_text, further}
+
+needs_none : (b : ℕ) → is_plain_byte b ≡ true → needs_byte default_writer b ≡ false
+needs_none b h = let (low, high) = and_parts (nat_le 45 b) (nat_lt b 128) h in grind (arith, nat_tests, low)
+
+no_quotes : (f : List ℕ) → is_plain f ≡ true → needs_quotes default_writer f ≡ false
+no_quotes [] h = refl
+no_quotes (b ∷ bs) h =
+    let (here, more) = and_parts (is_plain_byte b) (is_plain bs) h in
+    rw (needs_none b here, no_quotes bs more)
+
+field_plain : (f : List ℕ) → is_plain f ≡ true → field_text default_writer f ≡ f
+field_plain f h = rw (no_quotes f h)
+
+fields_plain : (fs : List (List ℕ)) → are_plain fs ≡ true → fields_text default_writer fs ≡ further fs
+unfolding fields_text
+fields_plain [] h = refl
+fields_plain (f ∷ fs) h =
+    let (here, more) = and_parts (is_plain f) (are_plain fs) h in
+    rw (field_plain f here, fields_plain fs more)
+
+row_of_two : (f g : List ℕ) (fs : List (List ℕ)) → are_plain (f ∷ g ∷ fs) ≡ true → csv.row_text default_writer (f ∷ g ∷ fs) ≡ row_text (f ∷ g ∷ fs)
+unfolding is_blank row_text
+row_of_two f g fs h =
+    let (here, more) = and_parts (is_plain f) (are_plain (g ∷ fs)) h in
+    rw (field_plain f here, fields_plain (g ∷ fs) more)
+
+pub row_plain : (fs : List (List ℕ)) → 1 < length fs → are_plain fs ≡ true → csv.row_text default_writer fs ≡ row_text fs
+row_plain [] several h = absurd (omega arith)
+row_plain (f ∷ []) several h = absurd (omega arith)
+row_plain (f ∷ g ∷ fs) several h = row_of_two f g fs h
+
+-- ---- texts that are plain
+
+pub plain_append : (xs ys : List ℕ) → is_plain xs ≡ true → is_plain ys ≡ true → is_plain (xs ++ ys) ≡ true
+plain_append [] ys h k = k
+plain_append (x ∷ xs) ys h k =
+    let (here, more) = and_parts (is_plain_byte x) (is_plain xs) h in
+    rw (here, plain_append xs ys more k)
+
+digit_plain : (d : ℕ) → d < 10 → is_plain ((48 + d) ∷ []) ≡ true
+digit_plain d h = grind (arith, nat_tests, h)
+
+pub decimal_plain : (n : ℕ) → n < 10 ^ 64 → is_plain (decimal n) ≡ true
+decimal_plain n h = decimal_by_steps_wide (λ _ bs. is_plain bs ≡ true) (λ m k. digit_plain m k) (λ m ds k p. plain_append ds _ p (digit_plain (m % 10) (omega arith))) n h
+
+pub signed_plain : (z : ℤ) → mag z < 2 ^ 127 → is_plain (signed_decimal z) ≡ true
+signed_plain (pos n) h = decimal_plain n (omega arith)
+signed_plain (negsuc n) h = decimal_plain (suc n) (omega arith)
+
+-- ---- rows of plain fields
+
+pub row_parts : (fs : List (List ℕ)) → is_row fs ≡ true → (1 < length fs) × (are_plain fs ≡ true)
+row_parts fs h =
+    let (several, plain) = and_parts (nat_lt 1 (length fs)) (are_plain fs) h in
+    (grind (arith, nat_tests, several), plain)
+
+pub row_written : (fs : List (List ℕ)) → is_row fs ≡ true → csv.row_text default_writer fs ≡ row_text fs
+row_written fs h = let (several, plain) = row_parts fs h in row_plain fs several plain
+
+-- ---- what an answer that is no error ensures
+
+pub ok_of : {T E P : Type 0} (r : Result T E) → is_err r ≡ false → OnOk r P → P
+ok_of (Ok x) e h = h
+ok_of (Err x) e h = cc

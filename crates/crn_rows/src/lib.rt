@@ -1,0 +1,13 @@
+//! Rows of CSV whose fields call for no quotes: they are written by `csv` as they are, and read back loosely.
+#![tactic(auto)]
+
+mod reading;
+mod row;
+mod sheet;
+
+pub use reading::read_rows;
+pub use row::Row;
+pub use sheet::Sheet;
+
+#[cfg(test)]
+mod tests;

@@ -1,0 +1,44 @@
+// The rows of a text.
+
+ghost use Rattle.std.specs.Prelude.{◌≡◌, ℕ, List, IfOk, map, true};
+ghost use Rattle.csv.specs.Reading.{AreRecords, default_config, strip_bom};
+ghost use Rattle.csv.specs.declared.parser.State.TheVariants as st;
+ghost use Rattle.crn_rows.specs.Plain.{are_rows};
+ghost use Rattle.crn_rows.specs.Rows.{rows_text};
+
+use crate::row::Row;
+use csv::{Error, ReaderBuilder};
+use std::alloc::{AllocError, Global};
+
+// Every record of a text.
+fn records(alloc: Global, text: &[u8]) -> Result<Vec<Row>, Error>
+    ensures { IfOk result (λ v. AreRecords default_config st.StartRecord (strip_bom text.now) v.items) }
+{
+    let reader = ReaderBuilder::new()
+        .has_headers(false)
+        .flexible(true)
+        .from_reader(alloc, text);
+    let mut rows = Vec::new(alloc);
+    for row in reader.into_byte_records() {
+        if rows.push(Row::from_record(row?)).is_err() {
+            return Err(Error::out_of_memory());
+        }
+    }
+    Ok(rows)
+}
+
+/// The rows of a text, with whatever fields they have: quotes are taken off and empty lines passed over.
+///
+/// Where the text is that of rows of plain fields, as a [`Sheet`](crate::Sheet) writes them, it is just these rows.
+///
+/// # Errors
+///
+/// `AllocError` where a growth was refused.
+pub fn read_rows(alloc: Global, text: &[u8]) -> Result<Vec<Row>, AllocError>
+    ensures { (rows : List (List (List ℕ))) → are_rows rows ≡ true → text.now ≡ rows_text rows → IfOk result (λ v. v.items ≡ rows) }
+{
+    match records(alloc, text) {
+        Ok(rows) => Ok(rows),
+        Err(_) => Err(AllocError),
+    }
+}

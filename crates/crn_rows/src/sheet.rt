@@ -1,0 +1,71 @@
+// A text of rows as it is written.
+
+ghost use Rattle.std.specs.Prelude.{◌≡◌, ◌++◌, [], IfOk, map, true};
+ghost use Rattle.crn_rows.specs.Plain.{is_row};
+ghost use Rattle.crn_rows.specs.Rows.{row_text};
+
+use csv::{Writer, WriterBuilder};
+use std::alloc::{AllocError, Global};
+
+/// A text of rows with one row after another, which contracts see as its bytes.
+///
+/// The rows are written with `csv` and its defaults: fields are parted by commas, and each row is ended by a line feed.
+/// All rows have as many fields as the first.
+#[derive(Drop)]
+pub struct Sheet {
+    writer: Writer<Vec<u8>>,
+}
+
+impl std::marker::Model for Sheet {
+    ghost use Rattle.std.specs.Prelude.{ℕ, List, ◌++◌};
+    ghost use Rattle.csv.specs.Writing.{writer_under, writer_pending};
+    ghost use Rattle.crn_rows.specs.Plain.{IsReady};
+
+    ghost Value = { List ℕ };
+
+    ghost view = { λ s. (writer_under s.writer).items ++ writer_pending s.writer };
+
+    ghost invariant = { λ s. IsReady s.writer };
+}
+
+impl Sheet {
+    /// A text without a row. Takes no memory.
+    pub fn new(alloc: Global) -> Sheet
+        ensures { result ≡ [] }
+    {
+        Sheet {
+            writer: WriterBuilder::new().from_writer(Vec::new(alloc)),
+        }
+    }
+
+    /// The text with one row more, of two or more fields, each of whose bytes is from 45 to 127.
+    ///
+    /// # Errors
+    ///
+    /// `AllocError` where a growth was refused: then the text is lost.
+    pub fn with_row(self, fields: &[&[u8]]) -> Result<Sheet, AllocError>
+        requires { is_row (map (λ f. f.now) fields.now) ≡ true }
+        ensures { IfOk result (λ sheet. sheet ≡ self ++ row_text (map (λ f. f.now) fields.now)) }
+    {
+        let Sheet { mut writer } = self;
+        if writer.write_fields(fields).is_err() {
+            return Err(AllocError);
+        }
+        Ok(Sheet { writer })
+    }
+
+    /// The bytes of the text.
+    ///
+    /// # Errors
+    ///
+    /// `AllocError` where a growth was refused.
+    pub fn into_text(self) -> Result<Vec<u8>, AllocError>
+        ensures { IfOk result (λ text. text.items ≡ self) }
+    {
+        let Sheet { writer } = self;
+        match writer.into_inner() {
+            Ok(text) => Ok(text),
+            Err(_) => Err(AllocError),
+        }
+    }
+}
