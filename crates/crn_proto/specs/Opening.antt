@@ -2,6 +2,7 @@
 use Rattle.std.specs.Prelude.{◌≡◌, ℕ, ◌<◌, ◌≤◌, true}
 use Rattle.std.specs.Int.{is_power_of_two}
 use Rattle.crn_cipher.specs.declared.stream.StreamId.{StreamId}
+use Rattle.crn_proto.specs.declared.spec.RingSpec.{RingSpec}
 use Rattle.crn_proto.specs.declared.fault.RingFault.{RingFault}
 use Rattle.crn_proto.specs.declared.fault.RingFault.TheVariants.{Size, Readers, Stream, Memory}
 
@@ -16,6 +17,12 @@ IsReaderCount readers = (0 < readers) × (readers ≤ 16)
 -- at most 65,536 blocks in all, and a first block of at most that number
 abbrev pub IsStream : StreamId → Type 0
 IsStream id = (id.first ≤ id.total) × (id.total ≤ 65536)
+
+-- there is such a ring
+pub record CanOpen (spec : RingSpec) : Type 0 where
+  pub size : IsRingSize spec.size
+  pub readers : IsReaderCount spec.readers
+  pub stream : IsStream spec.id
 
 -- the number by which a fault is told
 abbrev pub number_of : RingFault → ℕ

@@ -3,10 +3,11 @@ use Rattle.std.specs.Prelude.{◌≡◌, ◌≢◌, ℕ, ◌+◌, ◌-◌, ◌/�
 use Rattle.atomic_table.specs.Table.{Me, Step}
 use Rattle.crn_cipher.specs.declared.TheConstants.{BLOCK_WORDS}
 use Rattle.crn_cipher.specs.Cipher.{block_word}
-use Rattle.crn_proto.specs.Ring.{left_mark, ProducerMove, LoadGate, StoreWord, Publish, Finish, producer_after, ReaderMove, LoadCursor, LoadWord, Take, Leave, reader_after, reading}
+use Rattle.crn_proto.specs.Ring.{left_mark, ProducerMove, LoadGate, StoreWord, Publish, Finish, ProducerMay, producer_word, producer_leaves, producer_after, ReaderMove, LoadCursor, LoadWord, Take, Leave, ReaderMay, reader_word, reader_leaves, reader_after, reading}
 use Rattle.crn_ring.specs.declared.view.Role.TheVariants.{Reader}
 use Rattle.crn_ring.specs.declared.view.View.{View}
 use Rattle.crn_ring.specs.Gates.{Passes, Loaded}
+use Rattle.crn_ring.specs.Holds.{HasProducer, HasReader}
 
 abbrev pub Sat : Type 0
 Sat = Me (Unit {0}) View
@@ -25,30 +26,46 @@ publishing v = Publish (v.producer.stored / BLOCK_WORDS)
 abbrev pub taking : View → ReaderMove
 taking v = Take (length v.reader.read / BLOCK_WORDS)
 
+-- The step is this move of the producer, or of the seat's reader: its part allows the move, and the word of the step, what
+-- that word is afterwards, n, and the view afterwards are those of the move.
+pub record MadeByProducer (move : ProducerMove) (st : Step (Unit {0})) (m : Sat) (n : ℕ) (m' : Sat) : Type 0 where
+  pub seat : HasProducer m.0
+  pub may : ProducerMay m.0.spec m.0.producer move
+  pub word : st.word ≡ producer_word m.0.spec m.0.producer move
+  pub leaves : n ≡ producer_leaves m.0.spec m.0.producer move n
+  pub view : m' ≡ (by_producer move n m.0, m.1)
+
+pub record MadeByReader (move : ReaderMove) (st : Step (Unit {0})) (m : Sat) (n : ℕ) (m' : Sat) : Type 0 where
+  pub seat : HasReader m.0
+  pub may : ReaderMay m.0.reader move
+  pub word : st.word ≡ reader_word m.0.spec m.0.number m.0.reader move
+  pub leaves : n ≡ reader_leaves m.0.reader move n
+  pub view : m' ≡ (by_reader move n m.0, m.1)
+
 abbrev pub loaded_gate : Step (Unit {0}) → Sat → ℕ → Sat → Type 0
-loaded_gate st m n m' = (m' ≡ (by_producer (LoadGate (st.word - 1)) n m.0, m.1)) × (length m.0.producer.gates ≡ m.0.spec.readers)
+loaded_gate st m n m' = MadeByProducer (LoadGate (st.word - 1)) st m n m' × (length m.0.producer.gates ≡ m.0.spec.readers)
     × (n ≢ left_mark → (n ≤ m.0.producer.published) × (m.0.producer.published ≤ n + m.0.spec.size))
 
 abbrev pub stored_word : Step (Unit {0}) → Sat → ℕ → Sat → Type 0
-stored_word st m n m' = m' ≡ (by_producer StoreWord n m.0, m.1)
+stored_word st m n m' = MadeByProducer StoreWord st m n m'
 
 abbrev pub published_some : Step (Unit {0}) → Sat → ℕ → Sat → Type 0
-published_some st m n m' = m' ≡ (by_producer (publishing m.0) n m.0, m.1)
+published_some st m n m' = MadeByProducer (publishing m.0) st m n m'
 
 abbrev pub stored_end : Step (Unit {0}) → Sat → ℕ → Sat → Type 0
-stored_end st m n m' = m' ≡ (by_producer Finish n m.0, m.1)
+stored_end st m n m' = MadeByProducer Finish st m n m'
 
 abbrev pub loaded_cursor : Step (Unit {0}) → Sat → ℕ → Sat → Type 0
-loaded_cursor st m n m' = (m' ≡ (by_reader LoadCursor n m.0, m.1)) × (m.0.reader.taken ≤ n / 2) × (m.0.reader.seen ≤ n / 2) × (n / 2 ≤ m.0.spec.id.total)
+loaded_cursor st m n m' = MadeByReader LoadCursor st m n m' × (m.0.reader.taken ≤ n / 2) × (m.0.reader.seen ≤ n / 2) × (n / 2 ≤ m.0.spec.id.total)
 
 abbrev pub loaded_word : Step (Unit {0}) → Sat → ℕ → Sat → Type 0
-loaded_word st m n m' = (m' ≡ (by_reader LoadWord n m.0, m.1)) × (n ≡ block_word m.0.spec.id.key (reading m.0.reader) (length m.0.reader.read % BLOCK_WORDS))
+loaded_word st m n m' = MadeByReader LoadWord st m n m' × (n ≡ block_word m.0.spec.id.key (reading m.0.reader) (length m.0.reader.read % BLOCK_WORDS))
 
 abbrev pub stored_taken : Step (Unit {0}) → Sat → ℕ → Sat → Type 0
-stored_taken st m n m' = m' ≡ (by_reader (taking m.0) n m.0, m.1)
+stored_taken st m n m' = MadeByReader (taking m.0) st m n m'
 
 abbrev pub stored_left : Step (Unit {0}) → Sat → ℕ → Sat → Type 0
-stored_left st m n m' = m' ≡ (by_reader Leave n m.0, m.1)
+stored_left st m n m' = MadeByReader Leave st m n m'
 
 -- a reader's seat is cut off the first seat
 abbrev pub cut_left : View → View

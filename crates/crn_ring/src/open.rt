@@ -1,6 +1,7 @@
 //! How a ring is opened.
 ghost use Rattle.std.specs.Prelude.{◌≡◌, ◌+◌, ◌≤◌, ◌<◌, ◌*◌, [], length, vec_capacity, IfOk, IfErr};
 ghost use Rattle.crn_proto.specs.Ring.{open_words, word_count};
+ghost use Rattle.crn_proto.specs.Opening.{CanOpen};
 ghost use Rattle.crn_ring.specs.Holds.{opened};
 ghost use Rattle.crn_ring.specs.Calls.{IsOpened, AllFresh, Refuses};
 
@@ -57,6 +58,7 @@ impl Ring {
     pub fn open(alloc: Global, spec: RingSpec) -> Result<(Ring, Producer, Vec<Reader>), RingFault>
         ensures refused { IfErr result (λ f. Refuses spec f) }
         ensures opened { IfOk result (λ r. IsOpened spec r.0 r.1 r.2.items) }
+        ensures valid { IfOk result (λ r. CanOpen spec) }
     {
         if !spec.size.is_power_of_two() || spec.size > 1024 {
             return Err(RingFault::Size);

@@ -187,6 +187,21 @@ fn a_reader_that_leaves_gates_no_more(rt: HostRuntime) -> Result<(), Fail> {
     Ok(())
 }
 
+// The end is not marked, and the readers stand at blocks 1 and 3.
+#[test]
+fn a_ring_that_is_closed_early(rt: HostRuntime) -> Result<(), Fail> {
+    let Some((ring, mut producer, mut a, mut b)) = open_two(rt.alloc(), 4, 4) else {
+        panic!(rt; "not opened")
+    };
+    assert!(rt; all_pass(&ring, &mut producer, &mut b, 0, 3));
+    assert!(rt; takes(&ring, &mut a, 0));
+    let closing = ring.close(producer);
+    assert!(rt; closing.published == 3 && !closing.ended);
+    let cursors = [1, 3, 0, 0, 0, 0, 0, 0, 0, 0, 0, 0, 0, 0, 0, 0];
+    assert_eq!(rt; closing.cursors, cursors);
+    Ok(())
+}
+
 // Whether the blocks from `first` on and below `upto` are published and taken, one by one.
 fn all_pass(
     ring: &Ring,

@@ -14,4 +14,4 @@ load-requires c = let at = c.requires.at in let spec = c.args.self.now.spec in (
 
 pub returns-clause-moved : goal.returns-clause-moved
 returns-clause-moved c = let at = c.requires.at in let spec = c.args.self.now.spec in
-    reaches_one ReaderMay reader_after LoadWord c.load.result c.args.seat.now.me.0.reader _ (at.0, subst (λ (z : ℕ). z < c.args.seat.now.me.0.reader.seen) at.1 at.3) (ap (λ m. m.0.reader) c.load.ensures.2.0)
+    reaches_one ReaderMay reader_after LoadWord c.load.result c.args.seat.now.me.0.reader _ (at.0, subst (λ (z : ℕ). z < c.args.seat.now.me.0.reader.seen) at.1 at.3) (ap (λ m. m.0.reader) c.load.ensures.2.0.view)

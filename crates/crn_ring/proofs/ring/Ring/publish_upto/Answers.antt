@@ -23,10 +23,10 @@ returns-clause-moved c = let at = c.requires.at in let spec = c.args.self.now.sp
     let stored : p.stored ≡ BLOCK_WORDS * c.args.count = at.1 in
     let some = at.2 in
     let whole : p.stored ≡ BLOCK_WORDS * (p.stored / BLOCK_WORDS) = omega arith in
-    reaches_one (ProducerMay spec) producer_after (publishing c.args.seat.now.me.0) 0 p _ (at.0, whole, omega arith) (ap (λ m. m.0.producer) c.store.ensures.2)
+    reaches_one (ProducerMay spec) producer_after (publishing c.args.seat.now.me.0) 0 p _ (at.0, whole, omega arith) (ap (λ m. m.0.producer) c.store.ensures.2.view)
 
 pub returns-clause-view : goal.returns-clause-view
 returns-clause-view c = let p = c.args.seat.now.me.0.producer in
     let stored : p.stored ≡ BLOCK_WORDS * c.args.count = c.requires.at.1 in
     let many : p.stored / BLOCK_WORDS ≡ c.args.count = omega arith in
-    subst (λ (z : ℕ). c.store.new.seat.me ≡ (by_producer (Publish z) 0 c.args.seat.now.me.0, c.args.seat.now.me.1)) many c.store.ensures.2
+    subst (λ (z : ℕ). c.store.new.seat.me ≡ (by_producer (Publish z) 0 c.args.seat.now.me.0, c.args.seat.now.me.1)) many c.store.ensures.2.view

@@ -23,10 +23,10 @@ returns-clause-moved c = let at = c.requires.at in let q = c.args.seat.now.me.0.
     let read : length q.read ≡ BLOCK_WORDS * c.args.count = c.requires.whole.0 in
     let some = c.requires.whole.1 in
     let whole : length q.read ≡ BLOCK_WORDS * (length q.read / BLOCK_WORDS) = omega arith in
-    reaches_one ReaderMay reader_after (taking c.args.seat.now.me.0) 0 q _ (at.0, whole, omega arith) (ap (λ m. m.0.reader) c.store.ensures.2)
+    reaches_one ReaderMay reader_after (taking c.args.seat.now.me.0) 0 q _ (at.0, whole, omega arith) (ap (λ m. m.0.reader) c.store.ensures.2.view)
 
 pub returns-clause-view : goal.returns-clause-view
 returns-clause-view c = let q = c.args.seat.now.me.0.reader in
     let read : length q.read ≡ BLOCK_WORDS * c.args.count = c.requires.whole.0 in
     let many : length q.read / BLOCK_WORDS ≡ c.args.count = omega arith in
-    subst (λ (z : ℕ). c.store.new.seat.me ≡ (by_reader (Take z) 0 c.args.seat.now.me.0, c.args.seat.now.me.1)) many c.store.ensures.2
+    subst (λ (z : ℕ). c.store.new.seat.me ≡ (by_reader (Take z) 0 c.args.seat.now.me.0, c.args.seat.now.me.1)) many c.store.ensures.2.view

@@ -16,4 +16,4 @@ store-requires c = let at = c.requires.at in let spec = c.args.self.now.spec in 
 
 pub returns-clause-moved : goal.returns-clause-moved
 returns-clause-moved c = let at = c.requires.at in let spec = c.args.self.now.spec in
-    reaches_one (ProducerMay spec) producer_after StoreWord 0 c.args.seat.now.me.0.producer _ (at.0, subst (λ (z : ℕ). z < spec.id.total) at.1 c.requires.below, subst (PassesGates spec c.args.seat.now.me.0.producer) at.1 c.requires.room) (ap (λ m. m.0.producer) c.store.ensures.2)
+    reaches_one (ProducerMay spec) producer_after StoreWord 0 c.args.seat.now.me.0.producer _ (at.0, subst (λ (z : ℕ). z < spec.id.total) at.1 c.requires.below, subst (PassesGates spec c.args.seat.now.me.0.producer) at.1 c.requires.room) (ap (λ m. m.0.producer) c.store.ensures.2.view)
