@@ -95,12 +95,12 @@ module _ {X : Type 0} (f : X → List Part) where
   each_right P [] ys all = all
   each_right P (x ∷ xs) ys all = each_right P xs ys (λ j. all (suc j))
 
-  each_append : (P : Part → Type 0) (xs ys : List Part) → Each P xs → Each P ys → Each P (xs ++ ys)
+  pub each_append : (P : Part → Type 0) (xs ys : List Part) → Each P xs → Each P ys → Each P (xs ++ ys)
   each_append P [] ys here there k part h = there k part h
   each_append P (x ∷ xs) ys here there zero part h = here 0 part h
   each_append P (x ∷ xs) ys here there (suc k) part h = each_append P xs ys (λ j. here (suc j)) there k part h
 
-  cut_each : (P : Part → Type 0) (views : List X) (id : ℕ) (v left right : X) → slice_get views id ≡ Some v → f v ≡ f right ++ f left
+  pub cut_each : (P : Part → Type 0) (views : List X) (id : ℕ) (v left right : X) → slice_get views id ≡ Some v → f v ≡ f right ++ f left
       → Each P (flat_map f views) → Each P (flat_map f (set views id left)) × Each P (f right)
   cut_each P [] id v left right h e all = cc
   cut_each P (x ∷ xs) zero v left right h e all =

@@ -8,3 +8,4 @@ pub mod Gauging
 pub mod Remembering
 pub mod Rooms
 pub mod Rows
+pub mod Schedules

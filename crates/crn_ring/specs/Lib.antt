@@ -5,3 +5,4 @@ pub mod Parts
 pub mod Calls
 pub mod Rooms
 pub mod Closes
+pub mod Schedules

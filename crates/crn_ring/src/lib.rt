@@ -18,6 +18,7 @@
 
 mod answers;
 mod close;
+pub mod laws;
 mod open;
 mod plays;
 mod producer_end;

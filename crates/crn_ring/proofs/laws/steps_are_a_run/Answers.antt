@@ -1,0 +1,8 @@
+use Rattle.crn_ring.proofs.Schedules.{steps_are_a_run, allowed_steps_are_made}
+use Rattle.crn_ring.proofs.laws.steps_are_a_run.Goals as goal
+
+pub returns-clause-allowed : goal.returns-clause-allowed
+returns-clause-allowed c = allowed_steps_are_made
+
+pub returns-clause-run : goal.returns-clause-run
+returns-clause-run c = steps_are_a_run
