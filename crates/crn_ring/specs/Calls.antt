@@ -13,6 +13,7 @@ use Rattle.crn_ring.specs.declared.view.View.{View}
 use Rattle.crn_ring.specs.declared.ring.Ring.{Ring}
 use Rattle.crn_ring.specs.declared.producer_end.Producer.{Producer}
 use Rattle.crn_ring.specs.declared.reader_end.Reader.{Reader}
+use Rattle.crn_ring.specs.declared.reader_end.LeftReader.{LeftReader}
 use Rattle.crn_ring.specs.declared.answers.Publish.{Publish}
 use Rattle.crn_ring.specs.declared.answers.Publish.TheVariants as One
 use Rattle.crn_ring.specs.declared.answers.PublishMany.{PublishMany}
@@ -53,6 +54,13 @@ IsProducerOf ring p = IsAt ring p.seat
 
 abbrev pub IsReaderOf : Ring → Reader → Type 0
 IsReaderOf ring r = IsAt ring r.seat
+
+-- What is left is reader number r of this ring.
+abbrev pub left_part : LeftReader → ReaderPart
+left_part x = x.seat.me.0.reader
+
+abbrev pub HasLeft : Ring → ℕ → LeftReader → Type 0
+HasLeft ring r x = IsAt ring x.seat × (x.seat.me.0.number ≡ r)
 
 -- Reader x is number r of this ring, as it is at open.
 abbrev pub IsFresh : Ring → ℕ → Reader → Type 0

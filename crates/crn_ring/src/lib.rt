@@ -32,7 +32,7 @@ mod view;
 
 pub use answers::{Batch, Closing, Publish, PublishMany, Take};
 pub use producer_end::Producer;
-pub use reader_end::Reader;
+pub use reader_end::{LeftReader, Reader};
 pub use ring::Ring;
 
 #[cfg(test)]

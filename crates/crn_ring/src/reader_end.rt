@@ -1,5 +1,5 @@
 //! A reader, as its caller holds it.
-ghost use Rattle.std.specs.Prelude.{◌≡◌, ◌≤◌, ◌<◌, [], false};
+ghost use Rattle.std.specs.Prelude.{◌≡◌, ◌≤◌, ◌<◌, [], false, true};
 ghost use Rattle.crn_ring.specs.Holds.{HasReader};
 
 use crate::ring::Place;
@@ -20,6 +20,14 @@ pub struct Reader {
     pub ghost here: { seat.me.0.reader.left ≡ false },
     pub ghost below: { number < seat.me.0.spec.readers },
     pub ghost within: { taken ≤ seat.me.0.spec.id.total },
+}
+
+/// A reader that has left its ring: it has stored the mark of one that left in its cursor. It can do nothing more.
+#[derive(Drop)]
+pub struct LeftReader {
+    pub(crate) seat: Place,
+    pub ghost role: { HasReader seat.me.0 },
+    pub ghost left: { seat.me.0.reader.left ≡ true },
 }
 
 impl Reader {

@@ -5,10 +5,10 @@ ghost use Rattle.crn_proto.specs.Ring.{place, reading};
 ghost use Rattle.crn_proto.specs.Chains.{ReaderReaches};
 ghost use Rattle.crn_ring.specs.Holds.{HasReader};
 ghost use Rattle.crn_ring.specs.Plays.{read_many};
-ghost use Rattle.crn_ring.specs.Calls.{AfterBatch, AfterTake, FollowOn, IsAt, IsReaderOf, number_of, reader_part, spec_of};
+ghost use Rattle.crn_ring.specs.Calls.{AfterBatch, AfterTake, FollowOn, IsAt, HasLeft, IsReaderOf, left_part, number_of, reader_part, spec_of};
 
 use crate::answers::{Batch, Take};
-use crate::reader_end::Reader;
+use crate::reader_end::{LeftReader, Reader};
 use crate::ring::{Place, Ring};
 use crn_cipher::{BLOCK_WORDS, Block};
 
@@ -124,6 +124,15 @@ impl Reader {
     pub fn leave(self, ring: &Ring)
         requires { IsReaderOf ring.now self }
     {
+        drop(self.into_left(ring));
+    }
+
+    /// As [`leave`](Reader::leave), and hands on what shows contracts that the reader has left.
+    pub fn into_left(self, ring: &Ring) -> LeftReader
+        requires { IsReaderOf ring.now self }
+        ensures left { HasLeft ring.now (number_of self) result }
+        ensures moves { ReaderReaches (reader_part self) 1 (left_part result) }
+    {
         let Reader {
             mut seat,
             number,
@@ -131,5 +140,6 @@ impl Reader {
             ended: _,
         } = self;
         ring.store_left(&mut seat, number);
+        LeftReader { seat }
     }
 }
