@@ -1,19 +1,24 @@
 -- The runs of all policies, as stacks: of their jobs, and of their ends.
-use Rattle.std.proofs.Common.{◌≡◌, ℕ, zero, suc, refl, ◌+◌, ◌<◌, List, [], ◌∷◌, ◌++◌, length, Some, slice_get, get_or, false, subst, sym, ap, ◌∙◌, arith, length-append}
+use Rattle.std.proofs.Common.{◌≡◌, ℕ, zero, suc, refl, ◌+◌, ◌<◌, List, [], ◌∷◌, ◌++◌, length, Some, slice_get, get_or, Result, Ok, Err, IfOk, true, false, subst, sym, ap, ◌∙◌, arith, length-append}
+use Rattle.std.proofs.lemmas.Bool.{false≢true}
+use Rattle.std.specs.List.{list_any}
 use Rattle.std.proofs.lemmas.Option.{slice_get_within, slice_get-get_or}
 use Rattle.crn_stock.specs.Parts.{Parts}
 use Rattle.crn_stock.specs.Scenarios.{ScenarioParts}
 use Rattle.crn_proto.specs.declared.actor_parts.ReaderPart.{ReaderPart}
 use Rattle.crn_stock.specs.Draws.{At, OnwardAt}
+use Rattle.crn_proto.specs.declared.spec.RingSpec.{RingSpec}
 use Rattle.crn_ring.specs.declared.ring.Ring.{Ring}
 use Rattle.crn_ring.specs.declared.reader_end.Reader.{Reader}
 use Rattle.crn_ring.specs.Calls.{IsFresh, number_of, reader_part, spec_of}
+use Rattle.crn_run.specs.declared.fault.RunFault.{RunFault}
+use Rattle.crn_run.specs.declared.run.Finished.{Finished}
 use Rattle.crn_run.specs.declared.jobs.Job.{Job}
 use Rattle.crn_run.specs.Runs.{IsCheckpointOf, StandsAt, EachAt, EachOnward}
 use Rattle.crn_run.specs.declared.worker.PolicyEnd.{PolicyEnd}
-use Rattle.crn_run.specs.declared.worker.PolicyEnd.TheVariants.{Reached}
-use Rattle.crn_run.specs.Ends.{EndsAs, HasReadAll, IsRun}
-use Rattle.crn_run.specs.Jobs.{IsReady, AreEnds, AreJobs, Gathers}
+use Rattle.crn_run.specs.declared.worker.PolicyEnd.TheVariants.{Reached, Short, Held}
+use Rattle.crn_run.specs.Ends.{EndsAs, HasReadAll, IsRun, is_short, is_held}
+use Rattle.crn_run.specs.Jobs.{IsReady, AllReached, has_reached, AreEnds, AreJobs, Gathers, HasRun, ring_spec}
 use Rattle.crn_run.proofs.Growing.{HoldsOfEach, each-grown, slice_get_front, slice_get_last}
 use Rattle.crn_run.proofs.Running.{same_of}
 
@@ -159,3 +164,50 @@ pub each_onward : (s : ScenarioParts) (start states : List Parts) (upto : ℕ) �
 each_onward s start states upto each k p v w is_policy begins is =
     let r : RunFrom s start upto k w = each k w is in
     subst (λ (u : Parts). OnwardAt s.model p s.key u upto w) (same_of (slice_get start k) r.begun v r.begins begins) (r.run.onward p is_policy)
+
+-- ---- how the runs have ended, all together
+
+-- ends of which none is short and none is held have all reached the ring's total
+pub none_else : (ends : List PolicyEnd) → list_any is_short ends ≡ false → list_any is_held ends ≡ false → AllReached ends
+none_else [] short held i e h = cc
+none_else (Reached w x ∷ ends) short held zero e h = let same : Reached w x ≡ e = cc in subst (λ (z : PolicyEnd). has_reached z ≡ true) same refl
+none_else (Short n w x ∷ ends) short held zero e h = absurd (false≢true (sym short))
+none_else (Held w ∷ ends) short held zero e h = absurd (false≢true (sym held))
+none_else (Reached w x ∷ ends) short held (suc i) e h = none_else ends short held i e h
+none_else (Short n w x ∷ ends) short held (suc i) e h = absurd (false≢true (sym short))
+none_else (Held w ∷ ends) short held (suc i) e h = absurd (false≢true (sym held))
+
+-- one end more
+pub held_or_last : (ends : List PolicyEnd) (last : PolicyEnd) (P : Type 0) → (list_any is_held ends ≡ true → P) → (is_held last ≡ true → P) → list_any is_held (ends ++ last ∷ []) ≡ true → P
+held_or_last [] (Reached w x) P below here any = absurd (false≢true any)
+held_or_last [] (Short n w x) P below here any = absurd (false≢true any)
+held_or_last [] (Held w) P below here any = here refl
+held_or_last (Reached w x ∷ ends) last P below here any = held_or_last ends last P below here any
+held_or_last (Short n w x ∷ ends) last P below here any = held_or_last ends last P below here any
+held_or_last (Held w ∷ ends) last P below here any = below refl
+
+-- ---- the whole run
+
+pub has_run : (s : ScenarioParts) (ring : Ring) (start : List Parts) (first upto next : ℕ) (jobs : List Job) (ends : List PolicyEnd) (states : List Parts) (readers : List Reader)
+    → next ≡ upto → spec_of ring ≡ ring_spec s first upto → IsCheckpointOf s first start → AreJobs s ring start jobs → AreEnds s ring jobs ends → Gathers ends states readers → HasRun s first start upto next states readers
+has_run s ring start first upto next jobs ends states readers there opened checkpoint are_jobs are_ends gathers =
+    let total : (spec_of ring).id.total ≡ upto = ap (λ (r : RingSpec). r.id.total) opened in
+    let from = run_from s ring start upto jobs ends states readers total are_jobs are_ends gathers in record {
+      next_is = there;
+      of_scenario = checkpoint_of s start states upto (gathers.state_count ∙ are_ends.count ∙ are_jobs.count) from;
+      at = each_at s start states first upto checkpoint from;
+      onward = each_onward s start states upto from;
+      read = record {
+        ring = ring;
+        spec = opened;
+        count = gathers.reader_count ∙ are_ends.count ∙ are_jobs.count;
+        each = read_from s ring start upto jobs ends states readers total are_jobs are_ends gathers;
+      };
+    }
+
+-- what follows of an answer from the run that it is
+pub of_run : (s : ScenarioParts) (first : ℕ) (start : List Parts) (upto : ℕ) (r : Result Finished RunFault) (Q : Finished → Type 0)
+    → ((f : Finished) → HasRun s first start upto f.checkpoint.next f.checkpoint.states.items f.readers.items → Q f)
+    → IfOk r (λ f. HasRun s first start upto f.checkpoint.next f.checkpoint.states.items f.readers.items) → IfOk r Q
+of_run s first start upto (Ok f) Q gives h = gives f h
+of_run s first start upto (Err e) Q gives h = h

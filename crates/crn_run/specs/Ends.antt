@@ -32,6 +32,12 @@ EndsAs s k v ring r (Reached w x) = IsRun s k v (spec_of ring).id.total w × Has
 EndsAs s k v ring r (Short n w x) = (n < (spec_of ring).id.total) × IsRun s k v n w × HasReadAll ring r n x
 EndsAs s k v ring r (Held w) = IsRun s k v (next_block w) w
 
+-- whether the end was marked early
+abbrev pub is_short : PolicyEnd → Bool
+is_short (Reached w x) = false
+is_short (Short n w x) = true
+is_short (Held w) = false
+
 -- whether the gate has held the run
 abbrev pub is_held : PolicyEnd → Bool
 is_held (Reached w x) = false

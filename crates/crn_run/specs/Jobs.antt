@@ -1,5 +1,6 @@
 -- The runs of all policies over one ring, each by a reader and on a thread of its own.
 use Rattle.std.specs.Prelude.{◌≡◌, ℕ, ◌+◌, ◌<◌, ◌≤◌, Bool, true, false, List, Some, length, slice_get}
+use Rattle.std.specs.List.{list_any}
 use Rattle.crn_stock.specs.Parts.{Parts}
 use Rattle.crn_stock.specs.Models.{total}
 use Rattle.crn_stock.specs.Scenarios.{ScenarioParts}
@@ -7,8 +8,8 @@ use Rattle.crn_proto.specs.declared.spec.RingSpec.{RingSpec}
 use Rattle.crn_ring.specs.declared.ring.Ring.{Ring}
 use Rattle.crn_ring.specs.declared.reader_end.Reader.{Reader}
 use Rattle.crn_ring.specs.Calls.{IsReaderOf, number_of, reader_part, spec_of}
-use Rattle.crn_run.specs.Runs.{StandsAt}
-use Rattle.crn_run.specs.Ends.{EndsAs, HasReadAll}
+use Rattle.crn_run.specs.Runs.{StandsAt, IsCheckpointOf, EachAt, EachOnward}
+use Rattle.crn_run.specs.Ends.{EndsAs, HasReadAll, is_held}
 use Rattle.crn_run.specs.declared.jobs.Job.{Job}
 use Rattle.crn_run.specs.declared.worker.PolicyEnd.{PolicyEnd}
 use Rattle.crn_run.specs.declared.worker.PolicyEnd.TheVariants.{Reached, Short, Held}
@@ -63,9 +64,28 @@ has_reached (Held w) = false
 abbrev pub AllReached : List PolicyEnd → Type 0
 AllReached ends = (i : ℕ) (e : PolicyEnd) → slice_get ends i ≡ Some e → has_reached e ≡ true
 
+-- some gate has answered false
+abbrev pub HasRefused : {Gate : Type 0} → (Gate → Bool) → Type 0
+HasRefused {Gate} refused = (gate : Gate) × (refused gate ≡ true)
+
+-- where a policy was held, a gate has answered false
+abbrev pub HeldByGates : {Gate : Type 0} → (Gate → Bool) → List PolicyEnd → Type 0
+HeldByGates refused ends = list_any is_held ends ≡ true → HasRefused refused
+
 -- the states and the readers of these ends, those of the last first
 pub record Gathers (ends : List PolicyEnd) (states : List Parts) (readers : List Reader) : Type 0 where
   pub state_count : length states ≡ length ends
   pub reader_count : length readers ≡ length ends
   pub states_of : (k : ℕ) (w : Parts) → slice_get states k ≡ Some w → (i : ℕ) → i + k + 1 ≡ length ends → (x : Reader) × (slice_get ends i ≡ Some (Reached w x))
   pub readers_of : (k : ℕ) (x : Reader) → slice_get readers k ≡ Some x → (i : ℕ) → i + k + 1 ≡ length ends → (w : Parts) × (slice_get ends i ≡ Some (Reached w x))
+
+-- ---- what the run comes to
+
+-- From the states `start` before block `first`, the policies have all come to block `upto`, each as its rules say, and so
+-- have their readers.
+pub record HasRun (s : ScenarioParts) (first : ℕ) (start : List Parts) (upto next : ℕ) (states : List Parts) (readers : List Reader) : Type 0 where
+  pub next_is : next ≡ upto
+  pub of_scenario : IsCheckpointOf s upto states
+  pub at : EachAt s first start → EachAt s upto states
+  pub onward : EachOnward s start upto states
+  pub read : AreReaders s first upto readers

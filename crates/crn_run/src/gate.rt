@@ -30,21 +30,22 @@ impl Gate for OpenGate {
     }
 }
 
-/// The leave of a gate for one block, which `ask` alone gives.
+/// The leave of a gate for one policy's next block, which `ask` alone gives.
 #[derive(Drop)]
 pub(crate) struct Permit {
+    policy: u32,
     block: u64,
 }
 
-/// Asks a gate that has not answered false for a block.
+/// Asks a gate that has not answered false for a policy's block.
 #[inline(always)]
 pub(crate) fn ask<G: Gate>(gate: &mut G, policy: u32, block: u64) -> Option<Permit>
     requires gate { G.refused gate.old ≡ false }
-    ensures passed { IfSome result (λ p. (p.block ≡ block) × (G.refused gate.new ≡ false)) }
+    ensures passed { IfSome result (λ p. (p.policy ≡ policy) × (p.block ≡ block) × (G.refused gate.new ≡ false)) }
     ensures held { IfNone result (G.refused gate.new ≡ true) }
 {
     if gate.pass(policy, block) {
-        Some(Permit { block })
+        Some(Permit { policy, block })
     } else {
         None
     }

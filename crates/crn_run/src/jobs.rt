@@ -3,11 +3,10 @@ ghost use Rattle.std.specs.Prelude.{◌≡◌, ◌<◌, ◌≤◌, false, length
 ghost use Rattle.crn_stock.specs.Models.{total};
 ghost use Rattle.crn_ring.specs.Calls.{AllFresh, IsOpened, number_of, spec_of};
 ghost use Rattle.crn_run.specs.Runs.{IsCheckpointOf};
-ghost use Rattle.crn_run.specs.Ends.{EndsAs};
+ghost use Rattle.crn_run.specs.Ends.{EndsAs, is_held};
 ghost use Rattle.crn_run.specs.Jobs.{AreJobs, CarriesFor, IsReady, ring_spec};
 
 use crate::checkpoint::Checkpoint;
-use crate::fault::RunFault;
 use crate::gate::Gate;
 use crate::worker::{PolicyEnd, run_policy};
 use crn_cipher::StreamId;
@@ -37,7 +36,8 @@ impl Job {
         requires ready { IsReady scenario.now ring.now self }
         requires ring { CarriesFor scenario.now ring.now }
         requires gate { G.refused gate.old ≡ false }
-        ensures { EndsAs scenario.now self.policy self.state ring.now self.policy result }
+        ensures end { EndsAs scenario.now self.policy self.state ring.now self.policy result }
+        ensures held { G.refused gate.new ≡ is_held result }
     {
         let Job {
             policy,
@@ -54,7 +54,7 @@ pub(crate) fn open_ring(
     scenario: &Scenario,
     first: u64,
     upto: u64,
-) -> Result<(Ring, Producer, Vec<Reader>), RunFault>
+) -> Result<(Ring, Producer, Vec<Reader>), AllocError>
     requires { (first ≤ upto) × (upto ≤ total scenario.now.model) }
     ensures { IfOk result (λ r. IsOpened (ring_spec scenario.now first upto) r.0 r.1 r.2.items) }
 {
@@ -72,7 +72,7 @@ pub(crate) fn open_ring(
         Ok(opened) => Ok(opened),
         Err(fault) => {
             prove!(matches!(fault, RingFault::Memory));
-            Err(RunFault::Memory)
+            Err(AllocError)
         }
     }
 }

@@ -7,6 +7,7 @@ mod feeding;
 mod gate;
 mod jobs;
 mod plain;
+mod prepared;
 mod run;
 mod threads;
 mod worker;

@@ -1,13 +1,17 @@
 //! The run of all policies, each on a thread of its own.
-ghost use Rattle.std.specs.Prelude.{◌≡◌, ◌≤◌, false, length, All, IfOk, OnOk, vec_len, vec_capacity, []};
+ghost use Rattle.std.specs.Prelude.{◌≡◌, ◌≢◌, ℕ, ◌≤◌, true, false, length, All, List, IfOk, IfErr, OnOk, vec_len, vec_capacity, []};
+ghost use Rattle.crn_stock.specs.Parts.{Parts};
 ghost use Rattle.crn_stock.specs.Models.{total};
 ghost use Rattle.crn_run.specs.Runs.{IsCheckpointOf, EachAt, EachOnward};
-ghost use Rattle.crn_run.specs.Jobs.{AllReached, AreReaders, Gathers};
+ghost use Rattle.crn_ring.specs.Calls.{spec_of};
+ghost use Rattle.crn_run.specs.Jobs.{AllReached, AllReady, AreJobs, AreReaders, CarriesFor, Gathers, HasRefused, HasRun, ring_spec};
+ghost use Rattle.std.specs.List.{list_any};
+ghost use Rattle.crn_run.specs.Ends as spec;
 
 use crate::checkpoint::Checkpoint;
 use crate::fault::RunFault;
 use crate::gate::Gate;
-use crate::jobs::{jobs_of, open_ring};
+use crate::prepared::{Prepared, prepare};
 use crate::threads::run_jobs;
 use crate::worker::PolicyEnd;
 use crn_ring::Reader;
@@ -36,7 +40,7 @@ pub struct Finished {
 ///
 /// # Errors
 /// The least that holds: [`RunFault::Thread`] where a thread was refused, and the ring was ended with nothing published;
-/// [`RunFault::Gate`] where a gate answered false; [`RunFault::Memory`] where a request for memory was refused. A gate
+/// [`RunFault::Gate`] where a gate answered false, and so never where no gate can; [`RunFault::Memory`] where a request for memory was refused. A gate
 /// that was asked keeps what it stored.
 pub fn run_all<R: Threads + Wait + Sync, G: Gate + Send>(
     rt: &R,
@@ -56,42 +60,91 @@ pub fn run_all<R: Threads + Wait + Sync, G: Gate + Send>(
     ensures at { IfOk result (λ f. EachAt scenario.now start.now.next start.now.states.items → EachAt scenario.now upto f.checkpoint.states.items) }
     ensures onward { IfOk result (λ f. EachOnward scenario.now start.now.states.items upto f.checkpoint.states.items) }
     ensures readers { IfOk result (λ f. AreReaders scenario.now start.now.next upto f.readers.items) }
+    ensures gate { IfErr result (λ e. e ≡ RunFault.Gate → HasRefused G.refused) }
 {
-    let count = scenario.policies().len();
-    let (ring, producer, readers) = open_ring(alloc, scenario, start.next, upto)?;
-    let jobs = jobs_of(alloc, &ring, scenario, start, readers)?;
-    let ends = Vec::with_capacity(alloc, count)?;
-    let states = Vec::with_capacity(alloc, count)?;
-    let readers = Vec::with_capacity(alloc, count)?;
+    let prepared = prepare(alloc, scenario, start, upto)?;
+    run_prepared(rt, scenario, prepared, gates)
+}
+
+// Runs what was prepared. It has no allocator.
+fn run_prepared<R: Threads + Wait + Sync, G: Gate + Send>(
+    rt: &R,
+    scenario: &Scenario,
+    prepared: Prepared,
+    gates: &mut [G],
+) -> Result<Finished, RunFault>
+    requires ring { CarriesFor scenario.now prepared.ring }
+    requires jobs { AllReady scenario.now prepared.ring prepared.jobs.items }
+    requires count { length gates.old ≡ vec_len prepared.jobs }
+    requires gates { All (λ g. G.refused g ≡ false) gates.old }
+    ensures run { (first upto : ℕ) (start : List Parts) → spec_of prepared.ring ≡ ring_spec scenario.now first upto → IsCheckpointOf scenario.now first start → AreJobs scenario.now prepared.ring start prepared.jobs.items
+        → IfOk result (λ f. HasRun scenario.now first start upto f.checkpoint.next f.checkpoint.states.items f.readers.items) }
+    ensures refused { IfErr result (λ e. e ≢ RunFault.Memory) }
+    ensures gate { IfErr result (λ e. e ≡ RunFault.Gate → HasRefused G.refused) }
+{
+    let Prepared {
+        ring,
+        producer,
+        jobs,
+        ends,
+        states,
+        readers,
+    } = prepared;
     let ends = run_jobs(rt, &ring, scenario, producer, jobs, gates, ends)?;
     all_reached(ends.as_slice())?;
+    let next = ring.spec().id.total;
     let (states, readers) = gather(ends, states, readers);
     Ok(Finished {
-        checkpoint: Checkpoint { next: upto, states },
+        checkpoint: Checkpoint { next, states },
         readers,
     })
 }
 
+fn is_short(end: &PolicyEnd) -> bool
+    ensures { result ≡ spec.is_short end.now }
+{
+    matches!(
+        end,
+        PolicyEnd::Short {
+            published: _,
+            state: _,
+            reader: _
+        }
+    )
+}
+
+fn is_held(end: &PolicyEnd) -> bool
+    ensures { result ≡ spec.is_held end.now }
+{
+    matches!(end, PolicyEnd::Held(_))
+}
+
+fn any_short(ends: &[PolicyEnd]) -> bool
+    ensures { result ≡ list_any spec.is_short ends.now }
+{
+    ends.iter().any(is_short)
+}
+
+fn any_held(ends: &[PolicyEnd]) -> bool
+    ensures { result ≡ list_any spec.is_held ends.now }
+{
+    ends.iter().any(is_held)
+}
+
 // Refuses ends of which one is short, or else one was held.
 fn all_reached(ends: &[PolicyEnd]) -> Result<(), RunFault>
-    ensures { OnOk result (AllReached ends.now) }
+    ensures all { OnOk result (AllReached ends.now) }
+    ensures thread { IfErr result (λ e. e ≡ RunFault.Thread → list_any spec.is_short ends.now ≡ true) }
+    ensures gate { IfErr result (λ e. e ≡ RunFault.Gate → list_any spec.is_held ends.now ≡ true) }
+    ensures refused { IfErr result (λ e. e ≢ RunFault.Memory) }
 {
-    let mut held = false;
-    for i in 0..ends.len() {
-        match &ends[i] {
-            PolicyEnd::Reached {
-                state: _,
-                reader: _,
-            } => {}
-            PolicyEnd::Short {
-                published: _,
-                state: _,
-                reader: _,
-            } => return Err(RunFault::Thread),
-            PolicyEnd::Held(_) => held = true,
-        }
+    if any_short(ends) {
+        Err(RunFault::Thread)
+    } else if any_held(ends) {
+        Err(RunFault::Gate)
+    } else {
+        Ok(())
     }
-    if held { Err(RunFault::Gate) } else { Ok(()) }
 }
 
 // The states and the readers of ends that all reached the ring's total, those of the last end first.

@@ -1,9 +1,9 @@
 //! One thread for each policy.
-ghost use Rattle.std.specs.Prelude.{◌≡◌, ◌≤◌, true, false, [], length, OnOk, OnErr, IfOk, All, vec_len, vec_capacity};
+ghost use Rattle.std.specs.Prelude.{◌≡◌, ◌≤◌, true, false, [], length, OnOk, OnErr, IfOk, All, vec_len, vec_capacity, IfErr};
 ghost use Rattle.std.specs.Slice.Iter.{iter_mut_rest};
 ghost use Rattle.crn_ring.specs.Calls.{IsProducerOf, producer_part};
-ghost use Rattle.crn_run.specs.Ends.{EndsAs};
-ghost use Rattle.crn_run.specs.Jobs.{AllReady, AreEnds, CarriesFor, IsReady};
+ghost use Rattle.crn_run.specs.Ends.{EndsAs, is_held};
+ghost use Rattle.crn_run.specs.Jobs.{HasRefused, HeldByGates, AllReady, AreEnds, CarriesFor, IsReady};
 
 use crate::fault::RunFault;
 use crate::feeding::feed;
@@ -12,6 +12,7 @@ use crate::jobs::Job;
 use crate::worker::PolicyEnd;
 use crn_ring::{Producer, Ring};
 use crn_stock::Scenario;
+use std::marker::PhantomData;
 use std::slice::IterMut;
 use std::snapshot::Snapshot;
 use std::sync::Wait;
@@ -20,16 +21,19 @@ use std::thread::{Promise, Scope, Threads};
 
 // What a thread promises: the end of the job that it was given.
 #[derive(Drop)]
-struct EndsJob {
+struct EndsJob<G> {
     ring: Snapshot<Ring>,
     scenario: Snapshot<Scenario>,
     job: Snapshot<Job>,
+    gate: PhantomData<G>,
 }
 
-impl Promise<PolicyEnd> for EndsJob {
-    ghost use Rattle.crn_run.specs.Ends.{EndsAs};
+impl<G: Gate> Promise<PolicyEnd> for EndsJob<G> {
+    ghost use Rattle.std.specs.Prelude.{◌≡◌, true};
+    ghost use Rattle.crn_run.specs.Ends.{EndsAs, is_held};
+    ghost use Rattle.crn_run.specs.Jobs.{HasRefused};
 
-    ghost kept_by = { λ p e. EndsAs p.scenario.value p.job.value.policy p.job.value.state p.ring.value p.job.value.policy e };
+    ghost kept_by = { λ p e. EndsAs p.scenario.value p.job.value.policy p.job.value.state p.ring.value p.job.value.policy e × (is_held e ≡ true → HasRefused G.refused) };
 }
 
 // Starts a thread for the last job, goes on with those before it, and then joins that thread. Where no job is left it
@@ -51,6 +55,8 @@ fn start_from<'s, 'e: 's, 'g: 's, R: Threads + Wait + Sync, G: Gate + Send>(
     requires jobs { AllReady scenario.now ring.now jobs.old.items }
     requires room { (vec_len ends.old ≡ 0) × (vec_len jobs.old ≤ vec_capacity ends.old) }
     ensures ends { OnOk result (AreEnds scenario.now ring.now jobs.old.items ends.new.items) }
+    ensures held { OnOk result (HeldByGates G.refused ends.new.items) }
+    ensures thread { IfErr result (λ e. e ≡ RunFault.Thread) }
     ensures capacity { vec_capacity ends.old ≤ vec_capacity ends.new }
     ensures ended { (producer_part producer.new).ended ≡ true }
     ensures refused { OnErr result ((producer_part producer.new).published ≡ (producer_part producer.old).published) }
@@ -66,12 +72,13 @@ fn start_from<'s, 'e: 's, 'g: 's, R: Threads + Wait + Sync, G: Gate + Send>(
         ring: Snapshot::of(ring),
         scenario: Snapshot::of(scenario),
         job: Snapshot::of(&job),
+        gate: PhantomData::<G>,
     };
     let work = move || -> PolicyEnd
         requires ready { IsReady scenario.now ring.now job }
         requires ring { CarriesFor scenario.now ring.now }
         requires gate { G.refused gate.now ≡ false }
-        ensures { EndsAs scenario.entry.now job.policy job.state ring.entry.now job.policy result }
+        ensures { EndsAs scenario.entry.now job.policy job.state ring.entry.now job.policy result × (is_held result ≡ true → HasRefused G.refused) }
     { job.run(rt, ring, scenario, gate) };
     match scope.spawn_with(promise, work) {
         Err(refused) => {
@@ -106,7 +113,9 @@ fn run_in_scope<'s, 'e: 's, 'g: 's, R: Threads + Wait + Sync, G: Gate + Send>(
     requires ring { CarriesFor scenario.now ring.now }
     requires jobs { AllReady scenario.now ring.now jobs.items }
     requires room { (vec_len ends ≡ 0) × (vec_len jobs ≤ vec_capacity ends) }
-    ensures { IfOk result (λ es. AreEnds scenario.now ring.now jobs.items es.items) }
+    ensures ends { IfOk result (λ es. AreEnds scenario.now ring.now jobs.items es.items) }
+    ensures held { IfOk result (λ es. HeldByGates G.refused es.items) }
+    ensures thread { IfErr result (λ e. e ≡ RunFault.Thread) }
 {
     start_from(
         rt,
@@ -138,7 +147,9 @@ pub(crate) fn run_jobs<'r, R: Threads + Wait + Sync, G: Gate + Send>(
     requires ring { CarriesFor scenario.now ring.now }
     requires jobs { AllReady scenario.now ring.now jobs.items }
     requires room { (vec_len ends ≡ 0) × (vec_len jobs ≤ vec_capacity ends) }
-    ensures { IfOk result (λ es. AreEnds scenario.now ring.now jobs.items es.items) }
+    ensures ends { IfOk result (λ es. AreEnds scenario.now ring.now jobs.items es.items) }
+    ensures held { IfOk result (λ es. HeldByGates G.refused es.items) }
+    ensures thread { IfErr result (λ e. e ≡ RunFault.Thread) }
 {
     let turns = gates.iter_mut();
     thread::scope(
@@ -151,7 +162,9 @@ pub(crate) fn run_jobs<'r, R: Threads + Wait + Sync, G: Gate + Send>(
             requires ring { CarriesFor scenario.now ring.now }
             requires jobs { AllReady scenario.now ring.now jobs.items }
             requires room { (vec_len ends ≡ 0) × (vec_len jobs ≤ vec_capacity ends) }
-            ensures { IfOk result (λ es. AreEnds scenario.entry.now ring.entry.now jobs.items es.items) }
+            ensures ends { IfOk result (λ es. AreEnds scenario.entry.now ring.entry.now jobs.items es.items) }
+            ensures held { IfOk result (λ es. HeldByGates G.refused es.items) }
+            ensures thread { IfErr result (λ e. e ≡ RunFault.Thread) }
         { run_in_scope(rt, scope, ring, scenario, producer, jobs, turns, ends) },
     )
 }

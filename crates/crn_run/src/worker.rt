@@ -1,16 +1,17 @@
 //! The run of one policy, on the thread that calls it.
-ghost use Rattle.std.specs.Prelude.{◌≡◌, ℕ, ◌+◌, ◌<◌, ◌≤◌, true, false, not, length, slice_get, Some};
+ghost use Rattle.std.specs.Prelude.{◌≡◌, ℕ, ◌+◌, ◌<◌, ◌≤◌, true, false, not, length, slice_get, Some, IfOk, IfErr, OnOk, OnErr};
 ghost use Rattle.crn_cipher.specs.declared.stream.Block.{Block};
 ghost use Rattle.crn_stock.specs.Models.{IsPolicy, total};
 ghost use Rattle.crn_stock.specs.Draws.{next_block};
-ghost use Rattle.crn_ring.specs.Calls.{IsReaderOf, number_of, reader_part, spec_of};
+ghost use Rattle.crn_ring.specs.Calls.{HasLeft, IsReaderOf, number_of, reader_part, spec_of};
 ghost use Rattle.crn_run.specs.Runs.{StandsAt};
+ghost use Rattle.crn_run.specs.declared.worker.PolicyEnd.TheVariants.{Held};
 ghost use Rattle.crn_run.specs.Ends.{Advances, EndsAs, is_held, FollowFrom};
 
 use crate::BATCH;
 use crate::gate::{Gate, Permit, ask};
 use crn_cipher::{Block, block};
-use crn_ring::{Batch, Reader, Ring};
+use crn_ring::{Batch, LeftReader, Reader, Ring};
 use crn_stock::laws::onward_from_itself;
 use crn_stock::{Policy, Scenario, State};
 use crossbeam_utils::Backoff;
@@ -51,10 +52,10 @@ pub enum PolicyEnd {
 pub fn run_policy<R: Wait, G: Gate>(
     rt: &R,
     ring: &Ring,
-    mut reader: Reader,
+    reader: Reader,
     scenario: &Scenario,
     policy: u32,
-    mut state: State,
+    state: State,
     gate: &mut G,
 ) -> PolicyEnd
     requires policy { policy < length scenario.now.policies }
@@ -65,6 +66,41 @@ pub fn run_policy<R: Wait, G: Gate>(
     ensures end { EndsAs scenario.now policy state ring.now (number_of reader) result }
     ensures held { G.refused gate.new ≡ is_held result }
 {
+    match run_until_held(rt, ring, reader, scenario, policy, state, gate) {
+        Ok(end) => end,
+        Err(HeldRun { state, left: _ }) => PolicyEnd::Held(state),
+    }
+}
+
+// What is left of a run that its gate has held: the state before the block, and the reader that has left for it.
+#[derive(Drop)]
+struct HeldRun {
+    state: State,
+    left: LeftReader,
+}
+
+// As `run_policy`. A run that is held has its reader leave, since the producer would wait for it.
+fn run_until_held<R: Wait, G: Gate>(
+    rt: &R,
+    ring: &Ring,
+    mut reader: Reader,
+    scenario: &Scenario,
+    policy: u32,
+    mut state: State,
+    gate: &mut G,
+) -> Result<PolicyEnd, HeldRun>
+    requires policy { policy < length scenario.now.policies }
+    requires reader { IsReaderOf ring.now reader × ((reader_part reader).seen_end ≡ false) }
+    requires stands { StandsAt scenario.now.model (reader_part reader).taken state }
+    requires ring { ((spec_of ring.now).id.key ≡ scenario.now.key) × ((spec_of ring.now).id.total ≤ total scenario.now.model) }
+    requires gate { G.refused gate.old ≡ false }
+    ensures end { IfOk result (λ end. EndsAs scenario.now policy state ring.now (number_of reader) end) }
+    ensures not_held { IfOk result (λ end. is_held end ≡ false) }
+    ensures passed { OnOk result (G.refused gate.new ≡ false) }
+    ensures held { IfErr result (λ h. EndsAs scenario.now policy state ring.now (number_of reader) (Held h.state)) }
+    ensures left { IfErr result (λ h. HasLeft ring.now (number_of reader) h.left) }
+    ensures refused { OnErr result (G.refused gate.new ≡ true) }
+{
     let rules = &scenario.policies()[policy as usize];
     onward_from_itself(&state);
     let mut blocks = [block(scenario.key(), 0); BATCH];
@@ -73,21 +109,21 @@ pub fn run_policy<R: Wait, G: Gate>(
         match reader.take_batch(ring, &mut blocks) {
             Batch::Got { count } => {
                 if !apply_all(scenario, rules, policy, &blocks, count, &mut state, gate) {
-                    reader.leave(ring);
-                    return PolicyEnd::Held(state);
+                    let left = reader.into_left(ring);
+                    return Err(HeldRun { state, left });
                 }
                 backoff.reset();
             }
             Batch::Empty { published: _ } => backoff.snooze(),
             Batch::Ended { published } if published == ring.spec().id.total => {
-                return PolicyEnd::Reached { state, reader };
+                return Ok(PolicyEnd::Reached { state, reader });
             }
             Batch::Ended { published } => {
-                return PolicyEnd::Short {
+                return Ok(PolicyEnd::Short {
                     published,
                     state,
                     reader,
-                };
+                });
             }
         }
     }
@@ -118,16 +154,23 @@ fn apply_all<G: Gate>(
         let next = &blocks[k];
         match ask(gate, policy, next.number) {
             None => return false,
-            Some(permit) => apply(scenario, rules, next, permit, state),
+            Some(permit) => apply(scenario, rules, policy, next, permit, state),
         }
     }
     true
 }
 
-// Applies the state's next block, for which the gate has given its leave.
+// Applies the next block to the state of policy number `policy`, for which the gate has given its leave.
 #[inline(always)]
-fn apply(scenario: &Scenario, rules: &Policy, block: &Block, permit: Permit, state: &mut State)
-    requires permit { permit.block ≡ block.now.number }
+fn apply(
+    scenario: &Scenario,
+    rules: &Policy,
+    policy: u32,
+    block: &Block,
+    permit: Permit,
+    state: &mut State,
+)
+    requires permit { (permit.policy ≡ policy) × (permit.block ≡ block.now.number) }
     requires rules { IsPolicy rules.now }
     requires stands { StandsAt scenario.now.model (next_block state.old) state.old }
     requires next { (block.now.number ≡ next_block state.old) × (block.now.key ≡ scenario.now.key) }

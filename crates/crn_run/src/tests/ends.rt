@@ -6,7 +6,7 @@ ghost use Rattle.crn_run.specs.Jobs.{CarriesFor};
 
 use super::gates::HoldsAt;
 use super::scenarios::{Slots, steady};
-use crate::{PolicyEnd, feed, run_policy};
+use crate::{Gate, PolicyEnd, feed, run_policy};
 use crn_cipher::{StreamId, block};
 use crn_proto::RingSpec;
 use crn_ring::{Producer, Reader, Ring};
@@ -177,5 +177,75 @@ fn a_held_policy(rt: HostRuntime) -> Result<(), Fail> {
     for k in 0..4 {
         assert!(rt; holds_before(&rt, rt.alloc(), &scenario, k)?, "block {k}");
     }
+    Ok(())
+}
+
+// When it is asked for block 0 it publishes what the ring has room for, and when it is asked for the next it refuses.
+#[derive(Drop)]
+struct Filling<'a> {
+    ring: &'a Ring,
+    producer: Producer,
+    published: u64,
+    has_refused: bool,
+    ghost of: { IsProducerOf ring.now producer },
+}
+
+impl<'a> Gate for Filling<'a> {
+    ghost refused = { λ g. g.has_refused };
+
+    fn pass(&mut self, _policy: u32, block: u64) -> bool {
+        if block > 0 {
+            self.has_refused = true;
+            return false;
+        }
+        publish_all(self.ring, &mut self.producer);
+        self.published = self.producer.published();
+        !self.has_refused
+    }
+}
+
+// Publishes blocks for as long as there is room, 64 of them at most.
+fn publish_all(ring: &Ring, producer: &mut Producer)
+    requires ring { IsProducerOf ring.now producer.old }
+    ensures ring { IsProducerOf ring.now producer.new }
+{
+    for _turn in 0..64u32 {
+        publish_next(ring, producer);
+    }
+}
+
+// How many blocks are published once a policy asks for its first, on a ring of 32 slots that were full before it ran.
+fn published_at_first<R: Wait>(
+    rt: &R,
+    alloc: Global,
+    scenario: &Scenario,
+) -> Result<Option<u64>, AllocError>
+    requires scenario { (scenario.now.model.periods ≡ 1024) × (scenario.now.model.replications ≡ 1) }
+    requires key { scenario.now.key ≡ 0 ∷ 0 ∷ 0 ∷ 0 ∷ [] }
+    requires two { length scenario.now.policies ≡ 2 }
+{
+    let Some((ring, mut producer, mut readers)) = open(alloc, 32, 1, 100) else {
+        return Ok(None);
+    };
+    publish_all(&ring, &mut producer);
+    let Some(reader) = last_of(&ring, &mut readers) else {
+        return Ok(None);
+    };
+    let state = State::start(alloc, scenario.model())?;
+    let mut gate = Filling {
+        ring: &ring,
+        producer,
+        published: 0,
+        has_refused: false,
+    };
+    drop(run_policy(rt, &ring, reader, scenario, 0, state, &mut gate));
+    Ok(Some(gate.published))
+}
+
+// The first batch has freed 16 of the slots.
+#[test]
+fn batches_of_sixteen(rt: HostRuntime) -> Result<(), Fail> {
+    let scenario = steady(rt.alloc(), Slots::Two, 1_024, 1)?;
+    assert_eq!(rt; published_at_first(&rt, rt.alloc(), &scenario)?, Some(48));
     Ok(())
 }

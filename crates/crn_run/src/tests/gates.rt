@@ -139,33 +139,38 @@ impl Gate for HoldsAt {
     }
 }
 
+// On one slot the producer could publish no block after the next if a held policy's reader stayed.
 #[test]
 fn a_gate_that_refuses(rt: HostRuntime) -> Result<(), Fail> {
-    let scenario = steady(rt.alloc(), Slots::Two, 5, 2)?;
-    for block in 0..4 {
-        let gate = HoldsAt {
-            policy: 1,
-            block,
-            has_refused: false,
-        };
-        let mut gates = [gate; 2];
-        let answer = run_under(&rt, rt.alloc(), &scenario, &mut gates);
-        assert!(rt; matches!(answer, Err(RunFault::Gate)), "at block {block}");
+    for slots in [Slots::One, Slots::Two] {
+        let scenario = steady(rt.alloc(), slots, 5, 2)?;
+        for block in 0..4 {
+            let gate = HoldsAt {
+                policy: 1,
+                block,
+                has_refused: false,
+            };
+            let mut gates = [gate; 2];
+            let answer = run_under(&rt, rt.alloc(), &scenario, &mut gates);
+            assert!(rt; matches!(answer, Err(RunFault::Gate)), "at block {block}");
+        }
     }
     Ok(())
 }
 
-// Passes, and counts the blocks that it was asked for while they came in order and for one policy.
+// Passes, and counts how often it was asked, and for how many blocks that came in order and for its policy.
 #[derive(Clone, Copy)]
 struct Counting {
     policy: u32,
     next: u64,
+    calls: u64,
 }
 
 impl Gate for Counting {
     ghost refused = { λ _. false };
 
     fn pass(&mut self, policy: u32, block: u64) -> bool {
+        self.calls = self.calls.saturating_add(1);
         if policy == self.policy && block == self.next && block < 1 << 32 {
             self.next = block + 1;
         }
@@ -174,15 +179,19 @@ impl Gate for Counting {
 }
 
 #[test]
-fn each_block_is_asked_for(rt: HostRuntime) -> Result<(), Fail> {
+fn each_block_is_asked_for_once(rt: HostRuntime) -> Result<(), Fail> {
     let scenario = steady(rt.alloc(), Slots::SixtyFour, 1_024, 1)?;
-    let mut gates = [
-        Counting { policy: 0, next: 0 },
-        Counting { policy: 1, next: 0 },
-    ];
+    let first = Counting {
+        policy: 0,
+        next: 0,
+        calls: 0,
+    };
+    let second = Counting { policy: 1, ..first };
+    let mut gates = [first, second];
     let answer = run_under(&rt, rt.alloc(), &scenario, &mut gates);
     assert!(rt; answer.is_ok());
-    assert_eq!(rt; (gates[0].next, gates[1].next), (256, 256));
+    assert_eq!(rt; (gates[0].next, gates[0].calls), (256, 256));
+    assert_eq!(rt; (gates[1].next, gates[1].calls), (256, 256));
     Ok(())
 }
 

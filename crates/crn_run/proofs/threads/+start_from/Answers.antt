@@ -1,11 +1,11 @@
-use Rattle.std.proofs.Common.{rules, ◌≡◌, false, List, [], ◌∷◌, ◌++◌}
+use Rattle.std.proofs.Common.{rules, ◌≡◌, true, false, List, [], ◌∷◌, ◌++◌}
 use Rattle.std.specs.Slice.Iter.{iter_mut_rest}
 use Rattle.crn_run.specs.declared.jobs.Job.{Job}
 use Rattle.crn_run.specs.declared.worker.PolicyEnd.{PolicyEnd}
-use Rattle.crn_run.specs.Ends.{EndsAs}
-use Rattle.crn_run.specs.Jobs.{AreEnds, IsReady}
+use Rattle.crn_run.specs.Ends.{EndsAs, is_held}
+use Rattle.crn_run.specs.Jobs.{AreEnds, HasRefused, HeldByGates, IsReady}
 use Rattle.crn_run.proofs.Growing.{all-head, all-tail, each-front, each-last}
-use Rattle.crn_run.proofs.Ending.{one_more_end}
+use Rattle.crn_run.proofs.Ending.{held_or_last, one_more_end}
 use Rattle.crn_run.proofs.threads.+start_from.Goals as goal
 
 pub spawn_with-requires-clause-runs : goal.spawn_with-requires-clause-runs
@@ -38,3 +38,11 @@ returns-in_ok-others-in-Ok-clause-ends g t c =
     let last : EndsAs c.args.scenario.now c.in-Some.job.policy c.in-Some.job.state c.args.ring.now c.in-Some.job.policy c.join-end.result = search rules in
     let ends : AreEnds c.args.scenario.now c.args.ring.now front below = search rules in
     one_more_end c.args.scenario.now c.args.ring.now front c.args.jobs.now.items below c.push_reserved.new.self.items c.in-Some.job c.join-end.result whole grown ends last
+
+pub returns-in_ok-others-in-Ok-clause-held : goal.returns-in_ok-others-in-Ok-clause-held
+returns-in_ok-others-in-Ok-clause-held g t c =
+    let below : List PolicyEnd = c.start_from-others.new.ends.items in
+    let grown : c.push_reserved.new.self.items ≡ below ++ c.join-end.result ∷ [] = search rules in
+    let others : HeldByGates g.G.Gate.refused below = search rules in
+    let last : is_held c.join-end.result ≡ true → HasRefused g.G.Gate.refused = search rules in
+    rw grown (held_or_last below c.join-end.result (HasRefused g.G.Gate.refused) others last)

@@ -22,5 +22,5 @@ loop-k-preserved g c =
     record {
       advances = advances_then c.args.scenario.now.model c.args.rules.now c.args.scenario.now.key c.args.state.now c.loop-k.state c.apply.new.state c.loop-k.invariant.advances c.apply.ensures.advances;
       next = next_but (next_block c.args.state.now) (next_block c.apply.new.state) b.number c.loop-k.k (c.requires.blocks.1 c.loop-k.k b c.loop-k-test.true is).1 c.apply.ensures.next;
-      gate = c.in-Some.ensures.passed.1;
+      gate = c.in-Some.ensures.passed.2;
     }

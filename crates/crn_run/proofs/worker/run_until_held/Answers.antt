@@ -6,7 +6,7 @@ use Rattle.crn_ring.specs.Parts.{Takes, SeesEnd}
 use Rattle.crn_run.specs.Ends.{Advances}
 use Rattle.crn_run.proofs.Advancing.{advances_then, advanced, follow_from, taken_on}
 use Rattle.crn_run.proofs.Running.{read_policy}
-use Rattle.crn_run.proofs.worker.run_policy.Goals as goal
+use Rattle.crn_run.proofs.worker.run_until_held.Goals as goal
 
 pub apply_all-requires-clause-blocks : goal.apply_all-requires-clause-blocks
 apply_all-requires-clause-blocks g c =
@@ -16,8 +16,8 @@ apply_all-requires-clause-blocks g c =
       follow_from (spec_of c.args.ring.now) c.args.scenario.now.key (reader_part c.loop.reader).taken (next_block c.loop.state) c.in-Got.count c.take_batch.new.out c.requires.ring.0 c.loop.invariant.taken follow,
     )
 
-pub returns-then-not-apply_all-clause-end : goal.returns-then-not-apply_all-clause-end
-returns-then-not-apply_all-clause-end g c =
+pub returns-then-not-apply_all-clause-held : goal.returns-then-not-apply_all-clause-held
+returns-then-not-apply_all-clause-held g c =
     let s = c.args.scenario.now in
     let p = c.index-policies-policy.result in
     let is_policy : slice_get s.policies c.args.policy ≡ Some p = read_policy s.policies c.policies.result.now c.args.policy p c.policies.ensures.value (search rules) c.index-policies-policy.is in

@@ -1,0 +1,55 @@
+//! All that a run asks memory for, before its first thread starts.
+ghost use Rattle.std.specs.Prelude.{◌≡◌, ◌≤◌, false, [], IfOk, vec_len, vec_capacity};
+ghost use Rattle.crn_stock.specs.Models.{total};
+ghost use Rattle.crn_ring.specs.Calls.{IsProducerOf, producer_part, spec_of};
+ghost use Rattle.crn_run.specs.Runs.{IsCheckpointOf};
+ghost use Rattle.crn_run.specs.Jobs.{AreJobs, ring_spec};
+
+use crate::checkpoint::Checkpoint;
+use crate::jobs::{Job, jobs_of, open_ring};
+use crate::worker::PolicyEnd;
+use crn_ring::{Producer, Reader, Ring};
+use crn_stock::{Scenario, State};
+use std::alloc::{AllocError, Global};
+
+/// A ring with its producer, a job for each policy, and the room for what the jobs come to. No thread is started without
+/// it, and nothing that is made of it takes memory.
+#[derive(Drop)]
+pub(crate) struct Prepared {
+    pub(crate) ring: Ring,
+    pub(crate) producer: Producer,
+    pub(crate) jobs: Vec<Job>,
+    pub(crate) ends: Vec<PolicyEnd>,
+    pub(crate) states: Vec<State>,
+    pub(crate) readers: Vec<Reader>,
+    pub ghost feeds: { IsProducerOf ring producer × ((producer_part producer).ended ≡ false) },
+    pub ghost ends_room: { (vec_len ends ≡ 0) × (vec_len jobs ≤ vec_capacity ends) },
+    pub ghost states_room: { (states.items ≡ []) × (vec_len jobs ≤ vec_capacity states) },
+    pub ghost readers_room: { (readers.items ≡ []) × (vec_len jobs ≤ vec_capacity readers) },
+}
+
+/// Asks for all memory of a run of the policies from `start` up to block `upto`.
+pub(crate) fn prepare(
+    alloc: Global,
+    scenario: &Scenario,
+    start: &Checkpoint,
+    upto: u64,
+) -> Result<Prepared, AllocError>
+    requires of { IsCheckpointOf scenario.now start.now.next start.now.states.items }
+    requires from { start.now.next ≤ upto }
+    requires below { upto ≤ total scenario.now.model }
+    ensures ring { IfOk result (λ p. spec_of p.ring ≡ ring_spec scenario.now start.now.next upto) }
+    ensures jobs { IfOk result (λ p. AreJobs scenario.now p.ring start.now.states.items p.jobs.items) }
+{
+    let count = scenario.policies().len();
+    let (ring, producer, readers) = open_ring(alloc, scenario, start.next, upto)?;
+    let jobs = jobs_of(alloc, &ring, scenario, start, readers)?;
+    Ok(Prepared {
+        ring,
+        producer,
+        jobs,
+        ends: Vec::with_capacity(alloc, count)?,
+        states: Vec::with_capacity(alloc, count)?,
+        readers: Vec::with_capacity(alloc, count)?,
+    })
+}
