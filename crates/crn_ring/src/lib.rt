@@ -9,8 +9,8 @@
 //!
 //! What is proved: between any two steps of any threads the words and what each actor knows are lawful (the rule of
 //! `specs/Holds`), and each step is the move of its kind in the ring of `crn_proto`, of which every run shows a
-//! broadcast. So what a reader gets are the blocks from `first` on, each once and in order. Nothing is claimed of
-//! progress or fairness.
+//! broadcast ([`laws::steps_are_a_run`]). So what a reader gets are the blocks from `first` on, each once and in order.
+//! Nothing is claimed of progress or fairness.
 //!
 //! Source: Thompson, Farley, Barker, Gee and Stewart, "Disruptor: High performance alternative to bounded queues for
 //! exchanging data between concurrent threads", LMAX, 2011.
