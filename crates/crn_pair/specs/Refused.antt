@@ -1,4 +1,4 @@
--- What is refused of two lists of costs.
+-- What is refused of two lists of costs, and the numbers of the faults.
 use Rattle.std.specs.Prelude.{ℕ, List, ◌&&◌, not, if◌then◌else◌, Option, Some, None, length, nat_eq, nat_le}
 use Rattle.crn_pair.specs.declared.fault.PairFault.{PairFault}
 use Rattle.crn_pair.specs.declared.fault.PairFault.TheVariants.{Lengths, Empty, TooMany, Entry}
@@ -12,3 +12,10 @@ least_fault a b =
     else if not (nat_le (length a) 256) then Some TooMany
     else if not (are_costs a && are_costs b) then Some Entry
     else None
+
+-- the number by which a fault is told
+abbrev pub number_of : PairFault → ℕ
+number_of Lengths = 1
+number_of Empty = 2
+number_of TooMany = 3
+number_of Entry = 4

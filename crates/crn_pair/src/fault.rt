@@ -1,3 +1,6 @@
+ghost use Rattle.std.specs.Prelude.{◌≡◌};
+ghost use Rattle.crn_pair.specs.Refused.{number_of};
+
 use std::error::Error;
 use std::fmt;
 
@@ -13,6 +16,15 @@ pub enum PairFault {
     TooMany = 3,
     /// An entry is over 230,000,000,000,000.
     Entry = 4,
+}
+
+impl PairFault {
+    /// The number of the fault: 1 for the lengths, 2 for empty lists, 3 for too many entries, 4 for an entry.
+    pub fn number(&self) -> u8
+        ensures { result ≡ number_of self.now }
+    {
+        *self as u8
+    }
 }
 
 impl fmt::Display for PairFault {

@@ -142,25 +142,20 @@ fn refused_lists(rt: HostRuntime) -> Result<(), Fail> {
 }
 
 #[test]
-fn lines_of_faults(rt: HostRuntime) -> Result<(), Fail> {
+fn numbers_and_lines_of_faults(rt: HostRuntime) -> Result<(), Fail> {
     let table = [
-        (PairFault::Lengths, "the lists of costs differ in length"),
-        (PairFault::Empty, "there are no costs"),
-        (PairFault::TooMany, "there are more than 256 costs"),
-        (PairFault::Entry, "a cost is over 230000000000000"),
+        (
+            PairFault::Lengths,
+            1u8,
+            "the lists of costs differ in length",
+        ),
+        (PairFault::Empty, 2, "there are no costs"),
+        (PairFault::TooMany, 3, "there are more than 256 costs"),
+        (PairFault::Entry, 4, "a cost is over 230000000000000"),
     ];
-    for (fault, line) in table {
-        let text = fault.to_string(rt.alloc())?;
-        assert_eq!(rt; text.as_str(), line);
+    for (fault, number, line) in table {
+        assert_eq!(rt; fault.number(), number, "{line}");
+        assert_eq!(rt; fault.to_string(rt.alloc())?.as_str(), line);
     }
-    Ok(())
-}
-
-#[test]
-fn numbers_of_faults(rt: HostRuntime) -> Result<(), Fail> {
-    assert_eq!(rt; PairFault::Lengths as u8, 1, "lengths");
-    assert_eq!(rt; PairFault::Empty as u8, 2, "empty");
-    assert_eq!(rt; PairFault::TooMany as u8, 3, "too many");
-    assert_eq!(rt; PairFault::Entry as u8, 4, "an entry");
     Ok(())
 }
