@@ -1,6 +1,8 @@
--- The state that is restored from amounts that were written down at a block.
+-- The state that is restored from amounts that were written down at a block, and the numbers of the faults.
 use Rattle.std.specs.Prelude.{◌≡◌, ℕ, ◌*◌, ◌/◌, ◌%◌, ◌≤◌, ℤ, pos, ◌+ℤ◌, ◌≤ℤ◌, List, length}
 use Rattle.crn_cipher.specs.declared.TheConstants.{STREAM_WORDS}
+use Rattle.crn_stock.specs.declared.restore.RestoreFault.{RestoreFault}
+use Rattle.crn_stock.specs.declared.restore.RestoreFault.TheVariants.{Range, Memory}
 use Rattle.crn_stock.specs.Parts.{Parts, AreInRange, period_cost_limit}
 use Rattle.crn_stock.specs.Models.{ModelParts, blocks_per_replication, total}
 
@@ -36,3 +38,8 @@ pub record HasAmounts (initial : ℤ) (period : ℕ) (stock : ℤ) (on_order run
   pub running_high : running ≤ period * period_cost_limit
   pub fresh_stock : period ≡ 0 → stock ≡ initial
   pub fresh_due : period ≡ 0 → on_order ≡ 0
+
+-- the number by which a fault is told
+abbrev pub number_of : RestoreFault → ℕ
+number_of Range = 1
+number_of Memory = 90
