@@ -10,7 +10,7 @@ pub returns-then-next-total-clause-reads : goal.returns-then-next-total-clause-r
 returns-then-next-total-clause-reads c = λ s next states h.
     let model = c.in_ok-model.ensures s next states h in
     let is = next_read s next states c.args.rows.now h _ c.natural_in-next.ensures in
-    absurd (not_over s.model _ next _ _ model is c.total.ensures h.ranges.next_high c.if-next-total.true)
+    absurd (not_over s.model _ next _ _ model is c.total.ensures.value h.ranges.next_high c.if-next-total.true)
 
 pub returns-in_err-policies-clause-reads : goal.returns-in_err-policies-clause-reads
 returns-in_err-policies-clause-reads c = λ s next states h.

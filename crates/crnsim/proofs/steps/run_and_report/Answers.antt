@@ -9,7 +9,7 @@ pub returns-in-Ok-clause-onward : goal.returns-in-Ok-clause-onward
 returns-in-Ok-clause-onward g c =
     let s = c.args.scenario.now in
     let states = c.in_ok-end.end.states.items in
-    let upto : c.total-total.result ≡ total s.model = c.total-total.ensures ∙ ap total c.model.ensures in
+    let upto : c.total-total.result ≡ total s.model = c.total-total.ensures.value ∙ ap total c.model.ensures in
     record {
       ends = states;
       count = c.in_ok-end.ensures.of.count;
@@ -21,7 +21,7 @@ pub returns-in-Ok-clause-at : goal.returns-in-Ok-clause-at
 returns-in-Ok-clause-at g c = λ begun.
     let s = c.args.scenario.now in
     let states = c.in_ok-end.end.states.items in
-    let upto : c.total-total.result ≡ total s.model = c.total-total.ensures ∙ ap total c.model.ensures in
+    let upto : c.total-total.result ≡ total s.model = c.total-total.ensures.value ∙ ap total c.model.ensures in
     let ended : EachAt s (total s.model) states = subst (λ (n : ℕ). EachAt s n states) upto (c.in_ok-end.ensures.at begun) in
     let costs : map (λ v. v.costs) states ≡ map (costs_of s) s.policies = costs_at_end s states c.in_ok-end.ensures.of.count ended in
     subst (λ (l : List (List ℕ)). IsReportText s l c.in-Ok.text.items) costs c.in-Ok.ensures
