@@ -89,6 +89,12 @@ const LARGE: Sizes = Sizes {
     initial: 0,
 };
 
+const ONE: Sizes = Sizes {
+    periods: 1_024,
+    replications: 1,
+    initial: 1_000_000,
+};
+
 // An amount due at once.
 #[rattlefmt::skip]
 const FIRST_DUE: [u32; 32] = [7, 0, 0, 0, 0, 0, 0, 0, 0, 0, 0, 0, 0, 0, 0, 0, 0, 0, 0, 0, 0, 0, 0, 0, 0, 0, 0, 0, 0, 0, 0, 0];
@@ -100,13 +106,15 @@ const LAST_DUE: [u32; 32] = [0, 0, 0, 0, 0, 0, 0, 0, 0, 0, 0, 0, 0, 0, 0, 0, 0, 
 // From none to all costs, from no amount due to 32 that come to the most that can be, from no running cost to the
 // highest.
 #[rattlefmt::skip]
-static STANDS: [Stand; 11] = [
+static STANDS: [Stand; 13] = [
     Stand { sizes: SMALL, next_block: 0, costs: 0, stock: 10, due: [0; 32], running: 0 },
     Stand { sizes: SMALL, next_block: 1, costs: 1, stock: 10, due: [0; 32], running: 0 },
     Stand { sizes: SMALL, next_block: 3, costs: 3, stock: 10, due: [0; 32], running: 0 },
     Stand { sizes: SMALL, next_block: 128, costs: 128, stock: 10, due: [0; 32], running: 0 },
     Stand { sizes: SMALL, next_block: 255, costs: 255, stock: 10, due: [0; 32], running: 0 },
     Stand { sizes: SMALL, next_block: 256, costs: 256, stock: 10, due: [0; 32], running: 0 },
+    Stand { sizes: ONE, next_block: 1, costs: 0, stock: -40_000, due: [32_500; 32], running: 5 },
+    Stand { sizes: ONE, next_block: 256, costs: 1, stock: 1_000_000, due: [0; 32], running: 0 },
     Stand { sizes: LARGE, next_block: 1, costs: 0, stock: 0, due: FIRST_DUE, running: 0 },
     Stand { sizes: LARGE, next_block: 1, costs: 0, stock: 0, due: LAST_DUE, running: 1 },
     Stand { sizes: LARGE, next_block: 255, costs: 0, stock: -10_200_000, due: [350_000; 32], running: 204_000_000_000_000 },
