@@ -6,3 +6,4 @@ pub mod Legs
 pub mod Resumption
 pub mod CommandLine
 pub mod Replay
+pub mod Dispatch

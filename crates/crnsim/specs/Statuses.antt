@@ -1,5 +1,7 @@
--- The statuses of the program.
-use Rattle.std.specs.Prelude.{ℕ, Bool, true, false}
+-- The statuses of the program, and the faults that each of its parts may answer.
+use Rattle.std.specs.Prelude.{ℕ, Bool, true, false, ◌||◌}
+use Rattle.crn_run.specs.declared.fault.RunFault.{RunFault}
+use Rattle.crn_run.specs.declared.fault.RunFault.TheVariants as run
 use Rattle.crnsim.specs.declared.fault.Fault.{Fault}
 use Rattle.crnsim.specs.declared.fault.Fault.TheVariants as fault
 
@@ -14,74 +16,69 @@ status_of fault.Thread = 6
 status_of fault.Gate = 6
 status_of fault.Memory = 7
 
--- whether a run that has begun may end so
+-- the program's word for a fault of the run
+abbrev pub fault_of_run : RunFault → Fault
+fault_of_run run.Thread = fault.Thread
+fault_of_run run.Gate = fault.Gate
+fault_of_run run.Memory = fault.Memory
+
+-- ---- whether a part of the program may answer a fault
+
+-- a run that has begun
 abbrev pub is_of_run : Fault → Bool
-is_of_run fault.CommandLine = false
-is_of_run (fault.Scenario _) = false
-is_of_run (fault.Checkpoint _) = false
-is_of_run (fault.Schedule _) = false
-is_of_run fault.Reading = false
-is_of_run fault.Writing = false
 is_of_run fault.Thread = true
 is_of_run fault.Gate = true
 is_of_run fault.Memory = true
+is_of_run _ = false
 
--- whether the reading of an input may end so
+-- an input as it is read
 abbrev pub is_of_input : Fault → Bool
-is_of_input fault.CommandLine = false
-is_of_input (fault.Scenario _) = false
-is_of_input (fault.Checkpoint _) = false
-is_of_input (fault.Schedule _) = false
 is_of_input fault.Reading = true
-is_of_input fault.Writing = false
-is_of_input fault.Thread = false
-is_of_input fault.Gate = false
 is_of_input fault.Memory = true
+is_of_input _ = false
 
--- whether the reading of a scenario may end so
+-- a text that is judged as a scenario
 abbrev pub is_of_scenario : Fault → Bool
-is_of_scenario fault.CommandLine = false
 is_of_scenario (fault.Scenario _) = true
-is_of_scenario (fault.Checkpoint _) = false
-is_of_scenario (fault.Schedule _) = false
-is_of_scenario fault.Reading = true
-is_of_scenario fault.Writing = false
-is_of_scenario fault.Thread = false
-is_of_scenario fault.Gate = false
 is_of_scenario fault.Memory = true
+is_of_scenario _ = false
 
--- whether a text that is judged as a checkpoint may end so
+-- a text that is judged as a checkpoint
 abbrev pub is_of_checkpoint : Fault → Bool
-is_of_checkpoint fault.CommandLine = false
-is_of_checkpoint (fault.Scenario _) = false
 is_of_checkpoint (fault.Checkpoint _) = true
-is_of_checkpoint (fault.Schedule _) = false
-is_of_checkpoint fault.Reading = false
-is_of_checkpoint fault.Writing = false
-is_of_checkpoint fault.Thread = false
-is_of_checkpoint fault.Gate = false
 is_of_checkpoint fault.Memory = true
+is_of_checkpoint _ = false
 
--- whether a leg may end so
+-- a text that is judged as a schedule
+abbrev pub is_of_schedule : Fault → Bool
+is_of_schedule (fault.Schedule _) = true
+is_of_schedule fault.Memory = true
+is_of_schedule _ = false
+
+-- ---- whether an engine may answer a fault
+
+abbrev pub is_of_words : Fault → Bool
+is_of_words fault.Writing = true
+is_of_words fault.Memory = true
+is_of_words _ = false
+
+abbrev pub is_of_simulation : Fault → Bool
+is_of_simulation fault.Writing = true
+is_of_simulation e = is_of_input e || is_of_scenario e || is_of_run e
+
 abbrev pub is_of_leg : Fault → Bool
 is_of_leg fault.CommandLine = true
-is_of_leg (fault.Scenario _) = true
-is_of_leg (fault.Checkpoint _) = false
-is_of_leg (fault.Schedule _) = false
-is_of_leg fault.Reading = true
-is_of_leg fault.Writing = true
-is_of_leg fault.Thread = true
-is_of_leg fault.Gate = true
-is_of_leg fault.Memory = true
+is_of_leg e = is_of_simulation e
 
--- whether a run that is resumed may end so
 abbrev pub is_of_resume : Fault → Bool
-is_of_resume fault.CommandLine = false
-is_of_resume (fault.Scenario _) = true
 is_of_resume (fault.Checkpoint _) = true
-is_of_resume (fault.Schedule _) = false
-is_of_resume fault.Reading = true
-is_of_resume fault.Writing = true
-is_of_resume fault.Thread = true
-is_of_resume fault.Gate = true
-is_of_resume fault.Memory = true
+is_of_resume e = is_of_simulation e
+
+abbrev pub is_of_replay : Fault → Bool
+is_of_replay fault.CommandLine = true
+is_of_replay fault.Writing = true
+is_of_replay e = is_of_input e || is_of_schedule e
+
+abbrev pub is_of_help : Fault → Bool
+is_of_help fault.Writing = true
+is_of_help _ = false

@@ -1,7 +1,8 @@
-ghost use Rattle.std.specs.Prelude.{◌≡◌, ◌≢◌, IfErr, OnOk};
+ghost use Rattle.std.specs.Prelude.{◌≡◌, ◌≢◌, true, IfErr, OnOk};
 ghost use Rattle.std.specs.Io.KnownBytes.{Appends, Keeps};
 ghost use Rattle.crn_text.specs.BlockWords.{words_text};
 ghost use Rattle.crnsim.specs.Bytes.{AppendsFront};
+ghost use Rattle.crnsim.specs.Statuses.{is_of_words};
 
 use crate::fault::Fault;
 use crate::steps::send;
@@ -23,10 +24,9 @@ pub fn write_words<W: Write>(
 ) -> Result<(), Fault>
     ensures wrote { OnOk result (Appends (W.contents writer.old) (W.contents writer.new) (words_text key n)) }
     ensures kept { IfErr result (λ e. e ≢ Fault.Writing → Keeps (W.contents writer.old) (W.contents writer.new)) }
+    ensures others { IfErr result (λ e. is_of_words e ≡ true) }
     ensures front { IfErr result (λ e. e ≡ Fault.Writing → AppendsFront (W.contents writer.old) (W.contents writer.new) (words_text key n)) }
 {
-    let Ok(text) = words_text(alloc, key, n) else {
-        return Err(Fault::Memory);
-    };
+    let text = words_text(alloc, key, n)?;
     send(writer, text.as_slice())
 }

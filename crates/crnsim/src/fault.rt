@@ -1,7 +1,9 @@
 ghost use Rattle.std.specs.Prelude.{◌≡◌};
 ghost use Rattle.crnsim.specs.Statuses.{status_of};
 
+use crn_run::RunFault;
 use crn_text::{CheckpointFault, ScenarioFault, ScheduleFault};
+use std::alloc::AllocError;
 use thiserror::Error;
 
 /// Why the program gave no answer. Its text is the line that the program prints on standard error.
@@ -49,6 +51,30 @@ impl Fault {
             Fault::Reading | Fault::Writing => 5,
             Fault::Thread | Fault::Gate => 6,
             Fault::Memory => 7,
+        }
+    }
+}
+
+impl From<AllocError> for Fault {
+    ghost use Rattle.crnsim.specs.declared.fault.Fault.TheVariants.{Memory};
+
+    ghost from_gives = { λ _ f. f ≡ Memory };
+
+    fn from(_refused: AllocError) -> Fault {
+        Self::Memory
+    }
+}
+
+impl From<RunFault> for Fault {
+    ghost use Rattle.crnsim.specs.Statuses.{fault_of_run};
+
+    ghost from_gives = { λ e f. f ≡ fault_of_run e };
+
+    fn from(fault: RunFault) -> Fault {
+        match fault {
+            RunFault::Thread => Fault::Thread,
+            RunFault::Gate => Fault::Gate,
+            RunFault::Memory => Fault::Memory,
         }
     }
 }

@@ -70,10 +70,8 @@ fn leg_text<H: Threads + Wait + Sync>(
         return Err(Fault::CommandLine);
     }
     let reached = reached_at(rt, alloc, scenario, n)?;
-    match write_checkpoint(alloc, scenario, &reached) {
-        Ok(text) => Ok(text),
-        Err(_) => Err(Fault::Memory),
-    }
+    let text = write_checkpoint(alloc, scenario, &reached)?;
+    Ok(text)
 }
 
 // Whether the scenario has `n` blocks or more.
@@ -96,8 +94,6 @@ fn reached_at<H: Threads + Wait + Sync>(
     ensures at { IfOk result (λ c. EachAt scenario.now n c.states.items) }
     ensures faults { IfErr result (λ e. is_of_run e ≡ true) }
 {
-    let Ok(start) = Checkpoint::start(alloc, scenario) else {
-        return Err(Fault::Memory);
-    };
+    let start = Checkpoint::start(alloc, scenario)?;
     run_to(rt, alloc, scenario, &start, n)
 }

@@ -5,6 +5,7 @@
 
 mod block_words;
 mod command_line;
+mod dispatch;
 mod fault;
 mod input;
 mod legs;
@@ -16,6 +17,7 @@ mod steps;
 
 pub use block_words::write_words;
 pub use command_line::{Command, read_words};
+pub use dispatch::answer_command;
 pub use fault::Fault;
 pub use legs::leg;
 pub use replay::replay_run;
@@ -27,7 +29,6 @@ use std::io::ErrorKind;
 use std::process::ExitCode;
 use std::sync::Wait;
 use std::thread::Threads;
-use steps::send;
 
 fn main(rt: HostRuntime) -> ExitCode {
     match run(&rt, &rt) {
@@ -40,36 +41,28 @@ fn main(rt: HostRuntime) -> ExitCode {
     }
 }
 
-// Answers the words of the command line, a run of policies on threads of `threads`.
+// Answers the words of the command line, a run of policies on threads of `threads`. The file of a checkpoint is opened
+// before any input is read.
 fn run<H: Threads + Wait + Sync>(rt: &HostRuntime, threads: &H) -> Result<(), Fault> {
     let alloc = rt.alloc();
-    match read_words(alloc, words_of(rt)?.as_slice())? {
-        Command::Run => simulate(threads, alloc, &mut rt.stdin(), &mut rt.stdout()),
-        Command::Words { key, n } => write_words(alloc, key, n, &mut rt.stdout()),
-        Command::Replay {
-            size,
-            readers,
-            total,
-        } => replay_run(
-            alloc,
-            size,
-            readers,
-            total,
-            &mut rt.stdin(),
-            &mut rt.stdout(),
-        ),
-        Command::Leg { n } => leg(threads, alloc, n, &mut rt.stdin(), &mut rt.stdout()),
+    let command = read_words(alloc, words_of(rt)?.as_slice())?;
+    let (mut input, mut output) = (rt.stdin(), rt.stdout());
+    match &command {
         Command::Resume { file } => {
             let mut saved = opened(rt, file.as_str())?;
-            resume(
+            answer_command(
                 threads,
                 alloc,
+                &command,
                 &mut saved,
-                &mut rt.stdin(),
-                &mut rt.stdout(),
+                &mut input,
+                &mut output,
             )
         }
-        Command::Help { text } => send(&mut rt.stdout(), text.as_bytes()),
+        _ => {
+            let mut none: &[u8] = &[];
+            answer_command(threads, alloc, &command, &mut none, &mut input, &mut output)
+        }
     }
 }
 

@@ -1,8 +1,9 @@
-ghost use Rattle.std.specs.Prelude.{◌≡◌, ◌≢◌, ◌↔◌, ◌⊎◌, IfOk, IfErr, OnOk, IsErrOf};
+ghost use Rattle.std.specs.Prelude.{◌≡◌, ◌≢◌, ◌↔◌, ◌⊎◌, true, IfOk, IfErr, OnOk, IsErrOf};
 ghost use Rattle.std.specs.Io.KnownBytes.{Keeps};
 ghost use Rattle.crn_proto.specs.Machine.{open_machine};
 ghost use Rattle.crn_text.specs.declared.schedule_fault.ScheduleFault.{ScheduleFault};
 ghost use Rattle.crn_text.specs.Schedule.{RefusesSchedule};
+ghost use Rattle.crnsim.specs.Statuses.{is_of_schedule, is_of_replay};
 ghost use Rattle.crnsim.specs.Replay.{replayed, CanOpen, IsTraceFor, WroteTrace, WroteTraceFront, ReadRefusedSchedule};
 
 use crate::fault::Fault;
@@ -39,6 +40,7 @@ pub fn replay_run<R: Read, W: Write>(
     ensures front { IfErr result (λ e. e ≡ Fault.Writing → WroteTraceFront (replayed size readers total) (R.remaining reader.old) (R.remaining reader.new) (W.contents writer.old) (W.contents writer.new)) }
     ensures schedule { (f : ScheduleFault) → result ≡ Err (Fault.Schedule f) → (f ≢ ScheduleFault.Memory) × ReadRefusedSchedule readers f (R.remaining reader.old) (R.remaining reader.new) }
     ensures command_line { IsErrOf result Fault.CommandLine ↔ (¬ CanOpen (replayed size readers total)) }
+    ensures others { IfErr result (λ e. is_of_replay e ≡ true) }
     ensures unread { IfErr result (λ e. e ≡ Fault.CommandLine → Keeps (R.remaining reader.old) (R.remaining reader.new)) }
 {
     let machine = open_ring(alloc, size, readers, total)?;
@@ -70,22 +72,21 @@ fn trace_for(alloc: Global, machine: Machine, input: &[u8]) -> Result<Vec<u8>, F
     requires { machine ≡ open_machine machine.spec }
     ensures trace { IfOk result (λ text. IsTraceFor machine.spec input.now text.items) }
     ensures schedule { (f : ScheduleFault) → result ≡ Err (Fault.Schedule f) → (f ≢ ScheduleFault.Memory) × RefusesSchedule machine.spec.readers f input.now }
-    ensures no_other { IfErr result (λ e. (e ≢ Fault.Writing) × (e ≢ Fault.CommandLine)) }
+    ensures faults { IfErr result (λ e. is_of_schedule e ≡ true) }
 {
     let actors = match read_schedule(alloc, machine.spec().readers, input) {
         Ok(actors) => actors,
         Err(fault) => return Err(schedule_fault(fault)),
     };
-    match trace_text(alloc, machine, actors.as_slice()) {
-        Ok(text) => Ok(text),
-        Err(_) => Err(Fault::Memory),
-    }
+    let text = trace_text(alloc, machine, actors.as_slice())?;
+    Ok(text)
 }
 
 // Want of memory is a fault of its own, wherever it was met.
 fn schedule_fault(fault: ScheduleFault) -> Fault
     ensures schedule { (f : ScheduleFault) → result ≡ Fault.Schedule f → (f ≡ fault) × (f ≢ ScheduleFault.Memory) }
-    ensures no_other { (result ≢ Fault.Writing) × (result ≢ Fault.CommandLine) }
+    ensures memory { result ≡ Fault.Memory → fault ≡ ScheduleFault.Memory }
+    ensures faults { is_of_schedule result ≡ true }
 {
     match fault {
         ScheduleFault::Memory => Fault::Memory,

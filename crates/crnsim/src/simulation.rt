@@ -2,7 +2,7 @@ ghost use Rattle.std.specs.Prelude.{◌≡◌, ◌≢◌, true, IfOk, IfErr, OnO
 ghost use Rattle.std.specs.Io.KnownBytes.{Keeps};
 ghost use Rattle.crn_scenario.specs.declared.scenario_fault.ScenarioFault.{ScenarioFault};
 ghost use Rattle.crn_text.specs.Report.{IsReportOf};
-ghost use Rattle.crnsim.specs.Statuses.{is_of_run};
+ghost use Rattle.crnsim.specs.Statuses.{is_of_run, is_of_simulation};
 ghost use Rattle.crnsim.specs.Inputs.{ReadRefused};
 ghost use Rattle.crnsim.specs.Simulation.{WroteReport, WroteFront};
 
@@ -36,7 +36,7 @@ pub fn simulate<H: Threads + Wait + Sync, R: Read, W: Write>(
     ensures wrote { OnOk result (WroteReport (R.remaining reader.old) (R.remaining reader.new) (W.contents writer.old) (W.contents writer.new)) }
     ensures kept { IfErr result (λ e. e ≢ Fault.Writing → Keeps (W.contents writer.old) (W.contents writer.new)) }
     ensures front { IfErr result (λ e. e ≡ Fault.Writing → WroteFront (R.remaining reader.old) (R.remaining reader.new) (W.contents writer.old) (W.contents writer.new)) }
-    ensures others { IfErr result (λ e. e ≢ Fault.CommandLine) }
+    ensures others { IfErr result (λ e. is_of_simulation e ≡ true) }
     ensures scenario { (f : ScenarioFault) → result ≡ Err (Fault.Scenario f) → (f ≢ ScenarioFault.Memory) × ReadRefused f (R.remaining reader.old) (R.remaining reader.new) }
 {
     let scenario = scenario_from(alloc, reader)?;
@@ -53,8 +53,6 @@ fn report_of<H: Threads + Wait + Sync>(
     ensures report { IfOk result (λ text. IsReportOf scenario.now text.items) }
     ensures faults { IfErr result (λ e. is_of_run e ≡ true) }
 {
-    let Ok(start) = Checkpoint::start(alloc, scenario) else {
-        return Err(Fault::Memory);
-    };
+    let start = Checkpoint::start(alloc, scenario)?;
     run_and_report(rt, alloc, scenario, &start)
 }

@@ -1,6 +1,6 @@
 // The steps that the engines share.
 
-ghost use Rattle.std.specs.Prelude.{◌≡◌, ◌≤◌, ◌≢◌, true, IfOk, IfErr, OnOk, OnErr};
+ghost use Rattle.std.specs.Prelude.{◌≡◌, ◌≤◌, ◌≢◌, ◌↔◌, ◌||◌, true, IfOk, IfErr, OnOk, OnErr};
 ghost use Rattle.std.specs.Io.KnownBytes.{Appends};
 ghost use Rattle.crn_scenario.specs.declared.scenario_fault.ScenarioFault.{ScenarioFault};
 ghost use Rattle.crn_stock.specs.Models.{total};
@@ -14,7 +14,7 @@ ghost use Rattle.crnsim.specs.Statuses.{is_of_input, is_of_run, is_of_scenario};
 use crate::fault::Fault;
 use crate::input::{InputFault, read_input};
 use crate::output::write_text;
-use crn_run::{Checkpoint, OpenGate, RunFault, run_all};
+use crn_run::{Checkpoint, OpenGate, run_all};
 use crn_stock::Scenario;
 use crn_text::{ScenarioFault, read_scenario, report};
 use std::alloc::Global;
@@ -32,8 +32,18 @@ pub(crate) fn input_from<R: Read>(alloc: Global, reader: &mut R) -> Result<Vec<u
 {
     match read_input(alloc, reader) {
         Ok(input) => Ok(input),
-        Err(InputFault::Memory) => Err(Fault::Memory),
-        Err(InputFault::Failed | InputFault::TooLong) => Err(Fault::Reading),
+        Err(fault) => Err(input_fault(fault)),
+    }
+}
+
+// An input that can't be read is one fault, whatever the cause, but for want of memory.
+fn input_fault(fault: InputFault) -> Fault
+    ensures memory { (result ≡ Fault.Memory) ↔ (fault ≡ InputFault.Memory) }
+    ensures faults { is_of_input result ≡ true }
+{
+    match fault {
+        InputFault::Memory => Fault::Memory,
+        InputFault::Failed | InputFault::TooLong => Fault::Reading,
     }
 }
 
@@ -41,7 +51,7 @@ pub(crate) fn input_from<R: Read>(alloc: Global, reader: &mut R) -> Result<Vec<u
 pub(crate) fn scenario_from<R: Read>(alloc: Global, reader: &mut R) -> Result<Scenario, Fault>
     ensures reads { IfOk result (λ s. ReadScenario (R.remaining reader.old) (R.remaining reader.new) s) }
     ensures scenario { (f : ScenarioFault) → result ≡ Err (Fault.Scenario f) → (f ≢ ScenarioFault.Memory) × ReadRefused f (R.remaining reader.old) (R.remaining reader.new) }
-    ensures faults { IfErr result (λ e. is_of_scenario e ≡ true) }
+    ensures faults { IfErr result (λ e. is_of_input e || is_of_scenario e ≡ true) }
 {
     let input = input_from(alloc, reader)?;
     match read_scenario(alloc, input.as_slice()) {
@@ -53,6 +63,7 @@ pub(crate) fn scenario_from<R: Read>(alloc: Global, reader: &mut R) -> Result<Sc
 // Want of memory is a fault of its own, wherever it was met.
 fn scenario_fault(fault: ScenarioFault) -> Fault
     ensures scenario { (f : ScenarioFault) → result ≡ Fault.Scenario f → (f ≡ fault) × (f ≢ ScenarioFault.Memory) }
+    ensures memory { result ≡ Fault.Memory → fault ≡ ScenarioFault.Memory }
     ensures faults { is_of_scenario result ≡ true }
 {
     match fault {
@@ -80,21 +91,8 @@ pub(crate) fn run_to<H: Threads + Wait + Sync>(
 {
     let mut gates = [OpenGate; POLICY_LIMIT];
     let gates = &mut gates[..scenario.policies().len()];
-    match run_all(rt, alloc, scenario, start, upto, gates) {
-        Ok(finished) => Ok(finished.checkpoint),
-        Err(fault) => Err(run_fault(fault)),
-    }
-}
-
-// A fault of the run, as the program's.
-fn run_fault(fault: RunFault) -> Fault
-    ensures { is_of_run result ≡ true }
-{
-    match fault {
-        RunFault::Thread => Fault::Thread,
-        RunFault::Gate => Fault::Gate,
-        RunFault::Memory => Fault::Memory,
-    }
+    let finished = run_all(rt, alloc, scenario, start, upto, gates)?;
+    Ok(finished.checkpoint)
 }
 
 // Runs all policies over the blocks that are left, and makes the report.
@@ -112,10 +110,8 @@ pub(crate) fn run_and_report<H: Threads + Wait + Sync>(
 {
     let total = scenario.model().total();
     let end = run_to(rt, alloc, scenario, start, total)?;
-    match report(alloc, scenario, &end) {
-        Ok(text) => Ok(text),
-        Err(_) => Err(Fault::Memory),
-    }
+    let text = report(alloc, scenario, &end)?;
+    Ok(text)
 }
 
 // Writes the whole text, or a front of it.

@@ -16,8 +16,6 @@ const HEADER: &str = "policy,s,S,total,per_period,diff_total,diff_mean,diff_var,
 
 const ROW_A: &str = "A,20,40,222,111/2,0,0/1,-,-\n";
 
-const ROW_B: &str = "B,60,80,359,359/4,137,137/1,-,-\n";
-
 // Four periods, demands of 1 to 4, lead times of 1, no policy yet.
 const MODEL: &str = "version = 1
 key = [\"0000000000000000\", \"0000000000000000\", \"0000000000000000\", \"0000000000000000\"]
@@ -33,19 +31,6 @@ lead = { values = [1], weights = [1] }
 const POLICY_A: &str = "[[policy]]\nname = \"A\"\ns = 20\nS = 40\n";
 
 const POLICY_B: &str = "[[policy]]\nname = \"B\"\ns = 60\nS = 80\n";
-
-// Each order comes late, so the stock stays below zero.
-const LATE: &str = "version = 1
-key = [\"0000000000000000\", \"0000000000000000\", \"0000000000000000\", \"0000000000000000\"]
-periods = 4
-replications = 1
-initial = 0
-ring = 2
-costs = { setup = 10, unit = 1, holding = 1, backlog = 4 }
-demand = { values = [2], weights = [1] }
-lead = { values = [2], weights = [1] }
-policy = [{ name = \"Q\", s = 1, S = 3 }]
-";
 
 // Two replications of two blocks each.
 const TWO_REPLICATIONS: &str = "version = 1
@@ -71,125 +56,6 @@ fn joined(rt: &HostRuntime, parts: &[&str]) -> Result<String, AllocError> {
         text.push_str(*part)?;
     }
     Ok(text)
-}
-
-// What the engine writes for a text, or why it doesn't.
-fn answer_to<H: Threads + Wait + Sync>(
-    rt: &H,
-    alloc: Global,
-    text: &str,
-) -> Result<Vec<u8>, Fault> {
-    let mut reader = text.as_bytes();
-    let mut out = Vec::new(alloc);
-    simulate(rt, alloc, &mut reader, &mut out)?;
-    Ok(out)
-}
-
-#[test]
-fn worked_examples(rt: HostRuntime) -> Result<(), Fail> {
-    let table: [(&[&str], &[&str]); 5] = [
-        (&[MODEL, POLICY_A], &[HEADER, ROW_A]),
-        (&[MODEL, POLICY_A, POLICY_B], &[HEADER, ROW_A, ROW_B]),
-        (
-            &[MODEL, POLICY_B, POLICY_A],
-            &[
-                HEADER,
-                "B,60,80,359,359/4,0,0/1,-,-\n",
-                "A,20,40,222,111/2,-137,-137/1,-,-\n",
-            ],
-        ),
-        (&[LATE], &[HEADER, "Q,1,3,83,83/4,0,0/1,-,-\n"]),
-        (
-            &[TWO_REPLICATIONS],
-            &[
-                HEADER,
-                "A,5,10,110,11/1,0,0/1,0/1,0/1\n",
-                "B,4,10,98,49/5,-12,-6/1,0/1,0/1\n",
-            ],
-        ),
-    ];
-    for (texts, report) in table {
-        let text = joined(&rt, texts)?;
-        let want = joined(&rt, report)?;
-        match answer_to(&rt, rt.alloc(), text.as_str()) {
-            Ok(out) => assert_eq!(rt; out.as_slice(), want.as_bytes()),
-            Err(fault) => assert!(rt; false, "{fault}"),
-        }
-    }
-    Ok(())
-}
-
-#[test]
-fn refused_inputs(rt: HostRuntime) -> Result<(), Fail> {
-    let refused: [(&[&str], ScenarioFault); 6] = [
-        (&[], ScenarioFault::Version),
-        (&["version = 1\n"], ScenarioFault::MissingKey),
-        (&[MODEL], ScenarioFault::MissingKey),
-        (&[MODEL, POLICY_A, POLICY_A], ScenarioFault::Name),
-        (
-            &[MODEL, POLICY_A, "colour = 1\n"],
-            ScenarioFault::UnknownKey,
-        ),
-        (&[MODEL, POLICY_A, "[[policy]"], ScenarioFault::NoDocument),
-    ];
-    for (texts, fault) in refused {
-        let text = joined(&rt, texts)?;
-        assert_eq!(rt;
-            answer_to(&rt, rt.alloc(), text.as_str()).err(),
-            Some(Fault::Scenario(fault)),
-            "{text}"
-        );
-    }
-    Ok(())
-}
-
-#[test]
-fn a_ring_of_three(rt: HostRuntime) -> Result<(), Fail> {
-    let base = joined(&rt, &[MODEL, POLICY_A, POLICY_B])?;
-    let text = changed(&rt, base.as_str(), "ring = 2", "ring = 3")?;
-    match answer_to(&rt, rt.alloc(), text.as_str()) {
-        Ok(_) => assert!(rt; false, "a ring of three blocks is accepted"),
-        Err(fault) => {
-            let line = fault.to_string(rt.alloc())?;
-            assert_eq!(rt; line.as_str(), "crnsim: scenario 12");
-            assert_eq!(rt; fault.status(), 3);
-        }
-    }
-    Ok(())
-}
-
-#[test]
-fn every_ring_size(rt: HostRuntime) -> Result<(), Fail> {
-    let base = joined(&rt, &[MODEL, POLICY_A, POLICY_B])?;
-    let report = joined(&rt, &[HEADER, ROW_A, ROW_B])?;
-    for size in [
-        "1", "2", "4", "8", "16", "32", "64", "128", "256", "512", "1024",
-    ] {
-        let line = joined(&rt, &["ring = ", size])?;
-        let text = changed(&rt, base.as_str(), "ring = 2", line.as_str())?;
-        match answer_to(&rt, rt.alloc(), text.as_str()) {
-            Ok(out) => assert_eq!(rt; out.as_slice(), report.as_bytes(), "{size}"),
-            Err(fault) => assert!(rt; false, "{fault}"),
-        }
-    }
-    Ok(())
-}
-
-// Small rings, on which the producer and the policies wait for one another all the time.
-#[test]
-fn the_same_bytes_in_every_run(rt: HostRuntime) -> Result<(), Fail> {
-    let base = joined(&rt, &[MODEL, POLICY_A, POLICY_B])?;
-    let report = joined(&rt, &[HEADER, ROW_A, ROW_B])?;
-    for line in ["ring = 1", "ring = 2"] {
-        let text = changed(&rt, base.as_str(), "ring = 2", line)?;
-        for run in 0..200 {
-            match answer_to(&rt, rt.alloc(), text.as_str()) {
-                Ok(out) => assert_eq!(rt; out.as_slice(), report.as_bytes(), "run {run}"),
-                Err(fault) => assert!(rt; false, "{fault}"),
-            }
-        }
-    }
-    Ok(())
 }
 
 #[test]
@@ -262,27 +128,5 @@ fn writes_that_fail(rt: HostRuntime) -> Result<(), Fail> {
             assert!(rt; out.tells(answer, report.as_str()), "at {k}");
         }
     }
-    Ok(())
-}
-
-// The base with a comment that fills it to the limit, and one byte more.
-#[test]
-fn longest_input(rt: HostRuntime) -> Result<(), Fail> {
-    let base = joined(&rt, &[MODEL, POLICY_A, "#"])?;
-    let report = joined(&rt, &[HEADER, ROW_A])?;
-    let mut text = Vec::from_slice(rt.alloc(), base.as_bytes())?;
-    text.resize(1_048_576, b'x')?;
-    let mut reader = text.as_slice();
-    let mut out = Vec::new(rt.alloc());
-    assert_eq!(rt; simulate(&rt, rt.alloc(), &mut reader, &mut out), Ok(()));
-    assert_eq!(rt; out.as_slice(), report.as_bytes());
-    text.push(b'x')?;
-    let mut reader = text.as_slice();
-    let mut out = Vec::new(rt.alloc());
-    assert_eq!(rt;
-        simulate(&rt, rt.alloc(), &mut reader, &mut out),
-        Err(Fault::Reading)
-    );
-    assert_eq!(rt; out.len(), 0);
     Ok(())
 }

@@ -23,10 +23,6 @@ impl<'a> Trickle<'a> {
             fails_at,
         }
     }
-
-    pub fn calls(&self) -> u64 {
-        self.calls
-    }
 }
 
 impl Read for Trickle<'_> {

@@ -3,16 +3,16 @@ use Rattle.crn_stock.specs.Models.{total}
 use Rattle.crn_checkpoint.specs.Reading.{IsTextOf}
 use Rattle.crnsim.proofs.legs.leg_text.Goals as goal
 
-pub returns-in-Ok-clause-leg : goal.returns-in-Ok-clause-leg
-returns-in-Ok-clause-leg g c =
+pub returns-clause-leg : goal.returns-clause-leg
+returns-clause-leg g c =
     let s = c.args.scenario.now in
     let n = c.args.n in
-    let text = c.in-Ok.text.items in
+    let text = c.in_ok-text.text.items in
     let enough : n ≤ total s.model = search rules in
     let next = c.in_ok-reached.ensures.next in
     let within = subst (λ (k : ℕ). k ≤ total s.model) (sym next) enough in
     record {
       states = c.in_ok-reached.reached.states.items;
       at = c.in_ok-reached.ensures.at;
-      is_text = subst (λ (k : ℕ). IsTextOf s k c.in_ok-reached.reached.states.items text) next (c.in-Ok.ensures.in_range within);
+      is_text = subst (λ (k : ℕ). IsTextOf s k c.in_ok-reached.reached.states.items text) next (c.in_ok-text.ensures.in_range within);
     }

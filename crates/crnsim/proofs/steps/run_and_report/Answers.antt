@@ -5,8 +5,8 @@ use Rattle.crn_run.proofs.Costs.{costs_at_end}
 use Rattle.crn_text.specs.Report.{IsReportText}
 use Rattle.crnsim.proofs.steps.run_and_report.Goals as goal
 
-pub returns-in-Ok-clause-onward : goal.returns-in-Ok-clause-onward
-returns-in-Ok-clause-onward g c =
+pub returns-clause-onward : goal.returns-clause-onward
+returns-clause-onward g c =
     let s = c.args.scenario.now in
     let states = c.in_ok-end.end.states.items in
     let upto : c.total-total.result ≡ total s.model = c.total-total.ensures.value ∙ ap total c.model.ensures in
@@ -14,14 +14,14 @@ returns-in-Ok-clause-onward g c =
       ends = states;
       count = c.in_ok-end.ensures.of.count;
       onward = subst (λ (n : ℕ). EachOnward s c.args.start.now.states.items n states) upto c.in_ok-end.ensures.onward;
-      report = c.in-Ok.ensures;
+      report = c.in_ok-text.ensures;
     }
 
-pub returns-in-Ok-clause-at : goal.returns-in-Ok-clause-at
-returns-in-Ok-clause-at g c = λ begun.
+pub returns-clause-at : goal.returns-clause-at
+returns-clause-at g c = λ begun.
     let s = c.args.scenario.now in
     let states = c.in_ok-end.end.states.items in
     let upto : c.total-total.result ≡ total s.model = c.total-total.ensures.value ∙ ap total c.model.ensures in
     let ended : EachAt s (total s.model) states = subst (λ (n : ℕ). EachAt s n states) upto (c.in_ok-end.ensures.at begun) in
     let costs : map (λ v. v.costs) states ≡ map (costs_of s) s.policies = costs_at_end s states c.in_ok-end.ensures.of.count ended in
-    subst (λ (l : List (List ℕ)). IsReportText s l c.in-Ok.text.items) costs c.in-Ok.ensures
+    subst (λ (l : List (List ℕ)). IsReportText s l c.in_ok-text.text.items) costs c.in_ok-text.ensures

@@ -1,0 +1,46 @@
+-- What the program reads and writes for a command.
+use Rattle.std.specs.Prelude.{ℕ, Bool, List, Option, string_bytes}
+use Rattle.std.specs.Io.KnownBytes.{Appends, Keeps}
+use Rattle.crn_text.specs.BlockWords.{words_text}
+use Rattle.crnsim.specs.declared.command_line.Command.{Command}
+use Rattle.crnsim.specs.declared.command_line.Command.TheVariants as command
+use Rattle.crnsim.specs.declared.fault.Fault.{Fault}
+use Rattle.crnsim.specs.Bytes.{AppendsFront}
+use Rattle.crnsim.specs.Simulation.{WroteReport, WroteFront}
+use Rattle.crnsim.specs.Legs.{WroteLeg, WroteLegFront}
+use Rattle.crnsim.specs.Resumption.{WroteResumed, WroteResumedFront, WroteLegsReport}
+use Rattle.crnsim.specs.Replay.{replayed, WroteTrace, WroteTraceFront}
+use Rattle.crnsim.specs.Statuses.{is_of_words, is_of_simulation, is_of_leg, is_of_resume, is_of_replay, is_of_help}
+
+-- the bytes that the checkpoint's reader and the input's have left, and those that the writer holds; each may tell nothing
+pub record Streams : Type 0 where
+  pub saved : Option (List ℕ)
+  pub reading : Option (List ℕ)
+  pub held : Option (List ℕ)
+
+-- just what the command asks for was read and written
+abbrev pub Answered : Command → Streams → Streams → Type 0
+Answered command.Run a b = WroteReport a.reading b.reading a.held b.held
+Answered (command.Words key n) a b = Appends a.held b.held (words_text key n)
+Answered (command.Replay size readers total) a b = WroteTrace (replayed size readers total) a.reading b.reading a.held b.held
+Answered (command.Leg n) a b = WroteLeg n a.reading b.reading a.held b.held
+Answered (command.Resume _) a b = WroteResumed a.saved b.saved a.reading b.reading a.held b.held × WroteLegsReport a.saved b.saved a.reading b.reading a.held b.held
+Answered (command.Help text) a b = Appends a.held b.held (string_bytes text)
+
+-- a front of what the command asks for was written
+abbrev pub AnsweredFront : Command → Streams → Streams → Type 0
+AnsweredFront command.Run a b = WroteFront a.reading b.reading a.held b.held
+AnsweredFront (command.Words key n) a b = AppendsFront a.held b.held (words_text key n)
+AnsweredFront (command.Replay size readers total) a b = WroteTraceFront (replayed size readers total) a.reading b.reading a.held b.held
+AnsweredFront (command.Leg n) a b = WroteLegFront n a.reading b.reading a.held b.held
+AnsweredFront (command.Resume _) a b = WroteResumedFront a.saved b.saved a.reading b.reading a.held b.held
+AnsweredFront (command.Help text) a b = AppendsFront a.held b.held (string_bytes text)
+
+-- whether the command may be refused for a fault
+abbrev pub is_of_command : Command → Fault → Bool
+is_of_command command.Run e = is_of_simulation e
+is_of_command (command.Words _ _) e = is_of_words e
+is_of_command (command.Replay _ _ _) e = is_of_replay e
+is_of_command (command.Leg _) e = is_of_leg e
+is_of_command (command.Resume _) e = is_of_resume e
+is_of_command (command.Help _) e = is_of_help e

@@ -1,0 +1,52 @@
+ghost use Rattle.std.specs.Prelude.{◌≡◌, ◌≢◌, true, IfErr, OnOk};
+ghost use Rattle.std.specs.Io.KnownBytes.{Keeps};
+ghost use Rattle.crnsim.specs.Dispatch.{Streams, Answered, AnsweredFront, is_of_command};
+
+use crate::block_words::write_words;
+use crate::command_line::Command;
+use crate::fault::Fault;
+use crate::legs::leg;
+use crate::replay::replay_run;
+use crate::resumption::resume;
+use crate::simulation::simulate;
+use crate::steps::send;
+use std::alloc::Global;
+use std::io::{Read, Write};
+use std::sync::Wait;
+use std::thread::Threads;
+
+/// Writes what a command asks for to `writer`, from the input of `reader`. `Resume` reads its checkpoint from `saved`,
+/// and not from the file that it names; no other command reads `saved`.
+///
+/// # Errors
+///
+/// Those of the engine that the command is for: [`simulate`], [`write_words`], [`replay_run`], [`leg`] or [`resume`].
+/// For help it is `Writing` alone, where a write fails or takes no byte; a front of the help went out.
+///
+/// After each error but `Writing` nothing was written.
+pub fn answer_command<H: Threads + Wait + Sync, C: Read, R: Read, W: Write>(
+    rt: &H,
+    alloc: Global,
+    command: &Command,
+    saved: &mut C,
+    reader: &mut R,
+    writer: &mut W,
+) -> Result<(), Fault>
+    ensures wrote { OnOk result (Answered command.now (record { saved = C.remaining saved.old; reading = R.remaining reader.old; held = W.contents writer.old }) (record { saved = C.remaining saved.new; reading = R.remaining reader.new; held = W.contents writer.new })) }
+    ensures kept { IfErr result (λ e. e ≢ Fault.Writing → Keeps (W.contents writer.old) (W.contents writer.new)) }
+    ensures front { IfErr result (λ e. e ≡ Fault.Writing → AnsweredFront command.now (record { saved = C.remaining saved.old; reading = R.remaining reader.old; held = W.contents writer.old }) (record { saved = C.remaining saved.new; reading = R.remaining reader.new; held = W.contents writer.new })) }
+    ensures others { IfErr result (λ e. is_of_command command.now e ≡ true) }
+{
+    match command {
+        Command::Run => simulate(rt, alloc, reader, writer),
+        Command::Words { key, n } => write_words(alloc, *key, *n, writer),
+        Command::Replay {
+            size,
+            readers,
+            total,
+        } => replay_run(alloc, *size, *readers, *total, reader, writer),
+        Command::Leg { n } => leg(rt, alloc, *n, reader, writer),
+        Command::Resume { .. } => resume(rt, alloc, saved, reader, writer),
+        Command::Help { text } => send(writer, text.as_bytes()),
+    }
+}
