@@ -4,7 +4,6 @@ use Rattle.std.specs.Prelude.{◌≡◌, ℕ, true, List, [], ◌∷◌, Option}
 use Rattle.std.specs.Io.KnownBytes.{Appends}
 use Rattle.crn_proto.specs.declared.spec.RingSpec.{RingSpec}
 use Rattle.crn_proto.specs.declared.schedule.Actor.{Actor}
-use Rattle.crn_proto.specs.Opening.{IsRingSize, IsReaderCount, IsStream}
 use Rattle.crn_text.specs.declared.schedule_fault.ScheduleFault.{ScheduleFault}
 use Rattle.crn_text.specs.Schedule.{IsScheduleOf, are_below, RefusesSchedule}
 use Rattle.crn_text.specs.Trace.{trace_text}
@@ -13,12 +12,6 @@ use Rattle.crnsim.specs.Bytes.{AppendsFront, ReadAll}
 -- the ring that is replayed: the blocks 0 to total - 1 of the zero key
 abbrev pub replayed : ℕ → ℕ → ℕ → RingSpec
 replayed size readers total = record { size = size; readers = readers; id = record { key = 0 ∷ 0 ∷ 0 ∷ 0 ∷ []; first = 0; total = total } }
-
--- there is such a ring
-pub record CanOpen (spec : RingSpec) : Type 0 where
-  pub size : IsRingSize spec.size
-  pub readers : IsReaderCount spec.readers
-  pub stream : IsStream spec.id
 
 -- the text is the trace of the schedule that the input is a text of, whose readers are all of the ring
 pub record IsTraceFor (spec : RingSpec) (input text : List ℕ) : Type 0 where

@@ -24,10 +24,9 @@ fault_of_run run.Memory = fault.Memory
 
 -- ---- whether a part of the program may answer a fault
 
--- a run that has begun
+-- a run that has begun, under gates that always pass
 abbrev pub is_of_run : Fault → Bool
 is_of_run fault.Thread = true
-is_of_run fault.Gate = true
 is_of_run fault.Memory = true
 is_of_run _ = false
 

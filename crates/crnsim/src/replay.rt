@@ -4,7 +4,8 @@ ghost use Rattle.crn_proto.specs.Machine.{open_machine};
 ghost use Rattle.crn_text.specs.declared.schedule_fault.ScheduleFault.{ScheduleFault};
 ghost use Rattle.crn_text.specs.Schedule.{RefusesSchedule};
 ghost use Rattle.crnsim.specs.Statuses.{is_of_schedule, is_of_replay};
-ghost use Rattle.crnsim.specs.Replay.{replayed, CanOpen, IsTraceFor, WroteTrace, WroteTraceFront, ReadRefusedSchedule};
+ghost use Rattle.crn_proto.specs.Opening.{CanOpen};
+ghost use Rattle.crnsim.specs.Replay.{replayed, IsTraceFor, WroteTrace, WroteTraceFront, ReadRefusedSchedule};
 
 use crate::fault::Fault;
 use crate::steps::{input_from, send};
