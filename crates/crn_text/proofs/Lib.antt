@@ -1,4 +1,5 @@
 mod Costs
 mod FiguresOf
+mod OneReport
 mod Ratios
 mod ReadBack

@@ -5,6 +5,7 @@
 mod block_words;
 mod field_texts;
 mod figures;
+pub mod laws;
 mod report_text;
 mod schedule_fault;
 mod schedules;
