@@ -1,5 +1,5 @@
 -- Values and weights of a tree without a fault can be drawn from.
-use Rattle.std.proofs.Common.{◌≡◌, ℕ, ◌+◌, ◌≤◌, Bool, true, false, not, ◌&&◌, ◌==◌, List, [], ◌∷◌, length, map, sum, subst, Option, Some, None, refl, sym, ◌∙◌, arith, lit<, ℤ, pos, negsuc, codes, nat_abs, All, nat_le, nat_lt, nat_eq}
+use Rattle.std.proofs.Common.{◌≡◌, ℕ, ◌+◌, ◌≤◌, true, false, ◌==◌, List, [], ◌∷◌, length, map, sum, subst, Option, Some, None, refl, sym, ◌∙◌, arith, lit<, ℤ, pos, negsuc, codes, nat_abs, All, nat_le, nat_lt, nat_eq}
 use Rattle.std.proofs.lemmas.Bool.{false≢true, and_parts}
 use Rattle.std.proofs.lemmas.Bool.Decides.{nat_tests}
 use Rattle.std.proofs.lemmas.Int.{ints}
@@ -10,10 +10,10 @@ use Rattle.toml.specs.Data.{Items, no_items, item, Members, get_member, as_integ
 use Rattle.crn_draw.specs.Faults.{least_fault, rises}
 use Rattle.crn_scenario.specs.Tree.{array_at, count_items, are_integers, integers_of, kept}
 use Rattle.crn_scenario.specs.Fields.{Entry, entry, numbers, is_within, are_within}
-use Rattle.crn_scenario.specs.declared.fields.Kind.TheVariants as kind
 use Rattle.crn_scenario.specs.Faults.{have_other_lengths, have_other_order, have_other_total, has_other_lengths_in, has_other_order_in, has_other_total_in, rise_above, total_of}
 use Rattle.crn_scenario.specs.Reading.{AreDraws, integers_in, naturals_in}
-use Rattle.crn_scenario.proofs.Kept.{Kept, kept_at, IsList, list_kept, within_parts}
+use Rattle.crn_scenario.proofs.Bools.{passed, and_true}
+use Rattle.crn_scenario.proofs.Kept.{nowhere, Kept, kept_at, IsList, list_kept, within_parts}
 
 -- ---- lists of integers within a range
 
@@ -51,10 +51,6 @@ first low high (negsuc n) zs h = absurd (false≢true h)
 
 within_one : (low high n : ℕ) → low ≤ n → n ≤ high → is_within (pos low) (pos high) (Some (pos n)) ≡ true
 within_one low high n l h = grind (arith, ints, nat_tests)
-
-and_true : (a b : Bool) → a ≡ true → b ≡ true → (a && b) ≡ true
-and_true true b h k = k
-and_true false b h k = cc
 
 pub widened : (low high : ℕ) (zs : List ℤ) → high ≤ 65536 → are_within (pos low) (pos high) zs ≡ true → are_within (pos 0) (pos 65536) zs ≡ true
 widened low high [] le h = refl
@@ -102,21 +98,17 @@ total-sum low high (negsuc n ∷ zs) h = absurd (false≢true h)
 
 -- ---- the faults of two lists
 
-not_true : (b : Bool) → not b ≡ false → b ≡ true
-not_true true e = refl
-not_true false e = cc
-
-lengths_agree : (o p : Option Items) (vs ws : Items) → o ≡ Some vs → p ≡ Some ws → have_other_lengths o p ≡ false → count_items vs ≡ count_items ws
+pub lengths_agree : (o p : Option Items) (vs ws : Items) → o ≡ Some vs → p ≡ Some ws → have_other_lengths o p ≡ false → count_items vs ≡ count_items ws
 lengths_agree o p vs ws e f h =
     let k : have_other_lengths (Some vs) (Some ws) ≡ false = subst (λ (x : Option Items). have_other_lengths x (Some ws) ≡ false) e (subst (λ (x : Option Items). have_other_lengths o x ≡ false) f h) in
-    let same : (count_items vs == count_items ws) ≡ true = not_true (count_items vs == count_items ws) k in
+    let same : (count_items vs == count_items ws) ≡ true = passed (count_items vs == count_items ws) k in
     grind (arith, nat_tests, same)
 
-order_kept : (o : Option Items) (vs : Items) → o ≡ Some vs → have_other_order o ≡ false → rise_above None (integers_of vs) ≡ true
-order_kept o vs e h = not_true (rise_above None (integers_of vs)) (subst (λ (x : Option Items). have_other_order x ≡ false) e h)
+pub order_kept : (o : Option Items) (vs : Items) → o ≡ Some vs → have_other_order o ≡ false → rise_above None (integers_of vs) ≡ true
+order_kept o vs e h = passed (rise_above None (integers_of vs)) (subst (λ (x : Option Items). have_other_order x ≡ false) e h)
 
-total_kept : (o : Option Items) (ws : Items) → o ≡ Some ws → have_other_total o ≡ false → is_within (pos 1) (pos 65536) (Some (total_of (integers_of ws))) ≡ true
-total_kept o ws e h = not_true (is_within (pos 1) (pos 65536) (Some (total_of (integers_of ws)))) (subst (λ (x : Option Items). have_other_total x ≡ false) e h)
+pub total_kept : (o : Option Items) (ws : Items) → o ≡ Some ws → have_other_total o ≡ false → is_within (pos 1) (pos 65536) (Some (total_of (integers_of ws))) ≡ true
+total_kept o ws e h = passed (is_within (pos 1) (pos 65536) (Some (total_of (integers_of ws)))) (subst (λ (x : Option Items). have_other_total x ≡ false) e h)
 
 none_of : (vs ws : List ℕ) → (length vs == 0) ≡ false → length vs ≡ length ws → rises vs ≡ true → 1 ≤ sum ws → sum ws ≤ 65536 → least_fault vs ws ≡ None
 none_of vs ws some same rise low high =
@@ -130,9 +122,6 @@ none_of vs ws some same rise low high =
 
 abbrev pub draw_fields : ℕ → ℕ → List Entry
 draw_fields low high = entry (codes "values") (numbers low high) ∷ entry (codes "weights") (numbers 0 65536) ∷ []
-
-nowhere : Entry
-nowhere = entry [] kind.Integer
 
 pub values_kept : (low high : ℕ) (t : Members) → Kept (draw_fields low high) t → IsList low high (array_at (codes "values") t)
 values_kept low high t h = list_kept low high (get_member (codes "values") t) (kept_at (draw_fields low high) t 0 nowhere h (lit< tt))

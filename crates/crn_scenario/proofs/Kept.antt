@@ -13,17 +13,14 @@ use Rattle.crn_scenario.specs.declared.fields.Kind.{Kind}
 use Rattle.crn_scenario.specs.declared.fields.Kind.TheVariants as kind
 use Rattle.crn_scenario.specs.declared.fields.Rule.{Rule}
 use Rattle.crn_scenario.specs.declared.fields.Rule.TheVariants as rule
-use Rattle.crn_scenario.specs.Faults.{HasNone, all_keep, keeps_in, policies_at, lacks_key, has_other_kind, breaks_range}
+use Rattle.crn_scenario.specs.Faults.{HasNone, all_keep, keeps_in, policies_at, has_unknown_key, lacks_key, has_other_kind, breaks_range}
+use Rattle.crn_scenario.proofs.Bools.{passed, failed}
 
 -- ---- no fault
 
 pub one : (b : Bool) → ¬ ((b || false) ≡ true) → b ≡ false
 one false h = refl
 one true h = absurd (h refl)
-
-not_false : (b : Bool) → not b ≡ false → b ≡ true
-not_false true h = refl
-not_false false h = cc
 
 -- ---- the tables
 
@@ -43,17 +40,21 @@ all_kept r ms h =
     let b = and_parts _ _ c.0 in
     record { top = b.0; costs = b.1; demand = c.1; lead = d.1; policies = e.1 }
 
+pub known : (ms : Members) → HasNone ms → AllKeep rule.Known ms
+unfolding has_unknown_key
+known ms h = all_kept rule.Known ms (passed (all_keep rule.Known ms) (one (has_unknown_key ms) (h.none 3)))
+
 pub present : (ms : Members) → HasNone ms → AllKeep rule.Present ms
 unfolding lacks_key
-present ms h = all_kept rule.Present ms (not_false (all_keep rule.Present ms) (one (lacks_key ms) (h.none 4)))
+present ms h = all_kept rule.Present ms (passed (all_keep rule.Present ms) (one (lacks_key ms) (h.none 4)))
 
 pub kinds : (ms : Members) → HasNone ms → AllKeep rule.Kinds ms
 unfolding has_other_kind
-kinds ms h = all_kept rule.Kinds ms (not_false (all_keep rule.Kinds ms) (one (has_other_kind ms) (h.none 5)))
+kinds ms h = all_kept rule.Kinds ms (passed (all_keep rule.Kinds ms) (one (has_other_kind ms) (h.none 5)))
 
 pub ranges : (ms : Members) → HasNone ms → AllKeep rule.Ranges ms
 unfolding breaks_range
-ranges ms h = all_kept rule.Ranges ms (not_false (all_keep rule.Ranges ms) (one (breaks_range ms) (h.none 6)))
+ranges ms h = all_kept rule.Ranges ms (passed (all_keep rule.Ranges ms) (one (breaks_range ms) (h.none 6)))
 
 -- ---- a table
 
@@ -144,11 +145,7 @@ list_kept low high (Some (boolean b)) h = absurd (false≢true h.kinds)
 list_kept low high (Some (datetime t)) h = absurd (false≢true h.kinds)
 list_kept low high (Some (array ds)) h =
     let parts = and_parts (not (count_items ds == 0)) _ h.ranges in
-    record { items = ds; is = refl; integers = h.kinds; some = not_true (count_items ds == 0) parts.0; within = parts.1 }
-  where
-    not_true : (b : Bool) → not b ≡ true → b ≡ false
-    not_true true e = cc
-    not_true false e = refl
+    record { items = ds; is = refl; integers = h.kinds; some = failed (count_items ds == 0) parts.0; within = parts.1 }
 list_kept low high (Some (table ms)) h = absurd (false≢true h.kinds)
 
 pub record IsText (o : Option (List ℕ)) : Type 0 where
@@ -210,7 +207,8 @@ pub record IsKept (es : List Entry) (o : Option Members) : Type 0 where
   pub is : o ≡ Some members
   pub kept : Kept es members
 
-nowhere : Entry
+-- the entry where a list of entries has none
+pub nowhere : Entry
 nowhere = entry [] kind.Integer
 
 pub costs_kept : (ms : Members) → HasNone ms → IsKept fields.costs (table_at (codes "costs") ms)

@@ -1,3 +1,4 @@
+mod Bools
 pub mod FirstFault
 pub mod LaterNames
 pub mod HexWords
@@ -7,3 +8,8 @@ pub mod Draws
 pub mod Sound
 pub mod Policies
 mod HexWritten
+mod Glyphs
+mod KnownKeys
+mod ItemLists
+mod SoundTrees
+mod FaultFree

@@ -16,27 +16,12 @@ use Rattle.crn_stock.specs.Scenarios.{AreForScenario, IsRingSize, ScenarioParts,
 use Rattle.crn_scenario.specs.Tree.{integer_at, text_at, array_at, tables_of, count_items, are_tables, kept}
 use Rattle.crn_scenario.specs.Fields.{Entry, entry, keeps, keeps_at_all, is_within}
 use Rattle.crn_scenario.specs.Fields as fields
-use Rattle.crn_scenario.specs.declared.fields.Kind.TheVariants as kind
 use Rattle.crn_scenario.specs.declared.fields.Rule.TheVariants as rule
 use Rattle.crn_scenario.specs.Faults.{HasNone, policies_in, policies_at, has_levels_in_order, are_in_order, has_low_above_high, names_in, names_at, is_among, all_differ, are_good_names, has_bad_name, is_ring_size, is_other_ring, has_other_ring, is_other_count, has_other_policy_count}
 use Rattle.crn_scenario.specs.Reading.{natural, integer, text, key_of, model_of, policy_of, scenario_of}
-use Rattle.crn_scenario.proofs.Kept.{Kept, kept_at, top_kept, present, kinds, ranges, one, IsNumber, number_kept, IsText, text_kept, tables_kept, IsInteger, integer_kept}
+use Rattle.crn_scenario.proofs.Bools.{passed, failed, neither}
+use Rattle.crn_scenario.proofs.Kept.{nowhere, Kept, kept_at, top_kept, present, kinds, ranges, one, IsNumber, number_kept, IsText, text_kept, tables_kept, IsInteger, integer_kept}
 use Rattle.crn_scenario.proofs.Sound.{taken, from_low, to_high}
-
-not_true : (b : Bool) → not b ≡ false → b ≡ true
-not_true true e = refl
-not_true false e = cc
-
-not_either : (b : Bool) → not b ≡ true → b ≡ false
-not_either true e = cc
-not_either false e = refl
-
-neither : (a b : Bool) → (a || b) ≡ false → (a ≡ false) × (b ≡ false)
-neither true b h = cc
-neither false b h = (refl, h)
-
-nowhere : Entry
-nowhere = entry [] kind.Integer
 
 -- ---- a policy
 
@@ -91,7 +76,7 @@ policies_fit (t ∷ ts) g = All-cons IsPolicy (policy_of t) (map policy_of ts) (
 
 -- ---- their names
 
-abbrev name_in : Members → List ℕ
+abbrev pub name_in : Members → List ℕ
 name_in t = text (text_at (codes "name") t)
 
 named : (t : Members) → Kept fields.policy t → IsText (text_at (codes "name") t)
@@ -108,11 +93,11 @@ rest_good : (o : Option Members) (ts : List Members) → AreGood (kept o ts) →
 rest_good None ts g = g
 rest_good (Some t) ts g = g.1
 
-names_are : (ds : Items) → AreGood (tables_of ds) → names_in ds ≡ map name_in (tables_of ds)
+pub names_are : (ds : Items) → AreGood (tables_of ds) → names_in ds ≡ map name_in (tables_of ds)
 names_are no_items g = refl
 names_are (item d ds) g = names_one (as_table d) (names_in ds) (tables_of ds) g (names_are ds (rest_good (as_table d) (tables_of ds) g))
 
-names_good : (ts : List Members) → list_all is_name (map name_in ts) ≡ true → All (λ p. is_name p.name ≡ true) (map policy_of ts)
+pub names_good : (ts : List Members) → list_all is_name (map name_in ts) ≡ true → All (λ p. is_name p.name ≡ true) (map policy_of ts)
 names_good [] h = All-nil (λ (p : Policy). is_name p.name ≡ true)
 names_good (t ∷ ts) h =
     let parts = and_parts (is_name (name_in t)) (list_all is_name (map name_in ts)) h in
@@ -131,7 +116,7 @@ names_differ : (ts : List Members) → all_differ (map name_in ts) ≡ true → 
 names_differ [] h = λ i j d l k. absurd (omega (arith, k))
 names_differ (t ∷ ts) h =
     let parts = and_parts (not (is_among (map name_in ts) (name_in t))) (all_differ (map name_in ts)) h in
-    AllPairs-cons (λ (p q : Policy). p.name ≢ q.name) (policy_of t) (map policy_of ts) (not_among (name_in t) ts (not_either (is_among (map name_in ts) (name_in t)) parts.0)) (names_differ ts parts.1)
+    AllPairs-cons (λ (p q : Policy). p.name ≢ q.name) (policy_of t) (map policy_of ts) (not_among (name_in t) ts (failed (is_among (map name_in ts) (name_in t)) parts.0)) (names_differ ts parts.1)
 
 -- ---- how many
 
@@ -173,7 +158,7 @@ either : (a b : Bool) {P : Type 0} → (a || b) ≡ true → (a ≡ true → P) 
 either true b h f g = f refl
 either false b h f g = g h
 
-ring_is : (z : ℤ) → is_ring_size z ≡ true → IsRingSize (nat_abs z)
+pub ring_is : (z : ℤ) → is_ring_size z ≡ true → IsRingSize (nat_abs z)
 unfolding is_ring_size
 ring_is z h =
     either _ _ h (ring_one 1 0 z refl (lit≤ tt)) (λ h.
@@ -190,29 +175,29 @@ ring_is z h =
 
 ring_fits : (o : Option ℤ) → IsInteger o → is_other_ring o ≡ false → IsRingSize (natural o)
 ring_fits o i h =
-    let k : is_ring_size i.value ≡ true = not_true (is_ring_size i.value) (subst (λ (x : Option ℤ). is_other_ring x ≡ false) i.is h) in
+    let k : is_ring_size i.value ≡ true = passed (is_ring_size i.value) (subst (λ (x : Option ℤ). is_other_ring x ≡ false) i.is h) in
     subst (λ (x : Option ℤ). IsRingSize (natural x)) (sym i.is) (ring_is i.value k)
 
 -- ---- a scenario's policies
 
 -- the tables of the array that stands there
-ring_at : (ms : Members) → HasNone ms → is_other_ring (integer_at (codes "ring") ms) ≡ false
+pub ring_at : (ms : Members) → HasNone ms → is_other_ring (integer_at (codes "ring") ms) ≡ false
 unfolding has_other_ring
 ring_at ms h = one (has_other_ring ms) (h.none 12)
 
-levels_at : (ms : Members) → HasNone ms → list_all has_levels_in_order (policies_at ms) ≡ true
+pub levels_at : (ms : Members) → HasNone ms → list_all has_levels_in_order (policies_at ms) ≡ true
 unfolding has_low_above_high
-levels_at ms h = not_true (list_all has_levels_in_order (policies_at ms)) (one (has_low_above_high ms) (h.none 10))
+levels_at ms h = passed (list_all has_levels_in_order (policies_at ms)) (one (has_low_above_high ms) (h.none 10))
 
-good_names_at : (ms : Members) → HasNone ms → are_good_names (names_at (array_at (codes "policy") ms)) ≡ true
+pub good_names_at : (ms : Members) → HasNone ms → are_good_names (names_at (array_at (codes "policy") ms)) ≡ true
 unfolding has_bad_name
-good_names_at ms h = not_true (are_good_names (names_at (array_at (codes "policy") ms))) (one (has_bad_name ms) (h.none 11))
+good_names_at ms h = passed (are_good_names (names_at (array_at (codes "policy") ms))) (one (has_bad_name ms) (h.none 11))
 
-count_at : (ms : Members) → HasNone ms → is_other_count (array_at (codes "policy") ms) ≡ false
+pub count_at : (ms : Members) → HasNone ms → is_other_count (array_at (codes "policy") ms) ≡ false
 unfolding has_other_policy_count
 count_at ms h = one (has_other_policy_count ms) (h.none 13)
 
-all_good : (ms : Members) → HasNone ms → AreGood (policies_at ms)
+pub all_good : (ms : Members) → HasNone ms → AreGood (policies_at ms)
 all_good ms h = are_good (policies_at ms) (present ms h).policies (kinds ms h).policies (ranges ms h).policies (levels_at ms h)
 
 -- the conditions on the policies of an array
@@ -225,7 +210,7 @@ record ArePolicies (ds : Items) : Type 0 where
 are_policies : (ds : Items) → are_tables ds ≡ true → AreGood (tables_of ds) → are_good_names (names_in ds) ≡ true → is_other_count (Some ds) ≡ false → ArePolicies ds
 are_policies ds tables good names count =
     let n : length (map policy_of (tables_of ds)) ≡ count_items ds = length-policies (tables_of ds) ∙ count_tables ds tables in
-    let range : (nat_le 1 (count_items ds) && nat_le (count_items ds) 16) ≡ true = not_true (nat_le 1 (count_items ds) && nat_le (count_items ds) 16) count in
+    let range : (nat_le 1 (count_items ds) && nat_le (count_items ds) 16) ≡ true = passed (nat_le 1 (count_items ds) && nat_le (count_items ds) 16) count in
     let bounds = and_parts (nat_le 1 (count_items ds)) (nat_le (count_items ds) 16) range in
     let low : nat_le 1 (count_items ds) ≡ true = bounds.0 in
     let high : nat_le (count_items ds) 16 ≡ true = bounds.1 in

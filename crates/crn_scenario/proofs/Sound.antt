@@ -1,5 +1,5 @@
 -- What a tree without a fault gives: the conditions of a model and of a scenario.
-use Rattle.std.proofs.Common.{◌≡◌, ℕ, ◌≤◌, [], Bool, true, false, ◌||◌, codes, Option, Some, refl, sym, subst, lit<, arith, ℤ, pos, All}
+use Rattle.std.proofs.Common.{◌≡◌, ℕ, ◌≤◌, false, codes, Option, Some, refl, sym, subst, lit<, arith, ℤ, pos, All}
 use Rattle.std.proofs.lemmas.Int.{ints}
 use Rattle.std.specs.Prelude.{◌≤ℤ◌}
 use Rattle.toml.specs.Data.{Members, get_member}
@@ -9,26 +9,21 @@ use Rattle.crn_draw.specs.Spread.{Weighted}
 use Rattle.crn_scenario.specs.Tree.{integer_at, table_at}
 use Rattle.crn_scenario.specs.Fields.{Entry, entry, number}
 use Rattle.crn_scenario.specs.Fields as fields
-use Rattle.crn_scenario.specs.declared.fields.Kind.TheVariants as kind
 use Rattle.crn_scenario.specs.Faults.{HasNone, has_other_lengths, has_values_out_of_order, has_weights_out_of_range, has_other_lengths_in, has_other_order_in, has_other_total_in}
 use Rattle.crn_scenario.specs.Reading.{natural, integer, naturals_in, costs_of, weighted_of, AreDraws, model_of}
-use Rattle.crn_scenario.proofs.Kept.{Kept, kept_at, top_kept, IsNumber, number_kept, costs_kept, demand_kept, lead_kept, one}
+use Rattle.crn_scenario.proofs.Bools.{neither}
+use Rattle.crn_scenario.proofs.Kept.{nowhere, Kept, kept_at, top_kept, IsNumber, number_kept, costs_kept, demand_kept, lead_kept, one}
 use Rattle.crn_scenario.proofs.Draws.{draw_fields, draws, values_high, values_low}
 
--- neither of two
-neither : (a b : Bool) → (a || b) ≡ false → (a ≡ false) × (b ≡ false)
-neither true b h = cc
-neither false b h = (refl, h)
-
-lengths : (ms : Members) → HasNone ms → (has_other_lengths_in (table_at (codes "demand") ms) ≡ false) × (has_other_lengths_in (table_at (codes "lead") ms) ≡ false)
+pub lengths : (ms : Members) → HasNone ms → (has_other_lengths_in (table_at (codes "demand") ms) ≡ false) × (has_other_lengths_in (table_at (codes "lead") ms) ≡ false)
 unfolding has_other_lengths
 lengths ms h = neither (has_other_lengths_in (table_at (codes "demand") ms)) (has_other_lengths_in (table_at (codes "lead") ms)) (one (has_other_lengths ms) (h.none 7))
 
-orders : (ms : Members) → HasNone ms → (has_other_order_in (table_at (codes "demand") ms) ≡ false) × (has_other_order_in (table_at (codes "lead") ms) ≡ false)
+pub orders : (ms : Members) → HasNone ms → (has_other_order_in (table_at (codes "demand") ms) ≡ false) × (has_other_order_in (table_at (codes "lead") ms) ≡ false)
 unfolding has_values_out_of_order
 orders ms h = neither (has_other_order_in (table_at (codes "demand") ms)) (has_other_order_in (table_at (codes "lead") ms)) (one (has_values_out_of_order ms) (h.none 8))
 
-totals : (ms : Members) → HasNone ms → (has_other_total_in (table_at (codes "demand") ms) ≡ false) × (has_other_total_in (table_at (codes "lead") ms) ≡ false)
+pub totals : (ms : Members) → HasNone ms → (has_other_total_in (table_at (codes "demand") ms) ≡ false) × (has_other_total_in (table_at (codes "lead") ms) ≡ false)
 unfolding has_weights_out_of_range
 totals ms h = neither (has_other_total_in (table_at (codes "demand") ms)) (has_other_total_in (table_at (codes "lead") ms)) (one (has_weights_out_of_range ms) (h.none 9))
 
@@ -47,9 +42,6 @@ lead_draws ms h =
     draws_at 1 32 (table_at (codes "lead") ms) t.members (omega arith) t.is t.kept (lengths ms h).1 (orders ms h).1 (totals ms h).1
 
 -- ---- the model
-
-nowhere : Entry
-nowhere = entry [] kind.Integer
 
 -- a number within a range, as the reader takes it
 pub record IsTaken (low high n : ℕ) (z : ℤ) : Type 0 where

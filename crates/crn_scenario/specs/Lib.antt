@@ -3,3 +3,4 @@ pub mod Tree
 pub mod Fields
 pub mod Faults
 pub mod Reading
+pub mod Sound

@@ -1,0 +1,6 @@
+use Rattle.crn_scenario.proofs.FaultFree.{fault_free}
+use Rattle.crn_scenario.proofs.SoundTrees.{sound_tree}
+use Rattle.crn_scenario.proofs.laws.sound.Goals as goal
+
+pub returns : goal.returns
+returns c ms = (sound_tree ms, fault_free ms)
