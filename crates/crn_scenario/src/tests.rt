@@ -3,6 +3,7 @@
 mod damaged;
 mod least;
 mod refusals;
+mod sizes;
 
 use super::*;
 use crn_stock::Scenario;
@@ -152,11 +153,6 @@ fn accepted(rt: HostRuntime) -> Result<(), Fail> {
         let text = BASE.replace(alloc, piece, with)?;
         assert!(rt; text.as_str() != BASE, "{piece}");
         assert!(rt; read_scenario(alloc, text.as_bytes()).is_ok(), "{with}");
-    }
-    for count in [1, 16] {
-        let text = with_policies(alloc, count)?;
-        let scenario = read(alloc, text.as_str())?;
-        assert_eq!(rt; scenario.policies().len() as u32, count);
     }
     Ok(())
 }

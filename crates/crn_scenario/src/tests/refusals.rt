@@ -366,20 +366,6 @@ fn policies(rt: HostRuntime) -> Result<(), Fail> {
     Ok(())
 }
 
-// Two equal names that stand far apart.
-#[test]
-fn names_far_apart(rt: HostRuntime) -> Result<(), Fail> {
-    let alloc = rt.alloc();
-    let many = with_policies(alloc, 2_000)?;
-    let text = format!(in alloc;
-        "{}[[policy]]\nname = \"P0\"\ns = 1\nS = 2\n",
-        many.as_str()
-    )?;
-    let fault = read_scenario(alloc, text.as_bytes()).err();
-    assert_eq!(rt; fault, Some(ScenarioFault::Name));
-    Ok(())
-}
-
 #[test]
 fn rings(rt: HostRuntime) -> Result<(), Fail> {
     let changes = [
