@@ -18,3 +18,6 @@ pub use report_text::report;
 pub use schedule_fault::ScheduleFault;
 pub use schedules::read_schedule;
 pub use traces::trace_text;
+
+#[cfg(test)]
+mod tests;
