@@ -18,14 +18,19 @@ pub record Streams : Type 0 where
   pub reading : Option (List ℕ)
   pub held : Option (List ℕ)
 
+-- nothing was read
+pub record Unread (a b : Streams) : Type 0 where
+  pub saved : Keeps a.saved b.saved
+  pub reading : Keeps a.reading b.reading
+
 -- just what the command asks for was read and written
 abbrev pub Answered : Command → Streams → Streams → Type 0
-Answered command.Run a b = WroteReport a.reading b.reading a.held b.held
-Answered (command.Words key n) a b = Appends a.held b.held (words_text key n)
-Answered (command.Replay size readers total) a b = WroteTrace (replayed size readers total) a.reading b.reading a.held b.held
-Answered (command.Leg n) a b = WroteLeg n a.reading b.reading a.held b.held
+Answered command.Run a b = Keeps a.saved b.saved × WroteReport a.reading b.reading a.held b.held
+Answered (command.Words key n) a b = Unread a b × Appends a.held b.held (words_text key n)
+Answered (command.Replay size readers total) a b = Keeps a.saved b.saved × WroteTrace (replayed size readers total) a.reading b.reading a.held b.held
+Answered (command.Leg n) a b = Keeps a.saved b.saved × WroteLeg n a.reading b.reading a.held b.held
 Answered (command.Resume _) a b = WroteResumed a.saved b.saved a.reading b.reading a.held b.held × WroteLegsReport a.saved b.saved a.reading b.reading a.held b.held
-Answered (command.Help text) a b = Appends a.held b.held (string_bytes text)
+Answered (command.Help text) a b = Unread a b × Appends a.held b.held (string_bytes text)
 
 -- a front of what the command asks for was written
 abbrev pub AnsweredFront : Command → Streams → Streams → Type 0
