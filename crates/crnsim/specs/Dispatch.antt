@@ -4,13 +4,13 @@ use Rattle.std.specs.Io.KnownBytes.{Appends, Keeps}
 use Rattle.crn_text.specs.BlockWords.{words_text}
 use Rattle.crnsim.specs.declared.command_line.Command.{Command}
 use Rattle.crnsim.specs.declared.command_line.Command.TheVariants as command
-use Rattle.crnsim.specs.declared.fault.Fault.{Fault}
-use Rattle.crnsim.specs.Bytes.{AppendsFront}
-use Rattle.crnsim.specs.Simulation.{WroteReport, WroteFront}
-use Rattle.crnsim.specs.Legs.{WroteLeg, WroteLegFront}
-use Rattle.crnsim.specs.Resumption.{WroteResumed, WroteResumedFront, WroteLegsReport}
-use Rattle.crnsim.specs.Replay.{replayed, WroteTrace, WroteTraceFront}
-use Rattle.crnsim.specs.Statuses.{is_of_words, is_of_simulation, is_of_leg, is_of_resume, is_of_replay, is_of_help}
+use Rattle.crn_engines.specs.declared.fault.Fault.{Fault}
+use Rattle.crn_engines.specs.Bytes.{AppendsFront}
+use Rattle.crn_engines.specs.Simulation.{WroteReport, WroteFront}
+use Rattle.crn_engines.specs.Legs.{WroteLeg, WroteLegFront}
+use Rattle.crn_engines.specs.Resumption.{WroteResumed, WroteResumedFront, WroteLegsReport}
+use Rattle.crn_engines.specs.Replay.{replayed, WroteTrace, WroteTraceFront}
+use Rattle.crn_engines.specs.Statuses.{is_of_words, is_of_simulation, is_of_leg, is_of_resume, is_of_replay, is_of_help}
 
 -- the bytes that the checkpoint's reader and the input's have left, and those that the writer holds; each may tell nothing
 pub record Streams : Type 0 where

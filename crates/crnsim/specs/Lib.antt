@@ -1,9 +1,2 @@
-pub mod Statuses
-pub mod Bytes
-pub mod Inputs
-pub mod Simulation
-pub mod Legs
-pub mod Resumption
 pub mod CommandLine
-pub mod Replay
 pub mod Dispatch

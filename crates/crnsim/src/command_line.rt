@@ -3,9 +3,9 @@
 ghost use Rattle.std.specs.Prelude.{◌≡◌, ◌⊎◌, ℕ, ◌<◌, ◌^◌, Some, ◌↔◌, IfErr, IfSome, IsTrue, decimal};
 ghost use Rattle.crnsim.specs.CommandLine.{key_word_of};
 
-use crate::fault::Fault;
 use clap::error::ErrorKind;
 use clap::{Arg, ArgMatches};
+use crn_engines::Fault;
 use crn_scenario::hex::{is_hex_word, word_of};
 use itoa::Buffer;
 use std::alloc::{AllocError, Global};

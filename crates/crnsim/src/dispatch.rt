@@ -2,14 +2,8 @@ ghost use Rattle.std.specs.Prelude.{◌≡◌, ◌≢◌, true, IfErr, OnOk};
 ghost use Rattle.std.specs.Io.KnownBytes.{Keeps};
 ghost use Rattle.crnsim.specs.Dispatch.{Streams, Answered, AnsweredFront, is_of_command};
 
-use crate::block_words::write_words;
 use crate::command_line::Command;
-use crate::fault::Fault;
-use crate::legs::leg;
-use crate::replay::replay_run;
-use crate::resumption::resume;
-use crate::simulation::simulate;
-use crate::steps::send;
+use crn_engines::{Fault, leg, replay_run, resume, send, simulate, write_words};
 use std::alloc::Global;
 use std::io::{Read, Write};
 use std::sync::Wait;

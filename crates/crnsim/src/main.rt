@@ -3,26 +3,12 @@
 //! of the ring that carries them.
 #![tactic(auto)]
 
-mod block_words;
 mod command_line;
 mod dispatch;
-mod fault;
-mod input;
-mod legs;
-mod output;
-mod replay;
-mod resumption;
-mod simulation;
-mod steps;
 
-pub use block_words::write_words;
 pub use command_line::{Command, read_words};
+pub use crn_engines::{Fault, leg, replay_run, resume, simulate, write_words};
 pub use dispatch::answer_command;
-pub use fault::Fault;
-pub use legs::leg;
-pub use replay::replay_run;
-pub use resumption::resume;
-pub use simulation::simulate;
 use std::env;
 use std::fs::File;
 use std::io::ErrorKind;

@@ -1,0 +1,18 @@
+use Rattle.std.proofs.Common.{◌≤◌, ℕ, rules, subst, sym}
+use Rattle.crn_stock.specs.Models.{total}
+use Rattle.crn_checkpoint.specs.Reading.{IsTextOf}
+use Rattle.crn_engines.proofs.legs.leg_text.Goals as goal
+
+pub returns-clause-leg : goal.returns-clause-leg
+returns-clause-leg g c =
+    let s = c.args.scenario.now in
+    let n = c.args.n in
+    let text = c.in_ok-text.text.items in
+    let enough : n ≤ total s.model = search rules in
+    let next = c.in_ok-reached.ensures.next in
+    let within = subst (λ (k : ℕ). k ≤ total s.model) (sym next) enough in
+    record {
+      states = c.in_ok-reached.reached.states.items;
+      at = c.in_ok-reached.ensures.at;
+      is_text = subst (λ (k : ℕ). IsTextOf s k c.in_ok-reached.reached.states.items text) next (c.in_ok-text.ensures.in_range within);
+    }

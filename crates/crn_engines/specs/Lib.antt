@@ -1,0 +1,7 @@
+pub mod Statuses
+pub mod Bytes
+pub mod Inputs
+pub mod Simulation
+pub mod Legs
+pub mod Resumption
+pub mod Replay

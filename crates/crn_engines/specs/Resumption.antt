@@ -1,0 +1,75 @@
+-- What `resume` reads and writes. `saved` and `saved'` are the bytes that the checkpoint's reader has left before and
+-- after, `reading` and `reading'` those of the scenario's reader, `held` and `held'` those that the writer holds; either
+-- may tell nothing.
+use Rattle.std.specs.Prelude.{◌≡◌, ℕ, List, Option, length, map}
+use Rattle.std.specs.Io.KnownBytes.{Appends}
+use Rattle.crn_stock.specs.Models.{total}
+use Rattle.crn_stock.specs.Parts.{Parts}
+use Rattle.crn_stock.specs.Scenarios.{ScenarioParts}
+use Rattle.crn_run.specs.Runs.{EachOnward}
+use Rattle.crn_checkpoint.specs.Reading.{IsTextOf, IsSameButRing, IsLegOf, RefusesCheckpoint}
+use Rattle.crn_checkpoint.specs.declared.checkpoint_fault.CheckpointFault.{CheckpointFault}
+use Rattle.crn_scenario.specs.Reading.{Reads}
+use Rattle.crn_text.specs.Report.{IsReportText, IsReportOf}
+use Rattle.crn_engines.specs.Bytes.{AppendsFront, ReadAll}
+use Rattle.crn_engines.specs.Inputs.{ReadScenario}
+
+-- the text is the report of the states that these become by all blocks that are left, one for each policy
+pub record IsReportOnward (s : ScenarioParts) (states : List Parts) (text : List ℕ) : Type 0 where
+  pub ends : List Parts
+  pub count : length ends ≡ length s.policies
+  pub onward : EachOnward s states (total s.model) ends
+  pub report : IsReportText s (map (λ v. v.costs) ends) text
+
+-- the bytes are the text of a checkpoint of the scenario, and the text is the report onward from its states
+pub record IsResumedReport (s : ScenarioParts) (bytes text : List ℕ) : Type 0 where
+  pub next : ℕ
+  pub states : List Parts
+  pub is_text : IsTextOf s next states bytes
+  pub report : IsReportOnward s states text
+
+-- where the bytes are the text of a leg of the scenario, on a ring of whatever size, the text is the scenario's report
+abbrev pub ReportsLegs : ScenarioParts → List ℕ → List ℕ → Type 0
+ReportsLegs s bytes text = (s' : ScenarioParts) (n : ℕ) → IsSameButRing s' s → IsLegOf s' n bytes → IsReportOf s text
+
+-- ---- what is read and written
+
+-- both inputs were read whole: a text of the scenario, and the bytes
+pub record ReadBoth (saved saved' reading reading' : Option (List ℕ)) (s : ScenarioParts) (bytes : List ℕ) : Type 0 where
+  pub scenario : ReadScenario reading reading' s
+  pub checkpoint : ReadAll saved saved' bytes
+
+-- both inputs were read whole, and just the report onward from the checkpoint was written
+pub record WroteResumed (saved saved' reading reading' held held' : Option (List ℕ)) : Type 0 where
+  pub scenario : ScenarioParts
+  pub bytes : List ℕ
+  pub read : ReadBoth saved saved' reading reading' scenario bytes
+  pub text : List ℕ
+  pub answer : IsResumedReport scenario bytes text
+  pub written : Appends held held' text
+
+-- both inputs were read whole, and a front of the report onward from the checkpoint was written
+pub record WroteResumedFront (saved saved' reading reading' held held' : Option (List ℕ)) : Type 0 where
+  pub scenario : ScenarioParts
+  pub bytes : List ℕ
+  pub read : ReadBoth saved saved' reading reading' scenario bytes
+  pub text : List ℕ
+  pub answer : IsResumedReport scenario bytes text
+  pub written : AppendsFront held held' text
+
+-- both inputs were read whole; where they are a scenario and a leg of it, just the scenario's report was written
+pub record WroteLegsReport (saved saved' reading reading' held held' : Option (List ℕ)) : Type 0 where
+  pub input : List ℕ
+  pub read : ReadAll reading reading' input
+  pub bytes : List ℕ
+  pub read_bytes : ReadAll saved saved' bytes
+  pub text : List ℕ
+  pub report : (s : ScenarioParts) → Reads input s → ReportsLegs s bytes text
+  pub written : Appends held held' text
+
+-- both inputs were read whole, and the bytes are refused as a checkpoint of the scenario
+pub record ReadRefusedCheckpoint (f : CheckpointFault) (saved saved' reading reading' : Option (List ℕ)) : Type 0 where
+  pub scenario : ScenarioParts
+  pub bytes : List ℕ
+  pub read : ReadBoth saved saved' reading reading' scenario bytes
+  pub refused : RefusesCheckpoint scenario f bytes

@@ -1,0 +1,32 @@
+ghost use Rattle.std.specs.Prelude.{◌≡◌, ◌≢◌, true, IfErr, OnOk};
+ghost use Rattle.std.specs.Io.KnownBytes.{Appends, Keeps};
+ghost use Rattle.crn_text.specs.BlockWords.{words_text};
+ghost use Rattle.crn_engines.specs.Bytes.{AppendsFront};
+ghost use Rattle.crn_engines.specs.Statuses.{is_of_words};
+
+use crate::fault::Fault;
+use crate::steps::send;
+use crn_text::words_text;
+use std::alloc::Global;
+use std::io::Write;
+
+/// Writes the words of block `n` of the stream of `key` as two lines. Reads nothing.
+///
+/// # Errors
+///
+/// - `Memory` where a growth was refused: nothing was written.
+/// - `Writing` where a write fails or takes no byte: a front of the lines went out.
+pub fn write_words<W: Write>(
+    alloc: Global,
+    key: [u64; 4],
+    n: u64,
+    writer: &mut W,
+) -> Result<(), Fault>
+    ensures wrote { OnOk result (Appends (W.contents writer.old) (W.contents writer.new) (words_text key n)) }
+    ensures kept { IfErr result (λ e. e ≢ Fault.Writing → Keeps (W.contents writer.old) (W.contents writer.new)) }
+    ensures others { IfErr result (λ e. is_of_words e ≡ true) }
+    ensures front { IfErr result (λ e. e ≡ Fault.Writing → AppendsFront (W.contents writer.old) (W.contents writer.new) (words_text key n)) }
+{
+    let text = words_text(alloc, key, n)?;
+    send(writer, text.as_slice())
+}

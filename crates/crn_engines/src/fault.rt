@@ -1,0 +1,80 @@
+ghost use Rattle.std.specs.Prelude.{◌≡◌};
+ghost use Rattle.crn_engines.specs.Statuses.{status_of};
+
+use crn_run::RunFault;
+use crn_text::{CheckpointFault, ScenarioFault, ScheduleFault};
+use std::alloc::AllocError;
+use thiserror::Error;
+
+/// Why the program gave no answer. Its text is the line that the program prints on standard error.
+#[derive(Clone, Copy, Debug, Drop, PartialEq, Eq, Error)]
+pub enum Fault {
+    /// The words after the program's name are refused, there is no such ring, or a leg is longer than the run.
+    #[error("crnsim: command line")]
+    CommandLine,
+    /// The input is no scenario that can be run.
+    #[error("crnsim: scenario {}", .0.number())]
+    Scenario(ScenarioFault),
+    /// The file is no checkpoint of the scenario.
+    #[error("crnsim: checkpoint {}", .0.number())]
+    Checkpoint(CheckpointFault),
+    /// The input is no schedule for the ring.
+    #[error("crnsim: schedule {}", .0.number())]
+    Schedule(ScheduleFault),
+    /// A file was not opened, a read failed, or an input is over 1,048,576 bytes.
+    #[error("crnsim: reading")]
+    Reading,
+    /// A write failed or took no byte.
+    #[error("crnsim: writing")]
+    Writing,
+    /// A thread was refused.
+    #[error("crnsim: thread")]
+    Thread,
+    /// A gate answered false. The program's own gates never do.
+    #[error("crnsim: gate")]
+    Gate,
+    /// A growth was refused.
+    #[error("crnsim: memory")]
+    Memory,
+}
+
+impl Fault {
+    /// The status that the program ends with: 2 for the command line, 3 for the scenario, 4 for the checkpoint and the
+    /// schedule, 5 for reading and writing, 6 for a thread and a gate, 7 for want of memory.
+    pub fn status(&self) -> u8
+        ensures { result ≡ status_of self.now }
+    {
+        match self {
+            Fault::CommandLine => 2,
+            Fault::Scenario(_) => 3,
+            Fault::Checkpoint(_) | Fault::Schedule(_) => 4,
+            Fault::Reading | Fault::Writing => 5,
+            Fault::Thread | Fault::Gate => 6,
+            Fault::Memory => 7,
+        }
+    }
+}
+
+impl From<AllocError> for Fault {
+    ghost use Rattle.crn_engines.specs.declared.fault.Fault.TheVariants.{Memory};
+
+    ghost from_gives = { λ _ f. f ≡ Memory };
+
+    fn from(_refused: AllocError) -> Fault {
+        Self::Memory
+    }
+}
+
+impl From<RunFault> for Fault {
+    ghost use Rattle.crn_engines.specs.Statuses.{fault_of_run};
+
+    ghost from_gives = { λ e f. f ≡ fault_of_run e };
+
+    fn from(fault: RunFault) -> Fault {
+        match fault {
+            RunFault::Thread => Fault::Thread,
+            RunFault::Gate => Fault::Gate,
+            RunFault::Memory => Fault::Memory,
+        }
+    }
+}

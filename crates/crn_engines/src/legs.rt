@@ -1,0 +1,99 @@
+ghost use Rattle.std.specs.Prelude.{◌≡◌, ◌≢◌, ◌⊎◌, ◌↔◌, ◌<◌, ◌≤◌, true, IsTrue, IfOk, IfErr, OnOk};
+ghost use Rattle.std.specs.Io.KnownBytes.{Keeps};
+ghost use Rattle.crn_scenario.specs.declared.scenario_fault.ScenarioFault.{ScenarioFault};
+ghost use Rattle.crn_stock.specs.Models.{total};
+ghost use Rattle.crn_run.specs.Runs.{IsCheckpointOf, EachAt};
+ghost use Rattle.crn_checkpoint.specs.Reading.{IsLegOf};
+ghost use Rattle.crn_engines.specs.Statuses.{is_of_leg, is_of_run};
+ghost use Rattle.crn_engines.specs.Inputs.{ReadRefused};
+ghost use Rattle.crn_engines.specs.Legs.{WroteLeg, WroteLegFront, HasFewer, HasEnough};
+
+use crate::fault::Fault;
+use crate::steps::{run_to, scenario_from, send};
+use crn_run::Checkpoint;
+use crn_stock::Scenario;
+use crn_text::write_checkpoint;
+use std::alloc::Global;
+use std::io::{Read, Write};
+use std::sync::Wait;
+use std::thread::Threads;
+
+/// Reads a scenario from `reader` to its end, runs all its policies over the blocks below `n`, each on a thread of its
+/// own, and writes the checkpoint that they have come to to `writer`. Nothing is written before its whole text stands.
+///
+/// [`resume`](crate::resume) goes on from there.
+///
+/// # Errors
+/// - `Reading` where a read fails, for whatever cause, or where the input is over 1,048,576 bytes.
+/// - `Scenario` where the input is no scenario, with the least of its faults.
+/// - `CommandLine` where the scenario has fewer than `n` blocks in all. Then nothing is run.
+/// - `Thread` where a thread was refused. `Gate` is never answered, as the gates are open ones.
+/// - `Memory` where a growth was refused.
+/// - `Writing` where a write fails or takes no byte. A front of the text, which may be empty, went out.
+///
+/// After each other error nothing was written.
+pub fn leg<H: Threads + Wait + Sync, R: Read, W: Write>(
+    rt: &H,
+    alloc: Global,
+    n: u64,
+    reader: &mut R,
+    writer: &mut W,
+) -> Result<(), Fault>
+    ensures wrote { OnOk result (WroteLeg n (R.remaining reader.old) (R.remaining reader.new) (W.contents writer.old) (W.contents writer.new)) }
+    ensures kept { IfErr result (λ e. e ≢ Fault.Writing → Keeps (W.contents writer.old) (W.contents writer.new)) }
+    ensures front { IfErr result (λ e. e ≡ Fault.Writing → WroteLegFront n (R.remaining reader.old) (R.remaining reader.new) (W.contents writer.old) (W.contents writer.new)) }
+    ensures scenario { (f : ScenarioFault) → result ≡ Err (Fault.Scenario f) → (f ≢ ScenarioFault.Memory) × ReadRefused f (R.remaining reader.old) (R.remaining reader.new) }
+    ensures command_line { IfErr result (λ e. e ≡ Fault.CommandLine → HasFewer n (R.remaining reader.old) (R.remaining reader.new)) }
+    ensures threads { IfErr result (λ e. (e ≡ Fault.Thread) ⊎ (e ≡ Fault.Gate) → HasEnough n (R.remaining reader.old) (R.remaining reader.new)) }
+    ensures others { IfErr result (λ e. is_of_leg e ≡ true) }
+{
+    let scenario = scenario_from(alloc, reader)?;
+    let text = leg_text(rt, alloc, &scenario, n)?;
+    send(writer, text.as_slice())
+}
+
+// Runs all policies over the blocks below `n`, and makes the text of the checkpoint there.
+fn leg_text<H: Threads + Wait + Sync>(
+    rt: &H,
+    alloc: Global,
+    scenario: &Scenario,
+    n: u64,
+) -> Result<Vec<u8>, Fault>
+    ensures leg { IfOk result (λ text. IsLegOf scenario.now n text.items) }
+    ensures command_line { IfErr result (λ e. e ≡ Fault.CommandLine → total scenario.now.model < n) }
+    ensures threads { IfErr result (λ e. (e ≡ Fault.Thread) ⊎ (e ≡ Fault.Gate) → n ≤ total scenario.now.model) }
+    ensures no_writing { IfErr result (λ e. e ≢ Fault.Writing) }
+    ensures no_scenario { (f : ScenarioFault) → result ≢ Err (Fault.Scenario f) }
+    ensures others { IfErr result (λ e. is_of_leg e ≡ true) }
+{
+    if !has_blocks(scenario, n) {
+        return Err(Fault::CommandLine);
+    }
+    let reached = reached_at(rt, alloc, scenario, n)?;
+    let text = write_checkpoint(alloc, scenario, &reached)?;
+    Ok(text)
+}
+
+// Whether the scenario has `n` blocks or more.
+fn has_blocks(scenario: &Scenario, n: u64) -> bool
+    ensures { IsTrue result ↔ (n ≤ total scenario.now.model) }
+{
+    n <= scenario.model().total()
+}
+
+// What all policies have come to at block `n`.
+fn reached_at<H: Threads + Wait + Sync>(
+    rt: &H,
+    alloc: Global,
+    scenario: &Scenario,
+    n: u64,
+) -> Result<Checkpoint, Fault>
+    requires within { n ≤ total scenario.now.model }
+    ensures next { IfOk result (λ c. c.next ≡ n) }
+    ensures of { IfOk result (λ c. IsCheckpointOf scenario.now n c.states.items) }
+    ensures at { IfOk result (λ c. EachAt scenario.now n c.states.items) }
+    ensures faults { IfErr result (λ e. is_of_run e ≡ true) }
+{
+    let start = Checkpoint::start(alloc, scenario)?;
+    run_to(rt, alloc, scenario, &start, n)
+}

@@ -1,0 +1,24 @@
+//! The program's engines over any reader and writer: a scenario's report, its checkpoint at a block, the report from a
+//! checkpoint on, the trace of a schedule, and the words of a block.
+#![tactic(auto)]
+
+mod block_words;
+mod fault;
+mod input;
+mod legs;
+mod output;
+mod replay;
+mod resumption;
+mod simulation;
+mod steps;
+
+pub use block_words::write_words;
+pub use fault::Fault;
+pub use legs::leg;
+pub use replay::replay_run;
+pub use resumption::resume;
+pub use simulation::simulate;
+pub use steps::send;
+
+#[cfg(test)]
+mod tests;

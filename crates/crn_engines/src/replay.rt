@@ -1,0 +1,96 @@
+ghost use Rattle.std.specs.Prelude.{◌≡◌, ◌≢◌, ◌↔◌, ◌⊎◌, true, IfOk, IfErr, OnOk, IsErrOf};
+ghost use Rattle.std.specs.Io.KnownBytes.{Keeps};
+ghost use Rattle.crn_proto.specs.Machine.{open_machine};
+ghost use Rattle.crn_text.specs.declared.schedule_fault.ScheduleFault.{ScheduleFault};
+ghost use Rattle.crn_text.specs.Schedule.{RefusesSchedule};
+ghost use Rattle.crn_engines.specs.Statuses.{is_of_schedule, is_of_replay};
+ghost use Rattle.crn_proto.specs.Opening.{CanOpen};
+ghost use Rattle.crn_engines.specs.Replay.{replayed, IsTraceFor, WroteTrace, WroteTraceFront, ReadRefusedSchedule};
+
+use crate::fault::Fault;
+use crate::steps::{input_from, send};
+use crn_cipher::StreamId;
+use crn_proto::{Machine, RingFault, RingSpec};
+use crn_text::{ScheduleFault, read_schedule, trace_text};
+use std::alloc::Global;
+use std::io::{Read, Write};
+
+/// Reads a schedule from `reader` to its end and writes its trace to `writer`, for a ring of so many slots and
+/// readers that carries the blocks 0 to `total` - 1 of the zero key. Nothing is written before the whole trace stands.
+///
+/// # Errors
+///
+/// - `CommandLine` where there is no such ring: the size is no power of two from 1 to 1,024, there are fewer than 1 or
+///   more than 16 readers, or the total is over 65,536. Then nothing is read.
+/// - `Reading` where a read fails, for whatever cause, or where the input is over 1,048,576 bytes.
+/// - `Schedule` where the input is no schedule for so many readers.
+/// - `Memory` where a growth was refused.
+/// - `Writing` where a write fails or takes no byte. A front of the trace, which may be empty, went out.
+///
+/// After each other error nothing was written.
+pub fn replay_run<R: Read, W: Write>(
+    alloc: Global,
+    size: u64,
+    readers: u32,
+    total: u64,
+    reader: &mut R,
+    writer: &mut W,
+) -> Result<(), Fault>
+    ensures wrote { OnOk result (WroteTrace (replayed size readers total) (R.remaining reader.old) (R.remaining reader.new) (W.contents writer.old) (W.contents writer.new)) }
+    ensures kept { IfErr result (λ e. e ≢ Fault.Writing → Keeps (W.contents writer.old) (W.contents writer.new)) }
+    ensures front { IfErr result (λ e. e ≡ Fault.Writing → WroteTraceFront (replayed size readers total) (R.remaining reader.old) (R.remaining reader.new) (W.contents writer.old) (W.contents writer.new)) }
+    ensures schedule { (f : ScheduleFault) → result ≡ Err (Fault.Schedule f) → (f ≢ ScheduleFault.Memory) × ReadRefusedSchedule readers f (R.remaining reader.old) (R.remaining reader.new) }
+    ensures command_line { IsErrOf result Fault.CommandLine ↔ (¬ CanOpen (replayed size readers total)) }
+    ensures others { IfErr result (λ e. is_of_replay e ≡ true) }
+    ensures unread { IfErr result (λ e. e ≡ Fault.CommandLine → Keeps (R.remaining reader.old) (R.remaining reader.new)) }
+{
+    let machine = open_ring(alloc, size, readers, total)?;
+    let input = input_from(alloc, reader)?;
+    let text = trace_for(alloc, machine, input.as_slice())?;
+    send(writer, text.as_slice())
+}
+
+// The ring before any step.
+fn open_ring(alloc: Global, size: u64, readers: u32, total: u64) -> Result<Machine, Fault>
+    ensures opened { IfOk result (λ m. m ≡ open_machine (replayed size readers total)) }
+    ensures command_line { IsErrOf result Fault.CommandLine ↔ (¬ CanOpen (replayed size readers total)) }
+    ensures faults { IfErr result (λ e. (e ≡ Fault.CommandLine) ⊎ (e ≡ Fault.Memory)) }
+{
+    let id = StreamId {
+        key: [0; 4],
+        first: 0,
+        total,
+    };
+    match Machine::open(alloc, RingSpec { size, readers, id }) {
+        Ok(machine) => Ok(machine),
+        Err(RingFault::Memory) => Err(Fault::Memory),
+        Err(_) => Err(Fault::CommandLine),
+    }
+}
+
+// The trace for an input.
+fn trace_for(alloc: Global, machine: Machine, input: &[u8]) -> Result<Vec<u8>, Fault>
+    requires { machine ≡ open_machine machine.spec }
+    ensures trace { IfOk result (λ text. IsTraceFor machine.spec input.now text.items) }
+    ensures schedule { (f : ScheduleFault) → result ≡ Err (Fault.Schedule f) → (f ≢ ScheduleFault.Memory) × RefusesSchedule machine.spec.readers f input.now }
+    ensures faults { IfErr result (λ e. is_of_schedule e ≡ true) }
+{
+    let actors = match read_schedule(alloc, machine.spec().readers, input) {
+        Ok(actors) => actors,
+        Err(fault) => return Err(schedule_fault(fault)),
+    };
+    let text = trace_text(alloc, machine, actors.as_slice())?;
+    Ok(text)
+}
+
+// Want of memory is a fault of its own, wherever it was met.
+fn schedule_fault(fault: ScheduleFault) -> Fault
+    ensures schedule { (f : ScheduleFault) → result ≡ Fault.Schedule f → (f ≡ fault) × (f ≢ ScheduleFault.Memory) }
+    ensures memory { result ≡ Fault.Memory → fault ≡ ScheduleFault.Memory }
+    ensures faults { is_of_schedule result ≡ true }
+{
+    match fault {
+        ScheduleFault::Memory => Fault::Memory,
+        _ => Fault::Schedule(fault),
+    }
+}

@@ -1,0 +1,102 @@
+ghost use Rattle.std.specs.Prelude.{◌≡◌, ◌≢◌, ℕ, List, true, IfOk, IfErr, OnOk};
+ghost use Rattle.std.specs.Io.KnownBytes.{Keeps};
+ghost use Rattle.crn_scenario.specs.declared.scenario_fault.ScenarioFault.{ScenarioFault};
+ghost use Rattle.crn_stock.specs.Parts.{Parts};
+ghost use Rattle.crn_stock.specs.Scenarios.{ScenarioParts};
+ghost use Rattle.crn_checkpoint.specs.Reading.{IsTextOf, IsSameButRing, RefusesCheckpoint};
+ghost use Rattle.crn_checkpoint.specs.declared.checkpoint_fault.CheckpointFault.{CheckpointFault};
+ghost use Rattle.crn_engines.specs.Statuses.{is_of_checkpoint, is_of_resume};
+ghost use Rattle.crn_engines.specs.Inputs.{ReadRefused};
+ghost use Rattle.crn_engines.specs.Resumption.{IsResumedReport, ReportsLegs, WroteResumed, WroteResumedFront, WroteLegsReport, ReadRefusedCheckpoint};
+
+use crate::fault::Fault;
+use crate::steps::{input_from, run_and_report, scenario_from, send};
+use crn_run::Checkpoint;
+use crn_stock::Scenario;
+use crn_text::{CheckpointFault, read_checkpoint};
+use std::alloc::Global;
+use std::io::{Read, Write};
+use std::sync::Wait;
+use std::thread::Threads;
+
+/// Reads a scenario from `reader` to its end, then a checkpoint of it from `checkpoint`, runs all policies from there
+/// over the blocks that are left, each on a thread of its own, and writes the report to `writer`. Nothing is written
+/// before the whole report stands.
+///
+/// From a checkpoint that [`leg`](crate::leg) has written of the same scenario, with a ring of whatever size, it writes
+/// the report that [`simulate`](crate::simulate) writes. From one with altered amounts it goes on as they say.
+///
+/// # Errors
+/// - `Reading` where a read fails, for whatever cause, or where an input is over 1,048,576 bytes.
+/// - `Scenario` where the input is no scenario, with the least of its faults. Then the checkpoint is not read.
+/// - `Checkpoint` where the other text is no checkpoint, or that of another scenario, with the least of its faults.
+/// - `Thread` where a thread was refused. `Gate` is never answered, as the gates are open ones.
+/// - `Memory` where a growth was refused.
+/// - `Writing` where a write fails or takes no byte. A front of the report, which may be empty, went out.
+///
+/// After each other error nothing was written.
+pub fn resume<H: Threads + Wait + Sync, C: Read, R: Read, W: Write>(
+    rt: &H,
+    alloc: Global,
+    checkpoint: &mut C,
+    reader: &mut R,
+    writer: &mut W,
+) -> Result<(), Fault>
+    ensures wrote { OnOk result (WroteResumed (C.remaining checkpoint.old) (C.remaining checkpoint.new) (R.remaining reader.old) (R.remaining reader.new) (W.contents writer.old) (W.contents writer.new)) }
+    ensures legs { OnOk result (WroteLegsReport (C.remaining checkpoint.old) (C.remaining checkpoint.new) (R.remaining reader.old) (R.remaining reader.new) (W.contents writer.old) (W.contents writer.new)) }
+    ensures kept { IfErr result (λ e. e ≢ Fault.Writing → Keeps (W.contents writer.old) (W.contents writer.new)) }
+    ensures front { IfErr result (λ e. e ≡ Fault.Writing → WroteResumedFront (C.remaining checkpoint.old) (C.remaining checkpoint.new) (R.remaining reader.old) (R.remaining reader.new) (W.contents writer.old) (W.contents writer.new)) }
+    ensures scenario { (f : ScenarioFault) → result ≡ Err (Fault.Scenario f) → (f ≢ ScenarioFault.Memory) × ReadRefused f (R.remaining reader.old) (R.remaining reader.new) }
+    ensures unread { (f : ScenarioFault) → result ≡ Err (Fault.Scenario f) → Keeps (C.remaining checkpoint.old) (C.remaining checkpoint.new) }
+    ensures checkpoint { (f : CheckpointFault) → result ≡ Err (Fault.Checkpoint f) → (f ≢ CheckpointFault.Memory) × ReadRefusedCheckpoint f (C.remaining checkpoint.old) (C.remaining checkpoint.new) (R.remaining reader.old) (R.remaining reader.new) }
+    ensures others { IfErr result (λ e. is_of_resume e ≡ true) }
+{
+    let scenario = scenario_from(alloc, reader)?;
+    let bytes = input_from(alloc, checkpoint)?;
+    let text = resumed_text(rt, alloc, &scenario, bytes.as_slice())?;
+    send(writer, text.as_slice())
+}
+
+// The report of a run onward from the checkpoint that a text spells.
+fn resumed_text<H: Threads + Wait + Sync>(
+    rt: &H,
+    alloc: Global,
+    scenario: &Scenario,
+    bytes: &[u8],
+) -> Result<Vec<u8>, Fault>
+    ensures report { IfOk result (λ text. IsResumedReport scenario.now bytes.now text.items) }
+    ensures legs { IfOk result (λ text. ReportsLegs scenario.now bytes.now text.items) }
+    ensures checkpoint { (f : CheckpointFault) → result ≡ Err (Fault.Checkpoint f) → (f ≢ CheckpointFault.Memory) × RefusesCheckpoint scenario.now f bytes.now }
+    ensures no_writing { IfErr result (λ e. e ≢ Fault.Writing) }
+    ensures no_scenario { (f : ScenarioFault) → result ≢ Err (Fault.Scenario f) }
+    ensures others { IfErr result (λ e. is_of_resume e ≡ true) }
+{
+    let start = checkpoint_of(alloc, scenario, bytes)?;
+    run_and_report(rt, alloc, scenario, &start)
+}
+
+// The checkpoint that a text spells.
+fn checkpoint_of(alloc: Global, scenario: &Scenario, bytes: &[u8]) -> Result<Checkpoint, Fault>
+    ensures is_text { IfOk result (λ c. IsTextOf scenario.now c.next c.states.items bytes.now) }
+    ensures only { IfOk result (λ c. (s : ScenarioParts) (next : ℕ) (states : List Parts) → IsTextOf s next states bytes.now
+        → IsSameButRing s scenario.now × (next ≡ c.next) × (states ≡ c.states.items)) }
+    ensures checkpoint { (f : CheckpointFault) → result ≡ Err (Fault.Checkpoint f) → (f ≢ CheckpointFault.Memory) × RefusesCheckpoint scenario.now f bytes.now }
+    ensures faults { IfErr result (λ e. is_of_checkpoint e ≡ true) }
+{
+    match read_checkpoint(alloc, scenario, bytes) {
+        Ok(checkpoint) => Ok(checkpoint),
+        Err(fault) => Err(checkpoint_fault(fault)),
+    }
+}
+
+// Want of memory is a fault of its own, wherever it was met.
+fn checkpoint_fault(fault: CheckpointFault) -> Fault
+    ensures checkpoint { (f : CheckpointFault) → result ≡ Fault.Checkpoint f → (f ≡ fault) × (f ≢ CheckpointFault.Memory) }
+    ensures memory { result ≡ Fault.Memory → fault ≡ CheckpointFault.Memory }
+    ensures faults { is_of_checkpoint result ≡ true }
+{
+    match fault {
+        CheckpointFault::Memory => Fault::Memory,
+        _ => Fault::Checkpoint(fault),
+    }
+}

@@ -1,0 +1,58 @@
+ghost use Rattle.std.specs.Prelude.{◌≡◌, ◌≢◌, true, IfOk, IfErr, OnOk};
+ghost use Rattle.std.specs.Io.KnownBytes.{Keeps};
+ghost use Rattle.crn_scenario.specs.declared.scenario_fault.ScenarioFault.{ScenarioFault};
+ghost use Rattle.crn_text.specs.Report.{IsReportOf};
+ghost use Rattle.crn_engines.specs.Statuses.{is_of_run, is_of_simulation};
+ghost use Rattle.crn_engines.specs.Inputs.{ReadRefused};
+ghost use Rattle.crn_engines.specs.Simulation.{WroteReport, WroteFront};
+
+use crate::fault::Fault;
+use crate::steps::{run_and_report, scenario_from, send};
+use crn_run::Checkpoint;
+use crn_stock::Scenario;
+use std::alloc::Global;
+use std::io::{Read, Write};
+use std::sync::Wait;
+use std::thread::Threads;
+
+/// Reads a scenario from `reader` to its end, runs all its policies, and writes the report to `writer`. Each policy
+/// runs on a thread of its own, and all of them take the same stream from one ring, which the calling thread feeds.
+/// Nothing is written before the whole report stands.
+///
+/// # Errors
+/// - `Reading` where a read fails, for whatever cause, or where the input is over 1,048,576 bytes.
+/// - `Scenario` where the input is no scenario, with the least of its faults.
+/// - `Thread` where a thread was refused. `Gate` is never answered, as the gates are open ones.
+/// - `Memory` where a growth was refused.
+/// - `Writing` where a write fails or takes no byte. A front of the report, which may be empty, went out.
+///
+/// After each other error nothing was written.
+pub fn simulate<H: Threads + Wait + Sync, R: Read, W: Write>(
+    rt: &H,
+    alloc: Global,
+    reader: &mut R,
+    writer: &mut W,
+) -> Result<(), Fault>
+    ensures wrote { OnOk result (WroteReport (R.remaining reader.old) (R.remaining reader.new) (W.contents writer.old) (W.contents writer.new)) }
+    ensures kept { IfErr result (λ e. e ≢ Fault.Writing → Keeps (W.contents writer.old) (W.contents writer.new)) }
+    ensures front { IfErr result (λ e. e ≡ Fault.Writing → WroteFront (R.remaining reader.old) (R.remaining reader.new) (W.contents writer.old) (W.contents writer.new)) }
+    ensures others { IfErr result (λ e. is_of_simulation e ≡ true) }
+    ensures scenario { (f : ScenarioFault) → result ≡ Err (Fault.Scenario f) → (f ≢ ScenarioFault.Memory) × ReadRefused f (R.remaining reader.old) (R.remaining reader.new) }
+{
+    let scenario = scenario_from(alloc, reader)?;
+    let text = report_of(rt, alloc, &scenario)?;
+    send(writer, text.as_slice())
+}
+
+// Runs all policies over the whole stream, and makes the report.
+fn report_of<H: Threads + Wait + Sync>(
+    rt: &H,
+    alloc: Global,
+    scenario: &Scenario,
+) -> Result<Vec<u8>, Fault>
+    ensures report { IfOk result (λ text. IsReportOf scenario.now text.items) }
+    ensures faults { IfErr result (λ e. is_of_run e ≡ true) }
+{
+    let start = Checkpoint::start(alloc, scenario)?;
+    run_and_report(rt, alloc, scenario, &start)
+}
