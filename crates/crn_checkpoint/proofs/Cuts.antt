@@ -1,11 +1,11 @@
 -- A checkpoint and its scenario, as they are read.
-use Rattle.std.proofs.Common.{◌≡◌, ℕ, ◌+◌, ◌*◌, ◌/◌, ◌<◌, ◌≤◌, ◌^◌, List, decimal, refl, ap, sym, ◌∙◌, subst, arith}
+use Rattle.std.proofs.Common.{◌≡◌, ℕ, ◌<◌, ◌≤◌, ◌^◌, List, decimal, ap, sym, ◌∙◌, subst, arith}
 use Rattle.crn_stock.specs.declared.rules.Policy.{Policy}
 use Rattle.crn_stock.specs.Parts.{Parts}
-use Rattle.crn_stock.specs.Models.{ModelParts, IsModel, total, blocks_per_replication}
+use Rattle.crn_stock.specs.Models.{ModelParts, total}
 use Rattle.crn_stock.specs.Scenarios.{ScenarioParts, AreForScenario, IsRingSize}
 use Rattle.crn_checkpoint.specs.CheckpointText.{checkpoint_rows, checkpoint_text}
-use Rattle.crn_checkpoint.specs.Reading.{IsInRange, IsTextOf, IsSameButRing}
+use Rattle.crn_checkpoint.specs.Reading.{IsTextOf, IsSameButRing}
 use Rattle.crn_checkpoint.specs.Cells.{cell, AreRowsOf}
 use Rattle.crn_checkpoint.proofs.Lengths.{total_high}
 use Rattle.std.proofs.Common.{true}

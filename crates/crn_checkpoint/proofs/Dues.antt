@@ -1,8 +1,8 @@
 -- Amounts due, from their rows.
-use Rattle.std.proofs.Common.{◌≡◌, ℕ, zero, suc, ◌+◌, ◌<◌, ◌≤◌, ◌^◌, ◌-◌, min, List, [], ◌∷◌, length, get_or, drop, take, set, All, ◌++◌, decimal, codes, refl, ap, sym, ◌∙◌, subst, arith}
+use Rattle.std.proofs.Common.{◌≡◌, ℕ, zero, suc, ◌+◌, ◌<◌, ◌≤◌, ◌^◌, ◌-◌, min, List, [], ◌∷◌, length, get_or, drop, take, set, All, ◌++◌, decimal, ap, sym, ◌∙◌, arith}
 use Rattle.std.proofs.Common.{drop-cons, length-drop}
 use Rattle.std.proofs.lemmas.List.{take_more, take_more_set}
-use Rattle.crn_checkpoint.specs.CheckpointText.{pair_row, due_rows}
+use Rattle.crn_checkpoint.specs.CheckpointText.{due_rows}
 use Rattle.crn_checkpoint.specs.Cells.{cell}
 
 -- the first row is of some period from t on

@@ -1,16 +1,13 @@
 -- The rows of a checkpoint call for no quotes, so that `csv` reads them again as they were written.
 use Rattle.std.proofs.Common.{◌≡◌, ℕ, zero, suc, ◌+◌, ◌*◌, ◌<◌, ◌≤◌, ◌^◌, ℤ, true, List, [], ◌∷◌, ◌++◌, All, length, sum, slice_index, codes, decimal, None, refl, ◌∙◌, arith}
-use Rattle.std.proofs.lemmas.Bool.Decides.{nat_tests}
 use Rattle.std.proofs.lemmas.Int.{ints}
-use Rattle.std.proofs.lemmas.List.Elements.{All-head, All-tail, All-cons, All-nil, All-weaker}
-use Rattle.std.proofs.lemmas.List.Sums.{sum_by-cons}
+use Rattle.std.proofs.lemmas.List.Elements.{All-head, All-tail}
 use Rattle.std.proofs.lemmas.List.Folds.{list_all-append}
-use Rattle.std.proofs.lemmas.Nat.{mul-le}
 use Rattle.std.proofs.Math.Nat.{le-mul_of_pos_right}
 use Rattle.std.proofs.lemmas.Option.{slice_get-get_or}
 use Rattle.std.specs.Fmt.{signed_decimal}
 use lib.Signed.{mag}
-use Rattle.crn_draw.specs.Faults.{least_fault, rises}
+use Rattle.crn_draw.specs.Faults.{least_fault}
 use Rattle.crn_draw.specs.Spread.{Weighted}
 use Rattle.crn_stock.specs.declared.rules.Policy.{Policy}
 use Rattle.crn_stock.specs.declared.rules.Costs.{Costs}

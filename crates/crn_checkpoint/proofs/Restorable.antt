@@ -1,15 +1,12 @@
 -- A state within its ranges is the one that its own amounts restore.
-use Rattle.std.proofs.Common.{◌≡◌, ℕ, zero, suc, ◌+◌, ◌*◌, ◌/◌, ◌%◌, ◌<◌, ◌≤◌, List, All, Some, length, slice_get, get_or, refl, ap, sym, ◌∙◌, subst, arith}
+use Rattle.std.proofs.Common.{◌≡◌, ℕ, ◌+◌, ◌*◌, ◌/◌, ◌%◌, ◌<◌, ◌≤◌, List, length, get_or, refl, ap, sym, ◌∙◌, subst, arith}
 use Rattle.std.specs.Prelude.{ℤ}
 use Rattle.std.proofs.lemmas.Option.{slice_get-get_or}
 use Rattle.std.proofs.lemmas.Nat.{div-mul-add, mod-mul-add}
-use Rattle.crn_cipher.specs.declared.TheConstants.{STREAM_WORDS}
-use Rattle.crn_stock.specs.declared.rules.Policy.{Policy}
 use Rattle.crn_stock.specs.Parts.{Parts, AreInRange}
 use Rattle.crn_stock.specs.Models.{ModelParts, IsModel, blocks_per_replication, total}
-use Rattle.crn_stock.specs.Restored.{restored, CanRestore, first_period}
+use Rattle.crn_stock.specs.Restored.{restored, first_period}
 use Rattle.crn_stock.specs.Scenarios.{ScenarioParts}
-use Rattle.crn_stock.specs.Draws.{IsOf, IsBetween, next_block}
 use Rattle.crn_run.specs.Runs.{StandsAt}
 use Rattle.crn_checkpoint.specs.Reading.{IsInRange}
 use Rattle.crn_checkpoint.specs.Amounts.{IsRestorable, ArePoliciesOf}

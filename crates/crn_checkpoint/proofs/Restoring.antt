@@ -1,10 +1,10 @@
 -- The amounts of a state, as they are read, and the state that they restore.
-use Rattle.std.proofs.Common.{◌≡◌, ℕ, ◌+◌, ◌*◌, ◌/◌, ◌%◌, ◌<◌, ◌≤◌, ◌^◌, List, [], ◌∷◌, All, length, sum, refl, ap, sym, ◌∙◌, subst, arith}
-use Rattle.std.specs.Prelude.{ℤ, pos, negsuc, ◌≤ℤ◌, ◌+ℤ◌, unsigned_abs}
+use Rattle.std.proofs.Common.{◌≡◌, ℕ, ◌*◌, ◌/◌, ◌<◌, ◌≤◌, ◌^◌, List, All, length, sum, ap, sym, ◌∙◌, arith}
+use Rattle.std.specs.Prelude.{ℤ, pos, ◌≤ℤ◌, ◌+ℤ◌, unsigned_abs}
 use Rattle.std.proofs.lemmas.Int.{ints}
 use Rattle.std.proofs.Math.Nat.{div-le_of_le-mul}
-use Rattle.crn_stock.specs.Parts.{Parts, AreInRange, period_cost_limit}
-use Rattle.crn_stock.specs.Models.{ModelParts, IsModel, blocks_per_replication, total}
+use Rattle.crn_stock.specs.Parts.{Parts}
+use Rattle.crn_stock.specs.Models.{ModelParts, blocks_per_replication}
 use Rattle.crn_stock.specs.Restored.{restored, CanRestore, first_period}
 use Rattle.crn_checkpoint.specs.Amounts.{IsRestorable}
 use Rattle.crn_checkpoint.proofs.Lengths.{each_below}

@@ -1,12 +1,12 @@
 -- The rows of several policies, one policy after another.
-use Rattle.std.proofs.Common.{◌≡◌, ℕ, zero, suc, ◌+◌, ◌<◌, ◌≤◌, true, List, [], ◌∷◌, ◌++◌, All, length, take, drop, refl, ap, sym, ◌∙◌, subst, append_assoc, arith}
+use Rattle.std.proofs.Common.{◌≡◌, ℕ, zero, suc, ◌+◌, ◌<◌, true, List, [], ◌∷◌, ◌++◌, All, length, take, drop, refl, ap, ◌∙◌, subst, append_assoc, arith}
 use Rattle.std.proofs.lemmas.List.Elements.{All-head, All-tail}
 use Rattle.std.proofs.lemmas.List.{length-append}
 use Rattle.crn_stock.specs.declared.rules.Policy.{Policy}
 use Rattle.crn_stock.specs.Parts.{Parts}
 use Rattle.crn_stock.specs.Models.{ModelParts, IsPolicy}
 use Rattle.crn_stock.specs.Scenarios.{is_name}
-use Rattle.crn_checkpoint.specs.CheckpointText.{policy_row, policy_rows, all_policy_rows}
+use Rattle.crn_checkpoint.specs.CheckpointText.{policy_rows, all_policy_rows}
 use Rattle.crn_checkpoint.specs.Amounts.{IsRestorable, ArePoliciesOf}
 
 -- the item at a place, and what stands before and after it

@@ -1,16 +1,12 @@
 -- The rows of a checkpoint, by their places.
-use Rattle.std.proofs.Common.{◌≡◌, ℕ, ◌+◌, ◌*◌, ◌<◌, ◌≤◌, ◌^◌, zero, suc, Bool, true, false, Option, Some, None, List, [], ◌∷◌, ◌++◌, All, map, length, sum, get_or, take, drop, decimal, codes, refl, ap, sym, ◌∙◌, subst, append_assoc, arith}
-use Rattle.std.specs.Prelude.{ℤ, pos, negsuc, ◌≤ℤ◌, ◌+ℤ◌, unsigned_abs, if◌then◌else◌, not, nat_eq, nat_le, nat_lt}
-use Rattle.std.proofs.lemmas.Bool.{and_parts}
-use Rattle.std.proofs.lemmas.Bool.Decides.{nat_tests}
+use Rattle.std.proofs.Common.{◌≡◌, ℕ, ◌+◌, ◌*◌, ◌<◌, ◌≤◌, ◌^◌, zero, suc, Option, Some, None, List, [], ◌∷◌, ◌++◌, map, length, get_or, take, drop, decimal, codes, refl, ap, ◌∙◌, append_assoc, arith}
+use Rattle.std.specs.Prelude.{ℤ, pos, negsuc, ◌≤ℤ◌, ◌+ℤ◌, unsigned_abs}
 use Rattle.std.proofs.lemmas.Int.{ints}
-use Rattle.std.proofs.lemmas.List.Sums.{sum_by-cons}
 use Rattle.crn_draw.specs.Spread.{Weighted}
-use Rattle.crn_draw.specs.Faults.{rises, sum_fits, least_fault}
+use Rattle.crn_draw.specs.Faults.{least_fault}
 use Rattle.crn_draw.specs.declared.fault.DrawFault.{DrawFault}
-use Rattle.crn_draw.specs.declared.fault.DrawFault.TheVariants.{Empty, Lengths, Order, Total}
 use Rattle.crn_stock.specs.Parts.{Parts}
-use Rattle.crn_stock.specs.Models.{ModelParts, IsModel, total}
+use Rattle.crn_stock.specs.Models.{ModelParts}
 use Rattle.crn_stock.specs.Scenarios.{ScenarioParts}
 use Rattle.crn_checkpoint.specs.Sizes.{parts_of}
 use Rattle.crn_checkpoint.specs.declared.models.Sizes.{Sizes}
@@ -18,7 +14,7 @@ use Rattle.crn_checkpoint.specs.declared.unread.Unread.{Unread}
 use Rattle.crn_checkpoint.specs.declared.unread.Unread.TheVariants.{Memory}
 use Rattle.crn_stock.specs.declared.rules.Policy.{Policy}
 use Rattle.std.specs.Prelude.{Result, Ok, Err, IsErr, IsErrAnd, MatchResult}
-use Rattle.crn_checkpoint.specs.CheckpointText.{dash, pair_row, weight_rows, drawn_rows, cost_rows, all_policy_rows, end_row, checkpoint_rows}
+use Rattle.crn_checkpoint.specs.CheckpointText.{weight_rows, drawn_rows, cost_rows, all_policy_rows, end_row, checkpoint_rows}
 
 -- ---- lists, front and rest
 

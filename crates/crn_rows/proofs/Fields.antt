@@ -1,5 +1,5 @@
 -- The field at a place of a row, and the numbers that fields spell.
-use Rattle.std.proofs.Common.{◌≡◌, ℕ, ◌<◌, ◌^◌, zero, suc, Option, Some, None, List, [], ◌∷◌, decimal, refl, rules, arith, get_or, subst, sym, ◌∙◌, ap}
+use Rattle.std.proofs.Common.{◌≡◌, ℕ, ◌<◌, ◌^◌, zero, suc, Option, Some, None, List, [], ◌∷◌, decimal, refl, rules, arith, get_or, sym, ◌∙◌, ap}
 use Rattle.std.specs.Prelude.{ℤ, pos, negsuc, Result, Ok, Err, unsigned_abs, option_map}
 use Rattle.std.proofs.Common.{FitsSigned, w64, to_z, of_z, Bor}
 use lib.Signed.{mag}

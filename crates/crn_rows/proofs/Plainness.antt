@@ -1,5 +1,5 @@
 -- A row of plain fields is written as it is.
-use Rattle.std.proofs.Common.{◌≡◌, ℕ, ℤ, pos, negsuc, ◌+◌, ◌%◌, ◌<◌, ◌^◌, ◌&&◌, nat_le, nat_lt, true, false, List, [], ◌∷◌, ◌++◌, length, codes, decimal, suc, refl, arith}
+use Rattle.std.proofs.Common.{◌≡◌, ℕ, ℤ, pos, negsuc, ◌+◌, ◌%◌, ◌<◌, ◌^◌, nat_le, nat_lt, true, false, List, [], ◌∷◌, ◌++◌, length, decimal, suc, refl, arith}
 use Rattle.std.proofs.lemmas.Bool.{and_parts}
 use Rattle.std.proofs.lemmas.Bool.Decides.{nat_tests}
 use Rattle.std.proofs.lemmas.Fmt.{decimal_by_steps_wide}
@@ -7,11 +7,10 @@ use lib.Signed.{mag}
 use Rattle.std.specs.Fmt.{signed_decimal}
 use Rattle.std.specs.Prelude.{Result, Ok, Err}
 use Rattle.std.specs.Result.{OnOk, is_err}
-use Rattle.std.specs.List.{list_all}
 use Rattle.csv.specs.Writing as csv
 use Rattle.csv.specs.Writing.{default_writer, needs_byte, needs_quotes, field_text, fields_text, is_blank}
-use Rattle.crn_rows.specs.Plain.{is_plain, is_plain_byte, are_plain, is_row, are_rows}
-use Rattle.crn_rows.specs.Rows.{row_text, rows_text, further}
+use Rattle.crn_rows.specs.Plain.{is_plain, is_plain_byte, are_plain, is_row}
+use Rattle.crn_rows.specs.Rows.{row_text, further}
 
 needs_none : (b : ℕ) → is_plain_byte b ≡ true → needs_byte default_writer b ≡ false
 needs_none b h = let (low, high) = and_parts (nat_le 45 b) (nat_lt b 128) h in grind (arith, nat_tests, low)

@@ -1,17 +1,16 @@
 -- What `csv` reads of a text of plain rows are these rows.
-use Rattle.std.proofs.Common.{◌≡◌, ℕ, ◌+◌, ◌<◌, ◌&&◌, nat_le, nat_lt, Bool, true, false, Option, Some, None, List, [], ◌∷◌, ◌++◌, length, map, refl, ap, sym, subst, ◌∙◌, append_assoc, arith}
+use Rattle.std.proofs.Common.{◌≡◌, ℕ, ◌<◌, nat_le, nat_lt, true, Option, Some, None, List, [], ◌∷◌, ◌++◌, map, refl, ap, sym, subst, ◌∙◌, arith}
 use Rattle.std.proofs.lemmas.Bool.{and_parts}
 use Rattle.std.proofs.lemmas.Bool.Decides.{nat_tests}
 use Rattle.csv.specs.Machine.{next_record, Read}
 use Rattle.csv.specs.Reading.{default_config, strip_bom, AreRecords, Reached}
-use Rattle.csv.specs.Writing as csv
-use Rattle.csv.specs.Writing.{default_writer, read_back}
+use Rattle.csv.specs.Writing.{read_back}
 use Rattle.csv.specs.declared.parser.State.TheVariants as st
 use Rattle.csv.specs.declared.parser.State.{State}
 use Rattle.csv.proofs.RoundTrip as csv_proofs
 use Rattle.csv.proofs.RoundTrip.{read-write}
 use Rattle.crn_rows.specs.Plain.{is_plain_byte, is_plain, are_plain, is_row, are_rows}
-use Rattle.crn_rows.specs.Rows.{further, row_text, rows_text}
+use Rattle.crn_rows.specs.Rows.{row_text, rows_text}
 use Rattle.crn_rows.proofs.Plainness.{row_written, row_parts}
 
 none_some : {X : Type 0} (r : Option X) (a : X) → r ≡ None → r ≡ Some a → ⊥

@@ -1,4 +1,4 @@
-use Rattle.std.proofs.Common.{◌≡◌, ◌∙◌, ◌++◌, length, List, ℕ, ap, sym, drop, append_assoc, arith}
+use Rattle.std.proofs.Common.{◌∙◌, ◌++◌, length, ap, sym, drop, append_assoc, arith}
 use Rattle.crn_checkpoint.specs.Cells.{cell}
 use Rattle.crn_checkpoint.specs.CheckpointText.{due_rows, cost_rows}
 use Rattle.crn_checkpoint.proofs.Lengths.{length_due}

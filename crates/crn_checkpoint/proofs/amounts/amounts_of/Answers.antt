@@ -1,4 +1,4 @@
-use Rattle.std.proofs.Common.{◌≡◌, ◌∙◌, ◌++◌, List, ℕ, [], ap, sym, drop, take, map, get_or, length, append_assoc, arith}
+use Rattle.std.proofs.Common.{◌∙◌, ◌++◌, List, ℕ, [], ap, sym, drop, take, map, get_or, length, append_assoc, arith}
 use Rattle.crn_rows.proofs.Fields.{back}
 use Rattle.crn_checkpoint.specs.Cells.{cell}
 use Rattle.crn_checkpoint.specs.CheckpointText.{due_rows, cost_rows}

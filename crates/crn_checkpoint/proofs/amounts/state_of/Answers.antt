@@ -1,4 +1,4 @@
-use Rattle.std.proofs.Common.{◌≡◌, ◌∙◌, ℤ, w64, to_z, of_z}
+use Rattle.std.proofs.Common.{◌∙◌}
 use Rattle.crn_rows.proofs.Fields.{back}
 use Rattle.crn_checkpoint.proofs.Restoring.{stock_small, same_state, can_too}
 use Rattle.crn_checkpoint.proofs.amounts.state_of.Goals as goal

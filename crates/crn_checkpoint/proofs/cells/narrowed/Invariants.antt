@@ -1,4 +1,4 @@
-use Rattle.std.proofs.Common.{◌≡◌, ℕ, ◌<◌, ◌^◌, All, take}
+use Rattle.std.proofs.Common.{◌≡◌, ◌<◌, ◌^◌, All, take}
 use Rattle.crn_checkpoint.proofs.cells.narrowed.Given as goal
 
 abbrev pub invariant-loop-number : goal.invariant-loop-number

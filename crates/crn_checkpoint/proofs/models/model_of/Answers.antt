@@ -1,5 +1,5 @@
-use Rattle.std.proofs.Common.{◌≡◌, ◌∙◌, ℕ, sym, subst, codes}
-use Rattle.crn_stock.specs.Models.{ModelParts, IsModel}
+use Rattle.std.proofs.Common.{sym, subst, codes}
+use Rattle.crn_stock.specs.Models.{IsModel}
 use Rattle.crn_checkpoint.proofs.Lists.{demands_count, leads_count, demand_rows_are, lead_rows_are, demands_small, leads_small}
 use Rattle.crn_checkpoint.proofs.WholeRows.{handed_on, same_model_parts, answered}
 use Rattle.crn_checkpoint.proofs.models.model_of.Goals as goal

@@ -1,4 +1,4 @@
-use Rattle.std.proofs.Common.{◌≡◌, List, ℕ, ap, arith}
+use Rattle.std.proofs.Common.{ap, arith}
 use Rattle.crn_rows.proofs.Fields.{back}
 use Rattle.crn_checkpoint.specs.CheckpointText.{checkpoint_rows}
 use Rattle.crn_checkpoint.specs.Cells.{cell}

@@ -1,6 +1,4 @@
-use Rattle.std.proofs.Common.{◌≡◌, ◌∙◌, ◌<◌, ◌^◌, List, ℕ, [], All, None, get_or, map, decimal, ap, sym, arith, inl, inr}
-use Rattle.crn_draw.specs.Spread.{Weighted}
-use Rattle.crn_draw.specs.Faults.{least_fault}
+use Rattle.std.proofs.Common.{◌∙◌, ◌^◌, List, ℕ, [], get_or, map, ap, arith, inl, inr}
 use Rattle.crn_checkpoint.proofs.Lengths.{each_below, lengths_of, sum_of}
 use Rattle.crn_checkpoint.proofs.WholeRows.{values_read, weights_read, no_fault, same_weighted}
 use Rattle.crn_checkpoint.proofs.models.weights_of.Goals as goal

@@ -1,4 +1,4 @@
-use Rattle.std.proofs.Common.{◌≡◌, ◌∙◌, ◌<◌, ◌++◌, ◌∷◌, ℕ, List, [], length, refl, sym, arith}
+use Rattle.std.proofs.Common.{◌∙◌, ◌++◌, ◌∷◌, [], length, refl, sym, arith}
 use Rattle.crn_run.specs.Runs.{StandsAt}
 use Rattle.crn_run.proofs.Growing.{each-grown}
 use Rattle.crn_checkpoint.proofs.WholeRows.{handed_on}

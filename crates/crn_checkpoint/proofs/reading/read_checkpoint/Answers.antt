@@ -1,4 +1,4 @@
-use Rattle.std.proofs.Common.{rules, ◌≡◌, ◌∙◌, ℕ, List, ap, sym, subst}
+use Rattle.std.proofs.Common.{rules, ◌∙◌, subst}
 use Rattle.crn_stock.specs.Scenarios.{ScenarioParts}
 use Rattle.crn_checkpoint.specs.Reading.{IsTextOf, IsSameButRing}
 use Rattle.crn_checkpoint.proofs.Cuts.{same_scenario}

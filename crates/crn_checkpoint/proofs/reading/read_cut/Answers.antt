@@ -1,11 +1,7 @@
-use Rattle.std.proofs.Common.{◌≡◌, ◌∙◌, ℕ, List, sym, refl}
+use Rattle.std.proofs.Common.{◌≡◌, ◌∙◌, sym}
 use Rattle.std.proofs.lemmas.Bool.{false≢true}
 use Rattle.std.proofs.lemmas.Bool.Decides.{Decides-eqb}
 use Rattle.std.proofs.lemmas.Slice.Eq.{slice_eq-Decides}
-use Rattle.crn_stock.specs.Parts.{Parts}
-use Rattle.crn_stock.specs.Scenarios.{ScenarioParts}
-use Rattle.crn_checkpoint.specs.Reading.{IsTextOf}
-use Rattle.crn_checkpoint.specs.Cells.{AreRowsOf}
 use Rattle.crn_checkpoint.proofs.Cuts.{rows_of_text, same_text}
 use Rattle.crn_checkpoint.proofs.WholeRows.{handed_on}
 use Rattle.crn_checkpoint.proofs.reading.read_cut.Goals as goal

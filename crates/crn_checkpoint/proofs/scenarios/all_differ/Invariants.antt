@@ -1,4 +1,4 @@
-use Rattle.std.proofs.Common.{◌≡◌, ◌≢◌, ℕ, ◌<◌, length, get_or}
+use Rattle.std.proofs.Common.{◌≢◌, ℕ, ◌<◌, length, get_or}
 use Rattle.crn_stock.specs.declared.rules.Policy.{Policy}
 use Rattle.crn_checkpoint.proofs.scenarios.all_differ.Given as goal
 

@@ -1,4 +1,4 @@
-use Rattle.std.proofs.Common.{◌≡◌, ◌∙◌, ℕ, sym, subst, arith}
+use Rattle.std.proofs.Common.{arith}
 use Rattle.crn_checkpoint.proofs.Lists.{demands_count, leads_count, policies_count, policy_rows_are}
 use Rattle.crn_checkpoint.proofs.Restorable.{policies_are}
 use Rattle.crn_checkpoint.proofs.scenarios.policies_in.Goals as goal
