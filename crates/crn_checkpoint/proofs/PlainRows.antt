@@ -11,7 +11,7 @@ use Rattle.crn_draw.specs.Faults.{least_fault}
 use Rattle.crn_draw.specs.Spread.{Weighted}
 use Rattle.crn_stock.specs.declared.rules.Policy.{Policy}
 use Rattle.crn_stock.specs.declared.rules.Costs.{Costs}
-use Rattle.crn_stock.specs.Parts.{Parts, AreInRange, period_cost_limit}
+use Rattle.crn_stock.specs.Parts.{Parts, AreInRange, stock_limit, period_cost_limit}
 use Rattle.crn_stock.specs.Models.{ModelParts, IsModel, IsPolicy, AreCosts, blocks_per_replication, total}
 use Rattle.crn_stock.specs.Scenarios.{ScenarioParts, is_name}
 use Rattle.crn_scenario.specs.Hex.{hex_word}
@@ -21,6 +21,7 @@ use Rattle.crn_rows.proofs.Plainness.{signed_plain}
 use Rattle.crn_checkpoint.specs.CheckpointText.{numbers_row, pair_row, head_row, key_row, costs_row, sizes_row, weight_rows, drawn_rows, policy_row, due_rows, cost_rows, state_row, policy_rows, all_policy_rows, end_row, checkpoint_rows}
 use Rattle.crn_checkpoint.specs.Reading.{IsScenario, IsInRange}
 use Rattle.crn_checkpoint.proofs.Lengths.{length_of_rising, length_due, each_below, all_below, total_high, rising_of, sum_of}
+use Rattle.crn_checkpoint.proofs.WholeRows.{limit_high}
 use Rattle.crn_checkpoint.proofs.PlainFields.{number_plain, mag_low, level_plain, word_plain, name_plain}
 
 -- ---- single rows
@@ -90,13 +91,16 @@ record IsPlainState (v : Parts) : Type 0 where
   periods : v.periods ≤ 1024
   done : length v.costs ≤ 65536
 
+limit : (v : Parts) → IsPlainState v → stock_limit v.has_returns v.period ≤ 11240000
+limit v h = limit_high v.has_returns v.period (omega (arith, h.ranges.period_high, h.periods))
+
 amounts_below : (v : Parts) → IsPlainState v → sum v.due < 2 ^ 64
-amounts_below v h = omega (arith, ints, h.ranges.stock_low, h.ranges.position_high, h.ranges.period_high, h.periods)
+amounts_below v h = omega (arith, ints, h.ranges.stock_low, h.ranges.position_high, limit v h, h.ranges.period_high, h.periods)
 
 state_plain : (v : Parts) → IsPlainState v → is_row (state_row v) ≡ true
 state_plain v h =
     let r = h.ranges in
-    let stock = mag_low v.stock (10000 * v.period) 1000000 r.stock_low r.stock_high (omega (arith, r.period_high, h.periods)) (omega arith) in
+    let stock = mag_low v.stock (10000 * v.period) 11240000 r.stock_low (omega (arith, ints, r.stock_high, limit v h)) (omega (arith, r.period_high, h.periods)) (omega arith) in
     let due = length_due v.period v.due in
     amounts_plain v.stock v.running (length (due_rows v.period v.due)) (length v.costs) stock
     (omega (arith, r.running_high, r.period_high, h.periods)) (omega (arith, due, r.due_length)) (omega (arith, h.done))

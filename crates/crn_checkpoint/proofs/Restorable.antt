@@ -1,10 +1,10 @@
 -- A state within its ranges is the one that its own amounts restore.
 use Rattle.std.proofs.Common.{◌≡◌, ℕ, ◌+◌, ◌*◌, ◌/◌, ◌%◌, ◌<◌, ◌≤◌, List, length, get_or, refl, ap, sym, ◌∙◌, subst, arith}
-use Rattle.std.specs.Prelude.{ℤ}
+use Rattle.std.specs.Prelude.{Bool, ℤ}
 use Rattle.std.proofs.lemmas.Option.{slice_get-get_or}
 use Rattle.std.proofs.lemmas.Nat.{div-mul-add, mod-mul-add}
 use Rattle.crn_stock.specs.Parts.{Parts, AreInRange}
-use Rattle.crn_stock.specs.Models.{ModelParts, IsModel, blocks_per_replication, total}
+use Rattle.crn_stock.specs.Models.{ModelParts, IsModel, has_returns, blocks_per_replication, total}
 use Rattle.crn_stock.specs.Restored.{restored, first_period}
 use Rattle.crn_stock.specs.Scenarios.{ScenarioParts}
 use Rattle.crn_run.specs.Runs.{StandsAt}
@@ -25,9 +25,9 @@ place a b t p n whole lt is e =
     let same : n ≡ a * b + part = omega arith in
     (quotient a b part n inside same, omega (arith, remainder a b part n inside same))
 
-same_parts : (v : Parts) (p r t : ℕ) (x : ℤ) → v.periods ≡ p → v.replications ≡ r → v.initial ≡ x → v.period ≡ t
-    → v ≡ record { periods = p; replications = r; initial = x; costs = v.costs; period = t; stock = v.stock; due = v.due; running = v.running }
-same_parts v p r t x ep er ex et = λ j. record { periods = ep j; replications = er j; initial = ex j; costs = v.costs; period = et j; stock = v.stock; due = v.due; running = v.running }
+same_parts : (v : Parts) (p r t : ℕ) (x : ℤ) (b : Bool) → v.periods ≡ p → v.replications ≡ r → v.initial ≡ x → v.has_returns ≡ b → v.period ≡ t
+    → v ≡ record { periods = p; replications = r; initial = x; has_returns = b; costs = v.costs; period = t; stock = v.stock; due = v.due; running = v.running }
+same_parts v p r t x b ep er ex eb et = λ j. record { periods = ep j; replications = er j; initial = ex j; has_returns = eb j; costs = v.costs; period = et j; stock = v.stock; due = v.due; running = v.running }
 
 pub restorable : (m : ModelParts) (n : ℕ) (v : Parts) → IsModel m → n ≤ total m → StandsAt m n v → AreInRange v → IsRestorable m n v
 restorable m n v model high stands ranges =
@@ -36,7 +36,7 @@ restorable m n v model high stands ranges =
     let within : v.period < m.periods = subst (λ (p : ℕ). v.period < p) sizes.periods_are ranges.period_high in
     let next : n ≡ length v.costs * b + (v.period + 3) / 4 = sym stands.next ∙ ap (λ (p : ℕ). length v.costs * blocks_per_replication p + (v.period + 3) / 4) sizes.periods_are in
     let parts = place (length v.costs) b v.period m.periods n stands.between within refl next in
-    let same : v ≡ restored m n v.stock v.due v.running v.costs = same_parts v m.periods m.replications (first_period m n) m.initial sizes.periods_are sizes.replications_are sizes.initial_is (sym parts.1) in
+    let same : v ≡ restored m n v.stock v.due v.running v.costs = same_parts v m.periods m.replications (first_period m n) m.initial (has_returns m) sizes.periods_are sizes.replications_are sizes.initial_is sizes.has_returns_is (sym parts.1) in
     record {
       model = model;
       can = record { number = high; count = sym parts.0; ranges = subst AreInRange same ranges };

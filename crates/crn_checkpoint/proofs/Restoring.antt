@@ -4,11 +4,11 @@ use Rattle.std.specs.Prelude.{ℤ, pos, ◌≤ℤ◌, ◌+ℤ◌, unsigned_abs}
 use Rattle.std.proofs.lemmas.Int.{ints}
 use Rattle.std.proofs.Math.Nat.{div-le_of_le-mul}
 use Rattle.crn_stock.specs.Parts.{Parts}
-use Rattle.crn_stock.specs.Models.{ModelParts, blocks_per_replication}
+use Rattle.crn_stock.specs.Models.{ModelParts, has_returns, blocks_per_replication}
 use Rattle.crn_stock.specs.Restored.{restored, CanRestore, first_period}
 use Rattle.crn_checkpoint.specs.Amounts.{IsRestorable}
 use Rattle.crn_checkpoint.proofs.Lengths.{each_below}
-use Rattle.crn_checkpoint.proofs.WholeRows.{small_stock}
+use Rattle.crn_checkpoint.proofs.WholeRows.{limit_high, small_stock}
 
 pub period_is : (m : ModelParts) (n : ℕ) (v : Parts) → IsRestorable m n v → first_period m n ≡ v.period
 period_is m n v h = sym (ap (λ (w : Parts). w.period) h.same)
@@ -17,13 +17,13 @@ pub period_low : (m : ModelParts) (n : ℕ) (v : Parts) → IsRestorable m n v �
 period_low m n v h = omega (arith, h.can.ranges.period_high, h.model.periods_high)
 
 pub stock_small : (m : ModelParts) (n : ℕ) (v : Parts) → IsRestorable m n v → unsigned_abs v.stock < 2 ^ 63
-stock_small m n v h = small_stock v.stock (first_period m n) (period_low m n v h) h.can.ranges.stock_low h.can.ranges.stock_high
+stock_small m n v h = small_stock v.stock (first_period m n) (period_low m n v h) h.can.ranges.stock_low (omega (arith, ints, h.can.ranges.stock_high, limit_high (has_returns m) (first_period m n) (period_low m n v h)))
 
-on_order : (x : ℤ) (t n : ℕ) → t ≤ 1024 → pos 0 ≤ℤ (x +ℤ pos (10000 * t)) → (x +ℤ pos n) ≤ℤ pos 1000000 → n ≤ 11240000
+on_order : (x : ℤ) (t n : ℕ) → t ≤ 1024 → pos 0 ≤ℤ (x +ℤ pos (10000 * t)) → (x +ℤ pos n) ≤ℤ pos 11240000 → n ≤ 21480000
 on_order x t n period low high = omega (arith, ints, period, low, high)
 
 pub due_small : (m : ModelParts) (n : ℕ) (v : Parts) → IsRestorable m n v → All (λ a. a < 2 ^ 32) v.due
-due_small m n v h = each_below v.due (2 ^ 32) (omega (arith, on_order v.stock (first_period m n) (sum v.due) (period_low m n v h) h.can.ranges.stock_low h.can.ranges.position_high))
+due_small m n v h = each_below v.due (2 ^ 32) (omega (arith, on_order v.stock (first_period m n) (sum v.due) (period_low m n v h) h.can.ranges.stock_low (omega (arith, ints, h.can.ranges.position_high, limit_high (has_returns m) (first_period m n) (period_low m n v h)))))
 
 pub running_small : (m : ModelParts) (n : ℕ) (v : Parts) → IsRestorable m n v → v.running < 2 ^ 64
 running_small m n v h = omega (arith, h.can.ranges.running_high, period_low m n v h)

@@ -1,11 +1,11 @@
 -- The rows of a checkpoint, by their places.
-use Rattle.std.proofs.Common.{◌≡◌, ℕ, ◌+◌, ◌*◌, ◌<◌, ◌≤◌, ◌^◌, zero, suc, Option, Some, None, List, [], ◌∷◌, ◌++◌, map, length, get_or, take, drop, decimal, codes, refl, ap, ◌∙◌, append_assoc, arith}
-use Rattle.std.specs.Prelude.{ℤ, pos, negsuc, ◌≤ℤ◌, ◌+ℤ◌, unsigned_abs}
+use Rattle.std.proofs.Common.{◌≡◌, ℕ, ◌+◌, ◌*◌, ◌<◌, ◌≤◌, ◌^◌, zero, suc, Option, Some, None, List, [], ◌∷◌, ◌++◌, map, length, get_or, take, drop, decimal, codes, refl, sym, ap, ◌∙◌, append_assoc, arith}
+use Rattle.std.specs.Prelude.{Bool, true, false, ℤ, pos, negsuc, ◌≤ℤ◌, ◌+ℤ◌, unsigned_abs}
 use Rattle.std.proofs.lemmas.Int.{ints}
 use Rattle.crn_draw.specs.Spread.{Weighted}
 use Rattle.crn_draw.specs.Faults.{least_fault}
 use Rattle.crn_draw.specs.declared.fault.DrawFault.{DrawFault}
-use Rattle.crn_stock.specs.Parts.{Parts}
+use Rattle.crn_stock.specs.Parts.{Parts, stock_limit}
 use Rattle.crn_stock.specs.Models.{ModelParts}
 use Rattle.crn_stock.specs.Scenarios.{ScenarioParts}
 use Rattle.crn_checkpoint.specs.Sizes.{parts_of}
@@ -34,7 +34,12 @@ pub small_amount : (z : ℤ) → pos 0 ≤ℤ z → z ≤ℤ pos 1000000 → uns
 small_amount (pos n) low high = omega (arith, ints, low, high)
 small_amount (negsuc n) low high = omega (arith, ints, low, high)
 
-pub small_stock : (z : ℤ) (t : ℕ) → t ≤ 1024 → pos 0 ≤ℤ (z +ℤ pos (10000 * t)) → z ≤ℤ pos 1000000 → unsigned_abs z < 2 ^ 63
+-- the limit of stock and position
+pub limit_high : (b : Bool) (t : ℕ) → t ≤ 1024 → stock_limit b t ≤ 11240000
+limit_high true t high = omega (arith, high)
+limit_high false t high = omega arith
+
+pub small_stock : (z : ℤ) (t : ℕ) → t ≤ 1024 → pos 0 ≤ℤ (z +ℤ pos (10000 * t)) → z ≤ℤ pos 11240000 → unsigned_abs z < 2 ^ 63
 small_stock (pos n) t period low high = omega (arith, ints, low, high)
 small_stock (negsuc n) t period low high = omega (arith, ints, low, high)
 
@@ -79,9 +84,17 @@ lists_are s next states rows e =
 
 -- ---- the model's parts
 
-pub same_parts : (m : ModelParts) (p r : ℕ) (i : ℤ) (a b c d : ℕ) → p ≡ m.periods → r ≡ m.replications → i ≡ m.initial → a ≡ m.costs.setup → b ≡ m.costs.unit → c ≡ m.costs.holding → d ≡ m.costs.backlog
+pub same_parts : (m : ModelParts) (p r : ℕ) (i : ℤ) (a b c d : ℕ) → m.returns ≡ None → p ≡ m.periods → r ≡ m.replications → i ≡ m.initial → a ≡ m.costs.setup → b ≡ m.costs.unit → c ≡ m.costs.holding → d ≡ m.costs.backlog
     → parts_of (record { periods = p; replications = r; initial = i; costs = record { setup = a; unit = b; holding = c; backlog = d } }) m.demand m.lead ≡ m
-same_parts m p r i a b c d ep er ei ea eb ec ed = rw (ep, er, ei, ea, eb, ec, ed) refl
+same_parts m p r i a b c d none ep er ei ea eb ec ed = λ j. record {
+  periods = ep j;
+  replications = er j;
+  initial = ei j;
+  costs = record { setup = ea j; unit = eb j; holding = ec j; backlog = ed j };
+  demand = m.demand;
+  lead = m.lead;
+  returns = sym none j;
+}
 
 pub four_words : (key : List ℕ) → length key ≡ 4 → get_or key 0 0 ∷ get_or key 1 0 ∷ get_or key 2 0 ∷ get_or key 3 0 ∷ [] ≡ key
 four_words [] e = absurd (omega (arith, e))

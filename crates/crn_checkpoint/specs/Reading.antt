@@ -14,6 +14,8 @@ pub record IsScenario (s : ScenarioParts) : Type 0 where
   pub key_length : length s.key ≡ 4
   pub key_words : All (λ w. w < 2 ^ 64) s.key
   pub model : IsModel s.model
+  -- no checkpoint tells of returns yet
+  pub no_returns : s.model.returns ≡ None
   pub demand : least_fault s.model.demand.values s.model.demand.weights ≡ None
   pub lead : least_fault s.model.lead.values s.model.lead.weights ≡ None
   pub others : AreForScenario s.ring s.policies

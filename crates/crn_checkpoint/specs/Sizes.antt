@@ -1,4 +1,5 @@
--- The parts of a model that its sizes and its weights give.
+-- The parts of a model without returns that its sizes and its weights give.
+use Rattle.std.specs.Prelude.{None}
 use Rattle.crn_draw.specs.Spread.{Weighted}
 use Rattle.crn_stock.specs.Models.{ModelParts}
 use Rattle.crn_checkpoint.specs.declared.models.Sizes.{Sizes}
@@ -11,4 +12,5 @@ parts_of z demand lead = record {
   costs = z.costs;
   demand = demand;
   lead = lead;
+  returns = None;
 }

@@ -1,6 +1,6 @@
 // The model from the rows of a checkpoint.
 
-ghost use Rattle.std.specs.Prelude.{◌≡◌, ◌≢◌, ◌⊎◌, ◌↔◌, ◌≤◌, ◌<◌, ◌^◌, ℕ, List, None, All, IsTrue, MatchResult};
+ghost use Rattle.std.specs.Prelude.{◌≡◌, ◌≢◌, ◌⊎◌, ◌↔◌, ◌≤◌, ◌<◌, ◌^◌, ℕ, List, None, All, IfOk, IsTrue, MatchResult};
 ghost use Rattle.crn_draw.specs.Spread.{Weighted};
 ghost use Rattle.crn_draw.specs.Faults.{least_fault};
 ghost use Rattle.crn_stock.specs.Parts.{Parts};
@@ -59,9 +59,10 @@ fn is_model(sizes: &Sizes, demand: &Weights, lead: &Weights) -> bool
         && are_at_most(lead.values(), 32)
 }
 
-// The model of these parts, if they are within their ranges.
+// The model of these parts, without returns, if they are within their ranges.
 fn model_with(sizes: Sizes, demand: Weights, lead: Weights) -> Result<Model, Unread>
-    ensures { IsModel (parts_of sizes demand lead) → MatchResult result (λ m. m ≡ parts_of sizes demand lead) (λ f. f ≡ Unread.Memory) }
+    ensures no_returns { IfOk result (λ m. m.returns ≡ None) }
+    ensures model { IsModel (parts_of sizes demand lead) → MatchResult result (λ m. m ≡ parts_of sizes demand lead) (λ f. f ≡ Unread.Memory) }
 {
     if !is_model(&sizes, &demand, &lead) {
         return Err(Unread::NoCheckpoint);
@@ -73,6 +74,7 @@ fn model_with(sizes: Sizes, demand: Weights, lead: Weights) -> Result<Model, Unr
         sizes.costs,
         demand,
         lead,
+        None,
     ))
 }
 
@@ -117,7 +119,8 @@ fn sizes_of(rows: &[Row]) -> Sizes
 
 // The model that the rows of a checkpoint say, if it is within its ranges.
 pub(crate) fn model_of(alloc: Global, rows: &[Row]) -> Result<Model, Unread>
-    ensures { (s : ScenarioParts) (next : ℕ) (states : List Parts) → AreRowsOf s next states rows.now → MatchResult result (λ m. m ≡ s.model) (λ f. f ≡ Unread.Memory) }
+    ensures no_returns { IfOk result (λ m. m.returns ≡ None) }
+    ensures model { (s : ScenarioParts) (next : ℕ) (states : List Parts) → AreRowsOf s next states rows.now → MatchResult result (λ m. m ≡ s.model) (λ f. f ≡ Unread.Memory) }
 {
     let demands = natural_in(rows, 3, 2) as usize;
     let leads = natural_in(rows, 3, 3) as usize;

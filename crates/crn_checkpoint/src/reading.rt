@@ -37,7 +37,7 @@ fn read_cut(alloc: Global, ring: u64, bytes: &[u8]) -> Result<Cut, Unread>
 /// checkpoint.
 ///
 /// Amounts that were altered within their ranges are taken as they stand, whether or not a run leads to them. The size
-/// of the ring stands in no text, so a run may go on with another.
+/// of the ring stands in no text, so a run may go on with another. The scenario's model has no returns.
 ///
 /// # Errors
 ///
@@ -48,6 +48,7 @@ pub fn read_checkpoint(
     scenario: &Scenario,
     bytes: &[u8],
 ) -> Result<Checkpoint, CheckpointFault>
+    requires no_returns { scenario.now.model.returns ≡ None }
     ensures is_text { IfOk result (λ c. IsTextOf scenario.now c.next c.states.items bytes.now) }
     ensures only { IfOk result (λ c. (s : ScenarioParts) (next : ℕ) (states : List Parts) → IsTextOf s next states bytes.now
         → IsSameButRing s scenario.now × (next ≡ c.next) × (states ≡ c.states.items)) }

@@ -1,6 +1,6 @@
 // The scenario that the rows of a checkpoint say, and whether two are the same.
 
-ghost use Rattle.std.specs.Prelude.{◌≡◌, ◌≢◌, ◌↔◌, ◌≤◌, ◌<◌, ◌+◌, ℕ, List, drop, All, IfOk, IsTrue, MatchResult, Some, length, slice_get, true};
+ghost use Rattle.std.specs.Prelude.{◌≡◌, ◌≢◌, ◌↔◌, ◌≤◌, ◌<◌, ◌+◌, ℕ, List, drop, All, IfOk, IsTrue, MatchResult, None, Some, option_map, length, slice_get, true};
 ghost use Rattle.std.specs.List.{AllPairs};
 ghost use Rattle.crn_stock.specs.Parts.{Parts};
 ghost use Rattle.crn_stock.specs.Models.{IsPolicy, total};
@@ -89,6 +89,16 @@ fn same_weights(a: &Weights, b: &Weights) -> bool
     a.values() == b.values() && a.weights() == b.weights()
 }
 
+fn same_returns(a: Option<&Weights>, b: Option<&Weights>) -> bool
+    ensures { IsTrue result ↔ (option_map (λ w. w.now) a.entry ≡ option_map (λ w. w.now) b.entry) }
+{
+    match (a, b) {
+        (Some(a), Some(b)) => same_weights(a, b),
+        (None, None) => true,
+        _ => false,
+    }
+}
+
 fn same_model(a: &Model, b: &Model) -> bool
     ensures { IsTrue result ↔ (a.now ≡ b.now) }
 {
@@ -98,6 +108,7 @@ fn same_model(a: &Model, b: &Model) -> bool
         && a.costs() == b.costs()
         && same_weights(a.demand(), b.demand())
         && same_weights(a.lead(), b.lead())
+        && same_returns(a.returns(), b.returns())
 }
 
 fn same_policy(a: &Policy, b: &Policy) -> bool
@@ -159,6 +170,7 @@ pub(crate) fn cut_of(alloc: Global, ring: u64, rows: &[Row]) -> Result<Cut, Unre
     ensures ring { IfOk result (λ c. c.scenario.ring ≡ ring) }
     ensures next { IfOk result (λ c. c.checkpoint.next ≤ total c.scenario.model) }
     ensures of { IfOk result (λ c. IsCheckpointOf c.scenario c.checkpoint.next c.checkpoint.states.items) }
+    ensures no_returns { IfOk result (λ c. c.scenario.model.returns ≡ None) }
 {
     let model = model_of(alloc, rows)?;
     let next = natural_in(rows, 0, 2);

@@ -1,5 +1,6 @@
 // Checkpoint texts, written and read.
 
+ghost use Rattle.std.specs.Prelude.{◌≡◌, None, IfOk};
 ghost use Rattle.crn_run.specs.Runs.{IsCheckpointOf};
 
 mod altered;
@@ -59,8 +60,12 @@ policy = [
 ]
 ";
 
-fn scenario(rt: &HostRuntime, text: &str) -> Result<Scenario, Fail> {
+// The scenario of a text, which has no returns.
+fn scenario(rt: &HostRuntime, text: &str) -> Result<Scenario, Fail>
+    ensures { IfOk result (λ s. s.model.returns ≡ None) }
+{
     match read_scenario(rt.alloc(), text.as_bytes()) {
+        Ok(scenario) if scenario.model().has_returns() => Err(Fail::from("there are returns")),
         Ok(scenario) => Ok(scenario),
         Err(_) => Err(Fail::from("the scenario is refused")),
     }
@@ -73,7 +78,8 @@ fn changed(rt: &HostRuntime, text: &str, from: &str, to: &str) -> Result<String,
 
 // Whether both name the same block and the same amounts, by their texts.
 fn same(alloc: Global, scenario: &Scenario, a: &Checkpoint, text: &[u8]) -> Result<bool, AllocError>
-    requires { IsCheckpointOf scenario.now a.now.next a.now.states.items }
+    requires no_returns { scenario.now.model.returns ≡ None }
+    requires of { IsCheckpointOf scenario.now a.now.next a.now.states.items }
 {
     let again = write_checkpoint(alloc, scenario, a)?;
     Ok(again.as_slice() == text)

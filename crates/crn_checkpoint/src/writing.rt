@@ -1,6 +1,6 @@
 // Checkpoints are written.
 
-ghost use Rattle.std.specs.Prelude.{◌≡◌, ◌^◌, ◌<◌, ◌≤◌, All, IfOk};
+ghost use Rattle.std.specs.Prelude.{◌≡◌, ◌^◌, ◌<◌, ◌≤◌, None, All, IfOk};
 ghost use Rattle.crn_stock.specs.Models.{total};
 ghost use Rattle.crn_stock.specs.Parts.{AreInRange};
 ghost use Rattle.crn_run.specs.Runs.{IsCheckpointOf};
@@ -26,6 +26,7 @@ fn tell_words(words: &[u64])
 
 // Contracts learn from this call that a scenario is within its ranges. It does nothing.
 fn tell_scenario(scenario: &Scenario)
+    requires { scenario.now.model.returns ≡ None }
     ensures { IsScenario scenario.now }
 {
     tell_words(&scenario.key());
@@ -48,7 +49,8 @@ fn tell_states(states: &[State])
 
 /// The text of a checkpoint of a scenario: rows of five fields, as CSV. First come the scenario's own, but for the size
 /// of its ring; then, for each policy in order, its levels, the amounts of its state, each amount that is due with its
-/// period, and the cost of each replication that is done; at last a row that ends the text.
+/// period, and the cost of each replication that is done; at last a row that ends the text. The scenario's model has no
+/// returns.
 ///
 /// # Errors
 ///
@@ -58,6 +60,7 @@ pub fn write_checkpoint(
     scenario: &Scenario,
     checkpoint: &Checkpoint,
 ) -> Result<Vec<u8>, AllocError>
+    requires no_returns { scenario.now.model.returns ≡ None }
     requires of { IsCheckpointOf scenario.now checkpoint.now.next checkpoint.now.states.items }
     ensures text { IfOk result (λ text. text.items ≡ spec.checkpoint_text scenario.now checkpoint.now.next checkpoint.now.states.items) }
     ensures in_range { IfOk result (λ text. checkpoint.now.next ≤ total scenario.now.model

@@ -1,12 +1,15 @@
--- The words of a block as one list, and in their two streams.
-use Rattle.std.proofs.Common.{◌≡◌, ℕ, ◌-◌, ◌<◌, ◌≤◌, List, [], ◌∷◌, ◌++◌, length, slice_index, refl, sym, ap, ◌∙◌, arith}
+-- The words of a block as one list, and in their streams.
+use Rattle.std.proofs.Common.{◌≡◌, ℕ, ◌+◌, ◌-◌, ◌<◌, ◌≤◌, List, [], ◌∷◌, ◌++◌, length, slice_index, refl, sym, ap, ◌∙◌, arith}
 use mathlib.Core.HLevel.{is_prop→PathP}
 use mathlib.Core.List.{is_set}
 use Rattle.std.proofs.Math.Nat.{ℕ_set}
-use Rattle.std.proofs.lemmas.List.{append-nil, get_or_append_left, get_or-append_right}
+use Rattle.std.proofs.lemmas.List.{get_or_append_left, get_or-append_right}
 use Rattle.crn_cipher.specs.declared.TheConstants.{BLOCK_WORDS}
 use Rattle.crn_cipher.specs.declared.stream.Block.{Block}
-use Rattle.crn_cipher.specs.Cipher.{Threefry, key_step, DemandWords, LeadWords, BlockWords, block_word}
+use Rattle.crn_cipher.specs.declared.stream.Stream.{Stream}
+use Rattle.crn_cipher.specs.declared.stream.Stream.TheVariants.{Demand, Lead, Returns}
+use Rattle.crn_cipher.specs.Cipher.{Threefry, key_step}
+use Rattle.crn_cipher.specs.Blocks.{StreamWords, words_of, BlockWords, block_word}
 
 pub length-threefry : (key ctr : List ℕ) → length (Threefry key ctr) ≡ 4
 unfolding Threefry key_step
@@ -19,59 +22,95 @@ length-block key n = refl
 -- the words one by one are all of them
 pub listed : (key : List ℕ) (n : ℕ)
     → block_word key n 0 ∷ block_word key n 1 ∷ block_word key n 2 ∷ block_word key n 3
-    ∷ block_word key n 4 ∷ block_word key n 5 ∷ block_word key n 6 ∷ block_word key n 7 ∷ [] ≡ BlockWords key n
+    ∷ block_word key n 4 ∷ block_word key n 5 ∷ block_word key n 6 ∷ block_word key n 7
+    ∷ block_word key n 8 ∷ block_word key n 9 ∷ block_word key n 10 ∷ block_word key n 11 ∷ [] ≡ BlockWords key n
 unfolding BlockWords Threefry key_step
 listed key n = refl
 
-pub word_of_demand : (key : List ℕ) (n i : ℕ) → i < 4 → slice_index (DemandWords key n) i ≡ block_word key n i
+-- ---- in a list of fours, one list after another
+
+-- word i of the first four
+first_word : (xs ys : List ℕ) (i : ℕ) → length xs ≡ 4 → i < 4 → slice_index (xs ++ ys) i ≡ slice_index xs i
+first_word xs ys i four below = get_or_append_left xs ys 0 i (omega (arith, four))
+
+-- word i of those after them
+later_word : (xs ys : List ℕ) (i : ℕ) → length xs ≡ 4 → 4 ≤ i → slice_index (xs ++ ys) i ≡ slice_index ys (i - 4)
+later_word xs ys i four above = get_or-append_right xs ys 4 i 0 four above
+
+four_words : (key : List ℕ) (n : ℕ) (s : Stream) → length (StreamWords key n s) ≡ 4
+four_words key n s = length-threefry key _
+
+pub word_of_demand : (key : List ℕ) (n i : ℕ) → i < 4 → slice_index (StreamWords key n Demand) i ≡ block_word key n i
 unfolding BlockWords
-word_of_demand key n i below = sym (get_or_append_left (DemandWords key n) (LeadWords key n) 0 i (omega (arith, below, length-threefry key (n ∷ 0 ∷ 0 ∷ 0 ∷ []))))
+word_of_demand key n i below = sym (first_word (StreamWords key n Demand) (words_of key n (Lead ∷ Returns ∷ [])) i (four_words key n Demand) below)
 
-pub word_of_lead : (key : List ℕ) (n i : ℕ) → 4 ≤ i → slice_index (LeadWords key n) (i - 4) ≡ block_word key n i
+pub word_of_lead : (key : List ℕ) (n i : ℕ) → 4 ≤ i → i < 8 → slice_index (StreamWords key n Lead) (i - 4) ≡ block_word key n i
 unfolding BlockWords
-word_of_lead key n i above = sym (get_or-append_right (DemandWords key n) (LeadWords key n) 4 i 0 (length-threefry key (n ∷ 0 ∷ 0 ∷ 0 ∷ [])) above)
+word_of_lead key n i above below =
+    sym (later_word (StreamWords key n Demand) (words_of key n (Lead ∷ Returns ∷ [])) i (four_words key n Demand) above
+    ∙ first_word (StreamWords key n Lead) (words_of key n (Returns ∷ [])) (i - 4) (four_words key n Lead) (omega (arith, above, below)))
 
--- what stands in front of a list, and what comes after four words
-front_four : (xs ys : List ℕ) → length xs ≡ 4
-    → slice_index (xs ++ ys) 0 ∷ slice_index (xs ++ ys) 1 ∷ slice_index (xs ++ ys) 2 ∷ slice_index (xs ++ ys) 3 ∷ [] ≡ xs
-front_four [] ys four = absurd (omega (arith, four))
-front_four (a ∷ []) ys four = absurd (omega (arith, four))
-front_four (a ∷ b ∷ []) ys four = absurd (omega (arith, four))
-front_four (a ∷ b ∷ c ∷ []) ys four = absurd (omega (arith, four))
-front_four (a ∷ b ∷ c ∷ d ∷ []) ys four = refl
-front_four (a ∷ b ∷ c ∷ d ∷ e ∷ rest) ys four = absurd (omega (arith, four))
+pub word_of_returns : (key : List ℕ) (n i : ℕ) → 8 ≤ i → i < BLOCK_WORDS → slice_index (StreamWords key n Returns) (i - 8) ≡ block_word key n i
+unfolding BlockWords
+word_of_returns key n i above below =
+    let place : i - 4 - 4 ≡ i - 8 = omega arith in
+    sym (later_word (StreamWords key n Demand) (words_of key n (Lead ∷ Returns ∷ [])) i (four_words key n Demand) (omega (arith, above))
+    ∙ later_word (StreamWords key n Lead) (words_of key n (Returns ∷ [])) (i - 4) (four_words key n Lead) (omega (arith, above))
+    ∙ ap (slice_index (words_of key n (Returns ∷ []))) place
+    ∙ first_word (StreamWords key n Returns) [] (i - 8) (four_words key n Returns) (omega (arith, above, below)))
 
-back_four : (xs ys : List ℕ) → length xs ≡ 4 → length ys ≡ 4
-    → slice_index (xs ++ ys) 4 ∷ slice_index (xs ++ ys) 5 ∷ slice_index (xs ++ ys) 6 ∷ slice_index (xs ++ ys) 7 ∷ [] ≡ ys
-back_four [] ys four other = absurd (omega (arith, four))
-back_four (a ∷ []) ys four other = absurd (omega (arith, four))
-back_four (a ∷ b ∷ []) ys four other = absurd (omega (arith, four))
-back_four (a ∷ b ∷ c ∷ []) ys four other = absurd (omega (arith, four))
-back_four (a ∷ b ∷ c ∷ d ∷ []) ys four other =
-    ap (λ (l : List ℕ). slice_index l 0 ∷ slice_index l 1 ∷ slice_index l 2 ∷ slice_index l 3 ∷ []) (sym (append-nil ys)) ∙ front_four ys [] other
-back_four (a ∷ b ∷ c ∷ d ∷ e ∷ rest) ys four other = absurd (omega (arith, four))
+-- four words one by one
+four_are : (xs : List ℕ) → length xs ≡ 4 → slice_index xs 0 ∷ slice_index xs 1 ∷ slice_index xs 2 ∷ slice_index xs 3 ∷ [] ≡ xs
+four_are [] four = absurd (omega (arith, four))
+four_are (a ∷ []) four = absurd (omega (arith, four))
+four_are (a ∷ b ∷ []) four = absurd (omega (arith, four))
+four_are (a ∷ b ∷ c ∷ []) four = absurd (omega (arith, four))
+four_are (a ∷ b ∷ c ∷ d ∷ []) four = refl
+four_are (a ∷ b ∷ c ∷ d ∷ e ∷ rest) four = absurd (omega (arith, four))
+
+-- a stream's words, where a block's words have them from a place on
+stream_of : (key words : List ℕ) (n from : ℕ) (s : Stream) → words ≡ BlockWords key n → ((i : ℕ) → i < 4 → slice_index (StreamWords key n s) i ≡ block_word key n (i + from))
+    → slice_index words (0 + from) ∷ slice_index words (1 + from) ∷ slice_index words (2 + from) ∷ slice_index words (3 + from) ∷ [] ≡ StreamWords key n s
+stream_of key words n from s is at =
+    let here : (i : ℕ) → i < 4 → slice_index words (i + from) ≡ slice_index (StreamWords key n s) i = λ i below. ap (λ (l : List ℕ). slice_index l (i + from)) is ∙ sym (at i below) in
+    (λ j. here 0 (omega arith) j ∷ here 1 (omega arith) j ∷ here 2 (omega arith) j ∷ here 3 (omega arith) j ∷ []) ∙ four_are (StreamWords key n s) (four_words key n s)
 
 pub demand_of : (key words : List ℕ) (n : ℕ) → words ≡ BlockWords key n
-    → slice_index words 0 ∷ slice_index words 1 ∷ slice_index words 2 ∷ slice_index words 3 ∷ [] ≡ DemandWords key n
-unfolding BlockWords
-demand_of key words n is = rw is (front_four (DemandWords key n) (LeadWords key n) (length-threefry key (n ∷ 0 ∷ 0 ∷ 0 ∷ [])))
+    → slice_index words 0 ∷ slice_index words 1 ∷ slice_index words 2 ∷ slice_index words 3 ∷ [] ≡ StreamWords key n Demand
+demand_of key words n is = stream_of key words n 0 Demand is (λ i below.
+    let back : i + 0 ≡ i = omega arith in
+    ap (slice_index (StreamWords key n Demand)) (sym back) ∙ word_of_demand key n (i + 0) (omega (arith, below)))
 
 pub lead_of : (key words : List ℕ) (n : ℕ) → words ≡ BlockWords key n
-    → slice_index words 4 ∷ slice_index words 5 ∷ slice_index words 6 ∷ slice_index words 7 ∷ [] ≡ LeadWords key n
-unfolding BlockWords
-lead_of key words n is =
-    rw is (back_four (DemandWords key n) (LeadWords key n) (length-threefry key (n ∷ 0 ∷ 0 ∷ 0 ∷ [])) (length-threefry key (n ∷ 1 ∷ 0 ∷ 0 ∷ [])))
+    → slice_index words 4 ∷ slice_index words 5 ∷ slice_index words 6 ∷ slice_index words 7 ∷ [] ≡ StreamWords key n Lead
+lead_of key words n is = stream_of key words n 4 Lead is (λ i below.
+    let back : i + 4 - 4 ≡ i = omega arith in
+    ap (slice_index (StreamWords key n Lead)) (sym back) ∙ word_of_lead key n (i + 4) (omega arith) (omega (arith, below)))
 
--- A block is determined by its key and its number.
+pub returns_of : (key words : List ℕ) (n : ℕ) → words ≡ BlockWords key n
+    → slice_index words 8 ∷ slice_index words 9 ∷ slice_index words 10 ∷ slice_index words 11 ∷ [] ≡ StreamWords key n Returns
+returns_of key words n is = stream_of key words n 8 Returns is (λ i below.
+    let back : i + 8 - 8 ≡ i = omega arith in
+    ap (slice_index (StreamWords key n Returns)) (sym back) ∙ word_of_returns key n (i + 8) (omega arith) (omega (arith, below)))
+
+-- ---- A block is determined by its key and its number.
+
+same_words : (key key' : List ℕ) (n n' : ℕ) (s : Stream) → key ≡ key' → n ≡ n' → StreamWords key n s ≡ StreamWords key' n' s
+same_words key key' n n' s key-is n-is = λ i. StreamWords (key-is i) (n-is i) s
+
 pub determined : (a b : Block) → a.key ≡ b.key → a.number ≡ b.number → a ≡ b
 determined a b key number =
-    let demand : a.demand ≡ b.demand = a.demand_words ∙ ap (λ (k : List ℕ). DemandWords k a.number) key ∙ ap (DemandWords b.key) number ∙ sym b.demand_words in
-    let lead : a.lead ≡ b.lead = a.lead_words ∙ ap (λ (k : List ℕ). LeadWords k a.number) key ∙ ap (LeadWords b.key) number ∙ sym b.lead_words in
+    let same = λ (s : Stream). same_words a.key b.key a.number b.number s key number in
+    let demand : a.demand ≡ b.demand = a.demand_words ∙ same Demand ∙ sym b.demand_words in
+    let lead : a.lead ≡ b.lead = a.lead_words ∙ same Lead ∙ sym b.lead_words in
+    let returns : a.returns ≡ b.returns = a.returns_words ∙ same Returns ∙ sym b.returns_words in
     λ i. record {
       key = key i;
       number = number i;
       demand = demand i;
       lead = lead i;
-      demand_words = is_prop→PathP (λ j. demand j ≡ DemandWords (key j) (number j)) (λ j. is_set ℕ_set (demand j) (DemandWords (key j) (number j))) a.demand_words b.demand_words i;
-      lead_words = is_prop→PathP (λ j. lead j ≡ LeadWords (key j) (number j)) (λ j. is_set ℕ_set (lead j) (LeadWords (key j) (number j))) a.lead_words b.lead_words i;
+      returns = returns i;
+      demand_words = is_prop→PathP (λ j. demand j ≡ StreamWords (key j) (number j) Demand) (λ j. is_set ℕ_set (demand j) (StreamWords (key j) (number j) Demand)) a.demand_words b.demand_words i;
+      lead_words = is_prop→PathP (λ j. lead j ≡ StreamWords (key j) (number j) Lead) (λ j. is_set ℕ_set (lead j) (StreamWords (key j) (number j) Lead)) a.lead_words b.lead_words i;
+      returns_words = is_prop→PathP (λ j. returns j ≡ StreamWords (key j) (number j) Returns) (λ j. is_set ℕ_set (returns j) (StreamWords (key j) (number j) Returns)) a.returns_words b.returns_words i;
     }

@@ -13,16 +13,19 @@ mod rounds_undone;
 mod stream;
 
 pub use cipher::{threefry, unthreefry};
-pub use stream::{Block, StreamId};
+pub use stream::{Block, Stream, StreamId};
 
-/// The words of one stream, demand or lead time, in a block: one word for each of four periods.
+/// The words of one stream in a block: one word for each of four periods.
 pub const STREAM_WORDS: u32 = 4;
 
-/// The words of a block, over all its streams: the demand words come first, then the lead words.
-pub const BLOCK_WORDS: usize = 8;
+/// The streams of a block, in the order in which their words stand in it.
+pub const STREAMS: [Stream; 3] = [Stream::Demand, Stream::Lead, Stream::Returns];
 
-/// Block `n` of the stream of `key`, for every `n`: the cipher's words at the counters `(n, 0, 0, 0)`
-/// for the demands and `(n, 1, 0, 0)` for the lead times. Takes no memory.
+/// The words of a block, over all its streams.
+pub const BLOCK_WORDS: usize = 12;
+
+/// Block `n` of the stream of `key`, for every `n`: for each stream the cipher's words at the counter
+/// `(n, c, 0, 0)`, where `c` is the stream's own. Takes no memory.
 #[inline(always)]
 pub fn block(key: [u64; 4], n: u64) -> Block
     ensures key { result.key ≡ key }
@@ -31,8 +34,9 @@ pub fn block(key: [u64; 4], n: u64) -> Block
     Block {
         key,
         number: n,
-        demand: threefry(key, [n, 0, 0, 0]),
-        lead: threefry(key, [n, 1, 0, 0]),
+        demand: threefry(key, [n, Stream::Demand.counter(), 0, 0]),
+        lead: threefry(key, [n, Stream::Lead.counter(), 0, 0]),
+        returns: threefry(key, [n, Stream::Returns.counter(), 0, 0]),
     }
 }
 

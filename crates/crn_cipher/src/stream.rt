@@ -1,10 +1,47 @@
 ghost use Rattle.std.specs.Prelude.{◌≡◌, ◌<◌};
-ghost use Rattle.crn_cipher.specs.Cipher.{DemandWords, LeadWords, BlockWords, block_word};
+ghost use Rattle.crn_cipher.specs.Blocks.{StreamWords, BlockWords, block_word, counter_of, name_of};
+ghost use Rattle.crn_cipher.specs.declared.stream.Stream.TheVariants as stream;
 
 use crate::{BLOCK_WORDS, STREAM_WORDS};
 
-/// One block of the stream of a key, made by [`block`](crate::block). Its type keeps that `demand` and
-/// `lead` are the cipher's words at `number`, so a block can't hold any other words.
+/// A stream of random words within the blocks of a key, by what is drawn from it.
+#[derive(Clone, Copy, Debug, PartialEq, Eq)]
+pub enum Stream {
+    /// The demands of the periods.
+    Demand,
+    /// The lead times of orders placed in the periods.
+    Lead,
+    /// The items that customers return in the periods.
+    Returns,
+}
+
+impl Stream {
+    /// The second word of the cipher's counters for the stream: 0, 1 or 2.
+    #[inline(always)]
+    pub fn counter(self) -> u64
+        ensures { result ≡ counter_of self }
+    {
+        match self {
+            Stream::Demand => 0,
+            Stream::Lead => 1,
+            Stream::Returns => 2,
+        }
+    }
+
+    /// The name of the stream in texts.
+    pub fn name(self) -> &'static str
+        ensures { result.now ≡ name_of self }
+    {
+        match self {
+            Stream::Demand => "demand",
+            Stream::Lead => "lead",
+            Stream::Returns => "returns",
+        }
+    }
+}
+
+/// One block of the stream of a key, made by [`block`](crate::block). Its type keeps that the words of each stream
+/// are the cipher's at `number`, so a block can't hold any other words.
 #[derive(Clone, Copy, Debug, PartialEq, Eq)]
 pub struct Block {
     /// The key of the stream.
@@ -15,42 +52,59 @@ pub struct Block {
     pub demand: [u64; 4],
     /// The words from which the lead times of the same periods are drawn.
     pub lead: [u64; 4],
-    pub ghost demand_words: { demand ≡ DemandWords key number },
-    pub ghost lead_words: { lead ≡ LeadWords key number },
+    /// The words from which the returned items of the same periods are drawn.
+    pub returns: [u64; 4],
+    pub ghost demand_words: { demand ≡ StreamWords key number stream.Demand },
+    pub ghost lead_words: { lead ≡ StreamWords key number stream.Lead },
+    pub ghost returns_words: { returns ≡ StreamWords key number stream.Returns },
 }
 
 impl Block {
-    /// Word `i` of the block, with the demand words first and then the lead words. Condition: `i` is below
-    /// [`BLOCK_WORDS`]. Takes no memory.
+    /// The words of a stream in the block. Takes no memory.
     #[inline(always)]
-    #[tactic(auto, using(crate::proofs::Blocks::word_of_demand, crate::proofs::Blocks::word_of_lead))]
+    pub fn words(&self, stream: Stream) -> &[u64; 4]
+        ensures { result.now ≡ StreamWords self.now.key self.now.number stream }
+    {
+        match stream {
+            Stream::Demand => &self.demand,
+            Stream::Lead => &self.lead,
+            Stream::Returns => &self.returns,
+        }
+    }
+
+    /// Word `i` of the block, stream after stream in the order of [`STREAMS`](crate::STREAMS). Condition: `i` is
+    /// below [`BLOCK_WORDS`]. Takes no memory.
+    #[inline(always)]
+    #[tactic(auto, using(crate::proofs::Blocks::word_of_demand, crate::proofs::Blocks::word_of_lead, crate::proofs::Blocks::word_of_returns))]
     pub fn word(&self, i: usize) -> u64
         requires { i < BLOCK_WORDS }
         ensures { result ≡ block_word self.now.key self.now.number i }
     {
-        let streams = STREAM_WORDS as usize;
-        if i < streams {
+        let words = STREAM_WORDS as usize;
+        if i < words {
             self.demand[i]
+        } else if i < 2 * words {
+            self.lead[i - words]
         } else {
-            self.lead[i - streams]
+            self.returns[i - 2 * words]
         }
     }
 
     /// The block `number` of the stream of `key`, from its words in order as they were stored somewhere. It computes
     /// no word. Condition: they are that block's words. Takes no memory.
     #[inline(always)]
-    #[tactic(auto, using(crate::proofs::Blocks::demand_of, crate::proofs::Blocks::lead_of))]
     pub fn from_words(key: [u64; 4], number: u64, words: [u64; BLOCK_WORDS]) -> Block
         requires { words ≡ BlockWords key number }
         ensures key { result.key ≡ key }
         ensures number { result.number ≡ number }
     {
-        let [d0, d1, d2, d3, l0, l1, l2, l3] = words;
+        let [d0, d1, d2, d3, l0, l1, l2, l3, r0, r1, r2, r3] = words;
         Block {
             key,
             number,
             demand: [d0, d1, d2, d3],
             lead: [l0, l1, l2, l3],
+            returns: [r0, r1, r2, r3],
         }
     }
 }

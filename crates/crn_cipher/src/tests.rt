@@ -1,7 +1,7 @@
 // The cipher and its blocks against values from outside.
 
 ghost use Rattle.std.specs.Prelude.{◌≡◌, ◌<◌};
-ghost use Rattle.crn_cipher.specs.Cipher.{BlockWords};
+ghost use Rattle.crn_cipher.specs.Blocks.{BlockWords};
 
 mod vectors;
 
@@ -26,11 +26,12 @@ fn four_at(words: &[&str], i: usize) -> Option<[u64; 4]>
     ])
 }
 
-// What a block holds in place of the output, where the counter is one of a block's two.
+// What a block holds in place of the output, where the counter is one of a block's three.
 fn in_block(key: [u64; 4], ctr: [u64; 4]) -> Option<[u64; 4]> {
     match ctr {
         [number, 0, 0, 0] => Some(block(key, number).demand),
         [number, 1, 0, 0] => Some(block(key, number).lead),
+        [number, 2, 0, 0] => Some(block(key, number).returns),
         _ => None,
     }
 }
@@ -52,7 +53,7 @@ fn words_of_random123(rt: HostRuntime) -> Result<(), Fail> {
             blocks = blocks.wrapping_add(1);
         }
     }
-    assert_eq!(rt; (lines, blocks), (200, 8));
+    assert_eq!(rt; (lines, blocks), (200, 12));
     Ok(())
 }
 
@@ -72,7 +73,8 @@ fn first_block_of_the_zero_key(rt: HostRuntime) -> Result<(), Fail> {
     Ok(())
 }
 
-// Block 0 of the key of all ones, from Random123: its outputs at the counters (0, 0, 0, 0) and (0, 1, 0, 0).
+// Block 0 of the key of all ones: what Random123's `threefry4x64_R(20, ..)` gives at the counters (0, 0, 0, 0),
+// (0, 1, 0, 0) and (0, 2, 0, 0).
 const ONES: [u64; 4] = [u64::MAX; 4];
 
 const ONES_BLOCK: [u64; BLOCK_WORDS] = [
@@ -84,6 +86,10 @@ const ONES_BLOCK: [u64; BLOCK_WORDS] = [
     0x1106_6d6c_ba57_c1c1,
     0xc653_a42e_8112_ca7c,
     0x79ea_1ef4_77ff_5930,
+    0xe799_b41b_9979_996d,
+    0x0470_77e9_311a_d33a,
+    0xf1e7_7b34_1731_d0ae,
+    0x21a2_4f72_0cd4_7c64,
 ];
 
 // A block's words, one by one.
@@ -100,12 +106,31 @@ fn stored(block: Block) -> [u64; BLOCK_WORDS]
         block.word(5),
         block.word(6),
         block.word(7),
+        block.word(8),
+        block.word(9),
+        block.word(10),
+        block.word(11),
     ]
 }
 
 #[test]
 fn words_of_a_block_in_order(rt: HostRuntime) -> Result<(), Fail> {
     assert_eq!(rt; stored(block(ONES, 0)), ONES_BLOCK);
+    Ok(())
+}
+
+#[test]
+fn words_of_each_stream(rt: HostRuntime) -> Result<(), Fail> {
+    let made = block(ONES, 0);
+    for (i, stream) in STREAMS.iter().enumerate() {
+        let first = 4 * i;
+        assert_eq!(rt;
+            made.words(*stream).as_slice(),
+            &ONES_BLOCK[first..first + 4]
+        );
+    }
+    let names = [STREAMS[0].name(), STREAMS[1].name(), STREAMS[2].name()];
+    assert_eq!(rt; names, ["demand", "lead", "returns"]);
     Ok(())
 }
 

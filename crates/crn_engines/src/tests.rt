@@ -76,6 +76,7 @@ fn lines_and_statuses(rt: HostRuntime) -> Result<(), Fail> {
             "crnsim: checkpoint 1",
             4,
         ),
+        (Fault::Returns, "crnsim: checkpoint 3", 4),
         (
             Fault::Schedule(ScheduleFault::Line),
             "crnsim: schedule 1",

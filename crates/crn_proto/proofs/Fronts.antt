@@ -5,7 +5,7 @@ use Rattle.std.specs.List.{concat}
 use Rattle.std.proofs.lemmas.List.{append-nil, take_more, take_at, take_all, drop_at}
 use Rattle.std.proofs.lemmas.List.Folds.{concat-append}
 use Rattle.crn_cipher.proofs.Blocks.{length-block}
-use Rattle.crn_cipher.specs.Cipher.{block_word, BlockWords}
+use Rattle.crn_cipher.specs.Blocks.{block_word, BlockWords}
 use Rattle.crn_proto.specs.Stream.{front, first_words}
 
 pub length-front : (key : List ℕ) (n c : ℕ) → length (front key n c) ≡ c

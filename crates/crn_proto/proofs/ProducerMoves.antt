@@ -4,7 +4,7 @@ use Rattle.crn_cipher.specs.declared.TheConstants.{BLOCK_WORDS}
 use Rattle.std.proofs.lemmas.Bool.{cases_lt, cases_eq, true≢false}
 use Rattle.std.proofs.lemmas.List.{length-set}
 use Rattle.crn_proto.specs.declared.spec.RingSpec.{RingSpec}
-use Rattle.crn_cipher.specs.Cipher.{block_word}
+use Rattle.crn_cipher.specs.Blocks.{block_word}
 use Rattle.crn_proto.specs.Ring.{left_mark, place, bit, IsRing, Producer, Reader, LoadGate, StoreWord, Publish, Finish, ProducerMay, producer_word, producer_after, storing, PassesGates}
 use Rattle.crn_proto.specs.Lawful.{WordsLaw, ProducerLaw, ReaderLaw, ReaderHere, StandsAt}
 use Rattle.crn_proto.proofs.Places.{place_above, place_not_first, same_place, places_apart}

@@ -4,7 +4,7 @@ use Rattle.crn_cipher.specs.declared.TheConstants.{BLOCK_WORDS}
 use Rattle.std.proofs.lemmas.Bool.{cases_eq, true≢false, eqb-true}
 use Rattle.std.proofs.lemmas.List.{length_push}
 use Rattle.crn_proto.specs.declared.spec.RingSpec.{RingSpec}
-use Rattle.crn_cipher.specs.Cipher.{block_word}
+use Rattle.crn_cipher.specs.Blocks.{block_word}
 use Rattle.crn_proto.specs.Stream.{first_words}
 use Rattle.crn_proto.specs.Ring.{left_mark, place, IsRing, Producer, Reader, LoadCursor, LoadWord, Take, Leave, ReaderMay, reader_word, reader_after, reading}
 use Rattle.crn_proto.specs.Lawful.{WordsLaw, ProducerLaw, ReaderLaw}

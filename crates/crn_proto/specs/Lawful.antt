@@ -5,7 +5,7 @@ use Rattle.crn_cipher.specs.declared.TheConstants.{BLOCK_WORDS}
 use Rattle.crn_proto.specs.declared.spec.RingSpec.{RingSpec}
 pub use Rattle.crn_proto.specs.declared.actor_parts.Part.{Part}
 pub use Rattle.crn_proto.specs.declared.actor_parts.Part.TheVariants.{OfProducer, OfReader}
-use Rattle.crn_cipher.specs.Cipher.{block_word}
+use Rattle.crn_cipher.specs.Blocks.{block_word}
 use Rattle.crn_proto.specs.Stream.{first_words}
 use Rattle.crn_proto.specs.Ring.{left_mark, place, word_count, bit, Producer, Reader, PassesGates, Ring}
 

@@ -7,7 +7,7 @@ use Rattle.crn_proto.specs.declared.schedule.Actor.TheVariants.{Producer, Finish
 use Rattle.crn_proto.specs.declared.schedule.Kind.TheVariants.{P1, P2, P3, R1, R2, R3}
 use Rattle.crn_proto.specs.declared.schedule.Step.{Step}
 use Rattle.crn_proto.specs.declared.machine.Taker.{Taker}
-use Rattle.crn_cipher.specs.Cipher.{block_word}
+use Rattle.crn_cipher.specs.Blocks.{block_word}
 use Rattle.crn_proto.specs.Ring.{left_mark, place, open_words, word_count, bit}
 
 -- what a machine keeps: the ring's words, and where each actor stands

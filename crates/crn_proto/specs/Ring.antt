@@ -8,7 +8,7 @@ use Rattle.crn_cipher.specs.declared.TheConstants.{BLOCK_WORDS}
 use Rattle.crn_proto.specs.declared.spec.RingSpec.{RingSpec}
 pub use Rattle.crn_proto.specs.declared.actor_parts.ProducerPart.{ProducerPart as Producer}
 pub use Rattle.crn_proto.specs.declared.actor_parts.ReaderPart.{ReaderPart as Reader}
-use Rattle.crn_cipher.specs.Cipher.{block_word}
+use Rattle.crn_cipher.specs.Blocks.{block_word}
 use Rattle.crn_proto.specs.Stream.{front}
 use Rattle.crn_proto.specs.Broadcast.{Broadcast, Event, Published, Ended, Took, Left}
 

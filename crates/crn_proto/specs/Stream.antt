@@ -1,7 +1,7 @@
 -- The words of a stream's blocks, in a row.
 use Rattle.std.specs.Prelude.{ℕ, suc, zero, ◌+◌, ◌/◌, ◌%◌, List, [], ◌∷◌, ◌++◌}
 use Rattle.crn_cipher.specs.declared.TheConstants.{BLOCK_WORDS}
-use Rattle.crn_cipher.specs.Cipher.{block_word, BlockWords}
+use Rattle.crn_cipher.specs.Blocks.{block_word, BlockWords}
 
 -- the blocks n, n + 1, .., of which there are `count`
 unfoldable pub front : List ℕ → ℕ → ℕ → List (List ℕ)

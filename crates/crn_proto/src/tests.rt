@@ -5,19 +5,27 @@ ghost use Rattle.std.specs.List.{All};
 ghost use Rattle.crn_proto.specs.Machine.{IsActor};
 
 use super::*;
-use crn_cipher::StreamId;
+use crn_cipher::{BLOCK_WORDS, StreamId};
 use std::test::Fail;
 
-// The demand words of block 0 of the zero key.
-const ZERO_DEMAND: [u64; 4] = [
+// All words of block 0 of the zero key.
+const ZERO_BLOCK: [u64; BLOCK_WORDS] = [
     0x0921_8ebd_e6c8_5537,
     0x5594_1f52_66d8_6105,
     0x4bd2_5e16_2824_34dc,
     0xee29_ec84_6bd2_e40b,
+    0xca29_e963_0500_9de4,
+    0x1cc2_7861_f52c_604b,
+    0xa1e7_adf8_7d24_b5b5,
+    0xfc22_91a0_341a_674c,
+    0x5539_2778_6438_0943,
+    0x86dc_4496_ff6c_4bf6,
+    0xb6a1_6a29_4c09_b67c,
+    0x3572_aa99_bcf7_1983,
 ];
 
 // All words of block 0 of the key of all ones.
-const ONES_BLOCK: [u64; 8] = [
+const ONES_BLOCK: [u64; BLOCK_WORDS] = [
     0x6213_0176_f963_5528,
     0xc3f0_3b67_633e_f3b7,
     0x9f45_83cf_ecf3_8e0c,
@@ -26,6 +34,10 @@ const ONES_BLOCK: [u64; 8] = [
     0x1106_6d6c_ba57_c1c1,
     0xc653_a42e_8112_ca7c,
     0x79ea_1ef4_77ff_5930,
+    0xe799_b41b_9979_996d,
+    0x0470_77e9_311a_d33a,
+    0xf1e7_7b34_1731_d0ae,
+    0x21a2_4f72_0cd4_7c64,
 ];
 
 const P: Actor = Actor::Producer;
@@ -67,26 +79,24 @@ fn played(
 
 #[test]
 fn a_block_goes_through_its_slot(rt: HostRuntime) -> Result<(), Fail> {
-    let schedule = [
-        P, P, P, P, P, P, P, P, P, P, P, R0, R0, R0, R0, R0, R0, R0, R0, R0, R0, R0,
-    ];
-    let (machine, answers) = played(&rt, ring([0; 4], 2, 1, 1), &schedule)?;
-    assert_eq!(rt; answers.first(), Some(&step(Kind::P1, 1, 0)));
-    for (i, word) in ZERO_DEMAND.iter().enumerate() {
+    let (mut machine, stores) = played(&rt, ring([0; 4], 2, 1, 1), &[P; 15])?;
+    let loads = replay(rt.alloc(), &mut machine, &[R0; 15])?;
+    assert_eq!(rt; stores.first(), Some(&step(Kind::P1, 1, 0)));
+    assert_eq!(rt; loads.first(), Some(&step(Kind::R1, 0, 3)));
+    for (i, word) in ZERO_BLOCK.iter().enumerate() {
         assert_eq!(rt;
-            answers.get(1 + i),
+            stores.get(1 + i),
             Some(&step(Kind::P2, 2 + i as u64, *word))
         );
         assert_eq!(rt;
-            answers.get(12 + i),
+            loads.get(1 + i),
             Some(&step(Kind::R2, 2 + i as u64, *word))
         );
     }
-    assert_eq!(rt; answers.get(9), Some(&step(Kind::P3, 0, 2)));
-    assert_eq!(rt; answers.get(10), Some(&step(Kind::P3, 0, 3)));
-    assert_eq!(rt; answers.get(11), Some(&step(Kind::R1, 0, 3)));
-    assert_eq!(rt; answers.get(20), Some(&step(Kind::R3, 1, 1)));
-    assert_eq!(rt; answers.get(21), Some(&step(Kind::R1, 0, 3)));
+    assert_eq!(rt; stores.get(13), Some(&step(Kind::P3, 0, 2)));
+    assert_eq!(rt; stores.get(14), Some(&step(Kind::P3, 0, 3)));
+    assert_eq!(rt; loads.get(13), Some(&step(Kind::R3, 1, 1)));
+    assert_eq!(rt; loads.get(14), Some(&step(Kind::R1, 0, 3)));
     assert_eq!(rt; (machine.published(), machine.ended()), (1, true));
     assert_eq!(rt;
         (machine.taken(0), machine.left(0), machine.reader_ended(0)),
@@ -97,11 +107,9 @@ fn a_block_goes_through_its_slot(rt: HostRuntime) -> Result<(), Fail> {
 
 #[test]
 fn a_reader_waits_for_the_end(rt: HostRuntime) -> Result<(), Fail> {
-    let schedule = [
-        P, P, P, P, P, P, P, P, P, P, R0, R0, R0, R0, R0, R0, R0, R0, R0, R0, R0,
-    ];
-    let (machine, answers) = played(&rt, ring([0; 4], 2, 1, 1), &schedule)?;
-    assert_eq!(rt; answers.last(), Some(&step(Kind::R1, 0, 2)));
+    let (mut machine, _) = played(&rt, ring([0; 4], 2, 1, 1), &[P; 14])?;
+    let loads = replay(rt.alloc(), &mut machine, &[R0; 15])?;
+    assert_eq!(rt; loads.last(), Some(&step(Kind::R1, 0, 2)));
     assert_eq!(rt; (machine.published(), machine.ended()), (1, false));
     assert_eq!(rt;
         (machine.taken(0), machine.left(0), machine.reader_ended(0)),
@@ -112,7 +120,7 @@ fn a_reader_waits_for_the_end(rt: HostRuntime) -> Result<(), Fail> {
 
 #[test]
 fn all_words_of_a_block_stand_in_order(rt: HostRuntime) -> Result<(), Fail> {
-    let (machine, answers) = played(&rt, ring([u64::MAX; 4], 1, 1, 1), &[P; 9])?;
+    let (machine, answers) = played(&rt, ring([u64::MAX; 4], 1, 1, 1), &[P; 13])?;
     for (i, word) in ONES_BLOCK.iter().enumerate() {
         assert_eq!(rt;
             answers.get(1 + i),
@@ -120,15 +128,14 @@ fn all_words_of_a_block_stand_in_order(rt: HostRuntime) -> Result<(), Fail> {
         );
     }
     assert_eq!(rt; machine.word(2), ONES_BLOCK[0]);
-    assert_eq!(rt; machine.word(9), ONES_BLOCK[7]);
+    assert_eq!(rt; machine.word(13), ONES_BLOCK[11]);
     Ok(())
 }
 
 #[test]
 fn stored_words_are_not_yet_published(rt: HostRuntime) -> Result<(), Fail> {
-    let schedule = [P, P, P, P, P, P, P, P, P, R0];
-    let (machine, answers) = played(&rt, ring([0; 4], 2, 1, 1), &schedule)?;
-    assert_eq!(rt; answers.last(), Some(&step(Kind::R1, 0, 0)));
+    let (mut machine, _) = played(&rt, ring([0; 4], 2, 1, 1), &[P; 13])?;
+    assert_eq!(rt; machine.step(R0), step(Kind::R1, 0, 0));
     assert_eq!(rt; (machine.published(), machine.ended()), (0, false));
     assert_eq!(rt;
         (machine.taken(0), machine.left(0), machine.reader_ended(0)),
@@ -168,17 +175,16 @@ fn an_empty_stream_ends_at_once(rt: HostRuntime) -> Result<(), Fail> {
 
 #[test]
 fn a_full_ring_goes_on_once_its_reader_left(rt: HostRuntime) -> Result<(), Fail> {
-    let schedule = [P, P, P, P, P, P, P, P, P, P, P, Actor::Leave(0), P];
-    let (mut machine, answers) = played(&rt, ring([0; 4], 1, 1, 2), &schedule)?;
-    assert_eq!(rt; answers.get(10), Some(&step(Kind::P1, 1, 0)));
-    assert_eq!(rt; answers.get(11), Some(&step(Kind::R3, 1, 1 << 63)));
-    assert_eq!(rt; answers.get(12), Some(&step(Kind::P1, 1, 1 << 63)));
+    let (mut machine, answers) = played(&rt, ring([0; 4], 1, 1, 2), &[P; 15])?;
+    assert_eq!(rt; answers.get(14), Some(&step(Kind::P1, 1, 0)));
+    assert_eq!(rt; machine.step(Actor::Leave(0)), step(Kind::R3, 1, 1 << 63));
+    assert_eq!(rt; machine.step(P), step(Kind::P1, 1, 1 << 63));
     assert_eq!(rt; (machine.published(), machine.ended()), (1, false));
     assert_eq!(rt;
         (machine.taken(0), machine.left(0), machine.reader_ended(0)),
         (0, true, false)
     );
-    let rest = replay(rt.alloc(), &mut machine, &[P; 9])?;
+    let rest = replay(rt.alloc(), &mut machine, &[P; 13])?;
     assert_eq!(rt; rest.last(), Some(&step(Kind::P3, 0, 4)));
     Ok(())
 }
@@ -186,15 +192,13 @@ fn a_full_ring_goes_on_once_its_reader_left(rt: HostRuntime) -> Result<(), Fail>
 // Size 1 and two readers: block 1 waits for the second reader, though the first has taken block 0.
 #[test]
 fn every_reader_gates(rt: HostRuntime) -> Result<(), Fail> {
-    let schedule = [
-        P, P, P, P, P, P, P, P, P, P, P, R0, R0, R0, R0, R0, R0, R0, R0, R0, R0, P, P, P,
-    ];
-    let (machine, answers) = played(&rt, ring([0; 4], 1, 2, 2), &schedule)?;
-    assert_eq!(rt; answers.get(10), Some(&step(Kind::P3, 0, 2)));
-    assert_eq!(rt; answers.get(20), Some(&step(Kind::R3, 1, 1)));
-    assert_eq!(rt; answers.get(21), Some(&step(Kind::P1, 1, 1)));
-    assert_eq!(rt; answers.get(22), Some(&step(Kind::P1, 2, 0)));
-    assert_eq!(rt; answers.get(23), Some(&step(Kind::P1, 1, 1)));
+    let (mut machine, stores) = played(&rt, ring([0; 4], 1, 2, 2), &[P; 15])?;
+    assert_eq!(rt; stores.last(), Some(&step(Kind::P3, 0, 2)));
+    let loads = replay(rt.alloc(), &mut machine, &[R0; 14])?;
+    assert_eq!(rt; loads.last(), Some(&step(Kind::R3, 1, 1)));
+    assert_eq!(rt; machine.step(P), step(Kind::P1, 1, 1));
+    assert_eq!(rt; machine.step(P), step(Kind::P1, 2, 0));
+    assert_eq!(rt; machine.step(P), step(Kind::P1, 1, 1));
     assert_eq!(rt; (machine.taken(0), machine.taken(1)), (1, 0));
     Ok(())
 }
@@ -209,7 +213,8 @@ fn actors_that_have_no_step(rt: HostRuntime) -> Result<(), Fail> {
     assert_eq!(rt; answers.as_slice(), [step(Kind::P3, 0, 1), None].as_slice());
     assert_eq!(rt; machine.step(Actor::Leave(0)), step(Kind::R3, 1, LEFT));
     assert_eq!(rt; machine.step(Actor::Leave(0)), None);
-    let (mut machine, _) = played(&rt, spec, &[P, P, P, P, P, P, P, P, P, P, R0])?;
+    let (mut machine, _) = played(&rt, spec, &[P; 14])?;
+    assert_eq!(rt; machine.step(R0), step(Kind::R1, 0, 2));
     assert_eq!(rt; machine.step(Actor::Leave(0)), None);
     Ok(())
 }

@@ -2,7 +2,7 @@
 use Rattle.std.proofs.Common.{◌≡◌, ℕ, ◌+◌, ◌<◌, List, length, get_or, sym, ◌∙◌, arith}
 use Rattle.std.proofs.lemmas.Grind.{same_number_lists}
 use Rattle.crn_cipher.specs.declared.TheConstants.{BLOCK_WORDS}
-use Rattle.crn_cipher.specs.Cipher.{block_word, BlockWords}
+use Rattle.crn_cipher.specs.Blocks.{block_word, BlockWords}
 use Rattle.crn_proto.specs.declared.spec.RingSpec.{RingSpec}
 use Rattle.crn_proto.specs.Ring.{place}
 use Rattle.crn_cipher.proofs.Blocks.{length-block}

@@ -1,6 +1,6 @@
 //! The calls of a reader.
 ghost use Rattle.std.specs.Prelude.{◌≡◌, ℕ, ◌+◌, ◌-◌, ◌*◌, ◌/◌, ◌%◌, ◌<◌, ◌≤◌, false, List, [], ◌++◌, drop, length};
-ghost use Rattle.crn_cipher.specs.Cipher.{BlockWords};
+ghost use Rattle.crn_cipher.specs.Blocks.{BlockWords};
 ghost use Rattle.crn_proto.specs.Ring.{place, reading};
 ghost use Rattle.crn_proto.specs.Chains.{ReaderReaches};
 ghost use Rattle.crn_ring.specs.Holds.{HasReader};

@@ -1,7 +1,7 @@
 //! Each atomic step of an actor, as a function of its own: one load or one store of one word of the table, with the
 //! move of the ring that it is.
 ghost use Rattle.std.specs.Prelude.{◌≡◌, ◌≢◌, ◌+◌, ◌-◌, ◌*◌, ◌/◌, ◌%◌, ◌<◌, ◌≤◌, ℕ, false, length, [], slice_index};
-ghost use Rattle.crn_cipher.specs.Cipher.{block_word};
+ghost use Rattle.crn_cipher.specs.Blocks.{block_word};
 ghost use Rattle.crn_proto.specs.Ring.{place, left_mark, storing, reading, PassesGates, ProducerMay, ReaderMay, LoadGate, StoreWord, Publish, Finish, LoadCursor, LoadWord, Take, Leave};
 ghost use Rattle.crn_proto.specs.Chains.{ProducerReaches, ReaderReaches};
 ghost use Rattle.crn_ring.specs.Holds.{HasProducer, HasReader};

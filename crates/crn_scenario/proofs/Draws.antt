@@ -9,7 +9,8 @@ use Rattle.std.specs.Prelude.{int_lt, is_some}
 use Rattle.toml.specs.Data.{Items, no_items, item, Members, get_member, as_integer}
 use Rattle.crn_draw.specs.Faults.{least_fault, rises}
 use Rattle.crn_scenario.specs.Tree.{array_at, count_items, are_integers, integers_of, kept}
-use Rattle.crn_scenario.specs.Fields.{Entry, entry, numbers, is_within, are_within}
+use Rattle.crn_scenario.specs.Fields.{is_within, are_within}
+use Rattle.crn_scenario.specs.Fields as fields
 use Rattle.crn_scenario.specs.Faults.{have_other_lengths, have_other_order, have_other_total, has_other_lengths_in, has_other_order_in, has_other_total_in, rise_above, total_of}
 use Rattle.crn_scenario.specs.Reading.{AreDraws, integers_in, naturals_in}
 use Rattle.crn_scenario.proofs.Bools.{passed, and_true}
@@ -120,14 +121,11 @@ none_of vs ws some same rise low high =
 
 -- ---- a table of draws
 
-abbrev pub draw_fields : ℕ → ℕ → List Entry
-draw_fields low high = entry (codes "values") (numbers low high) ∷ entry (codes "weights") (numbers 0 65536) ∷ []
+pub values_kept : (low high : ℕ) (t : Members) → Kept (fields.draws low high) t → IsList low high (array_at (codes "values") t)
+values_kept low high t h = list_kept low high (get_member (codes "values") t) (kept_at (fields.draws low high) t 0 nowhere h (lit< tt))
 
-pub values_kept : (low high : ℕ) (t : Members) → Kept (draw_fields low high) t → IsList low high (array_at (codes "values") t)
-values_kept low high t h = list_kept low high (get_member (codes "values") t) (kept_at (draw_fields low high) t 0 nowhere h (lit< tt))
-
-pub weights_kept : (low high : ℕ) (t : Members) → Kept (draw_fields low high) t → IsList 0 65536 (array_at (codes "weights") t)
-weights_kept low high t h = list_kept 0 65536 (get_member (codes "weights") t) (kept_at (draw_fields low high) t 1 nowhere h (lit< tt))
+pub weights_kept : (low high : ℕ) (t : Members) → Kept (fields.draws low high) t → IsList 0 65536 (array_at (codes "weights") t)
+weights_kept low high t h = list_kept 0 65536 (get_member (codes "weights") t) (kept_at (fields.draws low high) t 1 nowhere h (lit< tt))
 
 fault_free : (low high : ℕ) (vs ws : Items) → are_integers vs ≡ true → are_integers ws ≡ true → (count_items vs == 0) ≡ false → count_items vs ≡ count_items ws → are_within (pos low) (pos high) (integers_of vs) ≡ true → are_within (pos 0) (pos 65536) (integers_of ws) ≡ true → rise_above None (integers_of vs) ≡ true → is_within (pos 1) (pos 65536) (Some (total_of (integers_of ws))) ≡ true → least_fault (map nat_abs (integers_of vs)) (map nat_abs (integers_of ws)) ≡ None
 fault_free low high vs ws iv iw some same wv ww order total =
@@ -144,7 +142,7 @@ fault_free low high vs ws iv iw some same wv ww order total =
 abbrev list_at : Option Items → List ℕ
 list_at o = map nat_abs (integers_in o)
 
-pub draws : (low high : ℕ) (t : Members) → high ≤ 65536 → Kept (draw_fields low high) t → has_other_lengths_in (Some t) ≡ false → has_other_order_in (Some t) ≡ false → has_other_total_in (Some t) ≡ false → AreDraws (Some t)
+pub draws : (low high : ℕ) (t : Members) → high ≤ 65536 → Kept (fields.draws low high) t → has_other_lengths_in (Some t) ≡ false → has_other_order_in (Some t) ≡ false → has_other_total_in (Some t) ≡ false → AreDraws (Some t)
 draws low high t le h lengths order total =
     let v = values_kept low high t h in
     let w = weights_kept low high t h in
@@ -158,12 +156,12 @@ draws low high t le h lengths order total =
       no_fault = subst (λ (o : Option Items). least_fault (list_at o) (list_at (array_at (codes "weights") t)) ≡ None) (sym v.is) (subst (λ (o : Option Items). least_fault (list_at (Some v.items)) (list_at o) ≡ None) (sym w.is) free);
     }
 
-pub values_high : (low high : ℕ) (t : Members) → Kept (draw_fields low high) t → All (λ v. v ≤ high) (naturals_in (codes "values") (Some t))
+pub values_high : (low high : ℕ) (t : Members) → Kept (fields.draws low high) t → All (λ v. v ≤ high) (naturals_in (codes "values") (Some t))
 values_high low high t h =
     let v = values_kept low high t h in
     subst (λ (o : Option Items). All (λ n. n ≤ high) (list_at o)) (sym v.is) (all_high low high (integers_of v.items) v.within)
 
-pub values_low : (low high : ℕ) (t : Members) → Kept (draw_fields low high) t → All (λ v. low ≤ v) (naturals_in (codes "values") (Some t))
+pub values_low : (low high : ℕ) (t : Members) → Kept (fields.draws low high) t → All (λ v. low ≤ v) (naturals_in (codes "values") (Some t))
 values_low low high t h =
     let v = values_kept low high t h in
     subst (λ (o : Option Items). All (λ n. low ≤ n) (list_at o)) (sym v.is) (all_low low high (integers_of v.items) v.within)

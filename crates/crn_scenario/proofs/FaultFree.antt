@@ -1,5 +1,5 @@
 -- A tree that says a scenario, key by key, has no fault.
-use Rattle.std.proofs.Common.{◌≡◌, ◌≢◌, ℕ, zero, suc, ◌^◌, ◌<◌, ◌≤◌, Bool, true, false, not, ◌&&◌, ◌||◌, ◌==◌, List, [], ◌∷◌, length, map, sum, All, AllPairs, Option, Some, None, codes, nat_le, refl, sym, ap, subst, ◌∙◌, arith, ℤ, pos}
+use Rattle.std.proofs.Common.{◌≡◌, ◌≢◌, ℕ, zero, suc, ◌^◌, ◌<◌, ◌≤◌, Bool, true, false, not, ◌&&◌, ◌||◌, ◌==◌, List, [], ◌∷◌, ◌++◌, ◌⊎◌, inl, inr, length, map, sum, All, AllPairs, Option, Some, None, codes, nat_le, refl, sym, ap, subst, ◌∙◌, arith, ℤ, pos}
 use Rattle.std.proofs.lemmas.Bool.{false≢true}
 use Rattle.std.proofs.lemmas.Bool.Decides.{nat_tests}
 use Rattle.std.proofs.lemmas.Int.{ints}
@@ -11,21 +11,21 @@ use Rattle.std.specs.List.{list_all}
 use Rattle.toml.specs.Data.{Data, string, integer, table, Items, Members, get_member, as_integer, as_str, as_array, as_table}
 use Rattle.crn_stock.specs.Scenarios.{is_name}
 use Rattle.crn_scenario.specs.Hex.{is_hex_word}
-use Rattle.crn_scenario.specs.Tree.{integer_at, text_at, array_at, count_items, integers_of, texts_of}
-use Rattle.crn_scenario.specs.Fields.{Entry, number, keeps, keeps_at, keeps_at_all, is_within, is_list_within, are_four_words, are_within}
+use Rattle.crn_scenario.specs.Tree.{integer_at, text_at, array_at, table_at, count_items, integers_of, texts_of}
+use Rattle.crn_scenario.specs.Fields.{Entry, keys_of, number, keeps, keeps_at, keeps_at_all, is_within, is_list_within, are_four_words, are_within}
 use Rattle.crn_scenario.specs.Fields as fields
 use Rattle.crn_scenario.specs.declared.fields.Kind.{Kind}
 use Rattle.crn_scenario.specs.declared.fields.Kind.TheVariants as kind
 use Rattle.crn_scenario.specs.declared.fields.Rule.{Rule}
 use Rattle.crn_scenario.specs.declared.fields.Rule.TheVariants as rule
-use Rattle.crn_scenario.specs.Faults.{HasNone, faults, holds_at, all_keep, keeps_in, policies_in, policies_at, is_version, has_other_version, has_unknown_key, lacks_key, has_other_kind, breaks_range, have_other_lengths, have_other_order, have_other_total, has_other_lengths_in, has_other_order_in, has_other_total_in, has_other_lengths, has_values_out_of_order, has_weights_out_of_range, rise_above, total_of, are_in_order, has_levels_in_order, has_low_above_high, names_in, names_at, are_good_names, has_bad_name, is_ring_size, is_other_ring, has_other_ring, is_other_count, has_other_policy_count}
+use Rattle.crn_scenario.specs.Faults.{HasNone, faults, holds_at, version_of, inner_keep, all_keep, keeps_in, policies_in, policies_at, is_version, has_other_version, has_unknown_key, lacks_key, has_other_kind, breaks_range, have_other_lengths, have_other_order, have_other_total, has_other_lengths_in, has_other_order_in, has_other_total_in, has_other_lengths, has_values_out_of_order, has_weights_out_of_range, rise_above, total_of, are_in_order, has_levels_in_order, has_low_above_high, names_in, names_at, are_good_names, has_bad_name, is_ring_size, is_other_ring, has_other_ring, is_other_count, has_other_policy_count}
 use Rattle.crn_scenario.specs.Reading as reading
-use Rattle.crn_scenario.specs.Sound.{items_of, numbers, tables, HasNoOther, IsNumber, AreWords, AreRates, AreWeighted, IsPolicyTable, IsSound}
+use Rattle.crn_scenario.specs.Sound.{items_of, numbers, tables, HasNoOther, IsNumber, AreWords, AreRates, AreWeighted, IsPolicyTable, IsFirst, IsSecond, IsSound}
 use Rattle.crn_scenario.proofs.Bools.{and_true, or_false}
-use Rattle.crn_scenario.proofs.Kept.{KeptAt}
+use Rattle.crn_scenario.proofs.Kept.{KeptAt, IsVersion, version_is, old}
 use Rattle.crn_scenario.proofs.Policies.{name_in}
 use Rattle.crn_scenario.proofs.Glyphs.{word, name}
-use Rattle.crn_scenario.proofs.KnownKeys.{names_of, known}
+use Rattle.crn_scenario.proofs.KnownKeys.{names_of, key_decides, known}
 use Rattle.crn_scenario.proofs.ItemLists.{count-items_of, are_numbers, their_numbers, all_texts, their_texts, all_tables, their_tables, AreWithin, all_within, within, rises, total-numbers, differ}
 
 not_true : (b : Bool) → b ≡ true → not b ≡ false
@@ -120,10 +120,7 @@ costs_stand o h = (
   ),
 )
 
-abbrev draws : ℕ → ℕ → List Entry
-draws low high = fields.entry (codes "values") (fields.numbers low high) ∷ fields.entry (codes "weights") (fields.numbers 0 65536) ∷ []
-
-draws_stand : (low high : ℕ) (o : Option Data) (h : AreWeighted low high o) → Stand (draws low high) h.draws
+draws_stand : (low high : ℕ) (o : Option Data) (h : AreWeighted low high o) → Stand (fields.draws low high) h.draws
 draws_stand low high o h =
     let some : 1 ≤ length h.values = h.some in
     let count : length h.weights ≡ length h.values = h.count in (
@@ -228,9 +225,11 @@ names_differ (t ∷ ts) each h =
 
 -- ---- each fault
 
-top_stands : (ms : Members) → IsSound ms → Stand fields.top ms
-top_stands ms h = (
-  integer_stands (pos 1) _ h.version,
+-- the keys of all versions, and then more
+top_stands : (ms : Members) (z : ℤ) (more : List Entry) → IsSound ms → get_member (codes "version") ms ≡ Some (integer z) → Stand more ms → Stand (keys_of 1 fields.top ++ more) ms
+unfolding keys_of
+top_stands ms z more h version rest = (
+  integer_stands z _ version,
   (
     words_stand _ h.key,
     (
@@ -249,7 +248,7 @@ top_stands ms h = (
                   table_stands _ _ h.lead.are,
                   (
                     tables_stand _ _ h.policy.are,
-                    tt,
+                    rest,
                   ),
                 ),
               ),
@@ -261,6 +260,58 @@ top_stands ms h = (
   ),
 )
 
+-- what the version says of the top and of what customers return
+record HasVersion (ms : Members) : Type 0 where
+  number : ℕ
+  is : integer_at (codes "version") ms ≡ Some (pos number)
+  one : IsVersion (integer_at (codes "version") ms)
+  top : (r : Rule) → keeps r (keys_of number fields.top) ms ≡ true
+  returns : (r : Rule) → keeps_in r fields.returns (table_at (codes "returns") ms) ≡ true
+  drawn : AreDrawable (table_at (codes "returns") ms)
+
+-- a key of version 2 is none of version 1
+absent : (ms : Members) → IsFirst ms → get_member (codes "returns") ms ≡ None
+unfolding keys_of
+absent ms h = none (get_member (codes "returns") ms) (λ found. false≢true ((key_decides (keys_of 1 fields.top) (codes "returns")).1 (h.keys (codes "returns") found)))
+  where
+    none : (o : Option Data) → ¬ (o ≢ None) → o ≡ None
+    none None f = refl
+    none (Some d) f = absurd (f (λ same. cc))
+
+of_first : (ms : Members) → IsSound ms → IsFirst ms → HasVersion ms
+unfolding keys_of
+of_first ms h v =
+    let is : integer_at (codes "version") ms ≡ Some (pos 1) = ap (option_and_then as_integer) v.version in
+    let none : table_at (codes "returns") ms ≡ None = ap (option_and_then as_table) (absent ms v) in
+    record {
+      number = 1;
+      is = is;
+      one = inl is;
+      top = λ r. keeps_all r (keys_of 1 fields.top) ms v.keys (top_stands ms (pos 1) [] h v.version tt);
+      returns = λ r. subst (λ (o : Option Members). keeps_in r fields.returns o ≡ true) (sym none) refl;
+      drawn = subst AreDrawable (sym none) (record { lengths = refl; order = refl; total = refl });
+    }
+
+of_second : (ms : Members) → IsSound ms → IsSecond ms → HasVersion ms
+unfolding keys_of
+of_second ms h v =
+    let is : integer_at (codes "version") ms ≡ Some (pos 2) = ap (option_and_then as_integer) v.version in
+    record {
+      number = 2;
+      is = is;
+      one = inr is;
+      top = λ r. keeps_all r (keys_of 2 fields.top) ms v.keys (top_stands ms (pos 2) (fields.entry_since 2 (codes "returns") kind.Table ∷ []) h v.version (table_stands _ _ v.returns.are, tt));
+      returns = λ r. keeps_inner r fields.returns v.returns.draws (get_member (codes "returns") ms) v.returns.are v.returns.keys (draws_stand 0 10000 _ v.returns);
+      drawn = drawable 0 10000 _ v.returns;
+    }
+
+versions : (ms : Members) → IsSound ms → IsFirst ms ⊎ IsSecond ms → HasVersion ms
+versions ms h (inl v) = of_first ms h v
+versions ms h (inr v) = of_second ms h v
+
+has_version : (ms : Members) → IsSound ms → HasVersion ms
+has_version ms h = versions ms h h.version
+
 -- the policies' array
 policy_items : (ms : Members) (h : IsSound ms) → array_at (codes "policy") ms ≡ Some (items_of (map (λ t. table t) h.policy.policies))
 policy_items ms h = ap (option_and_then as_array) h.policy.are
@@ -268,21 +319,40 @@ policy_items ms h = ap (option_and_then as_array) h.policy.are
 policies_are : (ms : Members) (h : IsSound ms) → policies_at ms ≡ h.policy.policies
 policies_are ms h = ap policies_in (policy_items ms h) ∙ their_tables h.policy.policies
 
-keep : (r : Rule) (ms : Members) → IsSound ms → all_keep r ms ≡ true
-unfolding all_keep
-keep r ms h =
+-- a table keeps a rule with the same keys
+same_in : (r : Rule) (es fs : List Entry) (o : Option Members) → fs ≡ es → keeps_in r es o ≡ true → keeps_in r fs o ≡ true
+same_in r es fs o e h = subst (λ (x : List Entry). keeps_in r x o ≡ true) (sym e) h
+
+inner : (r : Rule) (ms : Members) → IsSound ms → inner_keep r (version_of ms) ms ≡ true
+unfolding inner_keep
+inner r ms h =
+    let v = has_version ms h in
+    let keys = old ms v.one in
     and_true _ _
     (and_true _ _
     (and_true _ _
-    (and_true _ _ (keeps_all r fields.top ms h.keys (top_stands ms h))
-    (keeps_inner r fields.costs h.costs.rates (get_member (codes "costs") ms) h.costs.are h.costs.keys (costs_stand _ h.costs)))
-    (keeps_inner r fields.demand h.demand.draws (get_member (codes "demand") ms) h.demand.are h.demand.keys (draws_stand 0 10000 _ h.demand)))
-    (keeps_inner r fields.lead h.lead.draws (get_member (codes "lead") ms) h.lead.are h.lead.keys (draws_stand 1 32 _ h.lead)))
-    (subst (λ (ts : List Members). list_all (keeps r fields.policy) ts ≡ true) (sym (policies_are ms h)) (policies_keep r h.policy.policies h.policy.each))
+    (same_in r _ _ _ keys.costs (keeps_inner r fields.costs h.costs.rates (get_member (codes "costs") ms) h.costs.are h.costs.keys (costs_stand _ h.costs)))
+    (same_in r _ _ _ keys.demand (keeps_inner r fields.demand h.demand.draws (get_member (codes "demand") ms) h.demand.are h.demand.keys (draws_stand 0 10000 _ h.demand))))
+    (same_in r _ _ _ keys.lead (keeps_inner r fields.lead h.lead.draws (get_member (codes "lead") ms) h.lead.are h.lead.keys (draws_stand 1 32 _ h.lead))))
+    (same_in r _ _ _ keys.returns (v.returns r))
+
+keep : (r : Rule) (ms : Members) → IsSound ms → all_keep r ms ≡ true
+unfolding all_keep
+keep r ms h =
+    let v = has_version ms h in
+    let top : keeps r (keys_of (version_of ms) fields.top) ms ≡ true = subst (λ (n : ℕ). keeps r (keys_of n fields.top) ms ≡ true) (sym (version_is ms v.number v.is)) (v.top r) in
+    let policies : list_all (keeps r fields.policy) (policies_at ms) ≡ true = subst (λ (ts : List Members). list_all (keeps r fields.policy) ts ≡ true) (sym (policies_are ms h)) (policies_keep r h.policy.policies h.policy.each) in
+    and_true _ _
+    (and_true _ _ top (inner r ms h))
+    (subst (λ (es : List Entry). list_all (keeps r es) (policies_at ms) ≡ true) (sym (old ms v.one).policy) policies)
+
+is_known : (o : Option ℤ) → IsVersion o → not (is_version o) ≡ false
+is_known o (inl e) = subst (λ (x : Option ℤ). not (is_version x) ≡ false) (sym e) refl
+is_known o (inr e) = subst (λ (x : Option ℤ). not (is_version x) ≡ false) (sym e) refl
 
 version : (ms : Members) → IsSound ms → has_other_version ms ≡ false
 unfolding has_other_version
-version ms h = subst (λ (o : Option Data). not (is_version (option_and_then as_integer o)) ≡ false) (sym h.version) refl
+version ms h = is_known (integer_at (codes "version") ms) (has_version ms h).one
 
 unknown : (ms : Members) → IsSound ms → has_unknown_key ms ≡ false
 unfolding has_unknown_key
@@ -300,17 +370,20 @@ out_of_range : (ms : Members) → IsSound ms → breaks_range ms ≡ false
 unfolding breaks_range
 out_of_range ms h = not_true _ (keep rule.Ranges ms h)
 
+none_of_three : (a b c : Bool) → a ≡ false → b ≡ false → c ≡ false → (a || (b || (c || false))) ≡ false
+none_of_three a b c e f g = or_false _ _ e (or_false _ _ f (or_false _ _ g refl))
+
 lengths : (ms : Members) → IsSound ms → has_other_lengths ms ≡ false
 unfolding has_other_lengths
-lengths ms h = or_false _ _ (drawable 0 10000 _ h.demand).lengths (drawable 1 32 _ h.lead).lengths
+lengths ms h = none_of_three _ _ _ (drawable 0 10000 _ h.demand).lengths (drawable 1 32 _ h.lead).lengths (has_version ms h).drawn.lengths
 
 order : (ms : Members) → IsSound ms → has_values_out_of_order ms ≡ false
 unfolding has_values_out_of_order
-order ms h = or_false _ _ (drawable 0 10000 _ h.demand).order (drawable 1 32 _ h.lead).order
+order ms h = none_of_three _ _ _ (drawable 0 10000 _ h.demand).order (drawable 1 32 _ h.lead).order (has_version ms h).drawn.order
 
 weights : (ms : Members) → IsSound ms → has_weights_out_of_range ms ≡ false
 unfolding has_weights_out_of_range
-weights ms h = or_false _ _ (drawable 0 10000 _ h.demand).total (drawable 1 32 _ h.lead).total
+weights ms h = none_of_three _ _ _ (drawable 0 10000 _ h.demand).total (drawable 1 32 _ h.lead).total (has_version ms h).drawn.total
 
 low_above_high : (ms : Members) → IsSound ms → has_low_above_high ms ≡ false
 unfolding has_low_above_high

@@ -26,7 +26,7 @@ pub fewer : (n k : List ℕ) (ns : List (List ℕ)) → Contains (n ∷ ns) k �
 fewer n k ns (zero, lt, e) = inl e
 fewer n k ns (suc i, lt, e) = inr (i, omega (arith, lt), e)
 
-key_decides : (es : List Entry) (k : List ℕ) → Decides (is_key es k) (Contains (names_of es) k)
+pub key_decides : (es : List Entry) (k : List ℕ) → Decides (is_key es k) (Contains (names_of es) k)
 key_decides [] k = (λ e. absurd (false≢true e), λ h. let lt = h.1 in absurd (omega (arith, lt)))
 key_decides (e ∷ es) k =
     Decides-like (bytes_eq e.name k || is_key es k) (more e.name k (names_of es)) (fewer e.name k (names_of es))

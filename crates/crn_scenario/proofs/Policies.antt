@@ -13,14 +13,14 @@ use Rattle.toml.specs.Data.{Items, no_items, item, Members, get_member, as_table
 use Rattle.crn_stock.specs.declared.rules.Policy.{Policy}
 use Rattle.crn_stock.specs.Models.{IsPolicy, ModelParts}
 use Rattle.crn_stock.specs.Scenarios.{AreForScenario, IsRingSize, ScenarioParts, is_name}
-use Rattle.crn_scenario.specs.Tree.{integer_at, text_at, array_at, tables_of, count_items, are_tables, kept}
+use Rattle.crn_scenario.specs.Tree.{integer_at, natural, text_at, array_at, tables_of, count_items, are_tables, kept}
 use Rattle.crn_scenario.specs.Fields.{Entry, entry, keeps, keeps_at_all, is_within}
 use Rattle.crn_scenario.specs.Fields as fields
 use Rattle.crn_scenario.specs.declared.fields.Rule.TheVariants as rule
 use Rattle.crn_scenario.specs.Faults.{HasNone, policies_in, policies_at, has_levels_in_order, are_in_order, has_low_above_high, names_in, names_at, is_among, all_differ, are_good_names, has_bad_name, is_ring_size, is_other_ring, has_other_ring, is_other_count, has_other_policy_count}
-use Rattle.crn_scenario.specs.Reading.{natural, integer, text, key_of, model_of, policy_of, scenario_of}
+use Rattle.crn_scenario.specs.Reading.{integer, text, key_of, model_of, policy_of, scenario_of}
 use Rattle.crn_scenario.proofs.Bools.{passed, failed, neither}
-use Rattle.crn_scenario.proofs.Kept.{nowhere, Kept, kept_at, top_kept, present, kinds, ranges, one, IsNumber, number_kept, IsText, text_kept, tables_kept, IsInteger, integer_kept}
+use Rattle.crn_scenario.proofs.Kept.{nowhere, Kept, kept_at, top_at, present, kinds, ranges, one, IsNumber, number_kept, IsText, text_kept, tables_kept, IsInteger, integer_kept}
 use Rattle.crn_scenario.proofs.Sound.{taken, from_low, to_high}
 
 -- ---- a policy
@@ -227,8 +227,8 @@ are_policies ds tables good names count =
 
 pub scenario_fits : (ms : Members) → HasNone ms → AreForScenario (natural (integer_at (codes "ring") ms)) (map policy_of (policies_at ms))
 scenario_fits ms h =
-    let t = tables_kept (get_member (codes "policy") ms) (kept_at fields.top ms 9 nowhere (top_kept ms h) (lit< tt)) in
-    let ring = integer_kept (get_member (codes "ring") ms) (kept_at fields.top ms 5 nowhere (top_kept ms h) (lit< tt)) in
+    let t = tables_kept (get_member (codes "policy") ms) (top_at ms 9 h (lit< tt) refl) in
+    let ring = integer_kept (get_member (codes "ring") ms) (top_at ms 5 h (lit< tt) refl) in
     let good : AreGood (tables_of t.items) = subst (λ (o : Option Items). AreGood (policies_in o)) t.is (all_good ms h) in
     let names : are_good_names (names_in t.items) ≡ true = subst (λ (o : Option Items). are_good_names (names_at o) ≡ true) t.is (good_names_at ms h) in
     let count : is_other_count (Some t.items) ≡ false = subst (λ (o : Option Items). is_other_count o ≡ false) t.is (count_at ms h) in

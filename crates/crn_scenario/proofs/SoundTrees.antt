@@ -1,5 +1,5 @@
 -- A tree without a fault says a scenario, key by key.
-use Rattle.std.proofs.Common.{◌≡◌, ◌≢◌, ℕ, ◌<◌, ◌≤◌, true, false, ◌==◌, List, [], ◌∷◌, length, map, sum, All, AllPairs, Option, Some, None, codes, nat_abs, nat_le, refl, sym, ap, subst, ◌∙◌, arith, lit<, ℤ, pos, negsuc}
+use Rattle.std.proofs.Common.{◌≡◌, ◌≢◌, ℕ, ◌<◌, ◌≤◌, ◌⊎◌, inl, inr, true, false, ◌==◌, List, [], ◌∷◌, length, map, sum, All, AllPairs, Option, Some, None, codes, nat_abs, nat_le, refl, sym, ap, subst, ◌∙◌, arith, lit<, ℤ, pos, negsuc}
 use Rattle.std.proofs.lemmas.Bool.{false≢true, and_parts}
 use Rattle.std.proofs.lemmas.Bool.Decides.{nat_tests}
 use Rattle.std.proofs.lemmas.Int.{ints}
@@ -12,16 +12,16 @@ use Rattle.toml.specs.Data.{Data, string, integer, float, boolean, datetime, arr
 use Rattle.crn_stock.specs.Scenarios.{IsRingSize, is_name}
 use Rattle.crn_scenario.specs.Hex.{is_hex_word}
 use Rattle.crn_scenario.specs.Tree.{integer_at, array_at, table_at, integers_of, texts_of, tables_of, count_items}
-use Rattle.crn_scenario.specs.Fields.{Entry, entry, number, keeps, are_within}
+use Rattle.crn_scenario.specs.Fields.{Entry, keys_of, number, keeps, are_within}
 use Rattle.crn_scenario.specs.Fields as fields
 use Rattle.crn_scenario.specs.declared.fields.Kind.TheVariants as kind
 use Rattle.crn_scenario.specs.declared.fields.Rule.TheVariants as rule
-use Rattle.crn_scenario.specs.Faults.{HasNone, keeps_in, policies_in, are_in_order, names_in, names_at, all_differ, are_good_names, rise_above, total_of, is_version, has_other_version, has_other_lengths_in, has_other_order_in, has_other_total_in, is_ring_size, is_other_ring, is_other_count}
+use Rattle.crn_scenario.specs.Faults.{HasNone, keeps_in, policies_in, are_in_order, names_in, names_at, all_differ, are_good_names, rise_above, total_of, has_other_lengths_in, has_other_order_in, has_other_total_in, is_ring_size, is_other_ring, is_other_count}
 use Rattle.crn_scenario.specs.Reading as reading
-use Rattle.crn_scenario.specs.Sound.{items_of, HasNoOther, IsNumber, IsSize, AreWords, AreRates, AreWeighted, IsPolicyTable, ArePolicyTables, IsSound}
+use Rattle.crn_scenario.specs.Sound.{items_of, HasNoOther, IsNumber, IsSize, AreWords, AreRates, AreWeighted, IsPolicyTable, ArePolicyTables, IsFirst, IsSecond, IsSound}
 use Rattle.crn_scenario.proofs.Bools.{passed}
-use Rattle.crn_scenario.proofs.Kept.{nowhere, Kept, KeptAt, kept_at, top_kept, known, one, number_kept, integer_kept, text_kept, tables_kept, IsKept, costs_kept, demand_kept, lead_kept, within_parts}
-use Rattle.crn_scenario.proofs.Draws.{draw_fields, values_kept, weights_kept, lengths_agree, order_kept, total_kept}
+use Rattle.crn_scenario.proofs.Kept.{nowhere, Kept, KeptAt, kept_at, IsVersion, version, version_is, held_at, top_at, known, number_kept, integer_kept, text_kept, table_kept, tables_kept, IsKept, costs_kept, demand_kept, lead_kept, returns_kept, within_parts}
+use Rattle.crn_scenario.proofs.Draws.{values_kept, weights_kept, lengths_agree, order_kept, total_kept}
 use Rattle.crn_scenario.proofs.Sound.{lengths, orders, totals}
 use Rattle.crn_scenario.proofs.Policies.{IsGood, AreGood, all_good, name_in, names_are, good_names_at, count_at, ring_at, ring_is}
 use Rattle.crn_scenario.proofs.Glyphs.{word, name}
@@ -77,20 +77,6 @@ number_at low high o k =
     let n = number_kept low high o k in
     record { number = n.value; is = integer_is o (pos n.value) n.is; at_least = n.at_least; at_most = n.at_most }
 
-one_only : (z : ℤ) → is_version (Some z) ≡ true → z ≡ pos 1
-one_only (pos n) h = let parts = within_parts 1 1 n h in let l = parts.0 in let k = parts.1 in ap pos (omega (arith, l, k))
-one_only (negsuc n) h = absurd (false≢true h)
-
-version_at : (o : Option ℤ) → is_version o ≡ true → o ≡ Some (pos 1)
-version_at None h = absurd (false≢true h)
-version_at (Some z) h = ap (λ (w : ℤ). Some w) (one_only z h)
-
-version : (ms : Members) → HasNone ms → get_member (codes "version") ms ≡ Some (integer (pos 1))
-unfolding has_other_version
-version ms h =
-    integer_is (get_member (codes "version") ms) (pos 1)
-    (version_at (integer_at (codes "version") ms) (passed (is_version (integer_at (codes "version") ms)) (one (has_other_version ms) (h.none 2))))
-
 words_at : (o : Option Data) → KeptAt kind.Words o → AreWords o
 words_at None k = absurd (false≢true k.present)
 words_at (Some (string s)) k = absurd (false≢true k.kinds)
@@ -122,7 +108,7 @@ natural_size (negsuc n) h = absurd (false≢true h)
 
 ring : (ms : Members) → HasNone ms → IsSize (get_member (codes "ring") ms)
 ring ms h =
-    let i = integer_kept (get_member (codes "ring") ms) (kept_at fields.top ms 5 nowhere (top_kept ms h) (lit< tt)) in
+    let i = integer_kept (get_member (codes "ring") ms) (top_at ms 5 h (lit< tt) refl) in
     let ok : is_ring_size i.value ≡ true = passed (is_ring_size i.value) (subst (λ (x : Option ℤ). is_other_ring x ≡ false) i.is (ring_at ms h)) in
     size_at i.value (nat_abs i.value) (natural_size i.value ok) (ring_is i.value ok) (get_member (codes "ring") ms) (integer_is (get_member (codes "ring") ms) i.value i.is)
 
@@ -164,7 +150,7 @@ the_numbers low high ds back inside =
       within_is = (all_within low high ns).0 (subst (λ (xs : List ℤ). are_within (pos low) (pos high) xs ≡ true) zs inside);
     }
 
-weighted : (low high : ℕ) (o : Option Data) (t : Members) → o ≡ Some (table t) → HasNoOther (codes "values" ∷ codes "weights" ∷ []) t → Kept (draw_fields low high) t
+weighted : (low high : ℕ) (o : Option Data) (t : Members) → o ≡ Some (table t) → HasNoOther (codes "values" ∷ codes "weights" ∷ []) t → Kept (fields.draws low high) t
     → has_other_lengths_in (Some t) ≡ false → has_other_order_in (Some t) ≡ false → has_other_total_in (Some t) ≡ false → AreWeighted low high o
 weighted low high o t is keys k a b c =
     let v = values_kept low high t k in
@@ -196,10 +182,10 @@ weighted low high o t is keys k a b c =
       sum_high = bounds.1;
     }
 
-weighted_at : (low high : ℕ) (o : Option Data) (e : Option Members) (t : IsKept (draw_fields low high) e) → e ≡ option_and_then as_table o → keeps_in rule.Known (draw_fields low high) e ≡ true
+weighted_at : (low high : ℕ) (o : Option Data) (e : Option Members) (t : IsKept (fields.draws low high) e) → e ≡ option_and_then as_table o → keeps_in rule.Known (fields.draws low high) e ≡ true
     → has_other_lengths_in e ≡ false → has_other_order_in e ≡ false → has_other_total_in e ≡ false → AreWeighted low high o
 weighted_at low high o e t same k a b c =
-    weighted low high o t.members (table_is o t.members (sym same ∙ t.is)) (no_other_in (draw_fields low high) e t.members t.is k) t.kept
+    weighted low high o t.members (table_is o t.members (sym same ∙ t.is)) (no_other_in (fields.draws low high) e t.members t.is k) t.kept
     (subst (λ (x : Option Members). has_other_lengths_in x ≡ false) t.is a)
     (subst (λ (x : Option Members). has_other_order_in x ≡ false) t.is b)
     (subst (λ (x : Option Members). has_other_total_in x ≡ false) t.is c)
@@ -251,7 +237,7 @@ names_apart ts h i j d lt inside same =
 
 policy_tables : (ms : Members) → HasNone ms → ArePolicyTables (get_member (codes "policy") ms)
 policy_tables ms h =
-    let t = tables_kept (get_member (codes "policy") ms) (kept_at fields.top ms 9 nowhere (top_kept ms h) (lit< tt)) in
+    let t = tables_kept (get_member (codes "policy") ms) (top_at ms 9 h (lit< tt) refl) in
     let back = tables_back t.items t.tables in
     let ts = tables_of t.items in
     let keys : list_all (keeps rule.Known fields.policy) ts ≡ true = subst (λ (o : Option Items). list_all (keeps rule.Known fields.policy) (policies_in o) ≡ true) t.is (known ms h).policies in
@@ -276,17 +262,40 @@ policy_tables ms h =
 
 -- ---- the document
 
+-- the keys of the document's version, and no others
+no_other_key : (ms : Members) (n : ℕ) → HasNone ms → integer_at (codes "version") ms ≡ Some (pos n) → HasNoOther (names_of (keys_of n fields.top)) ms
+no_other_key ms n h e = no_other (keys_of n fields.top) ms (subst (λ (v : ℕ). keeps rule.Known (keys_of v fields.top) ms ≡ true) (version_is ms n e) (known ms h).top)
+
+first : (ms : Members) → HasNone ms → integer_at (codes "version") ms ≡ Some (pos 1) → IsFirst ms
+unfolding keys_of
+first ms h e = record { version = integer_is (get_member (codes "version") ms) (pos 1) e; keys = no_other_key ms 1 h e }
+
+second : (ms : Members) → HasNone ms → integer_at (codes "version") ms ≡ Some (pos 2) → IsSecond ms
+unfolding keys_of
+second ms h e =
+    let o = get_member (codes "returns") ms in
+    let stands = table_kept o (held_at ms 10 h (lit< tt) (subst (λ (v : ℕ). nat_le 2 v ≡ true) (sym (version_is ms 2 e)) refl)) in
+    let t : IsKept fields.returns (table_at (codes "returns") ms) = record { members = stands.members; is = stands.is; kept = returns_kept ms stands.members h stands.is } in
+    record {
+      version = integer_is (get_member (codes "version") ms) (pos 2) e;
+      keys = no_other_key ms 2 h e;
+      returns = weighted_at 0 10000 o (table_at (codes "returns") ms) t refl (known ms h).returns (lengths ms h).returns (orders ms h).returns (totals ms h).returns;
+    }
+
+versions : (ms : Members) → HasNone ms → IsVersion (integer_at (codes "version") ms) → IsFirst ms ⊎ IsSecond ms
+versions ms h (inl e) = inl (first ms h e)
+versions ms h (inr e) = inr (second ms h e)
+
 pub sound_tree : (ms : Members) → HasNone ms → IsSound ms
 sound_tree ms h = record {
-  keys = no_other fields.top ms (known ms h).top;
-  version = version ms h;
-  key = words_at (get_member (codes "key") ms) (kept_at fields.top ms 1 nowhere (top_kept ms h) (lit< tt));
-  periods = number_at 1 1024 (get_member (codes "periods") ms) (kept_at fields.top ms 2 nowhere (top_kept ms h) (lit< tt));
-  replications = number_at 1 256 (get_member (codes "replications") ms) (kept_at fields.top ms 3 nowhere (top_kept ms h) (lit< tt));
-  initial = number_at 0 1000000 (get_member (codes "initial") ms) (kept_at fields.top ms 4 nowhere (top_kept ms h) (lit< tt));
+  version = versions ms h (version ms h);
+  key = words_at (get_member (codes "key") ms) (top_at ms 1 h (lit< tt) refl);
+  periods = number_at 1 1024 (get_member (codes "periods") ms) (top_at ms 2 h (lit< tt) refl);
+  replications = number_at 1 256 (get_member (codes "replications") ms) (top_at ms 3 h (lit< tt) refl);
+  initial = number_at 0 1000000 (get_member (codes "initial") ms) (top_at ms 4 h (lit< tt) refl);
   ring = ring ms h;
   costs = rates ms h;
-  demand = weighted_at 0 10000 (get_member (codes "demand") ms) (table_at (codes "demand") ms) (demand_kept ms h) refl (known ms h).demand (lengths ms h).0 (orders ms h).0 (totals ms h).0;
-  lead = weighted_at 1 32 (get_member (codes "lead") ms) (table_at (codes "lead") ms) (lead_kept ms h) refl (known ms h).lead (lengths ms h).1 (orders ms h).1 (totals ms h).1;
+  demand = weighted_at 0 10000 (get_member (codes "demand") ms) (table_at (codes "demand") ms) (demand_kept ms h) refl (known ms h).demand (lengths ms h).demand (orders ms h).demand (totals ms h).demand;
+  lead = weighted_at 1 32 (get_member (codes "lead") ms) (table_at (codes "lead") ms) (lead_kept ms h) refl (known ms h).lead (lengths ms h).lead (orders ms h).lead (totals ms h).lead;
   policy = policy_tables ms h;
 }

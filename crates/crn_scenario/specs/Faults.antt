@@ -1,18 +1,23 @@
 -- The faults of a scenario's tree, each a fact of the tree by itself: a key that is absent and a value of
 -- another kind are faults of their own, and break no other rule.
 use Rattle.std.specs.Prelude.{◌≡◌, ℕ, ◌<◌, ℤ, pos, ◌+ℤ◌, List, [], ◌∷◌, Bool, true, false, not, ◌&&◌, ◌||◌, ◌==◌, if◌then◌else◌, Option, Some, None, int_le, int_lt, nat_le, option_and_then, codes}
-use Rattle.std.specs.List.{list_all}
+use Rattle.std.specs.List.{list_all, list_any}
 use Rattle.std.specs.Str.{bytes_eq}
 use Rattle.toml.specs.Data.{Data, Items, no_items, item, Members, as_table}
 use Rattle.crn_stock.specs.Scenarios.{is_name}
-use Rattle.crn_scenario.specs.Tree.{integer_at, text_at, array_at, table_at, integers_of, tables_of, count_items, kept}
-use Rattle.crn_scenario.specs.Fields.{Entry, keeps, is_within}
+use Rattle.crn_scenario.specs.Tree.{integer_at, natural, text_at, array_at, table_at, integers_of, tables_of, count_items, kept}
+use Rattle.crn_scenario.specs.Fields.{Entry, keys_of, keeps, is_within}
 use Rattle.crn_scenario.specs.Fields as fields
+use Rattle.crn_scenario.specs.declared.fields.TheConstants.{NEWEST_VERSION}
 use Rattle.crn_scenario.specs.declared.fields.Rule.{Rule}
 use Rattle.crn_scenario.specs.declared.fields.Rule.TheVariants as rule
 
--- ---- the tables that are looked at: the top, what stands at `costs`, `demand` and `lead` where it is a table,
--- and the tables in the array at `policy`
+-- ---- the tables that are looked at: the top, what stands at `costs`, `demand`, `lead` and `returns` where it is a
+-- table, and the tables in the array at `policy`
+
+-- the version that the tree names, and 0 where it names none
+unfoldable pub version_of : Members → ℕ
+version_of ms = natural (integer_at (codes "version") ms)
 
 abbrev pub keeps_in : Rule → List Entry → Option Members → Bool
 keeps_in r es None = true
@@ -26,20 +31,26 @@ policies_in (Some ds) = tables_of ds
 abbrev pub policies_at : Members → List Members
 policies_at ms = policies_in (array_at (codes "policy") ms)
 
--- whether each of the tables keeps a rule
+-- whether each of the tables in the top keeps a rule, with the keys that a version has
+unfoldable pub inner_keep : Rule → ℕ → Members → Bool
+inner_keep r version ms =
+    keeps_in r (keys_of version fields.costs) (table_at (codes "costs") ms)
+    && keeps_in r (keys_of version fields.demand) (table_at (codes "demand") ms)
+    && keeps_in r (keys_of version fields.lead) (table_at (codes "lead") ms)
+    && keeps_in r (keys_of version fields.returns) (table_at (codes "returns") ms)
+
+-- whether each of the tables that are looked at keeps a rule, with the keys that the tree's version has
 unfoldable pub all_keep : Rule → Members → Bool
 all_keep r ms =
-    keeps r fields.top ms
-    && keeps_in r fields.costs (table_at (codes "costs") ms)
-    && keeps_in r fields.demand (table_at (codes "demand") ms)
-    && keeps_in r fields.lead (table_at (codes "lead") ms)
-    && list_all (keeps r fields.policy) (policies_at ms)
+    keeps r (keys_of (version_of ms) fields.top) ms
+    && inner_keep r (version_of ms) ms
+    && list_all (keeps r (keys_of (version_of ms) fields.policy)) (policies_at ms)
 
--- ---- fault 2: the version is not 1
+-- ---- fault 2: the version is none of those that there are
 
 abbrev pub is_version : Option ℤ → Bool
 is_version None = false
-is_version (Some z) = is_within (pos 1) (pos 1) (Some z)
+is_version (Some z) = is_within (pos 1) (pos NEWEST_VERSION) (Some z)
 
 unfoldable pub has_other_version : Members → Bool
 has_other_version ms = not (is_version (integer_at (codes "version") ms))
@@ -64,7 +75,11 @@ has_other_kind ms = not (all_keep rule.Kinds ms)
 unfoldable pub breaks_range : Members → Bool
 breaks_range ms = not (all_keep rule.Ranges ms)
 
--- ---- faults 7, 8 and 9: values and weights, of demand and of lead
+-- ---- faults 7, 8 and 9: values and weights, wherever they stand
+
+-- the keys of the tables with values and weights
+abbrev pub drawn : List (List ℕ)
+drawn = codes "demand" ∷ codes "lead" ∷ codes "returns" ∷ []
 
 abbrev pub have_other_lengths : Option Items → Option Items → Bool
 have_other_lengths None ws = false
@@ -111,15 +126,15 @@ has_other_total_in (Some ms) = have_other_total (array_at (codes "weights") ms)
 
 -- fault 7: not as many weights as values
 unfoldable pub has_other_lengths : Members → Bool
-has_other_lengths ms = has_other_lengths_in (table_at (codes "demand") ms) || has_other_lengths_in (table_at (codes "lead") ms)
+has_other_lengths ms = list_any (λ key. has_other_lengths_in (table_at key ms)) drawn
 
 -- fault 8: the values do not rise strictly
 unfoldable pub has_values_out_of_order : Members → Bool
-has_values_out_of_order ms = has_other_order_in (table_at (codes "demand") ms) || has_other_order_in (table_at (codes "lead") ms)
+has_values_out_of_order ms = list_any (λ key. has_other_order_in (table_at key ms)) drawn
 
 -- fault 9: the sum of the weights is not in 1..=65536
 unfoldable pub has_weights_out_of_range : Members → Bool
-has_weights_out_of_range ms = has_other_total_in (table_at (codes "demand") ms) || has_other_total_in (table_at (codes "lead") ms)
+has_weights_out_of_range ms = list_any (λ key. has_other_total_in (table_at key ms)) drawn
 
 -- ---- fault 10: a policy's s is above its S
 

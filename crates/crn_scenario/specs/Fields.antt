@@ -1,6 +1,6 @@
 -- The keys of a scenario's tables: which they are, what may stand at each, and in which range.
-use Rattle.std.specs.Prelude.{ℕ, ℤ, pos, List, [], ◌∷◌, Bool, true, false, ◌&&◌, ◌||◌, ◌==◌, not, Option, Some, None, is_some, int_le, codes}
-use Rattle.std.specs.List.{list_all}
+use Rattle.std.specs.Prelude.{ℕ, ℤ, pos, List, [], ◌∷◌, Bool, true, false, ◌&&◌, ◌||◌, ◌==◌, not, Option, Some, None, is_some, int_le, nat_le, codes}
+use Rattle.std.specs.List.{list_all, filter}
 use Rattle.std.specs.Str.{bytes_eq}
 use Rattle.toml.specs.Data.{Data, Items, Members, no_members, member, get_member, as_integer, as_str, as_array, as_table}
 use Rattle.crn_scenario.specs.Hex.{is_hex_word}
@@ -11,17 +11,26 @@ use Rattle.crn_scenario.specs.declared.fields.Kind.TheVariants as kind
 use Rattle.crn_scenario.specs.declared.fields.Rule.{Rule}
 use Rattle.crn_scenario.specs.declared.fields.Rule.TheVariants as rule
 
--- a key with what may stand there
+-- a key with what may stand there, and the first version of documents that has it
 pub record Entry : Type 0 where
   pub name : List ℕ
   pub kind : Kind
+  pub since : ℕ
 
+abbrev pub entry_since : ℕ → List ℕ → Kind → Entry
+entry_since version name k = record { name = name; kind = k; since = version }
+
+-- a key of all versions
 abbrev pub entry : List ℕ → Kind → Entry
-entry name k = record { name = name; kind = k }
+entry name k = entry_since 1 name k
 
 -- the same of the code's table
 abbrev pub entry_of : Field → Entry
-entry_of f = record { name = f.name.now; kind = f.kind }
+entry_of f = record { name = f.name.now; kind = f.kind; since = f.since }
+
+-- those of the keys that a version has
+unfoldable pub keys_of : ℕ → List Entry → List Entry
+keys_of version es = filter (λ e. nat_le e.since version) es
 
 -- ---- the tables
 
@@ -43,6 +52,7 @@ top =
     ∷ entry (codes "demand") kind.Table
     ∷ entry (codes "lead") kind.Table
     ∷ entry (codes "policy") kind.Tables
+    ∷ entry_since 2 (codes "returns") kind.Table
     ∷ []
 
 abbrev pub costs : List Entry
@@ -53,11 +63,18 @@ costs =
     ∷ entry (codes "backlog") (number 0 10000)
     ∷ []
 
+-- values from low to high, with their weights
+abbrev pub draws : ℕ → ℕ → List Entry
+draws low high = entry (codes "values") (numbers low high) ∷ entry (codes "weights") (numbers 0 65536) ∷ []
+
 abbrev pub demand : List Entry
-demand = entry (codes "values") (numbers 0 10000) ∷ entry (codes "weights") (numbers 0 65536) ∷ []
+demand = draws 0 10000
 
 abbrev pub lead : List Entry
-lead = entry (codes "values") (numbers 1 32) ∷ entry (codes "weights") (numbers 0 65536) ∷ []
+lead = draws 1 32
+
+abbrev pub returns : List Entry
+returns = draws 0 10000
 
 abbrev pub policy : List Entry
 policy =

@@ -12,7 +12,7 @@ use Rattle.crn_stock.specs.Scenarios.{ScenarioParts}
 use Rattle.crn_scenario.specs.declared.scenario_fault.ScenarioFault.{ScenarioFault}
 use Rattle.crn_scenario.specs.declared.scenario_fault.ScenarioFault.TheVariants as fault
 use Rattle.crn_scenario.specs.Hex.{word_of}
-use Rattle.crn_scenario.specs.Tree.{integer_at, text_at, array_at, table_at, integers_of}
+use Rattle.crn_scenario.specs.Tree.{integer_at, natural, text_at, array_at, table_at, integers_of}
 use Rattle.crn_scenario.specs.Fields.{are_within}
 use Rattle.crn_scenario.specs.Faults.{policies_at, IsLeast, HasNone}
 
@@ -21,10 +21,6 @@ use Rattle.crn_scenario.specs.Faults.{policies_at, IsLeast, HasNone}
 abbrev pub integer : Option ℤ → ℤ
 integer None = pos 0
 integer (Some z) = z
-
-abbrev pub natural : Option ℤ → ℕ
-natural None = 0
-natural (Some z) = nat_abs z
 
 abbrev pub text : Option (List ℕ) → List ℕ
 text None = []
@@ -63,6 +59,16 @@ pub record AreDraws (o : Option Members) : Type 0 where
   pub weights : are_within (pos 0) (pos 65536) (integers_in (option_and_then (array_at (codes "weights")) o)) ≡ true
   pub no_fault : least_fault (naturals_in (codes "values") o) (naturals_in (codes "weights") o) ≡ None
 
+-- nothing stands there, or what can be drawn from
+abbrev pub MayBeDraws : Option Members → Type 0
+MayBeDraws None = ⊤
+MayBeDraws (Some ms) = AreDraws (Some ms)
+
+-- what customers return, where a table says it
+abbrev pub returns_of : Option Members → Option Weighted
+returns_of None = None
+returns_of (Some ms) = Some (weighted_of (Some ms))
+
 abbrev pub model_of : Members → ModelParts
 model_of ms = record {
   periods = natural (integer_at (codes "periods") ms);
@@ -71,6 +77,7 @@ model_of ms = record {
   costs = costs_of (table_at (codes "costs") ms);
   demand = weighted_of (table_at (codes "demand") ms);
   lead = weighted_of (table_at (codes "lead") ms);
+  returns = returns_of (table_at (codes "returns") ms);
 }
 
 abbrev pub policy_of : Members → Policy

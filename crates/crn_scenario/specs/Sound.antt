@@ -1,6 +1,6 @@
 -- A tree that says a scenario, key by key: what stands at each key of each table. `laws::sound` says that these are
 -- the trees without a fault.
-use Rattle.std.specs.Prelude.{◌≡◌, ◌≢◌, ℕ, ◌^◌, ◌<◌, ◌≤◌, pos, List, [], ◌∷◌, map, Option, Some, None, All, Contains, length, sum, codes}
+use Rattle.std.specs.Prelude.{◌≡◌, ◌≢◌, ℕ, ◌^◌, ◌<◌, ◌≤◌, pos, List, [], ◌∷◌, ◌++◌, ◌⊎◌, map, Option, Some, None, All, Contains, length, sum, codes}
 use Rattle.std.specs.List.{AllPairs}
 use Rattle.toml.specs.Data.{Data, string, integer, array, table, Items, no_items, item, Members, get_member}
 
@@ -110,11 +110,25 @@ pub record ArePolicyTables (o : Option Data) : Type 0 where
 
 -- ---- the document
 
-pub record IsSound (ms : Members) : Type 0 where
-  pub keys : HasNoOther
-      (codes "version" ∷ codes "key" ∷ codes "periods" ∷ codes "replications" ∷ codes "initial" ∷ codes "ring"
-      ∷ codes "costs" ∷ codes "demand" ∷ codes "lead" ∷ codes "policy" ∷ []) ms
+-- the keys of all versions
+abbrev pub first_keys : List (List ℕ)
+first_keys =
+    codes "version" ∷ codes "key" ∷ codes "periods" ∷ codes "replications" ∷ codes "initial" ∷ codes "ring"
+    ∷ codes "costs" ∷ codes "demand" ∷ codes "lead" ∷ codes "policy" ∷ []
+
+-- version 1
+pub record IsFirst (ms : Members) : Type 0 where
   pub version : get_member (codes "version") ms ≡ Some (integer (pos 1))
+  pub keys : HasNoOther first_keys ms
+
+-- version 2, where customers return items
+pub record IsSecond (ms : Members) : Type 0 where
+  pub version : get_member (codes "version") ms ≡ Some (integer (pos 2))
+  pub keys : HasNoOther (first_keys ++ codes "returns" ∷ []) ms
+  pub returns : AreWeighted 0 10000 (get_member (codes "returns") ms)
+
+pub record IsSound (ms : Members) : Type 0 where
+  pub version : IsFirst ms ⊎ IsSecond ms
   pub key : AreWords (get_member (codes "key") ms)
   pub periods : IsNumber 1 1024 (get_member (codes "periods") ms)
   pub replications : IsNumber 1 256 (get_member (codes "replications") ms)

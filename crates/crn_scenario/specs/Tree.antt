@@ -1,5 +1,5 @@
 -- What stands in a document's tree.
-use Rattle.std.specs.Prelude.{ℕ, ◌+◌, ℤ, List, [], ◌∷◌, Bool, true, ◌&&◌, Option, Some, None, is_some, option_and_then}
+use Rattle.std.specs.Prelude.{ℕ, ◌+◌, ℤ, List, [], ◌∷◌, Bool, true, ◌&&◌, Option, Some, None, is_some, nat_abs, option_and_then}
 use Rattle.toml.specs.Data.{Items, no_items, item, Members, get_member, as_integer, as_str, as_array, as_table}
 
 -- ---- at a key: the integer, text, array or table that stands there
@@ -15,6 +15,11 @@ array_at key ms = option_and_then as_array (get_member key ms)
 
 abbrev pub table_at : List ℕ → Members → Option Members
 table_at key ms = option_and_then as_table (get_member key ms)
+
+-- a number without its sign, and 0 where there is none
+abbrev pub natural : Option ℤ → ℕ
+natural None = 0
+natural (Some z) = nat_abs z
 
 -- ---- in an array: its integers, texts and tables, other entries left out
 

@@ -1,40 +1,50 @@
 // The faults of a scenario's tree, each by itself, and the first of them.
 
-ghost use Rattle.std.specs.Prelude.{◌≡◌, ◌^◌, pos, ◌+ℤ◌, ◌≤ℤ◌, map, option_map, option_copied, IfOk};
+ghost use Rattle.std.specs.Prelude.{◌≡◌, ◌^◌, pos, ◌+ℤ◌, ◌≤ℤ◌, map, option_map, option_copied, codes, IfOk};
 ghost use Rattle.std.specs.List.{list_all};
 ghost use Rattle.toml.specs.View.{view, table_view, array_view};
 ghost use Rattle.crn_stock.specs.Scenarios.{is_name};
-ghost use Rattle.crn_scenario.specs.Tree.{integers_of, tables_of};
+ghost use Rattle.crn_scenario.specs.Tree.{table_at, integers_of, tables_of};
 ghost use Rattle.crn_scenario.specs.Fields as tables;
 ghost use Rattle.crn_scenario.specs.Faults as spec;
 ghost use Rattle.crn_scenario.specs.Reading.{number_of};
 
-use crate::fields::{COSTS, DEMAND, Field, LEAD, POLICY, Rule, TOP, is_within, keeps};
+use crate::fields::{
+    COSTS, DEMAND, Field, LEAD, NEWEST_VERSION, POLICY, RETURNS, Rule, TOP, is_within, keeps,
+};
 use crate::names::is_name;
 use crate::scenario_fault::ScenarioFault;
-use crate::tree::{array_at, count_items, integer_at, table_at, text_at};
+use crate::tree::{array_at, count_items, integer_at, natural, table_at, text_at};
 use std::alloc::{AllocError, Global};
 use std::collections::BTreeSet;
 use toml::value::Array;
 use toml::{Table, Value};
 
+// The version that a document names, and 0 where it names none.
+#[tactic(auto, unfolding(crate::specs::Faults::version_of))]
+fn version_of(table: &Table) -> u64
+    ensures { result ≡ spec.version_of (table_view table.now) }
+{
+    natural(integer_at(table, "version"))
+}
+
 // Whether a table, where there is one, keeps a rule.
-fn keeps_in(rule: Rule, fields: &[Field], table: Option<&Table>) -> bool
-    ensures { result ≡ spec.keeps_in rule (map tables.entry_of fields.now) (option_map (λ t. table_view t.now) table.entry) }
+fn keeps_in(rule: Rule, version: u64, fields: &[Field], table: Option<&Table>) -> bool
+    ensures { result ≡ spec.keeps_in rule (tables.keys_of version (map tables.entry_of fields.now)) (option_map (λ t. table_view t.now) table.entry) }
 {
     match table {
-        Some(table) => keeps(rule, fields, table),
+        Some(table) => keeps(rule, version, fields, table),
         None => true,
     }
 }
 
 // Whether each table among the policies keeps a rule.
-fn policies_keep(rule: Rule, policies: &Array) -> bool
-    ensures { result ≡ list_all (tables.keeps rule tables.policy) (tables_of (array_view policies.now)) }
+fn policies_keep(rule: Rule, version: u64, policies: &Array) -> bool
+    ensures { result ≡ list_all (tables.keeps rule (tables.keys_of version tables.policy)) (tables_of (array_view policies.now)) }
 {
     'items: for item in policies {
         if let Some(policy) = item.as_table() {
-            if !keeps(rule, &POLICY, policy) {
+            if !keeps(rule, version, &POLICY, policy) {
                 return false;
             }
         }
@@ -42,28 +52,69 @@ fn policies_keep(rule: Rule, policies: &Array) -> bool
     true
 }
 
-// Whether each table that is looked at keeps a rule: the document, its inner tables and its policies.
+// One table each: the lists of their keys are long, and the proof of all of them goes by these names.
+fn top_keeps(rule: Rule, version: u64, table: &Table) -> bool
+    ensures { result ≡ tables.keeps rule (tables.keys_of version tables.top) (table_view table.now) }
+{
+    keeps(rule, version, &TOP, table)
+}
+
+fn costs_keep(rule: Rule, version: u64, table: &Table) -> bool
+    ensures { result ≡ spec.keeps_in rule (tables.keys_of version tables.costs) (table_at (codes "costs") (table_view table.now)) }
+{
+    keeps_in(rule, version, &COSTS, table_at(table, "costs"))
+}
+
+fn demand_keeps(rule: Rule, version: u64, table: &Table) -> bool
+    ensures { result ≡ spec.keeps_in rule (tables.keys_of version tables.demand) (table_at (codes "demand") (table_view table.now)) }
+{
+    keeps_in(rule, version, &DEMAND, table_at(table, "demand"))
+}
+
+fn lead_keeps(rule: Rule, version: u64, table: &Table) -> bool
+    ensures { result ≡ spec.keeps_in rule (tables.keys_of version tables.lead) (table_at (codes "lead") (table_view table.now)) }
+{
+    keeps_in(rule, version, &LEAD, table_at(table, "lead"))
+}
+
+fn returns_keep(rule: Rule, version: u64, table: &Table) -> bool
+    ensures { result ≡ spec.keeps_in rule (tables.keys_of version tables.returns) (table_at (codes "returns") (table_view table.now)) }
+{
+    keeps_in(rule, version, &RETURNS, table_at(table, "returns"))
+}
+
+// Whether each table in the document keeps a rule.
+#[tactic(auto, unfolding(crate::specs::Faults::inner_keep))]
+fn inner_keep(rule: Rule, version: u64, table: &Table) -> bool
+    ensures { result ≡ spec.inner_keep rule version (table_view table.now) }
+{
+    costs_keep(rule, version, table)
+        && demand_keeps(rule, version, table)
+        && lead_keeps(rule, version, table)
+        && returns_keep(rule, version, table)
+}
+
+// Whether each table that is looked at keeps a rule: the document, the tables in it and its policies.
 #[tactic(auto, unfolding(crate::specs::Faults::all_keep))]
 fn all_keep(rule: Rule, table: &Table) -> bool
     ensures { result ≡ spec.all_keep rule (table_view table.now) }
 {
-    keeps(rule, &TOP, table)
-        && keeps_in(rule, &COSTS, table_at(table, "costs"))
-        && keeps_in(rule, &DEMAND, table_at(table, "demand"))
-        && keeps_in(rule, &LEAD, table_at(table, "lead"))
+    let version = version_of(table);
+    top_keeps(rule, version, table)
+        && inner_keep(rule, version, table)
         && match array_at(table, "policy") {
-            Some(policies) => policies_keep(rule, policies),
+            Some(policies) => policies_keep(rule, version, policies),
             None => true,
         }
 }
 
-// Fault 2: the version is not 1.
+// Fault 2: the version is none of those that there are.
 #[tactic(auto, unfolding(crate::specs::Faults::has_other_version))]
 fn has_other_version(table: &Table) -> bool
     ensures { result ≡ spec.has_other_version (table_view table.now) }
 {
     match integer_at(table, "version") {
-        Some(version) => !is_within(1, 1, Some(version)),
+        Some(version) => !is_within(1, i64::from(NEWEST_VERSION), Some(version)),
         None => true,
     }
 }
@@ -178,31 +229,34 @@ fn have_other_total(draws: &Table) -> bool
     }
 }
 
-// Fault 7: demand or lead has not as many weights as values.
+// Fault 7: a table has not as many weights as values.
 #[tactic(auto, unfolding(crate::specs::Faults::has_other_lengths))]
 fn has_other_lengths(table: &Table) -> bool
     ensures { result ≡ spec.has_other_lengths (table_view table.now) }
 {
     table_at(table, "demand").is_some_and(have_other_lengths)
         || table_at(table, "lead").is_some_and(have_other_lengths)
+        || table_at(table, "returns").is_some_and(have_other_lengths)
 }
 
-// Fault 8: the values of demand or lead do not rise strictly.
+// Fault 8: the values of a table do not rise strictly.
 #[tactic(auto, unfolding(crate::specs::Faults::has_values_out_of_order))]
 fn has_values_out_of_order(table: &Table) -> bool
     ensures { result ≡ spec.has_values_out_of_order (table_view table.now) }
 {
     table_at(table, "demand").is_some_and(have_other_order)
         || table_at(table, "lead").is_some_and(have_other_order)
+        || table_at(table, "returns").is_some_and(have_other_order)
 }
 
-// Fault 9: the weights of demand or lead are 0 in sum, or over 65,536.
+// Fault 9: the weights of a table are 0 in sum, or over 65,536.
 #[tactic(auto, unfolding(crate::specs::Faults::has_weights_out_of_range))]
 fn has_weights_out_of_range(table: &Table) -> bool
     ensures { result ≡ spec.has_weights_out_of_range (table_view table.now) }
 {
     table_at(table, "demand").is_some_and(have_other_total)
         || table_at(table, "lead").is_some_and(have_other_total)
+        || table_at(table, "returns").is_some_and(have_other_total)
 }
 
 // Whether a policy's s is not above its S.

@@ -38,6 +38,8 @@ pub struct Field {
     pub name: &'static str,
     /// What may stand there.
     pub kind: Kind,
+    /// The first version of documents that has the key. All later ones have it too.
+    pub since: u32,
 }
 
 /// What a table must keep.
@@ -53,23 +55,30 @@ pub enum Rule {
     Ranges,
 }
 
+/// The newest version of documents. The oldest is 1, and there are all between them.
+pub const NEWEST_VERSION: u32 = 2;
+
 /// The keys of the whole document.
-pub const TOP: [Field; 10] = [
+pub const TOP: [Field; 11] = [
     Field {
         name: "version",
         kind: Kind::Integer,
+        since: 1,
     },
     Field {
         name: "key",
         kind: Kind::Words,
+        since: 1,
     },
     Field {
         name: "periods",
         kind: Kind::Number { low: 1, high: 1024 },
+        since: 1,
     },
     Field {
         name: "replications",
         kind: Kind::Number { low: 1, high: 256 },
+        since: 1,
     },
     Field {
         name: "initial",
@@ -77,26 +86,37 @@ pub const TOP: [Field; 10] = [
             low: 0,
             high: 1_000_000,
         },
+        since: 1,
     },
     Field {
         name: "ring",
         kind: Kind::Integer,
+        since: 1,
     },
     Field {
         name: "costs",
         kind: Kind::Table,
+        since: 1,
     },
     Field {
         name: "demand",
         kind: Kind::Table,
+        since: 1,
     },
     Field {
         name: "lead",
         kind: Kind::Table,
+        since: 1,
     },
     Field {
         name: "policy",
         kind: Kind::Tables,
+        since: 1,
+    },
+    Field {
+        name: "returns",
+        kind: Kind::Table,
+        since: 2,
     },
 ];
 
@@ -108,6 +128,7 @@ pub const COSTS: [Field; 4] = [
             low: 0,
             high: 100_000_000,
         },
+        since: 1,
     },
     Field {
         name: "unit",
@@ -115,6 +136,7 @@ pub const COSTS: [Field; 4] = [
             low: 0,
             high: 10_000,
         },
+        since: 1,
     },
     Field {
         name: "holding",
@@ -122,6 +144,7 @@ pub const COSTS: [Field; 4] = [
             low: 0,
             high: 10_000,
         },
+        since: 1,
     },
     Field {
         name: "backlog",
@@ -129,6 +152,7 @@ pub const COSTS: [Field; 4] = [
             low: 0,
             high: 10_000,
         },
+        since: 1,
     },
 ];
 
@@ -140,6 +164,7 @@ pub const DEMAND: [Field; 2] = [
             low: 0,
             high: 10_000,
         },
+        since: 1,
     },
     Field {
         name: "weights",
@@ -147,6 +172,7 @@ pub const DEMAND: [Field; 2] = [
             low: 0,
             high: 65_536,
         },
+        since: 1,
     },
 ];
 
@@ -155,6 +181,7 @@ pub const LEAD: [Field; 2] = [
     Field {
         name: "values",
         kind: Kind::Numbers { low: 1, high: 32 },
+        since: 1,
     },
     Field {
         name: "weights",
@@ -162,14 +189,19 @@ pub const LEAD: [Field; 2] = [
             low: 0,
             high: 65_536,
         },
+        since: 1,
     },
 ];
+
+/// The keys of `returns`.
+pub const RETURNS: [Field; 2] = DEMAND;
 
 /// The keys of each `policy`.
 pub const POLICY: [Field; 3] = [
     Field {
         name: "name",
         kind: Kind::Text,
+        since: 1,
     },
     Field {
         name: "s",
@@ -177,6 +209,7 @@ pub const POLICY: [Field; 3] = [
             low: 0,
             high: 1_000_000,
         },
+        since: 1,
     },
     Field {
         name: "S",
@@ -184,6 +217,7 @@ pub const POLICY: [Field; 3] = [
             low: 0,
             high: 1_000_000,
         },
+        since: 1,
     },
 ];
 
@@ -277,47 +311,51 @@ fn keeps_at(rule: Rule, kind: Kind, value: Option<&Value>) -> bool
     }
 }
 
-// Whether what stands at each key of a table keeps a rule.
-fn keeps_at_all(rule: Rule, fields: &[Field], table: &Table) -> bool
-    ensures { result ≡ spec.keeps_at_all rule (map spec.entry_of fields.now) (table_view table.now) }
+// Whether what stands at each key that a version has keeps a rule.
+#[tactic(auto, unfolding(crate::specs::Fields::keys_of))]
+fn keeps_at_all(rule: Rule, version: u64, fields: &[Field], table: &Table) -> bool
+    ensures { result ≡ spec.keeps_at_all rule (spec.keys_of version (map spec.entry_of fields.now)) (table_view table.now) }
 {
     for field in fields {
-        if !keeps_at(rule, field.kind, member_at(table, field.name)) {
+        if u64::from(field.since) <= version
+            && !keeps_at(rule, field.kind, member_at(table, field.name))
+        {
             return false;
         }
     }
     true
 }
 
-fn is_key(fields: &[Field], key: &str) -> bool
-    ensures { result ≡ spec.is_key (map spec.entry_of fields.now) key.now }
+#[tactic(auto, unfolding(crate::specs::Fields::keys_of))]
+fn is_key(version: u64, fields: &[Field], key: &str) -> bool
+    ensures { result ≡ spec.is_key (spec.keys_of version (map spec.entry_of fields.now)) key.now }
 {
     for field in fields {
-        if field.name == key {
+        if u64::from(field.since) <= version && field.name == key {
             return true;
         }
     }
     false
 }
 
-// Whether each key of a table is one of these.
-fn knows_all(fields: &[Field], table: &Table) -> bool
-    ensures { result ≡ spec.knows_all (map spec.entry_of fields.now) (table_view table.now) }
+// Whether each key of a table is one that a version has.
+fn knows_all(version: u64, fields: &[Field], table: &Table) -> bool
+    ensures { result ≡ spec.knows_all (spec.keys_of version (map spec.entry_of fields.now)) (table_view table.now) }
 {
     'members: for (key, _value) in table.iter() {
-        if !is_key(fields, key.as_str()) {
+        if !is_key(version, fields, key.as_str()) {
             return false;
         }
     }
     true
 }
 
-/// Whether a table with these fields keeps a rule.
-pub fn keeps(rule: Rule, fields: &[Field], table: &Table) -> bool
-    ensures { result ≡ spec.keeps rule (map spec.entry_of fields.now) (table_view table.now) }
+/// Whether a table with those of these fields that a version has keeps a rule.
+pub fn keeps(rule: Rule, version: u64, fields: &[Field], table: &Table) -> bool
+    ensures { result ≡ spec.keeps rule (spec.keys_of version (map spec.entry_of fields.now)) (table_view table.now) }
 {
     match rule {
-        Rule::Known => knows_all(fields, table),
-        Rule::Present | Rule::Kinds | Rule::Ranges => keeps_at_all(rule, fields, table),
+        Rule::Known => knows_all(version, fields, table),
+        Rule::Present | Rule::Kinds | Rule::Ranges => keeps_at_all(rule, version, fields, table),
     }
 }

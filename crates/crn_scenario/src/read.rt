@@ -11,11 +11,12 @@ use std::alloc::Global;
 
 /// Reads a scenario from a TOML document: any spelling of the tree that it names.
 ///
-/// The bytes are UTF-8 and a document for the `toml` crate. Each table has the keys listed here, all of them and no other:
+/// The bytes are UTF-8 and a document for the `toml` crate. Each table has the keys listed here, all of them and no other.
+/// In version 2 customers return items, and the document has the table `returns` besides; version 1 has none.
 ///
 /// | Table | Key | What stands there |
 /// |---|---|---|
-/// | the document | `version` | 1 |
+/// | the document | `version` | 1 or 2 |
 /// | | `key` | four texts, each of 16 digits of `0-9a-f` |
 /// | | `periods` | 1 to 1,024 |
 /// | | `replications` | 1 to 256 |
@@ -26,6 +27,8 @@ use std::alloc::Global;
 /// | `demand` | `values` | rising strictly, each 0 to 10,000 |
 /// | | `weights` | as many as values, each 0 to 65,536, and 1 to 65,536 in sum |
 /// | `lead` | `values` | rising strictly, each 1 to 32 |
+/// | | `weights` | as in `demand` |
+/// | `returns` | `values` | rising strictly, each 0 to 10,000 |
 /// | | `weights` | as in `demand` |
 /// | each `policy`, of 1 to 16 | `name` | 1 to 16 of `A-Z a-z 0-9 _ -`, unlike the other policies' |
 /// | | `s`, `S` | 0 to 1,000,000, with `s` at most `S` |

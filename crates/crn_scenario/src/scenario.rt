@@ -9,22 +9,12 @@ ghost use Rattle.crn_scenario.specs.Faults.{HasNone, policies_at};
 ghost use Rattle.crn_scenario.specs.Reading as spec;
 
 use crate::hex;
-use crate::tree::{array_at, integer_at, member_at, table_at, text_at};
+use crate::tree::{array_at, integer_at, member_at, natural, table_at, text_at};
 use crn_draw::{DrawFault, Weights};
 use crn_stock::{Costs, Model, Name, Policy, Scenario};
 use std::alloc::{AllocError, Global};
 use toml::value::Array;
 use toml::{Table, Value};
-
-// A number without its sign, and 0 where there is none. Where no fault holds none has a minus.
-fn natural(number: Option<i64>) -> u64
-    ensures { result ≡ spec.natural number }
-{
-    match number {
-        Some(number) => number.unsigned_abs(),
-        None => 0,
-    }
-}
 
 // The number at a key of a table, and 0 where there is none.
 fn natural_in(table: Option<&Table>, key: &str) -> u64
@@ -86,6 +76,17 @@ fn weights_of(alloc: Global, table: Option<&Table>) -> Result<Weights, AllocErro
         Ok(made) => Ok(made),
         Err(DrawFault::Memory) => Err(AllocError),
         Err(_) => unreachable!(),
+    }
+}
+
+// What customers return, where a table says it.
+fn returns_of(alloc: Global, table: Option<&Table>) -> Result<Option<Weights>, AllocError>
+    requires draws { spec.MayBeDraws (option_map (λ t. table_view t.now) table) }
+    ensures { IfOk result (λ r. r ≡ spec.returns_of (option_map (λ t. table_view t.now) table.entry)) }
+{
+    match table {
+        Some(table) => Ok(Some(weights_of(alloc, Some(table))?)),
+        None => Ok(None),
     }
 }
 
@@ -154,6 +155,7 @@ fn model_of(alloc: Global, table: &Table) -> Result<Model, AllocError>
 {
     let demand = weights_of(alloc, table_at(table, "demand"))?;
     let lead = weights_of(alloc, table_at(table, "lead"))?;
+    let returns = returns_of(alloc, table_at(table, "returns"))?;
     Ok(Model::new(
         natural(integer_at(table, "periods")) as u32,
         natural(integer_at(table, "replications")) as u32,
@@ -161,6 +163,7 @@ fn model_of(alloc: Global, table: &Table) -> Result<Model, AllocError>
         costs_of(table_at(table, "costs")),
         demand,
         lead,
+        returns,
     ))
 }
 

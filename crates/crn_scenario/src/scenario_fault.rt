@@ -8,13 +8,14 @@ use std::alloc::AllocError;
 /// Why no scenario was read. Several rules may be broken at once: the one with the least number is answered.
 ///
 /// Each rule but the first speaks of the document's tree alone, however it is spelt. The tables that are looked at
-/// are the document itself, what stands at `costs`, `demand` and `lead` where it is a table, and each table in
-/// the list at `policy`. A key that is absent and a value of another kind break no rule but their own.
+/// are the document itself, what stands at `costs`, `demand`, `lead` and `returns` where it is a table, and each table
+/// in the list at `policy`. Which keys they have is told by the version: only version 2 has `returns`. A key that is
+/// absent and a value of another kind break no rule but their own.
 #[derive(Clone, Copy, Debug, PartialEq, Eq)]
 pub enum ScenarioFault {
     /// 1: the bytes are no UTF-8, or no document for the `toml` crate.
     NoDocument,
-    /// 2: `version` is absent, no whole number, or not 1.
+    /// 2: `version` is absent, no whole number, or not 1 or 2.
     Version,
     /// 3: a table has a key that is none of its keys.
     UnknownKey,
@@ -26,11 +27,11 @@ pub enum ScenarioFault {
     /// anything but four words of 16 digits of `0-9a-f`. `version`, `ring`, the name and the number of the policies
     /// have faults of their own.
     Range,
-    /// 7: `demand` or `lead` has more or fewer weights than values.
+    /// 7: `demand`, `lead` or `returns` has more or fewer weights than values.
     Lengths,
-    /// 8: the values of `demand` or of `lead` do not rise strictly.
+    /// 8: the values of `demand`, of `lead` or of `returns` do not rise strictly.
     Order,
-    /// 9: the weights of `demand` or of `lead` are 0 or over 65,536 in sum.
+    /// 9: the weights of `demand`, of `lead` or of `returns` are 0 or over 65,536 in sum.
     WeightSum,
     /// 10: a policy's `s` is above its `S`.
     Levels,

@@ -3,6 +3,7 @@
 mod damaged;
 mod least;
 mod refusals;
+mod returns;
 mod sizes;
 
 use super::*;
@@ -69,7 +70,12 @@ fn read(alloc: Global, text: &str) -> Result<Scenario, AllocError> {
 
 #[test]
 fn base(rt: HostRuntime) -> Result<(), Fail> {
-    for text in [BASE, SPELT_OTHERWISE] {
+    let second = BASE.replace(
+        rt.alloc(),
+        "version = 1",
+        "version = 2\nreturns = { values = [0], weights = [1] }",
+    )?;
+    for text in [BASE, SPELT_OTHERWISE, second.as_str()] {
         let scenario = read(rt.alloc(), text)?;
         assert_eq!(rt; scenario.key(), [0; 4]);
         assert_eq!(rt; scenario.ring(), 2);

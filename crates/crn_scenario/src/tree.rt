@@ -25,6 +25,16 @@ pub fn integer_at(table: &Table, key: &str) -> Option<i64>
     }
 }
 
+/// A number without its sign, and 0 where there is none. Where no fault holds none has a minus.
+pub fn natural(number: Option<i64>) -> u64
+    ensures { result ≡ spec.natural number }
+{
+    match number {
+        Some(number) => number.unsigned_abs(),
+        None => 0,
+    }
+}
+
 /// The text at a key, where one stands there.
 pub fn text_at<'a>(table: &'a Table, key: &str) -> Option<&'a str>
     ensures { option_copied result ≡ spec.text_at key.now (table_view table.now) }

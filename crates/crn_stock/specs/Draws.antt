@@ -1,11 +1,13 @@
 -- The draws of a model from the stream of a key, and the states that they lead to.
-use Rattle.std.specs.Prelude.{◌≡◌, ℕ, zero, suc, ◌+◌, ◌-◌, ◌*◌, ◌/◌, ◌%◌, ◌≤◌, List, [], ◌∷◌, ◌++◌, ◌&&◌, cond, length, slice_index, nat_le, nat_lt}
+use Rattle.std.specs.Prelude.{◌≡◌, ℕ, zero, suc, ◌+◌, ◌-◌, ◌*◌, ◌/◌, ◌%◌, ◌≤◌, List, [], ◌∷◌, ◌++◌, ◌&&◌, Option, Some, None, cond, length, slice_index, nat_le, nat_lt}
 use Rattle.crn_cipher.specs.declared.TheConstants.{STREAM_WORDS}
-use Rattle.crn_cipher.specs.Cipher.{DemandWords, LeadWords}
-use Rattle.crn_draw.specs.Spread.{Pick}
+use Rattle.crn_cipher.specs.declared.stream.Stream.{Stream}
+use Rattle.crn_cipher.specs.declared.stream.Stream.TheVariants.{Demand, Lead, Returns}
+use Rattle.crn_cipher.specs.Blocks.{StreamWords}
+use Rattle.crn_draw.specs.Spread.{Weighted, Pick}
 use Rattle.crn_stock.specs.declared.rules.Policy.{Policy}
 use Rattle.crn_stock.specs.Parts.{Parts}
-use Rattle.crn_stock.specs.Models.{ModelParts, blocks_per_replication}
+use Rattle.crn_stock.specs.Models.{ModelParts, has_returns, blocks_per_replication}
 use Rattle.crn_stock.specs.Rule.{rules_of}
 use Rattle.crn_stock.specs.Stock.{Draw}
 use Rattle.crn_stock.specs.States.{IsStateOf, IsOnward}
@@ -14,11 +16,21 @@ use Rattle.crn_stock.specs.States.{IsStateOf, IsOnward}
 abbrev pub block_of : ModelParts → ℕ → ℕ → ℕ
 block_of m r p = r * blocks_per_replication m.periods + p / STREAM_WORDS
 
--- its demand and lead time, by one word of each stream of the block
+-- the period's word of a stream of that block
+abbrev pub word_of : ModelParts → List ℕ → ℕ → ℕ → Stream → ℕ
+word_of m key r p s = slice_index (StreamWords key (block_of m r p) s) (p % STREAM_WORDS)
+
+-- the items that are returned by a word: none where customers return nothing
+abbrev pub returned_by : Option Weighted → ℕ → ℕ
+returned_by None word = 0
+returned_by (Some weights) word = Pick weights word
+
+-- its demand, lead time and returned items, each by the word of its stream
 unfoldable pub draw_at : ModelParts → List ℕ → ℕ → ℕ → Draw
 draw_at m key r p = record {
-  demand = Pick m.demand (slice_index (DemandWords key (block_of m r p)) (p % STREAM_WORDS));
-  lead = Pick m.lead (slice_index (LeadWords key (block_of m r p)) (p % STREAM_WORDS));
+  demand = Pick m.demand (word_of m key r p Demand);
+  lead = Pick m.lead (word_of m key r p Lead);
+  returned = returned_by m.returns (word_of m key r p Returns);
 }
 
 -- the lists f 0 to f (n - 1), one after another
@@ -42,15 +54,16 @@ next_block v = length v.costs * blocks_per_replication v.periods + (v.period + (
 abbrev pub IsBetween : Parts → Type 0
 IsBetween v = v.period % STREAM_WORDS ≡ 0
 
--- a state is of a model: it has its sizes and its initial stock
+-- a state is of a model: it has its sizes and its initial stock, and agrees with it in having returns
 pub record IsOf (m : ModelParts) (v : Parts) : Type 0 where
   pub periods_are : v.periods ≡ m.periods
   pub replications_are : v.replications ≡ m.replications
   pub initial_is : v.initial ≡ m.initial
+  pub has_returns_is : v.has_returns ≡ has_returns m
 
 -- v are the parts of a policy's state after the draws ds from the start
 abbrev pub StateOf : ModelParts → Policy → List Draw → Parts → Type 0
-StateOf m policy ds v = IsStateOf (rules_of policy m.costs) m.periods m.replications m.initial ds v
+StateOf m policy ds v = IsStateOf (rules_of policy m.costs) m.periods m.replications m.initial (has_returns m) ds v
 
 -- v are the parts of a policy's state at block n: after the draws of all blocks below n
 abbrev pub At : ModelParts → Policy → List ℕ → ℕ → Parts → Type 0

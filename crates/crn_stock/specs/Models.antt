@@ -1,5 +1,5 @@
 -- A model as a value, and the ranges of cost rates, policies and models.
-use Rattle.std.specs.Prelude.{ℕ, ◌+◌, ◌-◌, ◌*◌, ◌/◌, ◌≤◌, ℤ, pos, ◌≤ℤ◌, All}
+use Rattle.std.specs.Prelude.{ℕ, ◌+◌, ◌-◌, ◌*◌, ◌/◌, ◌≤◌, ℤ, pos, ◌≤ℤ◌, Bool, List, [], Option, Some, None, is_some, All}
 use Rattle.crn_cipher.specs.declared.TheConstants.{STREAM_WORDS}
 use Rattle.crn_draw.specs.Spread.{Weighted}
 use Rattle.crn_stock.specs.declared.rules.Costs.{Costs}
@@ -13,6 +13,17 @@ pub record ModelParts : Type 0 where
   pub costs : Costs
   pub demand : Weighted
   pub lead : Weighted
+  -- what customers return in a period, where they return anything
+  pub returns : Option Weighted
+
+-- whether customers return items
+abbrev pub has_returns : ModelParts → Bool
+has_returns m = is_some m.returns
+
+-- the numbers of items that may be returned in a period
+abbrev pub returned_values : Option Weighted → List ℕ
+returned_values None = []
+returned_values (Some w) = w.values
 
 -- the cost rates of a model are within their ranges
 pub record AreCosts (c : Costs) : Type 0 where
@@ -39,6 +50,7 @@ pub record IsModel (m : ModelParts) : Type 0 where
   pub demand : All (λ v. v ≤ 10000) m.demand.values
   pub lead_low : All (λ v. 1 ≤ v) m.lead.values
   pub lead_high : All (λ v. v ≤ 32) m.lead.values
+  pub returns : All (λ v. v ≤ 10000) (returned_values m.returns)
 
 -- the blocks that the periods of one replication take, the last of them perhaps in part
 abbrev pub blocks_per_replication : ℕ → ℕ

@@ -1,5 +1,5 @@
 -- The state of a policy after a list of draws, over any number of replications.
-use Rattle.std.specs.Prelude.{◌≡◌, ℕ, ◌+◌, ◌<◌, cond, ℤ, pos, ◌+ℤ◌, List, [], ◌∷◌, ◌++◌, length, sum, reverse, slice_index, nat_eq}
+use Rattle.std.specs.Prelude.{◌≡◌, ℕ, ◌+◌, ◌<◌, Bool, cond, ℤ, pos, ◌+ℤ◌, List, [], ◌∷◌, ◌++◌, length, sum, reverse, slice_index, nat_eq}
 use Rattle.crn_stock.specs.Parts.{Parts}
 use Rattle.crn_stock.specs.Stock.{Draw, Order, Rules, Beginning, position, stock, due, running}
 
@@ -54,11 +54,13 @@ orders_due k (a ∷ rest) = record { due = k; quantity = a } ∷ orders_due (k +
 abbrev pub from_parts : Parts → Standing
 from_parts q = record { costs = q.costs; first = q.period; beginning = record { stock = q.stock; orders = orders_due 0 q.due; running = q.running }; draws = [] }
 
--- v are the parts of a state with n periods, r replications and initial stock x after the draws ds, in order
-pub record IsStateOf (p : Rules) (n r : ℕ) (x : ℤ) (ds : List Draw) (v : Parts) : Type 0 where
+-- v are the parts of a state with n periods, r replications and initial stock x, with returns or without, after the
+-- draws ds, in order
+pub record IsStateOf (p : Rules) (n r : ℕ) (x : ℤ) (has_returns : Bool) (ds : List Draw) (v : Parts) : Type 0 where
   pub periods_are : v.periods ≡ n
   pub replications_are : v.replications ≡ r
   pub initial_is : v.initial ≡ x
+  pub has_returns_is : v.has_returns ≡ has_returns
   pub stands : IsStanding p (standing p n x (from_start x) (reverse ds)) v
 
 -- v are the parts of a state that was q before the draws ds, in order
@@ -66,4 +68,5 @@ pub record IsOnward (p : Rules) (q : Parts) (ds : List Draw) (v : Parts) : Type 
   pub periods_are : v.periods ≡ q.periods
   pub replications_are : v.replications ≡ q.replications
   pub initial_is : v.initial ≡ q.initial
+  pub has_returns_is : v.has_returns ≡ q.has_returns
   pub stands : IsStanding p (standing p q.periods q.initial (from_parts q) (reverse ds)) v

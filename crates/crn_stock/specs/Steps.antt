@@ -12,7 +12,7 @@ next_due due l z = slice_set (drop 1 due ++ 0 ∷ []) (l - 1) (slice_index (drop
 unfoldable pub after_period : Rules → Draw → Parts → Parts
 after_period p d v =
     let z = order_quantity p.low p.high (v.stock +ℤ pos (sum v.due)) in
-    let x = v.stock +ℤ pos (slice_index v.due 0) -ℤ pos d.demand in
+    let x = v.stock +ℤ pos (slice_index v.due 0 + d.returned) -ℤ pos d.demand in
     record v { period = v.period + 1; stock = x; due = next_due v.due d.lead z; running = v.running + cost_of p.setup p.unit p.holding p.backlog z x }
 
 -- the parts after a replication's last period: its cost is stored, and the next one begins

@@ -3,7 +3,7 @@
 ghost use Rattle.std.specs.Prelude.{◌≡◌, ◌++◌, IfOk, OnOk};
 ghost use Rattle.crn_text.specs.BlockWords as spec;
 
-use crn_cipher::block;
+use crn_cipher::{Block, STREAMS, Stream, block};
 use crn_scenario::hex::hex_word;
 use std::alloc::{AllocError, Global};
 
@@ -18,8 +18,18 @@ fn put_words(text: &mut Vec<u8>, words: &[u64]) -> Result<(), AllocError>
     Ok(())
 }
 
-/// The words of block `n` of the stream of `key` as two lines: `demand` and the four demand words, `lead` and the
-/// four lead words, each word in 16 hexadecimal digits. With them the stream can be compared with Random123.
+// Appends the line of a stream.
+fn put_line(text: &mut Vec<u8>, block: &Block, stream: Stream) -> Result<(), AllocError>
+    ensures { OnOk result (text.new.items ≡ text.old.items ++ spec.stream_line block.now.key block.now.number stream) }
+{
+    text.extend_from_slice(stream.name().as_bytes())?;
+    put_words(text, block.words(stream))?;
+    text.push(b'\n')?;
+    Ok(())
+}
+
+/// The words of block `n` of the stream of `key`, a line for each stream: its name (`demand`, `lead` or `returns`) and
+/// its four words, each in 16 hexadecimal digits. With them the stream can be compared with Random123.
 ///
 /// # Errors
 ///
@@ -29,10 +39,9 @@ pub fn words_text(alloc: Global, key: [u64; 4], n: u64) -> Result<Vec<u8>, Alloc
     ensures { IfOk result (λ text. text.items ≡ spec.words_text key n) }
 {
     let block = block(key, n);
-    let mut text = Vec::from_slice(alloc, b"demand")?;
-    put_words(&mut text, &block.demand)?;
-    text.extend_from_slice(b"\nlead")?;
-    put_words(&mut text, &block.lead)?;
-    text.push(b'\n')?;
+    let mut text = Vec::new(alloc);
+    for stream in &STREAMS {
+        put_line(&mut text, &block, *stream)?;
+    }
     Ok(text)
 }

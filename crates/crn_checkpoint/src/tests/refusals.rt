@@ -1,5 +1,7 @@
 // Ranges, and checkpoints of other scenarios.
 
+ghost use Rattle.std.specs.Prelude.{◌≡◌, None};
+
 use super::*;
 
 // What a text with one part of it changed is refused for.
@@ -9,7 +11,9 @@ fn refusal_of(
     text: &str,
     from: &str,
     to: &str,
-) -> Result<Option<CheckpointFault>, AllocError> {
+) -> Result<Option<CheckpointFault>, AllocError>
+    requires { scenario.now.model.returns ≡ None }
+{
     let text = changed(rt, text, from, to)?;
     Ok(read_checkpoint(rt.alloc(), scenario, text.as_bytes()).err())
 }

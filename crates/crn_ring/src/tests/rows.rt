@@ -28,6 +28,44 @@ fn publishes(ring: &Ring, producer: &mut Producer, n: u64) -> bool
     producer.published() == n && publish_next(ring, producer) == Some(Publish::Done)
 }
 
+// Block 0 of the zero key: what Random123's `threefry4x64_R(20, ..)` gives at the counters (0, 0, 0, 0), (0, 1, 0, 0)
+// and (0, 2, 0, 0).
+const ZERO_DEMAND: [u64; 4] = [
+    0x0921_8ebd_e6c8_5537,
+    0x5594_1f52_66d8_6105,
+    0x4bd2_5e16_2824_34dc,
+    0xee29_ec84_6bd2_e40b,
+];
+
+const ZERO_LEAD: [u64; 4] = [
+    0xca29_e963_0500_9de4,
+    0x1cc2_7861_f52c_604b,
+    0xa1e7_adf8_7d24_b5b5,
+    0xfc22_91a0_341a_674c,
+];
+
+const ZERO_RETURNS: [u64; 4] = [
+    0x5539_2778_6438_0943,
+    0x86dc_4496_ff6c_4bf6,
+    0xb6a1_6a29_4c09_b67c,
+    0x3572_aa99_bcf7_1983,
+];
+
+#[test]
+fn the_words_of_every_stream_arrive(rt: HostRuntime) -> Result<(), Fail> {
+    let Some((ring, mut producer, mut reader)) = open_one(rt.alloc(), 1, 1) else {
+        panic!(rt; "not opened")
+    };
+    assert!(rt; publishes(&ring, &mut producer, 0));
+    let Some(Take::Got(arrived)) = take_next(&ring, &mut reader) else {
+        panic!(rt; "no block")
+    };
+    assert_eq!(rt; arrived.demand, ZERO_DEMAND);
+    assert_eq!(rt; arrived.lead, ZERO_LEAD);
+    assert_eq!(rt; arrived.returns, ZERO_RETURNS);
+    Ok(())
+}
+
 #[test]
 fn a_ring_of_one_slot_waits_for_both_readers(rt: HostRuntime) -> Result<(), Fail> {
     let Some((ring, mut producer, mut a, mut b)) = open_two(rt.alloc(), 1, 2) else {

@@ -94,7 +94,7 @@ pub(super) fn base(alloc: Global) -> Result<Scenario, AllocError>
         holding: 1,
         backlog: 5,
     };
-    let model = Model::new(4, 1, 60, costs, demand, always(alloc, 1)?);
+    let model = Model::new(4, 1, 60, costs, demand, always(alloc, 1)?, None);
     let a = Levels { low: 20, high: 40 };
     let b = Levels { low: 60, high: 80 };
     scenario_of(alloc, Slots::Two, model, a, b)
@@ -126,6 +126,7 @@ pub(super) fn steady(
         costs,
         always(alloc, 3)?,
         always(alloc, 1)?,
+        None,
     );
     let a = Levels { low: 5, high: 10 };
     let b = Levels { low: 4, high: 10 };
@@ -142,7 +143,15 @@ pub(super) fn largest(alloc: Global) -> Result<Scenario, AllocError>
         holding: 1,
         backlog: 0,
     };
-    let model = Model::new(1_024, 256, 1, costs, always(alloc, 0)?, always(alloc, 1)?);
+    let model = Model::new(
+        1_024,
+        256,
+        1,
+        costs,
+        always(alloc, 0)?,
+        always(alloc, 1)?,
+        None,
+    );
     let none = Levels { low: 0, high: 0 };
     scenario_of(alloc, Slots::SixtyFour, model, none, none)
 }

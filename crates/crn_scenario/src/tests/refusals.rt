@@ -81,7 +81,7 @@ fn versions(rt: HostRuntime) -> Result<(), Fail> {
     let changes = [
         ("version = 1\n", "", ScenarioFault::Version),
         ("version = 1", "version = 7", ScenarioFault::Version),
-        ("version = 1", "version = 2", ScenarioFault::Version),
+        ("version = 1", "version = 3", ScenarioFault::Version),
         ("version = 1", "version = 0", ScenarioFault::Version),
         ("version = 1", "version = -1", ScenarioFault::Version),
         ("version = 1", "version = 1.0", ScenarioFault::Version),
@@ -126,6 +126,7 @@ fn unknown_keys(rt: HostRuntime) -> Result<(), Fail> {
 #[test]
 fn missing_keys(rt: HostRuntime) -> Result<(), Fail> {
     let changes = [
+        ("version = 1", "version = 2", ScenarioFault::MissingKey),
         ("periods = 4\n", "", ScenarioFault::MissingKey),
         ("replications = 1\n", "", ScenarioFault::MissingKey),
         ("initial = 60\n", "", ScenarioFault::MissingKey),

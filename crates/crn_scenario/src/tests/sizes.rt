@@ -81,6 +81,38 @@ fn numbers_of_values(rt: HostRuntime) -> Result<(), Fail> {
     Ok(())
 }
 
+// All numbers of returned items from 0 to 10,000, each as likely as the others.
+#[test]
+fn numbers_of_returns(rt: HostRuntime) -> Result<(), Fail> {
+    let alloc = rt.alloc();
+    for count in [1, 20, 1_001, 10_001] {
+        let values = rising(alloc, 0, count)?;
+        let weights = ones(alloc, count)?;
+        let returns = format!(in alloc;
+            "version = 2\nreturns = {{ values = {}, weights = {} }}",
+            values.as_str(),
+            weights.as_str()
+        )?;
+        let text = BASE.replace(alloc, "version = 1", returns.as_str())?;
+        let scenario = read(alloc, text.as_str())?;
+        let model = scenario.model();
+        assert!(rt;
+            model
+                .returns()
+                .is_some_and(|r| is_rising(r.values(), 0, count)),
+            "{count}"
+        );
+        assert!(rt;
+            model
+                .returns()
+                .is_some_and(|r| are_ones(r.weights(), count)),
+            "{count}"
+        );
+        assert!(rt; is_rising(model.demand().values(), 1, 4), "{count}");
+    }
+    Ok(())
+}
+
 // A text and then so many lines of 64 bytes that say nothing.
 fn with_comments(alloc: Global, text: &str, lines: u32) -> Result<String, AllocError> {
     let mut long = String::from_str(alloc, text)?;
@@ -102,7 +134,7 @@ fn lengths_of_texts(rt: HostRuntime) -> Result<(), Fail> {
         );
         let scenario = read(alloc, text.as_str())?;
         assert_eq!(rt; (scenario.ring(), scenario.policies().len()), (2, 2));
-        let faulty = with_comments(alloc, "version = 2\n", lines)?;
+        let faulty = with_comments(alloc, "version = 3\n", lines)?;
         let fault = read_scenario(alloc, faulty.as_bytes()).err();
         assert_eq!(rt; fault, Some(ScenarioFault::Version), "{lines}");
         text.push_str("[")?;

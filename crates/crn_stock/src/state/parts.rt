@@ -25,7 +25,8 @@ impl State {
         self.ring[((self.period as usize) % 32 + k) % 32]
     }
 
-    /// The position before the next review, in items: the stock and all that is on order, -10,000 to 1,000,000.
+    /// The position before the next review, in items: the stock and all that is on order, -10,000 to 1,000,000, and
+    /// with returns 10,000 more for each period that has run.
     pub fn position(&self) -> i64
         ensures { result ≡ self.now.stock +ℤ pos (sum self.now.due) }
     {
@@ -58,7 +59,7 @@ impl State {
     }
 
     /// The stock at the end of the last period, in items, below 0 where there is backlog; the initial stock
-    /// where no period of the replication has run. It is -10,240,000 to 1,000,000.
+    /// where no period of the replication has run. It is -10,240,000 to 1,000,000, and with returns to 11,240,000.
     pub fn stock(&self) -> i64
         ensures { result ≡ self.now.stock }
     {

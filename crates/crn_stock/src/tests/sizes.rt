@@ -36,6 +36,7 @@ fn model_of(rt: &impl Abort, alloc: Global, sizes: Sizes) -> Result<Model, Fail>
         costs,
         demand,
         always(alloc, 2)?,
+        None,
     ))
 }
 

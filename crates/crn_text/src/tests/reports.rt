@@ -128,6 +128,9 @@ fn report_of(alloc: Global, policies: u32, replications: u32) -> Result<Vec<u8>,
     let Ok(scenario) = read_scenario(alloc, input.as_bytes()) else {
         return Err(Fail::from("the scenario is refused"));
     };
+    if scenario.model().has_returns() {
+        return Err(Fail::from("the scenario has returns"));
+    }
     let text = checkpoint_text(alloc, policies, replications)?;
     let Ok(cut) = read_checkpoint(alloc, &scenario, text.as_bytes()) else {
         return Err(Fail::from("the checkpoint is refused"));

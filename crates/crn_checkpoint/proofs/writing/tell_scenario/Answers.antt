@@ -25,6 +25,7 @@ returns c =
       key_length = key_length;
       key_words = key_words;
       model = subst IsModel c.model-model.ensures c.periods-periods.ensures.range;
+      no_returns = c.requires;
       demand = rw (c.demand.ensures.value, c.model-model.ensures) at c.total-demands.ensures.fits;
       lead = rw (c.lead.ensures.value, c.model-model.ensures) at c.total-leads.ensures.fits;
       others = others c;

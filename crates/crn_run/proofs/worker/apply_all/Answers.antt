@@ -1,4 +1,4 @@
-use Rattle.std.proofs.Common.{◌≡◌, Some, slice_get, length, refl, arith}
+use Rattle.std.proofs.Common.{◌≡◌, ◌∙◌, Some, slice_get, length, refl, sym, arith}
 use Rattle.std.proofs.lemmas.Option.{slice_get_read}
 use Rattle.crn_stock.specs.Draws.{next_block}
 use Rattle.crn_run.proofs.Advancing.{advances_none, advances_then, next_but}
@@ -13,6 +13,20 @@ loop-k-init g c = record {
 
 pub apply-requires-clause-stands : goal.apply-requires-clause-stands
 apply-requires-clause-stands g c = c.loop-k.invariant.advances.stands
+
+-- the block that is applied is the state's next one
+pub apply-requires-clause-next : goal.apply-requires-clause-next
+apply-requires-clause-next g c =
+    let b = c.index-blocks-k.result in
+    let is : slice_get c.args.blocks.now c.loop-k.k ≡ Some b =
+    slice_get_read c.args.blocks.now (length c.args.blocks.now) c.loop-k.k b refl (omega (arith, c.requires.blocks.0, c.loop-k-test.true)) c.index-blocks-k.is in
+    let found = c.requires.blocks.1 c.loop-k.k b c.loop-k-test.true is in
+    (found.1 ∙ sym c.loop-k.invariant.next, found.0)
+
+pub apply-requires-clause-below : goal.apply-requires-clause-below
+apply-requires-clause-below g c =
+    let next = (apply-requires-clause-next g c).0 in
+    omega (arith, next, c.loop-k.invariant.next, c.requires.below, c.loop-k-test.true)
 
 pub loop-k-preserved : goal.loop-k-preserved
 loop-k-preserved g c =

@@ -1,6 +1,6 @@
 use Rattle.std.proofs.Common.{◌≡◌, ℕ, ◌<◌, length}
 use Rattle.std.specs.Prelude.{take, slice_index}
-use Rattle.crn_cipher.specs.Cipher.{block_word}
+use Rattle.crn_cipher.specs.Blocks.{block_word}
 use Rattle.crn_cipher.specs.declared.TheConstants.{BLOCK_WORDS}
 use Rattle.crn_proto.specs.Chains.{ReaderReaches}
 use Rattle.crn_ring.specs.Plays.{read_many}

@@ -1,6 +1,6 @@
 use Rattle.std.proofs.Common.{rules, ap, ◌∙◌, subst, ◌<◌, ℕ, arith}
 use Rattle.crn_proto.proofs.Chains.{reaches_one}
-use Rattle.crn_cipher.specs.Cipher.{block_word}
+use Rattle.crn_cipher.specs.Blocks.{block_word}
 use Rattle.crn_proto.specs.Ring.{ProducerMay, producer_after, StoreWord, PassesGates, place}
 use Rattle.crn_ring.proofs.Allowed.{stores_word}
 use Rattle.crn_ring.proofs.Rows.{place_from}
