@@ -10,7 +10,7 @@ use crn_text::words_text;
 use std::alloc::Global;
 use std::io::Write;
 
-/// Writes the words of block `n` of the stream of `key` as two lines. Reads nothing.
+/// Writes the words of block `n` of the stream of `key` as three lines. Reads nothing.
 ///
 /// # Errors
 ///

@@ -42,7 +42,7 @@ const RUN_ABOUT: &str =
 
 const WORDS_ABOUT: &str =
     "Writes the words of one block of the random stream, to be compared with Random123's \
-threefry4x64: a line of demand words and a line of lead time words";
+threefry4x64: a line each of demand words, lead time words and returns words";
 
 const KEY_WORDS: [&str; 4] = ["K0", "K1", "K2", "K3"];
 
@@ -78,7 +78,7 @@ a text from which `resume` goes on";
 
 const LEG_EXAMPLE: &str =
     "N is at most the number of blocks of the scenario, a block for each 4 periods of a \
-replication or part of them.
+replication or part of them. A run with returns can't be cut yet.
 
 Example, a run that is cut half way:
   crnsim leg 832 < examples/spare_part.toml > cut.csv";

@@ -1,6 +1,6 @@
 //! Compares (s,S) inventory policies by common random numbers: a scenario on standard input, its report on
-//! standard output. A run can be cut at any block and resumed. It also writes the words of blocks, and replays schedules
-//! of the ring that carries them.
+//! standard output. A run without returns can be cut at any block and resumed. It also writes the words of blocks, and
+//! replays schedules of the ring that carries them.
 #![tactic(auto)]
 
 mod command_line;
