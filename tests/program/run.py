@@ -1,12 +1,19 @@
 #!/usr/bin/env python3
 """Tries the built program from outside: tests/program/run.py PROGRAM.
 
-cases.toml has groups of cases: what a group says holds for each of its cases. A case has the words of the command line
-(args), and may have what stands on standard input (input) and in the file FILE (file), what is wanted on standard output
-(output, or some parts of it (has)), the fault's line and the status. Each of these texts is given, or is that of a file of the
-repository (input_from), with one change (input_change), filled up with a piece to a size (input_fill, input_size) and
-followed by an end (input_end).
+cases.toml and checkpoints.toml have groups of cases: what a group says holds for each of its cases. A case has the words
+of the command line (args), and may have what stands on standard input (input) and in the file FILE (file), what is wanted
+on standard output (output, or some parts of it (has)), the fault's line and the status. Each of these texts is given, or
+is that of a file of the repository (input_from), with one change (input_change), filled up with a piece to a size
+(input_fill, input_size) and followed by an end (input_end).
+
+A case is tried with each of its commands and each of its files (of the repository), where it has lists of them. Some
+cases stand for many tries. blocks: the scenario is cut at each of these blocks, or at all. old_blocks: its checkpoints of
+the old version there are migrated. prefixes: the fault is told of each proper prefix of the file. rows: and of the file
+with one of these rows put in, at each place. What the oracle, a second program (oracle.py), can tell of a case is tried
+too: it has to write the output that is wanted, so to agree with what was worked by hand.
 """
+import itertools
 import os
 import resource
 import subprocess
@@ -14,8 +21,13 @@ import sys
 import tempfile
 import tomllib
 
+# The oracle's compiled text is not to stand in the repository.
+sys.dont_write_bytecode = True
+import oracle
+
 HERE = os.path.dirname(os.path.abspath(__file__))
 TOP = os.path.dirname(os.path.dirname(HERE))
+FILES = ["cases.toml", "checkpoints.toml"]
 SECONDS = 10
 # A standard input that says nothing and doesn't end.
 SILENT = os.pipe()
@@ -73,73 +85,162 @@ def refused(fault, status):
     return b"", f"crnsim: {fault}\n".encode(), status
 
 
+def wanted_fault(case):
+    """What a run shows that ends with the case's fault."""
+    return refused(case["fault"], case["status"])
+
+
 def is_wanted(case, shown):
     """Whether a run shows what the case wants."""
     if shown is None:
         return False
     output, errors, status = shown
     if "fault" in case:
-        return shown == refused(case["fault"], case["status"])
+        return shown == wanted_fault(case)
     if "has" in case:
         return not errors and not status and all(it in output.decode() for it in case["has"])
     return shown == (text_of(case, "output"), b"", 0)
+
+
+def write_file(room, file):
+    """Puts a text into FILE."""
+    with open(f"{room}/FILE", "wb") as it:
+        it.write(file)
 
 
 def try_case(program, case, room):
     """Runs a case as often as it says."""
     file = text_of(case, "file")
     if file is not None:
-        with open(f"{room}/FILE", "wb") as it:
-            it.write(file)
+        write_file(room, file)
     args = words_of(case, room)
     data, to, kilobytes = text_of(case, "input"), case.get("to"), case.get("kilobytes")
     return all(is_wanted(case, run(program, args, data, to, kilobytes)) for _ in range(case.get("times", 1)))
 
 
-def try_cut(program, case, block, room):
-    """Cuts a run at a block, and resumes it on a ring of one block: it ends as the whole run."""
-    data, whole = text_of(case, "input"), text_of(case, "output")
-    whole = (whole, b"", 0) if whole is not None else run(program, ["run"], data)
-    cut = run(program, ["leg", str(block)], data)
-    if cut is None or whole is None or cut[1:] != (b"", 0) or whole[1:] != (b"", 0):
-        return False
-    with open(f"{room}/FILE", "wb") as it:
-        it.write(cut[0])
-    return run(program, ["resume", f"{room}/FILE"], data.replace(b"ring = ", b"ring = 1 # ")) == whole
+def told(case):
+    """What the oracle writes for a case, or None where a fault is wanted or the oracle knows no such command."""
+    text = (text_of(case, "input") or b"").decode()
+    if "fault" in case:
+        return None
+    match words_of(case, None):
+        case [] | ["run"]:
+            return oracle.report(text)
+        case ["leg", block]:
+            return oracle.checkpoint(text, int(block), 2)
+        case ["words", *_] as words if "--help" not in words:
+            return oracle.main(words)
+    return None
+
+
+def on_file(program, room, args, file, data=None):
+    """What a run shows where this text is in FILE."""
+    write_file(room, file)
+    return run(program, args, data)
+
+
+def on_ring(data, size):
+    """A scenario on a ring of another size."""
+    return data.replace(b"ring = ", b"ring = %d # " % size)
+
+
+def blocks_of(case, name):
+    """The blocks that a case says, from the first to the scenario's total where it says all."""
+    if case[name] == "all":
+        return range(oracle.run_of(text_of(case, "input").decode()).scenario.total + 1)
+    return case[name]
+
+
+def cut_tries(program, case, room):
+    """Cuts a run at blocks, and resumes it on a ring of one block: it ends as the whole run."""
+    data, resume = text_of(case, "input"), ["resume", f"{room}/FILE"]
+    text = data.decode()
+    whole = (oracle.report(text).encode(), b"", 0)
+    for block in blocks_of(case, "blocks"):
+        leg = oracle.checkpoint(text, block, 2).encode()
+        yield f"leg {block}", lambda: run(program, ["leg", str(block)], data) == (leg, b"", 0)
+        yield f"resumed from {block}", lambda: on_file(program, room, resume, leg, on_ring(data, 1)) == whole
+
+
+def old_tries(program, case, room):
+    """Migrates old checkpoints of a run: from what comes of them it ends as the whole run. No command takes both."""
+    data, resume, migrate = text_of(case, "input"), ["resume", f"{room}/FILE"], ["migrate", f"{room}/FILE"]
+    text = data.decode()
+    whole = (oracle.report(text).encode(), b"", 0)
+    for block in blocks_of(case, "old_blocks"):
+        old, new = (oracle.checkpoint(text, block, version).encode() for version in (1, 2))
+        yield f"migrated at {block}", lambda: on_file(program, room, migrate, old) == (new, b"", 0)
+        yield f"resumed from {block}", lambda: on_file(program, room, resume, new, on_ring(data, 1024)) == whole
+        yield f"migrated twice at {block}", lambda: on_file(program, room, migrate, new) == refused("checkpoint 5", 4)
+        yield f"old resumed at {block}", lambda: on_file(program, room, resume, old, data) == refused("checkpoint 4", 4)
+
+
+def prefix_tries(program, case, room):
+    """The fault is told of each proper prefix of the file."""
+    file, data, args = text_of(case, "file"), text_of(case, "input"), words_of(case, room)
+    for size in range(len(file)):
+        yield f"{size} bytes", lambda: on_file(program, room, args, file[:size], data) == wanted_fault(case)
+
+
+def row_tries(program, case, room):
+    """The fault is told of the file with a row put in, at each place."""
+    file, data, args = text_of(case, "file"), text_of(case, "input"), words_of(case, room)
+    lines = file.decode().splitlines(keepends=True)
+    for row, place in itertools.product(case["rows"], range(len(lines) + 1)):
+        changed = "".join([*lines[:place], f"{row}\n", *lines[place:]]).encode()
+        yield f"{row} in place {place}", lambda: on_file(program, room, args, changed, data) == wanted_fault(case)
 
 
 def try_limits(program, case, room):
-    """Limits the address space more and less: each run shows its output, or that a thread or memory was refused, and the
-    first of these and a refused thread come."""
+    """Limits the address space more and less: each run shows its output, or that a thread or memory was refused, and
+    the first of these and a refused thread come."""
     args = words_of(case, room)
-    with open(f"{room}/FILE", "wb") as it:
-        it.write(text_of(case, "file"))
+    write_file(room, text_of(case, "file"))
     good, thread, memory = (text_of(case, "output"), b"", 0), refused("thread", 6), refused("memory", 7)
     seen = [run(program, args, text_of(case, "input"), None, it) for it in case["limits"]]
     return good in seen and thread in seen and all(it in (good, thread, memory) for it in seen)
 
 
-def tries(program, cases, room):
-    """The name of each try, and a call that says whether it does well."""
-    for group in cases["group"]:
+# Cases that stand for many tries, by the key that says so.
+MANY = {"blocks": cut_tries, "old_blocks": old_tries, "prefixes": prefix_tries, "rows": row_tries}
+
+
+def cases_of(groups):
+    """The name of each case, and the case, once for each of its commands and files."""
+    for group in groups:
         for each in group["cases"]:
             case = {**group, **each}
-            name = f"{case['name']}: {str(each)[:300]}"
-            if "limits" in case:
-                yield name, lambda: try_limits(program, case, room)
-            elif "blocks" in case:
-                for block in case["blocks"]:
-                    yield f"{name[:60]} at {block}", lambda: try_cut(program, case, block, room)
-            else:
-                yield name, lambda: try_case(program, case, room)
+            commands = [{"args": it} for it in case.get("commands", [])] or [{}]
+            files = [{"file_from": it} for it in case.get("files", [])] or [{}]
+            for command, file in itertools.product(commands, files):
+                chosen = {**command, **file}
+                yield " ".join([f"{case['name']}:", *chosen.values(), str(each)[:300]]), {**case, **chosen}
+
+
+def tries(program, groups, room):
+    """The name of each try, and a call that says whether it does well."""
+    for name, case in cases_of(groups):
+        kinds = [it for it in MANY if it in case]
+        for kind in kinds:
+            for part, does_well in MANY[kind](program, case, room):
+                yield f"{name[:160]}: {part}", does_well
+        if "limits" in case:
+            yield name, lambda: try_limits(program, case, room)
+        elif not kinds:
+            yield name, lambda: try_case(program, case, room)
+            text = told(case)
+            if text is not None:
+                yield f"oracle, {name}", lambda: is_wanted(case, (text.encode(), b"", 0))
 
 
 def main(program):
-    with open(f"{HERE}/cases.toml", "rb") as it:
-        cases = tomllib.load(it)
+    groups = []
+    for file in FILES:
+        with open(f"{HERE}/{file}", "rb") as it:
+            groups += tomllib.load(it)["group"]
     passed = failed = 0
     with tempfile.TemporaryDirectory(prefix="crnsim-") as room:
-        for name, does_well in tries(os.path.abspath(program), cases, room):
+        for name, does_well in tries(os.path.abspath(program), groups, room):
             if does_well():
                 passed += 1
             else:

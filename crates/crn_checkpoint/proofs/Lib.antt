@@ -5,7 +5,7 @@ pub mod WrittenRows
 mod Places
 mod WholeRows
 mod Words
-mod Lists
+mod ListRows
 mod Dues
 mod Differing
 mod Restoring

@@ -1,5 +1,5 @@
 -- The rows of a checkpoint call for no quotes, so that `csv` reads them again as they were written.
-use Rattle.std.proofs.Common.{◌≡◌, ℕ, zero, suc, ◌+◌, ◌*◌, ◌<◌, ◌≤◌, ◌^◌, ℤ, true, List, [], ◌∷◌, ◌++◌, All, length, sum, slice_index, codes, decimal, None, refl, ◌∙◌, arith}
+use Rattle.std.proofs.Common.{◌≡◌, ℕ, zero, suc, ◌+◌, ◌*◌, ◌<◌, ◌≤◌, ◌^◌, ℤ, true, Option, Some, List, [], ◌∷◌, ◌++◌, All, length, sum, slice_index, codes, decimal, None, refl, ◌∙◌, arith}
 use Rattle.std.proofs.lemmas.Int.{ints}
 use Rattle.std.proofs.lemmas.List.Elements.{All-head, All-tail}
 use Rattle.std.proofs.lemmas.List.Folds.{list_all-append}
@@ -12,15 +12,18 @@ use Rattle.crn_draw.specs.Spread.{Weighted}
 use Rattle.crn_stock.specs.declared.rules.Policy.{Policy}
 use Rattle.crn_stock.specs.declared.rules.Costs.{Costs}
 use Rattle.crn_stock.specs.Parts.{Parts, AreInRange, stock_limit, period_cost_limit}
-use Rattle.crn_stock.specs.Models.{ModelParts, IsModel, IsPolicy, AreCosts, blocks_per_replication, total}
+use Rattle.crn_stock.specs.Models.{ModelParts, IsModel, IsPolicy, AreCosts, blocks_per_replication, returned_values, total}
 use Rattle.crn_stock.specs.Scenarios.{ScenarioParts, is_name}
 use Rattle.crn_scenario.specs.Hex.{hex_word}
 use Rattle.crn_run.specs.Runs.{IsCheckpointOf, StandsAt}
 use Rattle.crn_rows.specs.Plain.{is_plain, is_row, are_rows}
 use Rattle.crn_rows.proofs.Plainness.{signed_plain}
-use Rattle.crn_checkpoint.specs.CheckpointText.{numbers_row, pair_row, head_row, key_row, costs_row, sizes_row, weight_rows, drawn_rows, policy_row, due_rows, cost_rows, state_row, policy_rows, all_policy_rows, end_row, checkpoint_rows}
-use Rattle.crn_checkpoint.specs.Reading.{IsScenario, IsInRange}
-use Rattle.crn_checkpoint.proofs.Lengths.{length_of_rising, length_due, each_below, all_below, total_high, rising_of, sum_of}
+use Rattle.crn_checkpoint.specs.CheckpointText.{numbers_row, pair_row, dash, head_row, key_row, costs_row, sizes_row, count_rows, weight_rows, drawn_rows, returned_rows, list_rows, policy_row, due_rows, cost_rows, state_row, policy_rows, all_policy_rows, end_row, checkpoint_rows}
+use Rattle.crn_checkpoint.specs.Reading.{IsScenario, IsInRange, CanDraw}
+use Rattle.crn_checkpoint.specs.declared.version.Version.{Version}
+use Rattle.crn_checkpoint.specs.declared.version.Version.TheVariants.{First, Second}
+use Rattle.crn_checkpoint.proofs.Lengths.{length_due, each_below, all_below, total_high, sum_of}
+use Rattle.crn_checkpoint.proofs.ListRows.{demands_few, leads_few, returned_few}
 use Rattle.crn_checkpoint.proofs.WholeRows.{limit_high}
 use Rattle.crn_checkpoint.proofs.PlainFields.{number_plain, mag_low, level_plain, word_plain, name_plain}
 
@@ -53,6 +56,10 @@ amounts_plain stock running due done h hr hd hn = rw (signed_plain stock h, numb
 pub counts_plain : (initial : ℤ) (demands leads policies : ℕ) → mag initial < 2 ^ 127 → demands < 2 ^ 64 → leads < 2 ^ 64 → policies < 2 ^ 64
     → is_row (codes "sizes" ∷ signed_decimal initial ∷ decimal demands ∷ decimal leads ∷ decimal policies ∷ []) ≡ true
 counts_plain initial demands leads policies h hd hl hp = rw (signed_plain initial h, number_plain demands hd, number_plain leads hl, number_plain policies hp) refl
+
+-- the row of how many numbers of returned items there are
+pub count_plain : (n : ℕ) → n < 2 ^ 64 → is_row (codes "returns" ∷ decimal n ∷ dash ∷ dash ∷ dash ∷ []) ≡ true
+count_plain n h = rw (number_plain n h) refl
 
 -- ---- lists of rows
 
@@ -142,9 +149,12 @@ plain_states s next states h low of ranges = λ k d inside.
 
 -- ---- the whole
 
-head_plain : (m : ModelParts) (next : ℕ) → IsModel m → next ≤ total m → is_row (head_row m next) ≡ true
-head_plain m next h low =
-    numbers_plain (codes "checkpoint") 1 next m.periods m.replications refl (omega arith) (omega (arith, total_high m h, low)) (omega (arith, h.periods_high)) (omega (arith, h.replications_high))
+version_plain : (v : Version) (m : ModelParts) (next : ℕ) → next < 2 ^ 64 → m.periods < 2 ^ 64 → m.replications < 2 ^ 64 → is_row (head_row v m next) ≡ true
+version_plain First m next a b c = numbers_plain (codes "checkpoint") 1 next m.periods m.replications refl (omega arith) a b c
+version_plain Second m next a b c = numbers_plain (codes "checkpoint") 2 next m.periods m.replications refl (omega arith) a b c
+
+head_plain : (v : Version) (m : ModelParts) (next : ℕ) → IsModel m → next ≤ total m → is_row (head_row v m next) ≡ true
+head_plain v m next h low = version_plain v m next (omega (arith, total_high m h, low)) (omega (arith, h.periods_high)) (omega (arith, h.replications_high))
 
 rates_plain : (c : Costs) → AreCosts c → is_row (costs_row c) ≡ true
 rates_plain c h = numbers_plain (codes "costs") c.setup c.unit c.holding c.backlog refl (omega (arith, h.setup)) (omega (arith, h.unit)) (omega (arith, h.holding)) (omega (arith, h.backlog))
@@ -153,20 +163,32 @@ sizes_plain : (s : ScenarioParts) → IsScenario s → is_row (sizes_row s) ≡ 
 sizes_plain s h =
     let m = s.model in
     let initial = mag_low m.initial 0 1000000 (omega (arith, ints, h.model.initial_low)) h.model.initial_high (omega arith) (omega arith) in
-    let demands = length_of_rising m.demand.values 10000 (rising_of m.demand.values m.demand.weights h.demand) h.model.demand in
-    let leads = length_of_rising m.lead.values 32 (rising_of m.lead.values m.lead.weights h.lead) h.model.lead_high in
-    counts_plain m.initial (length m.demand.values) (length m.lead.values) (length s.policies) initial (omega (arith, demands)) (omega (arith, leads)) (omega (arith, h.others.few))
+    counts_plain m.initial (length m.demand.values) (length m.lead.values) (length s.policies) initial (demands_few s h) (leads_few s h) (omega (arith, h.others.few))
+
+counted_plain : (v : Version) (m : ModelParts) → length (returned_values m.returns) < 2 ^ 64 → are_rows (count_rows v m) ≡ true
+counted_plain First m h = refl
+counted_plain Second m h = rw (count_plain (length (returned_values m.returns)) h) refl
+
+returned_plain : (o : Option Weighted) → All (λ v. v ≤ 10000) (returned_values o) → CanDraw o → are_rows (returned_rows o) ≡ true
+returned_plain None high can = refl
+returned_plain (Some d) high can = drawn_plain (codes "return") d 10000 refl (omega arith) high can
+
+lists_plain : (s : ScenarioParts) → IsScenario s → are_rows (list_rows s.model) ≡ true
+lists_plain s h =
+    let m = s.model in
+    let demand = drawn_plain (codes "demand") m.demand 10000 refl (omega arith) h.model.demand h.demand in
+    let lead = drawn_plain (codes "lead") m.lead 32 refl (omega arith) h.model.lead_high h.lead in
+    let drawn = rows_append (drawn_rows (codes "demand") m.demand) (drawn_rows (codes "lead") m.lead) demand lead in
+    rows_append (drawn_rows (codes "demand") m.demand ++ drawn_rows (codes "lead") m.lead) (returned_rows m.returns) drawn (returned_plain m.returns h.model.returns h.returns)
 
 -- no row of a checkpoint whose parts are within their ranges calls for quotes
-pub rows_plain : (s : ScenarioParts) (next : ℕ) (states : List Parts) → IsInRange s next states → are_rows (checkpoint_rows s next states) ≡ true
+pub rows_plain : (v : Version) (s : ScenarioParts) (next : ℕ) (states : List Parts) → IsInRange s next states → are_rows (checkpoint_rows v s next states) ≡ true
 unfolding checkpoint_rows
-rows_plain s next states h =
+rows_plain v s next states h =
     let m = s.model in
     let c = h.scenario in
-    let demand = drawn_plain (codes "demand") m.demand 10000 refl (omega arith) c.model.demand c.demand in
-    let lead = drawn_plain (codes "lead") m.lead 32 refl (omega arith) c.model.lead_high c.lead in
     let all = all_plain s.policies states c.others.ranges c.others.names (plain_states s next states c.model h.next_high h.states_of h.ranges) in
-    let drawn = rows_append (drawn_rows (codes "demand") m.demand) (drawn_rows (codes "lead") m.lead) demand lead in
-    let stated = rows_append (drawn_rows (codes "demand") m.demand ++ drawn_rows (codes "lead") m.lead) (all_policy_rows s.policies states) drawn all in
-    let rest = rows_append (drawn_rows (codes "demand") m.demand ++ drawn_rows (codes "lead") m.lead ++ all_policy_rows s.policies states) (end_row ∷ []) stated refl in
-    rw (head_plain m next c.model h.next_high, key_plain s.key, rates_plain m.costs c.model.costs, sizes_plain s c, rest) refl
+    let listed = rows_append (count_rows v m) (list_rows m) (counted_plain v m (returned_few s c)) (lists_plain s c) in
+    let stated = rows_append (count_rows v m ++ list_rows m) (all_policy_rows s.policies states) listed all in
+    let rest = rows_append (count_rows v m ++ list_rows m ++ all_policy_rows s.policies states) (end_row ∷ []) stated refl in
+    rw (head_plain v m next c.model h.next_high, key_plain s.key, rates_plain m.costs c.model.costs, sizes_plain s c, rest) refl

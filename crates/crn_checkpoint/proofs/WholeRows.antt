@@ -1,20 +1,19 @@
 -- The rows of a checkpoint, by their places.
-use Rattle.std.proofs.Common.{◌≡◌, ℕ, ◌+◌, ◌*◌, ◌<◌, ◌≤◌, ◌^◌, zero, suc, Option, Some, None, List, [], ◌∷◌, ◌++◌, map, length, get_or, take, drop, decimal, codes, refl, sym, ap, ◌∙◌, append_assoc, arith}
+use Rattle.std.proofs.Common.{◌≡◌, ℕ, ◌+◌, ◌*◌, ◌<◌, ◌≤◌, ◌^◌, zero, suc, Option, Some, None, List, [], ◌∷◌, ◌++◌, map, length, get_or, take, drop, decimal, refl, ap, ◌∙◌, arith}
 use Rattle.std.specs.Prelude.{Bool, true, false, ℤ, pos, negsuc, ◌≤ℤ◌, ◌+ℤ◌, unsigned_abs}
 use Rattle.std.proofs.lemmas.Int.{ints}
 use Rattle.crn_draw.specs.Spread.{Weighted}
 use Rattle.crn_draw.specs.Faults.{least_fault}
 use Rattle.crn_draw.specs.declared.fault.DrawFault.{DrawFault}
-use Rattle.crn_stock.specs.Parts.{Parts, stock_limit}
+use Rattle.crn_stock.specs.Parts.{stock_limit}
 use Rattle.crn_stock.specs.Models.{ModelParts}
-use Rattle.crn_stock.specs.Scenarios.{ScenarioParts}
 use Rattle.crn_checkpoint.specs.Sizes.{parts_of}
 use Rattle.crn_checkpoint.specs.declared.models.Sizes.{Sizes}
 use Rattle.crn_checkpoint.specs.declared.unread.Unread.{Unread}
 use Rattle.crn_checkpoint.specs.declared.unread.Unread.TheVariants.{Memory}
 use Rattle.crn_stock.specs.declared.rules.Policy.{Policy}
 use Rattle.std.specs.Prelude.{Result, Ok, Err, IsErr, IsErrAnd, MatchResult}
-use Rattle.crn_checkpoint.specs.CheckpointText.{weight_rows, drawn_rows, cost_rows, all_policy_rows, end_row, checkpoint_rows}
+use Rattle.crn_checkpoint.specs.CheckpointText.{weight_rows, cost_rows}
 
 -- ---- lists, front and rest
 
@@ -71,29 +70,18 @@ pub costs_read : (r : ℕ) (costs : List ℕ) → map (λ (x : List (List ℕ)).
 costs_read r [] = refl
 costs_read r (k ∷ costs) = ap (λ t. decimal k ∷ t) (costs_read (r + 1) costs)
 
--- ---- the parts of the whole
-
-regroup : (a b c d : List (List (List ℕ))) → ((a ++ b) ++ c) ++ d ≡ a ++ (b ++ (c ++ d))
-regroup a b c d = append_assoc (a ++ b) c d ∙ append_assoc a b (c ++ d)
-
-pub lists_are : (s : ScenarioParts) (next : ℕ) (states : List Parts) (rows : List (List (List ℕ))) → rows ≡ checkpoint_rows s next states
-    → drop 4 rows ≡ drawn_rows (codes "demand") s.model.demand ++ (drawn_rows (codes "lead") s.model.lead ++ (all_policy_rows s.policies states ++ end_row ∷ []))
-unfolding checkpoint_rows
-lists_are s next states rows e =
-    ap (drop 4) e ∙ regroup (drawn_rows (codes "demand") s.model.demand) (drawn_rows (codes "lead") s.model.lead) (all_policy_rows s.policies states) (end_row ∷ [])
-
 -- ---- the model's parts
 
-pub same_parts : (m : ModelParts) (p r : ℕ) (i : ℤ) (a b c d : ℕ) → m.returns ≡ None → p ≡ m.periods → r ≡ m.replications → i ≡ m.initial → a ≡ m.costs.setup → b ≡ m.costs.unit → c ≡ m.costs.holding → d ≡ m.costs.backlog
-    → parts_of (record { periods = p; replications = r; initial = i; costs = record { setup = a; unit = b; holding = c; backlog = d } }) m.demand m.lead ≡ m
-same_parts m p r i a b c d none ep er ei ea eb ec ed = λ j. record {
+pub same_parts : (m : ModelParts) (p r : ℕ) (i : ℤ) (a b c d : ℕ) → p ≡ m.periods → r ≡ m.replications → i ≡ m.initial → a ≡ m.costs.setup → b ≡ m.costs.unit → c ≡ m.costs.holding → d ≡ m.costs.backlog
+    → parts_of (record { periods = p; replications = r; initial = i; costs = record { setup = a; unit = b; holding = c; backlog = d } }) m.demand m.lead m.returns ≡ m
+same_parts m p r i a b c d ep er ei ea eb ec ed = λ j. record {
   periods = ep j;
   replications = er j;
   initial = ei j;
   costs = record { setup = ea j; unit = eb j; holding = ec j; backlog = ed j };
   demand = m.demand;
   lead = m.lead;
-  returns = sym none j;
+  returns = m.returns;
 }
 
 pub four_words : (key : List ℕ) → length key ≡ 4 → get_or key 0 0 ∷ get_or key 1 0 ∷ get_or key 2 0 ∷ get_or key 3 0 ∷ [] ≡ key
@@ -126,8 +114,9 @@ pub handed_on : {T : Type 0} (r : Result T Unread) (e : Unread) (P : T → Type 
 handed_on (Ok x) e P h m = absurd (cc h.0)
 handed_on (Err f) e P h m = h.1 ∙ m
 
-pub same_model_parts : (z : Sizes) (demand lead : Weighted) (m : ModelParts) → demand ≡ m.demand → lead ≡ m.lead → parts_of z m.demand m.lead ≡ m → parts_of z demand lead ≡ m
-same_model_parts z demand lead m ed el e = (λ i. parts_of z (ed i) (el i)) ∙ e
+pub same_model_parts : (z : Sizes) (demand lead : Weighted) (returns : Option Weighted) (m : ModelParts) → demand ≡ m.demand → lead ≡ m.lead → returns ≡ m.returns
+    → parts_of z m.demand m.lead m.returns ≡ m → parts_of z demand lead returns ≡ m
+same_model_parts z demand lead returns m ed el er e = (λ i. parts_of z (ed i) (el i) (er i)) ∙ e
 
 pub answered : {T : Type 0} (r : Result T Unread) (a b : T) → a ≡ b → MatchResult r (λ x. x ≡ a) (λ f. f ≡ Memory) → MatchResult r (λ x. x ≡ b) (λ f. f ≡ Memory)
 answered (Ok x) a b e h = h ∙ e

@@ -25,6 +25,10 @@ pub four_in_turn : (a b c d : List (List ℕ)) (rs ss : List (List (List ℕ))) 
     → (((((text ++ row_text a) ++ row_text b) ++ row_text c) ++ row_text d) ++ rows_text rs) ++ rows_text ss ≡ text ++ rows_text (a ∷ b ∷ c ∷ d ∷ rs ++ ss)
 four_in_turn a b c d rs ss text = rw text_append (simp append_assoc)
 
+-- three lists of rows
+pub lists_in_turn : (rs ss ts : List (List (List ℕ))) (text : List ℕ) → ((text ++ rows_text rs) ++ rows_text ss) ++ rows_text ts ≡ text ++ rows_text (rs ++ ss ++ ts)
+lists_in_turn rs ss ts text = rw (text_append (rs ++ ss) ts, text_append rs ss) (simp append_assoc)
+
 -- two lists of rows, then a row, from the first on
 pub whole_in_turn : (rs ss : List (List (List ℕ))) (r : List (List ℕ)) → (([] ++ rows_text rs) ++ rows_text ss) ++ row_text r ≡ rows_text ((rs ++ ss) ++ r ∷ [])
 whole_in_turn rs ss r = rw (text_append (rs ++ ss) (r ∷ []), text_append rs ss) (ap (λ (t : List ℕ). (rows_text rs ++ rows_text ss) ++ t) (sym (append-nil (row_text r))))

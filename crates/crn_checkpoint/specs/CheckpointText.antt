@@ -1,14 +1,17 @@
--- The text of a checkpoint: rows of five fields, first those of the scenario, then those of each policy and its state.
-use Rattle.std.specs.Prelude.{ℕ, zero, suc, ◌+◌, List, [], ◌∷◌, ◌++◌, length, slice_index, codes, decimal}
+-- The text of a checkpoint, in both versions: rows of five fields, first those of the scenario, then those of each policy
+-- and its state. The versions differ in their numbers, and in a row that tells how many numbers of returned items there are.
+use Rattle.std.specs.Prelude.{ℕ, zero, suc, ◌+◌, List, [], ◌∷◌, ◌++◌, Option, Some, None, length, slice_index, codes, decimal}
 use Rattle.std.specs.Fmt.{signed_decimal}
 use Rattle.crn_draw.specs.Spread.{Weighted}
 use Rattle.crn_stock.specs.declared.rules.Costs.{Costs}
 use Rattle.crn_stock.specs.declared.rules.Policy.{Policy}
 use Rattle.crn_stock.specs.Parts.{Parts}
-use Rattle.crn_stock.specs.Models.{ModelParts}
+use Rattle.crn_stock.specs.Models.{ModelParts, returned_values}
 use Rattle.crn_stock.specs.Scenarios.{ScenarioParts}
 use Rattle.crn_rows.specs.Rows.{rows_text}
 use Rattle.crn_scenario.specs.Hex.{hex_word}
+use Rattle.crn_checkpoint.specs.declared.version.Version.{Version}
+use Rattle.crn_checkpoint.specs.declared.version.Version.TheVariants as version
 
 -- a field without content
 abbrev pub dash : List ℕ
@@ -24,9 +27,14 @@ pair_row name a b = name ∷ decimal a ∷ decimal b ∷ dash ∷ dash ∷ []
 
 -- ---- the scenario
 
--- the block that comes next, the periods and the replications
-abbrev pub head_row : ModelParts → ℕ → List (List ℕ)
-head_row m next = numbers_row (codes "checkpoint") 1 next m.periods m.replications
+-- the number of a version
+abbrev pub version_number : Version → ℕ
+version_number version.First = 1
+version_number version.Second = 2
+
+-- the version, the block that comes next, the periods and the replications
+abbrev pub head_row : Version → ModelParts → ℕ → List (List ℕ)
+head_row v m next = numbers_row (codes "checkpoint") (version_number v) next m.periods m.replications
 
 abbrev pub key_row : List ℕ → List (List ℕ)
 key_row key =
@@ -41,6 +49,11 @@ sizes_row s =
     codes "sizes" ∷ signed_decimal s.model.initial ∷ decimal (length s.model.demand.values) ∷ decimal (length s.model.lead.values)
     ∷ decimal (length s.policies) ∷ []
 
+-- how many numbers of returned items there are, 0 without returns: the first version does not tell it
+abbrev pub count_rows : Version → ModelParts → List (List (List ℕ))
+count_rows version.First m = []
+count_rows version.Second m = (codes "returns" ∷ decimal (length (returned_values m.returns)) ∷ dash ∷ dash ∷ dash ∷ []) ∷ []
+
 -- a row for each value and its weight
 abbrev pub weight_rows : List ℕ → List ℕ → List ℕ → List (List (List ℕ))
 weight_rows name [] weights = []
@@ -49,6 +62,15 @@ weight_rows name (v ∷ values) (w ∷ weights) = pair_row name v w ∷ weight_r
 
 abbrev pub drawn_rows : List ℕ → Weighted → List (List (List ℕ))
 drawn_rows name d = weight_rows name d.values d.weights
+
+-- a row for each number of returned items and its weight, where customers return any
+abbrev pub returned_rows : Option Weighted → List (List (List ℕ))
+returned_rows None = []
+returned_rows (Some d) = drawn_rows (codes "return") d
+
+-- all lists that are drawn from
+abbrev pub list_rows : ModelParts → List (List (List ℕ))
+list_rows m = drawn_rows (codes "demand") m.demand ++ drawn_rows (codes "lead") m.lead ++ returned_rows m.returns
 
 -- ---- a policy and its state
 
@@ -84,12 +106,11 @@ all_policy_rows (p ∷ policies) (v ∷ states) = policy_rows p v ++ all_policy_
 abbrev pub end_row : List (List ℕ)
 end_row = codes "end" ∷ dash ∷ dash ∷ dash ∷ dash ∷ []
 
-unfoldable pub checkpoint_rows : ScenarioParts → ℕ → List Parts → List (List (List ℕ))
-checkpoint_rows s next states =
-    head_row s.model next ∷ key_row s.key ∷ costs_row s.model.costs ∷ sizes_row s
-    ∷ drawn_rows (codes "demand") s.model.demand ++ drawn_rows (codes "lead") s.model.lead
-    ++ all_policy_rows s.policies states ++ end_row ∷ []
+unfoldable pub checkpoint_rows : Version → ScenarioParts → ℕ → List Parts → List (List (List ℕ))
+checkpoint_rows v s next states =
+    head_row v s.model next ∷ key_row s.key ∷ costs_row s.model.costs ∷ sizes_row s
+    ∷ count_rows v s.model ++ list_rows s.model ++ all_policy_rows s.policies states ++ end_row ∷ []
 
 -- the text of the states of a scenario's policies before block `next`. It does not tell the ring's size
-unfoldable pub checkpoint_text : ScenarioParts → ℕ → List Parts → List ℕ
-checkpoint_text s next states = rows_text (checkpoint_rows s next states)
+unfoldable pub checkpoint_text : Version → ScenarioParts → ℕ → List Parts → List ℕ
+checkpoint_text v s next states = rows_text (checkpoint_rows v s next states)

@@ -1,5 +1,6 @@
 pub mod CheckpointText
 pub mod Reading
+pub mod Migration
 pub mod Cells
 pub mod Amounts
 pub mod Sizes

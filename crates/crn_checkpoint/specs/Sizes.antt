@@ -1,16 +1,16 @@
--- The parts of a model without returns that its sizes and its weights give.
-use Rattle.std.specs.Prelude.{None}
+-- The parts of a model that its sizes and its weights give.
+use Rattle.std.specs.Prelude.{Option}
 use Rattle.crn_draw.specs.Spread.{Weighted}
 use Rattle.crn_stock.specs.Models.{ModelParts}
 use Rattle.crn_checkpoint.specs.declared.models.Sizes.{Sizes}
 
-abbrev pub parts_of : Sizes → Weighted → Weighted → ModelParts
-parts_of z demand lead = record {
+abbrev pub parts_of : Sizes → Weighted → Weighted → Option Weighted → ModelParts
+parts_of z demand lead returns = record {
   periods = z.periods;
   replications = z.replications;
   initial = z.initial;
   costs = z.costs;
   demand = demand;
   lead = lead;
-  returns = None;
+  returns = returns;
 }

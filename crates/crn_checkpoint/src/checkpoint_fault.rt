@@ -6,23 +6,28 @@ ghost use Rattle.crn_checkpoint.specs.Reading as spec;
 /// Why no checkpoint was read.
 #[derive(Clone, Copy, Debug, PartialEq, Eq)]
 pub enum CheckpointFault {
-    /// 1: the text is not spelt as a checkpoint, byte for byte, or one of its amounts is out of range.
+    /// 1: the text is not spelt as a checkpoint of version 1 or 2, byte for byte, or one of its amounts is out of range.
     NoCheckpoint,
     /// 2: the text is a checkpoint of another scenario: its key, periods, replications, initial stock, cost rates,
-    /// demands, lead times or policies differ. The ring's size is not compared.
+    /// demands, lead times, returns or policies differ. The ring's size is not compared.
     OtherScenario,
+    /// 4: the text is a checkpoint of this scenario in version 1, which [`migrate_checkpoint`](crate::migrate_checkpoint)
+    /// takes.
+    OldVersion,
     /// 90: a growth was refused. It says nothing of the text.
     Memory,
 }
 
 impl CheckpointFault {
-    /// The number of the fault: 1 for no checkpoint, 2 for another scenario, 90 for want of memory.
+    /// The number of the fault: 1 for no checkpoint, 2 for another scenario, 4 for a text of version 1, 90 for want of
+    /// memory.
     pub fn number(&self) -> u8
         ensures { result ≡ spec.number_of self.now }
     {
         match self {
             CheckpointFault::NoCheckpoint => 1,
             CheckpointFault::OtherScenario => 2,
+            CheckpointFault::OldVersion => 4,
             CheckpointFault::Memory => 90,
         }
     }

@@ -1,17 +1,20 @@
 // The model from the rows of a checkpoint.
 
-ghost use Rattle.std.specs.Prelude.{◌≡◌, ◌≢◌, ◌⊎◌, ◌↔◌, ◌≤◌, ◌<◌, ◌^◌, ℕ, List, None, All, IfOk, IsTrue, MatchResult};
+ghost use Rattle.std.specs.Prelude.{◌≡◌, ◌≢◌, ◌⊎◌, ◌↔◌, ◌≤◌, ◌<◌, ◌^◌, ℕ, List, [], Option, None, All, IfOk, IsTrue, MatchResult};
 ghost use Rattle.crn_draw.specs.Spread.{Weighted};
 ghost use Rattle.crn_draw.specs.Faults.{least_fault};
 ghost use Rattle.crn_stock.specs.Parts.{Parts};
-ghost use Rattle.crn_stock.specs.Models.{IsModel, AreCosts};
+ghost use Rattle.crn_stock.specs.Models.{IsModel, AreCosts, returned_values};
 ghost use Rattle.crn_stock.specs.Scenarios.{ScenarioParts};
-ghost use Rattle.crn_checkpoint.specs.CheckpointText.{drawn_rows};
+ghost use Rattle.crn_checkpoint.specs.CheckpointText.{drawn_rows, returned_rows};
+ghost use Rattle.crn_checkpoint.specs.Reading.{CanDraw, CanTell};
 ghost use Rattle.crn_checkpoint.specs.Cells.{AreRowsOf};
 ghost use Rattle.crn_checkpoint.specs.Sizes.{parts_of};
 
-use crate::cells::{after, front, integer_in, natural_in, small_column};
+use crate::cells::{integer_in, natural_in, small_column};
+use crate::lists::{demand_rows, lead_rows, returned_rows};
 use crate::unread::Unread;
+use crate::version::Version;
 use crn_draw::{DrawFault, Weights};
 use crn_rows::Row;
 use crn_stock::{Costs, Model};
@@ -47,8 +50,17 @@ fn are_costs(costs: &Costs) -> bool
         && costs.backlog <= 10_000
 }
 
-fn is_model(sizes: &Sizes, demand: &Weights, lead: &Weights) -> bool
-    ensures { IsTrue result ↔ IsModel (parts_of sizes.now demand.now lead.now) }
+fn are_returned(returns: &Option<Weights>) -> bool
+    ensures { IsTrue result ↔ All (λ v. v ≤ 10000) (returned_values returns.now) }
+{
+    match returns {
+        Some(returns) => are_at_most(returns.values(), 10_000),
+        None => true,
+    }
+}
+
+fn is_model(sizes: &Sizes, demand: &Weights, lead: &Weights, returns: &Option<Weights>) -> bool
+    ensures { IsTrue result ↔ IsModel (parts_of sizes.now demand.now lead.now returns.now) }
 {
     (1..=1_024).contains(&sizes.periods)
         && (1..=256).contains(&sizes.replications)
@@ -57,14 +69,20 @@ fn is_model(sizes: &Sizes, demand: &Weights, lead: &Weights) -> bool
         && are_at_most(demand.values(), 10_000)
         && are_above_zero(lead.values())
         && are_at_most(lead.values(), 32)
+        && are_returned(returns)
 }
 
-// The model of these parts, without returns, if they are within their ranges.
-fn model_with(sizes: Sizes, demand: Weights, lead: Weights) -> Result<Model, Unread>
-    ensures no_returns { IfOk result (λ m. m.returns ≡ None) }
-    ensures model { IsModel (parts_of sizes demand lead) → MatchResult result (λ m. m ≡ parts_of sizes demand lead) (λ f. f ≡ Unread.Memory) }
+// The model of these parts, if they are within their ranges.
+fn model_with(
+    sizes: Sizes,
+    demand: Weights,
+    lead: Weights,
+    returns: Option<Weights>,
+) -> Result<Model, Unread>
+    ensures returns { IfOk result (λ m. m.returns ≡ returns) }
+    ensures model { IsModel (parts_of sizes demand lead returns) → MatchResult result (λ m. m ≡ parts_of sizes demand lead returns) (λ f. f ≡ Unread.Memory) }
 {
-    if !is_model(&sizes, &demand, &lead) {
+    if !is_model(&sizes, &demand, &lead, &returns) {
         return Err(Unread::NoCheckpoint);
     }
     Ok(Model::new(
@@ -74,7 +92,7 @@ fn model_with(sizes: Sizes, demand: Weights, lead: Weights) -> Result<Model, Unr
         sizes.costs,
         demand,
         lead,
-        None,
+        returns,
     ))
 }
 
@@ -101,8 +119,22 @@ fn weights_of(alloc: Global, rows: &[Row]) -> Result<Weights, Unread>
     }
 }
 
+// The returned items with their weights from their rows: without rows there are none.
+fn returns_of(alloc: Global, rows: &[Row]) -> Result<Option<Weights>, Unread>
+    ensures none { rows.now ≡ [] → IfOk result (λ r. r ≡ None) }
+    ensures reads { (d : Option Weighted) → CanDraw d → All (λ v. v < 2 ^ 32) (returned_values d) → rows.now ≡ returned_rows d
+        → MatchResult result (λ r. r ≡ d) (λ f. f ≡ Unread.Memory) }
+{
+    if rows.is_empty() {
+        return Ok(None);
+    }
+    let returns = weights_of(alloc, rows)?;
+    Ok(Some(returns))
+}
+
 fn sizes_of(rows: &[Row]) -> Sizes
-    ensures { (s : ScenarioParts) (next : ℕ) (states : List Parts) → AreRowsOf s next states rows.now → parts_of result s.model.demand s.model.lead ≡ s.model }
+    ensures { (v : Version) (s : ScenarioParts) (next : ℕ) (states : List Parts) → AreRowsOf v s next states rows.now
+        → parts_of result s.model.demand s.model.lead s.model.returns ≡ s.model }
 {
     Sizes {
         periods: natural_in(rows, 0, 3),
@@ -118,14 +150,12 @@ fn sizes_of(rows: &[Row]) -> Sizes
 }
 
 // The model that the rows of a checkpoint say, if it is within its ranges.
-pub(crate) fn model_of(alloc: Global, rows: &[Row]) -> Result<Model, Unread>
-    ensures no_returns { IfOk result (λ m. m.returns ≡ None) }
-    ensures model { (s : ScenarioParts) (next : ℕ) (states : List Parts) → AreRowsOf s next states rows.now → MatchResult result (λ m. m ≡ s.model) (λ f. f ≡ Unread.Memory) }
+pub(crate) fn model_of(alloc: Global, version: Version, rows: &[Row]) -> Result<Model, Unread>
+    ensures tells { IfOk result (λ m. CanTell version m) }
+    ensures model { (s : ScenarioParts) (next : ℕ) (states : List Parts) → AreRowsOf version s next states rows.now → MatchResult result (λ m. m ≡ s.model) (λ f. f ≡ Unread.Memory) }
 {
-    let demands = natural_in(rows, 3, 2) as usize;
-    let leads = natural_in(rows, 3, 3) as usize;
-    let lists = after(rows, 4);
-    let demand = weights_of(alloc, front(lists, demands))?;
-    let lead = weights_of(alloc, front(after(lists, demands), leads))?;
-    model_with(sizes_of(rows), demand, lead)
+    let demand = weights_of(alloc, demand_rows(version, rows))?;
+    let lead = weights_of(alloc, lead_rows(version, rows))?;
+    let returns = returns_of(alloc, returned_rows(version, rows))?;
+    model_with(sizes_of(rows), demand, lead, returns)
 }

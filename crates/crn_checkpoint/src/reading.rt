@@ -3,28 +3,29 @@
 ghost use Rattle.std.specs.Prelude.{◌≡◌, ℕ, List, IfOk, IfErr, MatchResult};
 ghost use Rattle.crn_stock.specs.Parts.{Parts};
 ghost use Rattle.crn_stock.specs.Scenarios.{ScenarioParts, IsRingSize};
-ghost use Rattle.crn_checkpoint.specs.Reading.{IsTextOf, IsSameButRing, RefusesCheckpoint};
+ghost use Rattle.crn_checkpoint.specs.Reading.{IsTextIn, IsTextOf, IsOldTextOf, IsAnyTextOf, IsSameButRing, RefusesCheckpoint};
 
 use crate::checkpoint_fault::CheckpointFault;
 use crate::scenarios::{Cut, cut_of, same_but_ring};
 use crate::unread::Unread;
-use crate::writing::write_checkpoint;
+use crate::version::Version;
+use crate::writing::write_in;
 use crn_rows::read_rows;
 use crn_run::Checkpoint;
 use crn_stock::Scenario;
 use std::alloc::Global;
 
-// The checkpoint that a text spells, whatever its scenario, which gets this ring.
-fn read_cut(alloc: Global, ring: u64, bytes: &[u8]) -> Result<Cut, Unread>
+// The checkpoint that a text spells, in whatever version and whatever its scenario, which gets this ring.
+pub(crate) fn read_cut(alloc: Global, ring: u64, bytes: &[u8]) -> Result<Cut, Unread>
     requires { IsRingSize ring }
-    ensures is_text { IfOk result (λ c. IsTextOf c.scenario c.checkpoint.next c.checkpoint.states.items bytes.now) }
+    ensures is_text { IfOk result (λ c. IsTextIn c.version c.scenario c.checkpoint.next c.checkpoint.states.items bytes.now) }
     ensures ring { IfOk result (λ c. c.scenario.ring ≡ ring) }
-    ensures reads { (s : ScenarioParts) (next : ℕ) (states : List Parts) → IsTextOf s next states bytes.now
-        → MatchResult result (λ c. IsSameButRing s c.scenario × (next ≡ c.checkpoint.next) × (states ≡ c.checkpoint.states.items)) (λ f. f ≡ Unread.Memory) }
+    ensures reads { (v : Version) (s : ScenarioParts) (next : ℕ) (states : List Parts) → IsTextIn v s next states bytes.now
+        → MatchResult result (λ c. (v ≡ c.version) × IsSameButRing s c.scenario × (next ≡ c.checkpoint.next) × (states ≡ c.checkpoint.states.items)) (λ f. f ≡ Unread.Memory) }
 {
     let rows = read_rows(alloc, bytes)?;
     let cut = cut_of(alloc, ring, rows.as_slice())?;
-    let text = write_checkpoint(alloc, &cut.scenario, &cut.checkpoint)?;
+    let text = write_in(alloc, cut.version, &cut.scenario, &cut.checkpoint)?;
     if text.as_slice() == bytes {
         Ok(cut)
     } else {
@@ -34,24 +35,25 @@ fn read_cut(alloc: Global, ring: u64, bytes: &[u8]) -> Result<Cut, Unread>
 
 /// The checkpoint of a scenario that a text spells, where it is byte for byte what
 /// [`write_checkpoint`](crate::write_checkpoint) gives for it. A checkpoint has just one text, and a text just one
-/// checkpoint.
+/// checkpoint. A text of version 1 is refused: [`migrate_checkpoint`](crate::migrate_checkpoint) takes it.
 ///
 /// Amounts that were altered within their ranges are taken as they stand, whether or not a run leads to them. The size
-/// of the ring stands in no text, so a run may go on with another. The scenario's model has no returns.
+/// of the ring stands in no text, so a run may go on with another.
 ///
 /// # Errors
 ///
-/// The least that holds: `NoCheckpoint` exactly where the text is that of no checkpoint with all amounts within their
-/// ranges, `OtherScenario` exactly where it is that of another scenario's; `Memory` where a growth was refused.
+/// The least that holds: `NoCheckpoint` exactly where the text is that of no checkpoint, of version 1 or 2, with all
+/// amounts within their ranges, `OtherScenario` exactly where it is that of another scenario's, `OldVersion` exactly
+/// where it is that of this scenario's in version 1; `Memory` where a growth was refused.
 pub fn read_checkpoint(
     alloc: Global,
     scenario: &Scenario,
     bytes: &[u8],
 ) -> Result<Checkpoint, CheckpointFault>
-    requires no_returns { scenario.now.model.returns ≡ None }
     ensures is_text { IfOk result (λ c. IsTextOf scenario.now c.next c.states.items bytes.now) }
-    ensures only { IfOk result (λ c. (s : ScenarioParts) (next : ℕ) (states : List Parts) → IsTextOf s next states bytes.now
+    ensures only { IfOk result (λ c. (s : ScenarioParts) (next : ℕ) (states : List Parts) → IsAnyTextOf s next states bytes.now
         → IsSameButRing s scenario.now × (next ≡ c.next) × (states ≡ c.states.items)) }
+    ensures not_old { IfOk result (λ c. (s : ScenarioParts) (next : ℕ) (states : List Parts) → ¬ IsOldTextOf s next states bytes.now) }
     ensures one_spelling { IfOk result (λ c. (other : List ℕ) → IsTextOf scenario.now c.next c.states.items other → other ≡ bytes.now) }
     ensures taken { (next : ℕ) (states : List Parts) → IsTextOf scenario.now next states bytes.now → IfErr result (λ f. f ≡ CheckpointFault.Memory) }
     ensures refused { IfErr result (λ f. RefusesCheckpoint scenario.now f bytes.now) }
@@ -64,9 +66,8 @@ pub fn read_checkpoint(
     if !same_but_ring(&cut.scenario, scenario) {
         return Err(CheckpointFault::OtherScenario);
     }
-    let Cut {
-        scenario: _read,
-        checkpoint,
-    } = cut;
-    Ok(checkpoint)
+    match cut.version {
+        Version::First => Err(CheckpointFault::OldVersion),
+        Version::Second => Ok(cut.checkpoint),
+    }
 }

@@ -1,11 +1,13 @@
 // The rows of a scenario.
 
-ghost use Rattle.std.specs.Prelude.{◌≡◌, ◌∷◌, ◌++◌, IfOk, codes, length, true};
+ghost use Rattle.std.specs.Prelude.{◌≡◌, ◌∷◌, ◌++◌, IfOk, length, true};
+ghost use Rattle.crn_stock.specs.Models.{returned_values};
 ghost use Rattle.crn_rows.specs.Plain.{is_plain};
 ghost use Rattle.crn_rows.specs.Rows.{row_text, rows_text};
 ghost use Rattle.crn_checkpoint.specs.CheckpointText as spec;
 
 use crate::rows::{with_numbers_row, with_pair_row};
+use crate::version::Version;
 use crn_draw::Weights;
 use crn_rows::Sheet;
 use crn_scenario::hex::hex_word;
@@ -13,13 +15,25 @@ use crn_stock::{Costs, Model, Scenario};
 use itoa::Buffer;
 use std::alloc::AllocError;
 
-// The sheet with the row of the next block, the periods and the replications.
-fn with_head_row(sheet: Sheet, model: &Model, next: u64) -> Result<Sheet, AllocError>
-    ensures { IfOk result (λ after. after ≡ sheet ++ row_text (spec.head_row model.now next)) }
+// The sheet with the row of the version, the next block, the periods and the replications.
+fn with_head_row(
+    sheet: Sheet,
+    version: Version,
+    model: &Model,
+    next: u64,
+) -> Result<Sheet, AllocError>
+    ensures { IfOk result (λ after. after ≡ sheet ++ row_text (spec.head_row version model.now next)) }
 {
     let periods = u64::from(model.periods());
     let replications = u64::from(model.replications());
-    with_numbers_row(sheet, b"checkpoint", 1, next, periods, replications)
+    with_numbers_row(
+        sheet,
+        b"checkpoint",
+        version.number(),
+        next,
+        periods,
+        replications,
+    )
 }
 
 // The sheet with the row of the key.
@@ -68,6 +82,35 @@ fn with_sizes_row(sheet: Sheet, scenario: &Scenario) -> Result<Sheet, AllocError
     ])
 }
 
+// How many numbers of returned items a model has.
+fn returned_count(model: &Model) -> usize
+    ensures { result ≡ length (returned_values model.now.returns) }
+{
+    match model.returns() {
+        Some(returns) => returns.values().len(),
+        None => 0,
+    }
+}
+
+// The sheet with the row of how many numbers of returned items there are, where the version has it.
+fn with_count_row(sheet: Sheet, version: Version, model: &Model) -> Result<Sheet, AllocError>
+    ensures { IfOk result (λ after. after ≡ sheet ++ rows_text (spec.count_rows version model.now)) }
+{
+    match version {
+        Version::First => Ok(sheet),
+        Version::Second => {
+            let mut count = Buffer::new();
+            sheet.with_row(&[
+                b"returns",
+                count.format(returned_count(model)).as_bytes(),
+                b"-",
+                b"-",
+                b"-",
+            ])
+        }
+    }
+}
+
 // The sheet with a row for each value and its weight.
 fn with_weight_rows(
     sheet: Sheet,
@@ -96,21 +139,41 @@ fn with_drawn_rows(sheet: Sheet, name: &[u8], drawn: &Weights) -> Result<Sheet, 
     with_weight_rows(sheet, name, drawn.values(), drawn.weights())
 }
 
+// The sheet with the rows of returned items with weights, where customers return any.
+fn with_returned_rows(sheet: Sheet, model: &Model) -> Result<Sheet, AllocError>
+    ensures { IfOk result (λ after. after ≡ sheet ++ rows_text (spec.returned_rows model.now.returns)) }
+{
+    match model.returns() {
+        Some(returns) => with_drawn_rows(sheet, b"return", returns),
+        None => Ok(sheet),
+    }
+}
+
+// The sheet with the rows of each list that is drawn from.
+fn with_list_rows(sheet: Sheet, model: &Model) -> Result<Sheet, AllocError>
+    ensures { IfOk result (λ after. after ≡ sheet ++ rows_text (spec.list_rows model.now)) }
+{
+    let sheet = with_drawn_rows(sheet, b"demand", model.demand())?;
+    let sheet = with_drawn_rows(sheet, b"lead", model.lead())?;
+    with_returned_rows(sheet, model)
+}
+
 // The sheet with all rows of a scenario before block `next`.
 pub(crate) fn with_scenario_rows(
     sheet: Sheet,
+    version: Version,
     scenario: &Scenario,
     next: u64,
 ) -> Result<Sheet, AllocError>
     ensures { IfOk result (λ after. after ≡ sheet ++ rows_text (
-        spec.head_row scenario.now.model next ∷ spec.key_row scenario.now.key ∷ spec.costs_row scenario.now.model.costs ∷ spec.sizes_row scenario.now
-        ∷ spec.drawn_rows (codes "demand") scenario.now.model.demand ++ spec.drawn_rows (codes "lead") scenario.now.model.lead)) }
+        spec.head_row version scenario.now.model next ∷ spec.key_row scenario.now.key ∷ spec.costs_row scenario.now.model.costs ∷ spec.sizes_row scenario.now
+        ∷ spec.count_rows version scenario.now.model ++ spec.list_rows scenario.now.model)) }
 {
     let model = scenario.model();
-    let sheet = with_head_row(sheet, model, next)?;
+    let sheet = with_head_row(sheet, version, model, next)?;
     let sheet = with_key_row(sheet, scenario.key())?;
     let sheet = with_costs_row(sheet, model.costs())?;
     let sheet = with_sizes_row(sheet, scenario)?;
-    let sheet = with_drawn_rows(sheet, b"demand", model.demand())?;
-    with_drawn_rows(sheet, b"lead", model.lead())
+    let sheet = with_count_row(sheet, version, model)?;
+    with_list_rows(sheet, model)
 }

@@ -7,12 +7,14 @@ ghost use Rattle.crn_stock.specs.Models.{IsPolicy, total};
 ghost use Rattle.crn_stock.specs.Scenarios.{ScenarioParts, AreForScenario, IsRingSize, is_name};
 ghost use Rattle.crn_run.specs.Runs.{IsCheckpointOf, StandsAt};
 ghost use Rattle.crn_checkpoint.specs.Cells.{AreRowsOf};
-ghost use Rattle.crn_checkpoint.specs.Reading.{IsSameButRing};
+ghost use Rattle.crn_checkpoint.specs.Reading.{IsSameButRing, CanTell};
 
-use crate::cells::{after, natural_in, text_in};
+use crate::cells::{natural_in, text_in};
+use crate::lists::{policy_count, policy_rows};
 use crate::models::model_of;
 use crate::policies::{Policies, policies_of};
 use crate::unread::Unread;
+use crate::version::Version;
 use crn_draw::Weights;
 use crn_rows::Row;
 use crn_run::Checkpoint;
@@ -24,15 +26,27 @@ use std::alloc::Global;
 // The most policies of a scenario.
 const POLICY_LIMIT: usize = 16;
 
-// A checkpoint and its scenario.
+// A checkpoint and its scenario, and the version of their text.
 #[derive(Drop)]
 pub(crate) struct Cut {
+    pub(crate) version: Version,
     pub(crate) scenario: Scenario,
     pub(crate) checkpoint: Checkpoint,
 }
 
+// The version that the rows of a checkpoint are of, if it is one of those that there are.
+fn version_of(rows: &[Row]) -> Option<Version>
+    ensures { (v : Version) (s : ScenarioParts) (next : ℕ) (states : List Parts) → AreRowsOf v s next states rows.now → result ≡ Some v }
+{
+    match natural_in(rows, 0, 1) {
+        1 => Some(Version::First),
+        2 => Some(Version::Second),
+        _ => None,
+    }
+}
+
 fn key_of(rows: &[Row]) -> [u64; 4]
-    ensures { (s : ScenarioParts) (next : ℕ) (states : List Parts) → AreRowsOf s next states rows.now → result ≡ s.key }
+    ensures { (v : Version) (s : ScenarioParts) (next : ℕ) (states : List Parts) → AreRowsOf v s next states rows.now → result ≡ s.key }
 {
     [
         word_of(text_in(rows, 1, 1)),
@@ -141,47 +155,49 @@ pub(crate) fn same_but_ring(a: &Scenario, b: &Scenario) -> bool
 }
 
 // The policies with their states before block `next` that the rows of a checkpoint of the model say.
-fn policies_in(alloc: Global, model: &Model, next: u64, rows: &[Row]) -> Result<Policies, Unread>
-    ensures reads { (s : ScenarioParts) (n : ℕ) (states : List Parts) → AreRowsOf s n states rows.now → model.now ≡ s.model → next ≡ n
+fn policies_in(
+    alloc: Global,
+    version: Version,
+    model: &Model,
+    next: u64,
+    rows: &[Row],
+) -> Result<Policies, Unread>
+    ensures reads { (s : ScenarioParts) (n : ℕ) (states : List Parts) → AreRowsOf version s n states rows.now → model.now ≡ s.model → next ≡ n
         → MatchResult result (λ r. (r.policies.items ≡ s.policies) × (r.states.items ≡ states)) (λ f. f ≡ Unread.Memory) }
     ensures count { IfOk result (λ r. length r.states.items ≡ length r.policies.items) }
     ensures stand { IfOk result (λ r. (i : ℕ) (v : Parts) → slice_get r.states.items i ≡ Some v → StandsAt model.now next v) }
 {
-    let demands = natural_in(rows, 3, 2) as usize;
-    let leads = natural_in(rows, 3, 3) as usize;
-    let count = natural_in(rows, 3, 4) as usize;
+    let count = policy_count(rows);
     if count > POLICY_LIMIT {
         return Err(Unread::NoCheckpoint);
     }
-    policies_of(
-        alloc,
-        model,
-        next,
-        after(after(after(rows, 4), demands), leads),
-        count,
-    )
+    policies_of(alloc, model, next, policy_rows(version, rows), count)
 }
 
 // The checkpoint that the rows say, and its scenario with this ring, if all of it is within its ranges.
 pub(crate) fn cut_of(alloc: Global, ring: u64, rows: &[Row]) -> Result<Cut, Unread>
     requires { IsRingSize ring }
-    ensures reads { (s : ScenarioParts) (next : ℕ) (states : List Parts) → AreRowsOf s next states rows.now
-        → MatchResult result (λ c. IsSameButRing s c.scenario × (next ≡ c.checkpoint.next) × (states ≡ c.checkpoint.states.items)) (λ f. f ≡ Unread.Memory) }
+    ensures reads { (v : Version) (s : ScenarioParts) (next : ℕ) (states : List Parts) → AreRowsOf v s next states rows.now
+        → MatchResult result (λ c. (v ≡ c.version) × IsSameButRing s c.scenario × (next ≡ c.checkpoint.next) × (states ≡ c.checkpoint.states.items)) (λ f. f ≡ Unread.Memory) }
     ensures ring { IfOk result (λ c. c.scenario.ring ≡ ring) }
     ensures next { IfOk result (λ c. c.checkpoint.next ≤ total c.scenario.model) }
     ensures of { IfOk result (λ c. IsCheckpointOf c.scenario c.checkpoint.next c.checkpoint.states.items) }
-    ensures no_returns { IfOk result (λ c. c.scenario.model.returns ≡ None) }
+    ensures tells { IfOk result (λ c. CanTell c.version c.scenario.model) }
 {
-    let model = model_of(alloc, rows)?;
+    let Some(version) = version_of(rows) else {
+        return Err(Unread::NoCheckpoint);
+    };
+    let model = model_of(alloc, version, rows)?;
     let next = natural_in(rows, 0, 2);
     if next > model.total() {
         return Err(Unread::NoCheckpoint);
     }
-    let Policies { policies, states } = policies_in(alloc, &model, next, rows)?;
+    let Policies { policies, states } = policies_in(alloc, version, &model, next, rows)?;
     if !are_policies(ring, &policies) {
         return Err(Unread::NoCheckpoint);
     }
     Ok(Cut {
+        version,
         scenario: Scenario::new(key_of(rows), ring, model, policies),
         checkpoint: Checkpoint { next, states },
     })

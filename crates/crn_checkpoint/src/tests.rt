@@ -1,10 +1,10 @@
 // Checkpoint texts, written and read.
 
-ghost use Rattle.std.specs.Prelude.{◌≡◌, None, IfOk};
 ghost use Rattle.crn_run.specs.Runs.{IsCheckpointOf};
 
 mod altered;
 mod legs;
+mod migrations;
 mod refusals;
 
 use super::*;
@@ -29,7 +29,23 @@ policy = [{ name = \"A\", s = 5, S = 10 }, { name = \"B\", s = 4, S = 10 }]
 
 // What stands at its block 1. A has ordered 6 in period 2, which came in period 3; its costs are 7, 4, 20 and 4. B has
 // ordered 9 in period 3, due in period 4; its costs are 7, 4, 1 and 33.
-const FIRST_LEG: &str = "checkpoint,1,1,5,2
+const FIRST_LEG: &str = "checkpoint,2,1,5,2
+key,0000000000000000,0000000000000000,0000000000000000,0000000000000000
+costs,7,2,1,4
+sizes,10,1,1,2
+returns,0,-,-,-
+demand,3,1,-,-
+lead,1,1,-,-
+policy,A,5,10,-
+state,4,35,0,0
+policy,B,4,10,-
+state,-2,45,1,0
+due,4,9,-,-
+end,-,-,-,-
+";
+
+// The same in version 1.
+const OLD_FIRST_LEG: &str = "checkpoint,1,1,5,2
 key,0000000000000000,0000000000000000,0000000000000000,0000000000000000
 costs,7,2,1,4
 sizes,10,1,1,2
@@ -40,6 +56,27 @@ state,4,35,0,0
 policy,B,4,10,-
 state,-2,45,1,0
 due,4,9,-,-
+end,-,-,-,-
+";
+
+// What TWO_REPLICATIONS has more where an item comes back in each period.
+const ONE_RETURNED: &str = "version = 2\nreturns = { values = [1], weights = [1] }";
+
+// What stands at block 1 then. A orders 6 in period 3, due in period 4; its stocks are 8, 6, 4 and 2, its costs 8, 6, 4
+// and 21. B has not ordered.
+const FIRST_LEG_WITH_RETURNS: &str = "checkpoint,2,1,5,2
+key,0000000000000000,0000000000000000,0000000000000000,0000000000000000
+costs,7,2,1,4
+sizes,10,1,1,2
+returns,1,-,-,-
+demand,3,1,-,-
+lead,1,1,-,-
+return,1,1,-,-
+policy,A,5,10,-
+state,2,39,1,0
+due,4,6,-,-
+policy,B,4,10,-
+state,2,20,0,0
 end,-,-,-,-
 ";
 
@@ -60,12 +97,9 @@ policy = [
 ]
 ";
 
-// The scenario of a text, which has no returns.
-fn scenario(rt: &HostRuntime, text: &str) -> Result<Scenario, Fail>
-    ensures { IfOk result (λ s. s.model.returns ≡ None) }
-{
+// The scenario of a text.
+fn scenario(rt: &HostRuntime, text: &str) -> Result<Scenario, Fail> {
     match read_scenario(rt.alloc(), text.as_bytes()) {
-        Ok(scenario) if scenario.model().has_returns() => Err(Fail::from("there are returns")),
         Ok(scenario) => Ok(scenario),
         Err(_) => Err(Fail::from("the scenario is refused")),
     }
@@ -78,8 +112,7 @@ fn changed(rt: &HostRuntime, text: &str, from: &str, to: &str) -> Result<String,
 
 // Whether both name the same block and the same amounts, by their texts.
 fn same(alloc: Global, scenario: &Scenario, a: &Checkpoint, text: &[u8]) -> Result<bool, AllocError>
-    requires no_returns { scenario.now.model.returns ≡ None }
-    requires of { IsCheckpointOf scenario.now a.now.next a.now.states.items }
+    requires { IsCheckpointOf scenario.now a.now.next a.now.states.items }
 {
     let again = write_checkpoint(alloc, scenario, a)?;
     Ok(again.as_slice() == text)

@@ -1,18 +1,19 @@
 // Checkpoints are written.
 
-ghost use Rattle.std.specs.Prelude.{◌≡◌, ◌^◌, ◌<◌, ◌≤◌, None, All, IfOk};
+ghost use Rattle.std.specs.Prelude.{◌≡◌, ◌^◌, ◌<◌, ◌≤◌, All, IfOk};
 ghost use Rattle.crn_stock.specs.Models.{total};
 ghost use Rattle.crn_stock.specs.Parts.{AreInRange};
 ghost use Rattle.crn_run.specs.Runs.{IsCheckpointOf};
 ghost use Rattle.crn_checkpoint.specs.CheckpointText as spec;
-ghost use Rattle.crn_checkpoint.specs.Reading.{IsScenario, IsTextOf};
+ghost use Rattle.crn_checkpoint.specs.Reading.{CanDraw, CanTell, IsScenario, IsTextIn, IsTextOf};
 
 use crate::policy_rows::with_all_policy_rows;
 use crate::rows::with_end_row;
 use crate::scenario_rows::with_scenario_rows;
+use crate::version::Version;
 use crn_rows::Sheet;
 use crn_run::Checkpoint;
-use crn_stock::{Scenario, State};
+use crn_stock::{Model, Scenario, State};
 use std::alloc::{AllocError, Global};
 
 // Contracts learn from this call that words are of 64 bits. It does nothing.
@@ -24,9 +25,17 @@ fn tell_words(words: &[u64])
     }
 }
 
+// Contracts learn from this call that returned items can be drawn from. It does nothing.
+fn tell_returns(model: &Model)
+    ensures { CanDraw model.now.returns }
+{
+    if let Some(returns) = model.returns() {
+        let _total = returns.total();
+    }
+}
+
 // Contracts learn from this call that a scenario is within its ranges. It does nothing.
 fn tell_scenario(scenario: &Scenario)
-    requires { scenario.now.model.returns ≡ None }
     ensures { IsScenario scenario.now }
 {
     tell_words(&scenario.key());
@@ -36,6 +45,7 @@ fn tell_scenario(scenario: &Scenario)
     let _periods = model.periods();
     let _demands = model.demand().total();
     let _leads = model.lead().total();
+    tell_returns(model);
 }
 
 // Contracts learn from this call that states are within their ranges. It does nothing.
@@ -47,10 +57,30 @@ fn tell_states(states: &[State])
     }
 }
 
-/// The text of a checkpoint of a scenario: rows of five fields, as CSV. First come the scenario's own, but for the size
-/// of its ring; then, for each policy in order, its levels, the amounts of its state, each amount that is due with its
-/// period, and the cost of each replication that is done; at last a row that ends the text. The scenario's model has no
-/// returns.
+// The text of a checkpoint of a scenario in a version that knows all that the scenario has.
+pub(crate) fn write_in(
+    alloc: Global,
+    version: Version,
+    scenario: &Scenario,
+    checkpoint: &Checkpoint,
+) -> Result<Vec<u8>, AllocError>
+    requires tells { CanTell version scenario.now.model }
+    requires of { IsCheckpointOf scenario.now checkpoint.now.next checkpoint.now.states.items }
+    ensures text { IfOk result (λ text. text.items ≡ spec.checkpoint_text version scenario.now checkpoint.now.next checkpoint.now.states.items) }
+    ensures in_range { IfOk result (λ text. checkpoint.now.next ≤ total scenario.now.model
+        → IsTextIn version scenario.now checkpoint.now.next checkpoint.now.states.items text.items) }
+{
+    tell_scenario(scenario);
+    tell_states(&checkpoint.states);
+    let sheet = with_scenario_rows(Sheet::new(alloc), version, scenario, checkpoint.next)?;
+    let sheet = with_all_policy_rows(sheet, scenario.policies(), &checkpoint.states)?;
+    let sheet = with_end_row(sheet)?;
+    sheet.into_text()
+}
+
+/// The text of a checkpoint of a scenario, in version 2: rows of five fields, as CSV. First come the scenario's own, but
+/// for the size of its ring; then, for each policy in order, its levels, the amounts of its state, each amount that is due
+/// with its period, and the cost of each replication that is done; at last a row that ends the text.
 ///
 /// # Errors
 ///
@@ -60,16 +90,10 @@ pub fn write_checkpoint(
     scenario: &Scenario,
     checkpoint: &Checkpoint,
 ) -> Result<Vec<u8>, AllocError>
-    requires no_returns { scenario.now.model.returns ≡ None }
-    requires of { IsCheckpointOf scenario.now checkpoint.now.next checkpoint.now.states.items }
-    ensures text { IfOk result (λ text. text.items ≡ spec.checkpoint_text scenario.now checkpoint.now.next checkpoint.now.states.items) }
+    requires { IsCheckpointOf scenario.now checkpoint.now.next checkpoint.now.states.items }
+    ensures text { IfOk result (λ text. text.items ≡ spec.checkpoint_text Version.Second scenario.now checkpoint.now.next checkpoint.now.states.items) }
     ensures in_range { IfOk result (λ text. checkpoint.now.next ≤ total scenario.now.model
         → IsTextOf scenario.now checkpoint.now.next checkpoint.now.states.items text.items) }
 {
-    tell_scenario(scenario);
-    tell_states(&checkpoint.states);
-    let sheet = with_scenario_rows(Sheet::new(alloc), scenario, checkpoint.next)?;
-    let sheet = with_all_policy_rows(sheet, scenario.policies(), &checkpoint.states)?;
-    let sheet = with_end_row(sheet)?;
-    sheet.into_text()
+    write_in(alloc, Version::Second, scenario, checkpoint)
 }

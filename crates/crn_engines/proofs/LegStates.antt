@@ -1,12 +1,12 @@
 -- The states of a leg are those of whoever reads its text.
-use Rattle.std.proofs.Common.{◌≡◌, ◌∙◌, ℕ, List, ap, subst, sym, slice_get}
+use Rattle.std.proofs.Common.{◌≡◌, ◌∙◌, ℕ, List, ap, subst, sym, slice_get, inl}
 use Rattle.crn_stock.specs.declared.rules.Policy.{Policy}
 use Rattle.crn_stock.specs.Parts.{Parts}
 use Rattle.crn_stock.specs.Models.{ModelParts}
 use Rattle.crn_stock.specs.Scenarios.{ScenarioParts}
 use Rattle.crn_stock.specs.Draws.{At}
 use Rattle.crn_run.specs.Runs.{EachAt}
-use Rattle.crn_checkpoint.specs.Reading.{IsTextOf, IsSameButRing, IsLegOf}
+use Rattle.crn_checkpoint.specs.Reading.{IsAnyTextOf, IsSameButRing, IsLegOf}
 use Rattle.crn_scenario.specs.Reading.{Reads, scenario_of}
 
 -- a text is that of one scenario
@@ -25,9 +25,9 @@ each_at_same s s' n states same at = λ i p v e f.
 
 -- where a text is that of one checkpoint only, and of a leg, the checkpoint's states are the leg's
 pub each_at_read : (s : ScenarioParts) (next : ℕ) (states : List Parts) (bytes : List ℕ)
-    → ((t : ScenarioParts) (m : ℕ) (vs : List Parts) → IsTextOf t m vs bytes → IsSameButRing t s × (m ≡ next) × (vs ≡ states))
+    → ((t : ScenarioParts) (m : ℕ) (vs : List Parts) → IsAnyTextOf t m vs bytes → IsSameButRing t s × (m ≡ next) × (vs ≡ states))
     → (s' : ScenarioParts) (n : ℕ) → IsLegOf s' n bytes → EachAt s next states
 each_at_read s next states bytes only s' n leg =
-    let h = only s' n leg.states leg.is_text in
+    let h = only s' n leg.states (inl leg.is_text) in
     let at : EachAt s n leg.states = each_at_same s s' n leg.states h.0 leg.at in
     subst (λ (k : ℕ). EachAt s k states) h.1 (subst (λ (vs : List Parts). EachAt s n vs) h.2 at)

@@ -1,7 +1,6 @@
 -- What an input is read as. `reading` and `reading'` are the bytes that the reader has left before and after; either may
 -- tell nothing.
-use Rattle.std.specs.Prelude.{◌≡◌, ℕ, true, List, Option}
-use Rattle.crn_stock.specs.Models.{has_returns}
+use Rattle.std.specs.Prelude.{ℕ, List, Option}
 use Rattle.crn_stock.specs.Scenarios.{ScenarioParts}
 use Rattle.crn_scenario.specs.Reading.{Reads, Refuses}
 use Rattle.crn_scenario.specs.declared.scenario_fault.ScenarioFault.{ScenarioFault}
@@ -12,12 +11,6 @@ pub record ReadScenario (reading reading' : Option (List ℕ)) (scenario : Scena
   pub input : List ℕ
   pub read : ReadAll reading reading' input
   pub reads : Reads input scenario
-
--- the whole input was read, and it is a text of a scenario with returns
-pub record ReadReturns (reading reading' : Option (List ℕ)) : Type 0 where
-  pub scenario : ScenarioParts
-  pub read : ReadScenario reading reading' scenario
-  pub returns : has_returns scenario.model ≡ true
 
 -- the whole input was read, and it is refused for a fault
 pub record ReadRefused (f : ScenarioFault) (reading reading' : Option (List ℕ)) : Type 0 where

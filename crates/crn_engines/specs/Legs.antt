@@ -1,6 +1,6 @@
 -- What `leg` reads and writes. `reading` and `reading'` are the bytes that the reader has left before and after, `held`
 -- and `held'` those that the writer holds; either may tell nothing.
-use Rattle.std.specs.Prelude.{◌≡◌, ℕ, ◌<◌, ◌≤◌, List, Option, None}
+use Rattle.std.specs.Prelude.{ℕ, ◌<◌, ◌≤◌, List, Option}
 use Rattle.std.specs.Io.KnownBytes.{Appends}
 use Rattle.crn_stock.specs.Models.{total}
 use Rattle.crn_stock.specs.Scenarios.{ScenarioParts}
@@ -31,11 +31,10 @@ pub record WroteLegFront (n : ℕ) (reading reading' held held' : Option (List �
   pub answer : IsLegFor n input text
   pub written : AppendsFront held held' text
 
--- the whole input was read, and it is the text of a scenario without returns, of fewer than n blocks
+-- the whole input was read, and it is the text of a scenario of fewer than n blocks
 pub record HasFewer (n : ℕ) (reading reading' : Option (List ℕ)) : Type 0 where
   pub scenario : ScenarioParts
   pub read : ReadScenario reading reading' scenario
-  pub no_returns : scenario.model.returns ≡ None
   pub fewer : total scenario.model < n
 
 -- the whole input was read, and it is the text of a scenario of n blocks or more

@@ -4,4 +4,5 @@ pub mod Inputs
 pub mod Simulation
 pub mod Legs
 pub mod Resumption
+pub mod Migration
 pub mod Replay

@@ -1,7 +1,7 @@
 -- What `resume` reads and writes. `saved` and `saved'` are the bytes that the checkpoint's reader has left before and
 -- after, `reading` and `reading'` those of the scenario's reader, `held` and `held'` those that the writer holds; either
 -- may tell nothing.
-use Rattle.std.specs.Prelude.{◌≡◌, ℕ, List, Option, None, length, map}
+use Rattle.std.specs.Prelude.{◌≡◌, ℕ, List, Option, length, map}
 use Rattle.std.specs.Io.KnownBytes.{Appends}
 use Rattle.crn_stock.specs.Models.{total}
 use Rattle.crn_stock.specs.Parts.{Parts}
@@ -67,10 +67,9 @@ pub record WroteLegsReport (saved saved' reading reading' held held' : Option (L
   pub report : (s : ScenarioParts) → Reads input s → ReportsLegs s bytes text
   pub written : Appends held held' text
 
--- both inputs were read whole, and the bytes are refused as a checkpoint of the scenario, which has no returns
+-- both inputs were read whole, and the bytes are refused as a checkpoint of the scenario
 pub record ReadRefusedCheckpoint (f : CheckpointFault) (saved saved' reading reading' : Option (List ℕ)) : Type 0 where
   pub scenario : ScenarioParts
   pub bytes : List ℕ
   pub read : ReadBoth saved saved' reading reading' scenario bytes
-  pub no_returns : scenario.model.returns ≡ None
   pub refused : RefusesCheckpoint scenario f bytes

@@ -9,7 +9,7 @@ abbrev pub status_of : Fault → ℕ
 status_of fault.CommandLine = 2
 status_of (fault.Scenario _) = 3
 status_of (fault.Checkpoint _) = 4
-status_of fault.Returns = 4
+status_of (fault.Migration _) = 4
 status_of (fault.Schedule _) = 4
 status_of fault.Reading = 5
 status_of fault.Writing = 5
@@ -43,16 +43,17 @@ is_of_scenario (fault.Scenario _) = true
 is_of_scenario fault.Memory = true
 is_of_scenario _ = false
 
--- a text that is judged as a scenario whose run can be cut
-abbrev pub is_of_cut_scenario : Fault → Bool
-is_of_cut_scenario fault.Returns = true
-is_of_cut_scenario e = is_of_scenario e
-
 -- a text that is judged as a checkpoint
 abbrev pub is_of_checkpoint : Fault → Bool
 is_of_checkpoint (fault.Checkpoint _) = true
 is_of_checkpoint fault.Memory = true
 is_of_checkpoint _ = false
+
+-- a text that is migrated
+abbrev pub is_of_migration : Fault → Bool
+is_of_migration (fault.Migration _) = true
+is_of_migration fault.Memory = true
+is_of_migration _ = false
 
 -- a text that is judged as a schedule
 abbrev pub is_of_schedule : Fault → Bool
@@ -73,13 +74,15 @@ is_of_simulation e = is_of_input e || is_of_scenario e || is_of_run e
 
 abbrev pub is_of_leg : Fault → Bool
 is_of_leg fault.CommandLine = true
-is_of_leg fault.Returns = true
 is_of_leg e = is_of_simulation e
 
 abbrev pub is_of_resume : Fault → Bool
 is_of_resume (fault.Checkpoint _) = true
-is_of_resume fault.Returns = true
 is_of_resume e = is_of_simulation e
+
+abbrev pub is_of_migrate : Fault → Bool
+is_of_migrate fault.Writing = true
+is_of_migrate e = is_of_input e || is_of_migration e
 
 abbrev pub is_of_replay : Fault → Bool
 is_of_replay fault.CommandLine = true

@@ -2,7 +2,7 @@ ghost use Rattle.std.specs.Prelude.{◌≡◌};
 ghost use Rattle.crn_engines.specs.Statuses.{status_of};
 
 use crn_run::RunFault;
-use crn_text::{CheckpointFault, ScenarioFault, ScheduleFault};
+use crn_text::{CheckpointFault, MigrateFault, ScenarioFault, ScheduleFault};
 use std::alloc::AllocError;
 use thiserror::Error;
 
@@ -18,9 +18,9 @@ pub enum Fault {
     /// The file is no checkpoint of the scenario.
     #[error("crnsim: checkpoint {}", .0.number())]
     Checkpoint(CheckpointFault),
-    /// The scenario has returns, of which no checkpoint can tell yet: its run can't be cut or resumed.
-    #[error("crnsim: checkpoint 3")]
-    Returns,
+    /// The file is no checkpoint of version 1 that can be migrated.
+    #[error("crnsim: checkpoint {}", .0.number())]
+    Migration(MigrateFault),
     /// The input is no schedule for the ring.
     #[error("crnsim: schedule {}", .0.number())]
     Schedule(ScheduleFault),
@@ -42,15 +42,15 @@ pub enum Fault {
 }
 
 impl Fault {
-    /// The status that the program ends with: 2 for the command line, 3 for the scenario, 4 for the checkpoint, returns
-    /// and the schedule, 5 for reading and writing, 6 for a thread and a gate, 7 for want of memory.
+    /// The status that the program ends with: 2 for the command line, 3 for the scenario, 4 for the checkpoint,
+    /// its migration and the schedule, 5 for reading and writing, 6 for a thread and a gate, 7 for want of memory.
     pub fn status(&self) -> u8
         ensures { result ≡ status_of self.now }
     {
         match self {
             Fault::CommandLine => 2,
             Fault::Scenario(_) => 3,
-            Fault::Checkpoint(_) | Fault::Returns | Fault::Schedule(_) => 4,
+            Fault::Checkpoint(_) | Fault::Migration(_) | Fault::Schedule(_) => 4,
             Fault::Reading | Fault::Writing => 5,
             Fault::Thread | Fault::Gate => 6,
             Fault::Memory => 7,

@@ -1,15 +1,15 @@
-ghost use Rattle.std.specs.Prelude.{◌≡◌, ◌≢◌, ◌⊎◌, ◌↔◌, ◌<◌, ◌≤◌, true, None, IsTrue, IfOk, IfErr, OnOk};
+ghost use Rattle.std.specs.Prelude.{◌≡◌, ◌≢◌, ◌⊎◌, ◌↔◌, ◌<◌, ◌≤◌, true, IsTrue, IfOk, IfErr, OnOk};
 ghost use Rattle.std.specs.Io.KnownBytes.{Keeps};
 ghost use Rattle.crn_scenario.specs.declared.scenario_fault.ScenarioFault.{ScenarioFault};
 ghost use Rattle.crn_stock.specs.Models.{total};
 ghost use Rattle.crn_run.specs.Runs.{IsCheckpointOf, EachAt};
 ghost use Rattle.crn_checkpoint.specs.Reading.{IsLegOf};
 ghost use Rattle.crn_engines.specs.Statuses.{is_of_leg, is_of_run};
-ghost use Rattle.crn_engines.specs.Inputs.{ReadRefused, ReadReturns};
+ghost use Rattle.crn_engines.specs.Inputs.{ReadRefused};
 ghost use Rattle.crn_engines.specs.Legs.{WroteLeg, WroteLegFront, HasFewer, HasEnough};
 
 use crate::fault::Fault;
-use crate::steps::{run_to, scenario_to_cut, send};
+use crate::steps::{run_to, scenario_from, send};
 use crn_run::Checkpoint;
 use crn_stock::Scenario;
 use crn_text::write_checkpoint;
@@ -26,7 +26,6 @@ use std::thread::Threads;
 /// # Errors
 /// - `Reading` where a read fails, for whatever cause, or where the input is over 1,048,576 bytes.
 /// - `Scenario` where the input is no scenario, with the least of its faults.
-/// - `Returns` where the scenario has returns, whatever `n` is. Then nothing is run.
 /// - `CommandLine` where the scenario has fewer than `n` blocks in all. Then nothing is run.
 /// - `Thread` where a thread was refused. `Gate` is never answered, as the gates are open ones.
 /// - `Memory` where a growth was refused.
@@ -44,12 +43,11 @@ pub fn leg<H: Threads + Wait + Sync, R: Read, W: Write>(
     ensures kept { IfErr result (λ e. e ≢ Fault.Writing → Keeps (W.contents writer.old) (W.contents writer.new)) }
     ensures front { IfErr result (λ e. e ≡ Fault.Writing → WroteLegFront n (R.remaining reader.old) (R.remaining reader.new) (W.contents writer.old) (W.contents writer.new)) }
     ensures scenario { (f : ScenarioFault) → result ≡ Err (Fault.Scenario f) → (f ≢ ScenarioFault.Memory) × ReadRefused f (R.remaining reader.old) (R.remaining reader.new) }
-    ensures returns { IfErr result (λ e. e ≡ Fault.Returns → ReadReturns (R.remaining reader.old) (R.remaining reader.new)) }
     ensures command_line { IfErr result (λ e. e ≡ Fault.CommandLine → HasFewer n (R.remaining reader.old) (R.remaining reader.new)) }
     ensures threads { IfErr result (λ e. (e ≡ Fault.Thread) ⊎ (e ≡ Fault.Gate) → HasEnough n (R.remaining reader.old) (R.remaining reader.new)) }
     ensures others { IfErr result (λ e. is_of_leg e ≡ true) }
 {
-    let scenario = scenario_to_cut(alloc, reader)?;
+    let scenario = scenario_from(alloc, reader)?;
     let text = leg_text(rt, alloc, &scenario, n)?;
     send(writer, text.as_slice())
 }
@@ -61,12 +59,10 @@ fn leg_text<H: Threads + Wait + Sync>(
     scenario: &Scenario,
     n: u64,
 ) -> Result<Vec<u8>, Fault>
-    requires no_returns { scenario.now.model.returns ≡ None }
     ensures leg { IfOk result (λ text. IsLegOf scenario.now n text.items) }
     ensures command_line { IfErr result (λ e. e ≡ Fault.CommandLine → total scenario.now.model < n) }
     ensures threads { IfErr result (λ e. (e ≡ Fault.Thread) ⊎ (e ≡ Fault.Gate) → n ≤ total scenario.now.model) }
     ensures no_writing { IfErr result (λ e. e ≢ Fault.Writing) }
-    ensures no_returns { IfErr result (λ e. e ≢ Fault.Returns) }
     ensures no_scenario { (f : ScenarioFault) → result ≢ Err (Fault.Scenario f) }
     ensures others { IfErr result (λ e. is_of_leg e ≡ true) }
 {

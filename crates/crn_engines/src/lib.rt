@@ -1,11 +1,12 @@
 //! The program's engines over any reader and writer: a scenario's report, its checkpoint at a block, the report from a
-//! checkpoint on, the trace of a schedule, and the words of a block.
+//! checkpoint on, an old checkpoint in the new version, the trace of a schedule, and the words of a block.
 #![tactic(auto)]
 
 mod block_words;
 mod fault;
 mod input;
 mod legs;
+mod migration;
 mod output;
 mod replay;
 mod resumption;
@@ -15,6 +16,7 @@ mod steps;
 pub use block_words::write_words;
 pub use fault::Fault;
 pub use legs::leg;
+pub use migration::migrate;
 pub use replay::replay_run;
 pub use resumption::resume;
 pub use simulation::simulate;

@@ -1,16 +1,16 @@
-ghost use Rattle.std.specs.Prelude.{◌≡◌, ◌≢◌, ℕ, List, true, None, IfOk, IfErr, OnOk};
+ghost use Rattle.std.specs.Prelude.{◌≡◌, ◌≢◌, ℕ, List, true, IfOk, IfErr, OnOk};
 ghost use Rattle.std.specs.Io.KnownBytes.{Keeps};
 ghost use Rattle.crn_scenario.specs.declared.scenario_fault.ScenarioFault.{ScenarioFault};
 ghost use Rattle.crn_stock.specs.Parts.{Parts};
 ghost use Rattle.crn_stock.specs.Scenarios.{ScenarioParts};
-ghost use Rattle.crn_checkpoint.specs.Reading.{IsTextOf, IsSameButRing, RefusesCheckpoint};
+ghost use Rattle.crn_checkpoint.specs.Reading.{IsTextOf, IsAnyTextOf, IsSameButRing, RefusesCheckpoint};
 ghost use Rattle.crn_checkpoint.specs.declared.checkpoint_fault.CheckpointFault.{CheckpointFault};
 ghost use Rattle.crn_engines.specs.Statuses.{is_of_checkpoint, is_of_resume};
-ghost use Rattle.crn_engines.specs.Inputs.{ReadRefused, ReadReturns};
+ghost use Rattle.crn_engines.specs.Inputs.{ReadRefused};
 ghost use Rattle.crn_engines.specs.Resumption.{IsResumedReport, ReportsLegs, WroteResumed, WroteResumedFront, WroteLegsReport, ReadRefusedCheckpoint};
 
 use crate::fault::Fault;
-use crate::steps::{input_from, run_and_report, scenario_to_cut, send};
+use crate::steps::{input_from, run_and_report, scenario_from, send};
 use crn_run::Checkpoint;
 use crn_stock::Scenario;
 use crn_text::{CheckpointFault, read_checkpoint};
@@ -29,8 +29,8 @@ use std::thread::Threads;
 /// # Errors
 /// - `Reading` where a read fails, for whatever cause, or where an input is over 1,048,576 bytes.
 /// - `Scenario` where the input is no scenario, with the least of its faults. Then the checkpoint is not read.
-/// - `Returns` where the scenario has returns. Then the checkpoint is not read.
-/// - `Checkpoint` where the other text is no checkpoint, or that of another scenario, with the least of its faults.
+/// - `Checkpoint` where the other text is no checkpoint, that of another scenario or one of version 1, with the least of
+///   its faults.
 /// - `Thread` where a thread was refused. `Gate` is never answered, as the gates are open ones.
 /// - `Memory` where a growth was refused.
 /// - `Writing` where a write fails or takes no byte. A front of the report, which may be empty, went out.
@@ -49,12 +49,10 @@ pub fn resume<H: Threads + Wait + Sync, C: Read, R: Read, W: Write>(
     ensures front { IfErr result (λ e. e ≡ Fault.Writing → WroteResumedFront (C.remaining checkpoint.old) (C.remaining checkpoint.new) (R.remaining reader.old) (R.remaining reader.new) (W.contents writer.old) (W.contents writer.new)) }
     ensures scenario { (f : ScenarioFault) → result ≡ Err (Fault.Scenario f) → (f ≢ ScenarioFault.Memory) × ReadRefused f (R.remaining reader.old) (R.remaining reader.new) }
     ensures unread { (f : ScenarioFault) → result ≡ Err (Fault.Scenario f) → Keeps (C.remaining checkpoint.old) (C.remaining checkpoint.new) }
-    ensures returns { IfErr result (λ e. e ≡ Fault.Returns → ReadReturns (R.remaining reader.old) (R.remaining reader.new)) }
-    ensures unread_too { IfErr result (λ e. e ≡ Fault.Returns → Keeps (C.remaining checkpoint.old) (C.remaining checkpoint.new)) }
     ensures checkpoint { (f : CheckpointFault) → result ≡ Err (Fault.Checkpoint f) → (f ≢ CheckpointFault.Memory) × ReadRefusedCheckpoint f (C.remaining checkpoint.old) (C.remaining checkpoint.new) (R.remaining reader.old) (R.remaining reader.new) }
     ensures others { IfErr result (λ e. is_of_resume e ≡ true) }
 {
-    let scenario = scenario_to_cut(alloc, reader)?;
+    let scenario = scenario_from(alloc, reader)?;
     let bytes = input_from(alloc, checkpoint)?;
     let text = resumed_text(rt, alloc, &scenario, bytes.as_slice())?;
     send(writer, text.as_slice())
@@ -67,12 +65,10 @@ fn resumed_text<H: Threads + Wait + Sync>(
     scenario: &Scenario,
     bytes: &[u8],
 ) -> Result<Vec<u8>, Fault>
-    requires no_returns { scenario.now.model.returns ≡ None }
     ensures report { IfOk result (λ text. IsResumedReport scenario.now bytes.now text.items) }
     ensures legs { IfOk result (λ text. ReportsLegs scenario.now bytes.now text.items) }
     ensures checkpoint { (f : CheckpointFault) → result ≡ Err (Fault.Checkpoint f) → (f ≢ CheckpointFault.Memory) × RefusesCheckpoint scenario.now f bytes.now }
     ensures no_writing { IfErr result (λ e. e ≢ Fault.Writing) }
-    ensures returns { IfErr result (λ e. e ≢ Fault.Returns) }
     ensures no_scenario { (f : ScenarioFault) → result ≢ Err (Fault.Scenario f) }
     ensures others { IfErr result (λ e. is_of_resume e ≡ true) }
 {
@@ -82,9 +78,8 @@ fn resumed_text<H: Threads + Wait + Sync>(
 
 // The checkpoint that a text spells.
 fn checkpoint_of(alloc: Global, scenario: &Scenario, bytes: &[u8]) -> Result<Checkpoint, Fault>
-    requires no_returns { scenario.now.model.returns ≡ None }
     ensures is_text { IfOk result (λ c. IsTextOf scenario.now c.next c.states.items bytes.now) }
-    ensures only { IfOk result (λ c. (s : ScenarioParts) (next : ℕ) (states : List Parts) → IsTextOf s next states bytes.now
+    ensures only { IfOk result (λ c. (s : ScenarioParts) (next : ℕ) (states : List Parts) → IsAnyTextOf s next states bytes.now
         → IsSameButRing s scenario.now × (next ≡ c.next) × (states ≡ c.states.items)) }
     ensures checkpoint { (f : CheckpointFault) → result ≡ Err (Fault.Checkpoint f) → (f ≢ CheckpointFault.Memory) × RefusesCheckpoint scenario.now f bytes.now }
     ensures faults { IfErr result (λ e. is_of_checkpoint e ≡ true) }

@@ -1,15 +1,15 @@
 // The steps that the engines share.
 
-ghost use Rattle.std.specs.Prelude.{◌≡◌, ◌≤◌, ◌≢◌, ◌↔◌, ◌||◌, true, None, IfOk, IfErr, OnOk, OnErr};
+ghost use Rattle.std.specs.Prelude.{◌≡◌, ◌≤◌, ◌≢◌, ◌↔◌, ◌||◌, true, IfOk, IfErr, OnOk, OnErr};
 ghost use Rattle.std.specs.Io.KnownBytes.{Appends};
 ghost use Rattle.crn_scenario.specs.declared.scenario_fault.ScenarioFault.{ScenarioFault};
 ghost use Rattle.crn_stock.specs.Models.{total};
 ghost use Rattle.crn_run.specs.Runs.{IsCheckpointOf, EachAt, EachOnward};
 ghost use Rattle.crn_text.specs.Report.{IsReportOf};
 ghost use Rattle.crn_engines.specs.Bytes.{AppendsFront, ReadAll};
-ghost use Rattle.crn_engines.specs.Inputs.{ReadScenario, ReadRefused, ReadReturns};
+ghost use Rattle.crn_engines.specs.Inputs.{ReadScenario, ReadRefused};
 ghost use Rattle.crn_engines.specs.Resumption.{IsReportOnward};
-ghost use Rattle.crn_engines.specs.Statuses.{is_of_cut_scenario, is_of_input, is_of_run, is_of_scenario};
+ghost use Rattle.crn_engines.specs.Statuses.{is_of_input, is_of_run, is_of_scenario};
 
 use crate::fault::Fault;
 use crate::input::{InputFault, read_input};
@@ -58,21 +58,6 @@ pub(crate) fn scenario_from<R: Read>(alloc: Global, reader: &mut R) -> Result<Sc
         Ok(scenario) => Ok(scenario),
         Err(fault) => Err(scenario_fault(fault)),
     }
-}
-
-// As `scenario_from`, of a scenario whose run can be cut: one without returns.
-pub(crate) fn scenario_to_cut<R: Read>(alloc: Global, reader: &mut R) -> Result<Scenario, Fault>
-    ensures reads { IfOk result (λ s. ReadScenario (R.remaining reader.old) (R.remaining reader.new) s) }
-    ensures no_returns { IfOk result (λ s. s.model.returns ≡ None) }
-    ensures scenario { (f : ScenarioFault) → result ≡ Err (Fault.Scenario f) → (f ≢ ScenarioFault.Memory) × ReadRefused f (R.remaining reader.old) (R.remaining reader.new) }
-    ensures returns { IfErr result (λ e. e ≡ Fault.Returns → ReadReturns (R.remaining reader.old) (R.remaining reader.new)) }
-    ensures faults { IfErr result (λ e. is_of_input e || is_of_cut_scenario e ≡ true) }
-{
-    let scenario = scenario_from(alloc, reader)?;
-    if scenario.model().has_returns() {
-        return Err(Fault::Returns);
-    }
-    Ok(scenario)
 }
 
 // Want of memory is a fault of its own, wherever it was met.

@@ -2,11 +2,12 @@
 
 mod fakes;
 mod legs;
+mod migrations;
 mod replays;
 mod runs;
 
 use super::*;
-use crn_text::{CheckpointFault, ScenarioFault, ScheduleFault};
+use crn_text::{CheckpointFault, MigrateFault, ScenarioFault, ScheduleFault};
 use fakes::{Narrow, Trickle};
 use std::alloc::{AllocError, Global};
 use std::test::Fail;
@@ -76,7 +77,11 @@ fn lines_and_statuses(rt: HostRuntime) -> Result<(), Fail> {
             "crnsim: checkpoint 1",
             4,
         ),
-        (Fault::Returns, "crnsim: checkpoint 3", 4),
+        (
+            Fault::Migration(MigrateFault::NewVersion),
+            "crnsim: checkpoint 5",
+            4,
+        ),
         (
             Fault::Schedule(ScheduleFault::Line),
             "crnsim: schedule 1",

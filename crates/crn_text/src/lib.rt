@@ -12,7 +12,9 @@ mod schedules;
 mod traces;
 
 pub use block_words::words_text;
-pub use crn_checkpoint::{CheckpointFault, read_checkpoint, write_checkpoint};
+pub use crn_checkpoint::{
+    CheckpointFault, MigrateFault, migrate_checkpoint, read_checkpoint, write_checkpoint,
+};
 pub use crn_scenario::{ScenarioFault, read_scenario};
 pub use report_text::report;
 pub use schedule_fault::ScheduleFault;

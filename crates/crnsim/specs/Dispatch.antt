@@ -9,8 +9,9 @@ use Rattle.crn_engines.specs.Bytes.{AppendsFront}
 use Rattle.crn_engines.specs.Simulation.{WroteReport, WroteFront}
 use Rattle.crn_engines.specs.Legs.{WroteLeg, WroteLegFront}
 use Rattle.crn_engines.specs.Resumption.{WroteResumed, WroteResumedFront, WroteLegsReport}
+use Rattle.crn_engines.specs.Migration.{WroteMigrated, WroteMigratedFront}
 use Rattle.crn_engines.specs.Replay.{replayed, WroteTrace, WroteTraceFront}
-use Rattle.crn_engines.specs.Statuses.{is_of_words, is_of_simulation, is_of_leg, is_of_resume, is_of_replay, is_of_help}
+use Rattle.crn_engines.specs.Statuses.{is_of_words, is_of_simulation, is_of_leg, is_of_resume, is_of_migrate, is_of_replay, is_of_help}
 
 -- the bytes that the checkpoint's reader and the input's have left, and those that the writer holds; each may tell nothing
 pub record Streams : Type 0 where
@@ -30,6 +31,7 @@ Answered (command.Words key n) a b = Unread a b × Appends a.held b.held (words_
 Answered (command.Replay size readers total) a b = Keeps a.saved b.saved × WroteTrace (replayed size readers total) a.reading b.reading a.held b.held
 Answered (command.Leg n) a b = Keeps a.saved b.saved × WroteLeg n a.reading b.reading a.held b.held
 Answered (command.Resume _) a b = WroteResumed a.saved b.saved a.reading b.reading a.held b.held × WroteLegsReport a.saved b.saved a.reading b.reading a.held b.held
+Answered (command.Migrate _) a b = Keeps a.reading b.reading × WroteMigrated a.saved b.saved a.held b.held
 Answered (command.Help text) a b = Unread a b × Appends a.held b.held (string_bytes text)
 
 -- a front of what the command asks for was written
@@ -39,6 +41,7 @@ AnsweredFront (command.Words key n) a b = AppendsFront a.held b.held (words_text
 AnsweredFront (command.Replay size readers total) a b = WroteTraceFront (replayed size readers total) a.reading b.reading a.held b.held
 AnsweredFront (command.Leg n) a b = WroteLegFront n a.reading b.reading a.held b.held
 AnsweredFront (command.Resume _) a b = WroteResumedFront a.saved b.saved a.reading b.reading a.held b.held
+AnsweredFront (command.Migrate _) a b = WroteMigratedFront a.saved b.saved a.held b.held
 AnsweredFront (command.Help text) a b = AppendsFront a.held b.held (string_bytes text)
 
 -- whether the command may be refused for a fault
@@ -48,4 +51,5 @@ is_of_command (command.Words _ _) e = is_of_words e
 is_of_command (command.Replay _ _ _) e = is_of_replay e
 is_of_command (command.Leg _) e = is_of_leg e
 is_of_command (command.Resume _) e = is_of_resume e
+is_of_command (command.Migrate _) e = is_of_migrate e
 is_of_command (command.Help _) e = is_of_help e

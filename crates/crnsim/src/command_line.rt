@@ -24,6 +24,8 @@ pub enum Command {
     Leg { n: u64 },
     /// The report of the scenario on standard input, from the checkpoint in the file of this name on.
     Resume { file: String },
+    /// The checkpoint in the file of this name, which is of version 1, in version 2.
+    Migrate { file: String },
     /// The program's help.
     Help { text: String },
 }
@@ -78,7 +80,7 @@ a text from which `resume` goes on";
 
 const LEG_EXAMPLE: &str =
     "N is at most the number of blocks of the scenario, a block for each 4 periods of a \
-replication or part of them. A run with returns can't be cut yet.
+replication or part of them.
 
 Example, a run that is cut half way:
   crnsim leg 832 < examples/spare_part.toml > cut.csv";
@@ -87,16 +89,28 @@ const RESUME_ABOUT: &str =
     "Reads a scenario on standard input, goes on from the checkpoint of it in FILE and writes the report: after a leg it \
 is the report that `run` writes";
 
-const RESUME_EXAMPLE: &str = "The size of the ring may be another than that of the leg's scenario.
+const RESUME_EXAMPLE: &str =
+    "The size of the ring may be another than that of the leg's scenario. A checkpoint of \
+version 1 is migrated first.
 
 Example, from the checkpoint that `leg` has written:
   crnsim resume cut.csv < examples/spare_part.toml";
 
+const MIGRATE_ABOUT: &str =
+    "Reads the checkpoint of version 1 in FILE and writes it in version 2, from which `resume` goes on: the same scenario, \
+block and amounts";
+
+const MIGRATE_EXAMPLE: &str =
+    "Checkpoints of version 1 were written by crnsim before it knew returns. Standard input is not read.
+
+Example, from a checkpoint that was kept:
+  crnsim migrate old_cut.csv > cut.csv";
+
 /// Reads the words that follow the program's name, with `clap`: no word or `run` for a run, `words` with four key
 /// words of 16 digits `0-9a-f` and the number of a block in decimal for its words, `replay` with the size, the
 /// readers and the total of a ring in decimal for a trace, `leg` with the number of a block in decimal for a
-/// checkpoint, `resume` with the name of a file, which may be empty, for a report from its checkpoint on, and requests
-/// for help.
+/// checkpoint, `resume` with the name of a file, which may be empty, for a report from its checkpoint on, `migrate` with
+/// the name of a file for its checkpoint in the new version, and requests for help.
 ///
 /// It judges spelling and types alone: whether there is such a ring is for [`replay_run`](crate::replay_run) to say,
 /// and whether the scenario has such a block for [`leg`](crate::leg).
@@ -153,6 +167,7 @@ fn parser<'a>(alloc: Global) -> Result<clap::Command<'a>, AllocError> {
         .subcommand(run)?
         .subcommand(leg_parser(alloc)?)?
         .subcommand(resume_parser(alloc)?)?
+        .subcommand(migrate_parser(alloc)?)?
         .subcommand(words)?
         .subcommand(replay)
 }
@@ -168,13 +183,23 @@ fn leg_parser<'a>(alloc: Global) -> Result<clap::Command<'a>, AllocError> {
 }
 
 fn resume_parser<'a>(alloc: Global) -> Result<clap::Command<'a>, AllocError> {
-    let file = Arg::new(alloc, "FILE")
-        .required(true)
-        .help("The name of the file that has the checkpoint");
     clap::Command::new(alloc, "resume")
         .about(RESUME_ABOUT)
         .after_help(RESUME_EXAMPLE)
-        .arg(file)
+        .arg(file_arg(alloc))
+}
+
+fn migrate_parser<'a>(alloc: Global) -> Result<clap::Command<'a>, AllocError> {
+    clap::Command::new(alloc, "migrate")
+        .about(MIGRATE_ABOUT)
+        .after_help(MIGRATE_EXAMPLE)
+        .arg(file_arg(alloc))
+}
+
+fn file_arg<'a>(alloc: Global) -> Arg<'a> {
+    Arg::new(alloc, "FILE")
+        .required(true)
+        .help("The name of the file that has the checkpoint")
 }
 
 fn command_of(alloc: Global, matches: &ArgMatches<'_>) -> Result<Command, Fault>
@@ -187,7 +212,12 @@ fn command_of(alloc: Global, matches: &ArgMatches<'_>) -> Result<Command, Fault>
         Some(("leg", words)) => Ok(Command::Leg {
             n: number_at(words, "N")?,
         }),
-        Some(("resume", words)) => saved(alloc, words),
+        Some(("resume", words)) => Ok(Command::Resume {
+            file: file_at(alloc, words)?,
+        }),
+        Some(("migrate", words)) => Ok(Command::Migrate {
+            file: file_at(alloc, words)?,
+        }),
         Some(_) => Err(Fault::CommandLine),
     }
 }
@@ -227,13 +257,13 @@ fn ring(words: &ArgMatches<'_>) -> Result<Command, Fault>
     }
 }
 
-// The file whose checkpoint is gone on from.
-fn saved(alloc: Global, words: &ArgMatches<'_>) -> Result<Command, Fault>
+// The name of the file that has the checkpoint.
+fn file_at(alloc: Global, words: &ArgMatches<'_>) -> Result<String, Fault>
     ensures { IfErr result (λ e. (e ≡ Fault.CommandLine) ⊎ (e ≡ Fault.Memory)) }
 {
     match words.get_str("FILE") {
         Some(name) => match name.to_string(alloc) {
-            Ok(file) => Ok(Command::Resume { file }),
+            Ok(file) => Ok(file),
             Err(_) => Err(Fault::Memory),
         },
         None => Err(Fault::CommandLine),

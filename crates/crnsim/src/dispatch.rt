@@ -3,19 +3,19 @@ ghost use Rattle.std.specs.Io.KnownBytes.{Keeps};
 ghost use Rattle.crnsim.specs.Dispatch.{Streams, Answered, AnsweredFront, is_of_command};
 
 use crate::command_line::Command;
-use crn_engines::{Fault, leg, replay_run, resume, send, simulate, write_words};
+use crn_engines::{Fault, leg, migrate, replay_run, resume, send, simulate, write_words};
 use std::alloc::Global;
 use std::io::{Read, Write};
 use std::sync::Wait;
 use std::thread::Threads;
 
-/// Writes what a command asks for to `writer`, from the input of `reader`. `Resume` reads its checkpoint from `saved`,
-/// and not from the file that it names; no other command reads `saved`.
+/// Writes what a command asks for to `writer`, from the input of `reader`. `Resume` and `Migrate` read their checkpoint
+/// from `saved`, and not from the file that they name; no other command reads `saved`.
 ///
 /// # Errors
 ///
-/// Those of the engine that the command is for: [`simulate`], [`write_words`], [`replay_run`], [`leg`] or [`resume`].
-/// For help it is `Writing` alone, where a write fails or takes no byte; a front of the help went out.
+/// Those of the engine that the command is for: [`simulate`], [`write_words`], [`replay_run`], [`leg`], [`resume`] or
+/// [`migrate`]. For help it is `Writing` alone, where a write fails or takes no byte; a front of the help went out.
 ///
 /// After each error but `Writing` nothing was written.
 pub fn answer_command<H: Threads + Wait + Sync, C: Read, R: Read, W: Write>(
@@ -41,6 +41,7 @@ pub fn answer_command<H: Threads + Wait + Sync, C: Read, R: Read, W: Write>(
         } => replay_run(alloc, *size, *readers, *total, reader, writer),
         Command::Leg { n } => leg(rt, alloc, *n, reader, writer),
         Command::Resume { .. } => resume(rt, alloc, saved, reader, writer),
+        Command::Migrate { .. } => migrate(alloc, saved, writer),
         Command::Help { text } => send(writer, text.as_bytes()),
     }
 }

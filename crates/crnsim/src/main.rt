@@ -1,13 +1,13 @@
 //! Compares (s,S) inventory policies by common random numbers: a scenario on standard input, its report on
-//! standard output. A run without returns can be cut at any block and resumed. It also writes the words of blocks, and
-//! replays schedules of the ring that carries them.
+//! standard output. A run can be cut at any block and resumed, also from a checkpoint that an older crnsim has written,
+//! once it is migrated. It also writes the words of blocks, and replays schedules of the ring that carries them.
 #![tactic(auto)]
 
 mod command_line;
 mod dispatch;
 
 pub use command_line::{Command, read_words};
-pub use crn_engines::{Fault, leg, replay_run, resume, simulate, write_words};
+pub use crn_engines::{Fault, leg, migrate, replay_run, resume, simulate, write_words};
 pub use dispatch::answer_command;
 use std::env;
 use std::fs::File;
@@ -34,7 +34,7 @@ fn run<H: Threads + Wait + Sync>(rt: &HostRuntime, threads: &H) -> Result<(), Fa
     let command = read_words(alloc, words_of(rt)?.as_slice())?;
     let (mut input, mut output) = (rt.stdin(), rt.stdout());
     match &command {
-        Command::Resume { file } => {
+        Command::Resume { file } | Command::Migrate { file } => {
             let mut saved = opened(rt, file.as_str())?;
             answer_command(
                 threads,

@@ -2,18 +2,30 @@
 
 use super::*;
 
-#[test]
-fn the_first_leg(rt: HostRuntime) -> Result<(), Fail> {
-    let scenario = scenario(&rt, TWO_REPLICATIONS)?;
+// The text of a scenario's leg up to block 1.
+fn first_leg(rt: &HostRuntime, text: &str) -> Result<Vec<u8>, Fail> {
+    let scenario = scenario(rt, text)?;
     if scenario.model().total() < 1 {
         return Err(Fail::from("no block"));
     }
     let start = Checkpoint::start(rt.alloc(), &scenario)?;
     let leg = run_plain(rt.alloc(), &scenario, &start, 1)?;
-    let text = write_checkpoint(rt.alloc(), &scenario, &leg)?;
-    assert_eq!(rt; text.as_slice(), FIRST_LEG.as_bytes());
+    Ok(write_checkpoint(rt.alloc(), &scenario, &leg)?)
+}
+
+#[test]
+fn first_legs(rt: HostRuntime) -> Result<(), Fail> {
+    let without = first_leg(&rt, TWO_REPLICATIONS)?;
+    assert_eq!(rt; without.as_slice(), FIRST_LEG.as_bytes());
+    let text = changed(&rt, TWO_REPLICATIONS, "version = 1", ONE_RETURNED)?;
+    let with = first_leg(&rt, text.as_str())?;
+    assert_eq!(rt; with.as_slice(), FIRST_LEG_WITH_RETURNS.as_bytes());
     Ok(())
 }
+
+// Both ends of the numbers of returned items, and a weight of 0.
+const MANY_RETURNED: &str =
+    "version = 2\nreturns = { values = [0, 7, 10000], weights = [1, 0, 65535] }";
 
 // Whether each leg's text is read back, and written again is itself.
 fn each_leg_returns(rt: &HostRuntime, text: &str) -> Result<bool, Fail> {
@@ -36,6 +48,10 @@ fn each_leg_returns(rt: &HostRuntime, text: &str) -> Result<bool, Fail> {
 fn every_leg_returns(rt: HostRuntime) -> Result<(), Fail> {
     assert!(rt; each_leg_returns(&rt, TWO_REPLICATIONS)?);
     assert!(rt; each_leg_returns(&rt, LONG_LEADS)?);
+    for text in [TWO_REPLICATIONS, LONG_LEADS] {
+        let text = changed(&rt, text, "version = 1", MANY_RETURNED)?;
+        assert!(rt; each_leg_returns(&rt, text.as_str())?);
+    }
     Ok(())
 }
 

@@ -6,10 +6,11 @@ use crate::{Fault, leg, resume};
 use std::test::Fail;
 
 // TWO_REPLICATIONS after its first block.
-const CUT: &str = "checkpoint,1,1,5,2
+pub const CUT: &str = "checkpoint,2,1,5,2
 key,0000000000000000,0000000000000000,0000000000000000,0000000000000000
 costs,7,2,1,4
 sizes,10,1,1,2
+returns,0,-,-,-
 demand,3,1,-,-
 lead,1,1,-,-
 policy,A,5,10,-

@@ -7,7 +7,7 @@ use Rattle.crn_checkpoint.proofs.models.sizes_of.Goals as goal
 
 pub returns : goal.returns
 unfolding checkpoint_rows
-returns c = λ s next states h.
+returns c = λ v s next states h.
     let m = s.model in
     let in_range = h.ranges.scenario.model in
     let small = small_amount m.initial in_range.initial_low in_range.initial_high in
@@ -18,4 +18,4 @@ returns c = λ s next states h.
     let unit = c.natural_in-4.ensures m.costs.unit (omega (arith, in_range.costs.unit)) (ap (λ rows. cell rows 2 2) h.rows_are) in
     let holding = c.natural_in-5.ensures m.costs.holding (omega (arith, in_range.costs.holding)) (ap (λ rows. cell rows 2 3) h.rows_are) in
     let backlog = c.natural_in-6.ensures m.costs.backlog (omega (arith, in_range.costs.backlog)) (ap (λ rows. cell rows 2 4) h.rows_are) in
-    same_parts m _ _ _ _ _ _ _ h.ranges.scenario.no_returns periods replications initial setup unit holding backlog
+    same_parts m _ _ _ _ _ _ _ periods replications initial setup unit holding backlog

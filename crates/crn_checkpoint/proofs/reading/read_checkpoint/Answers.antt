@@ -1,11 +1,36 @@
-use Rattle.std.proofs.Common.{rules, ◌∙◌, subst}
-use Rattle.crn_stock.specs.Scenarios.{ScenarioParts}
-use Rattle.crn_checkpoint.specs.Reading.{IsTextOf, IsSameButRing}
-use Rattle.crn_checkpoint.proofs.Cuts.{same_scenario}
+use Rattle.std.proofs.Common.{rules, ◌∙◌, sym, inl, inr}
+use Rattle.crn_checkpoint.specs.declared.version.Version.TheVariants.{First, Second}
+use Rattle.crn_checkpoint.proofs.Cuts.{same_too, text_of_same}
 use Rattle.crn_checkpoint.proofs.reading.read_checkpoint.Goals as goal
 
-pub returns-clause-is_text : goal.returns-clause-is_text
-returns-clause-is_text c =
-    let same : IsSameButRing c.in-Ok.cut.scenario c.args.scenario.now = c.if-not-same_but_ring.ensures.0 (search rules) in
-    let whole = same_scenario c.in-Ok.cut.scenario c.args.scenario.now (c.in-Ok.ensures.ring ∙ c.ring.ensures.value) same in
-    subst (λ (s : ScenarioParts). IsTextOf s c.in-Ok.cut.checkpoint.next c.in-Ok.cut.checkpoint.states.items c.args.bytes.now) whole c.in-Ok.ensures.is_text
+pub returns-in-First-clause-refused : goal.returns-in-First-clause-refused
+returns-in-First-clause-refused c =
+    let ring = c.in-Ok.ensures.ring ∙ c.ring.ensures.value in
+    let same = c.if-not-same_but_ring.ensures.0 (search rules) in
+    record { next = c.in-Ok.cut.checkpoint.next; states = c.in-Ok.cut.checkpoint.states.items; is_text = text_of_same _ _ _ _ _ _ _ c.in-First.is ring same c.in-Ok.ensures.is_text }
+
+pub returns-in-Second-clause-is_text : goal.returns-in-Second-clause-is_text
+returns-in-Second-clause-is_text c =
+    let ring = c.in-Ok.ensures.ring ∙ c.ring.ensures.value in
+    let same = c.if-not-same_but_ring.ensures.0 (search rules) in
+    text_of_same _ _ _ _ _ _ _ c.in-Second.is ring same c.in-Ok.ensures.is_text
+
+pub returns-in-Second-clause-only : goal.returns-in-Second-clause-only
+returns-in-Second-clause-only c = λ s next states h.
+    let same = c.if-not-same_but_ring.ensures.0 (search rules) in
+    elim h [
+      | inl new ↦
+          let read = c.in-Ok.ensures.reads Second s next states new in
+          (same_too s _ _ read.1 same, read.2, read.3)
+      | inr old ↦
+          let read = c.in-Ok.ensures.reads First s next states old in
+          (same_too s _ _ read.1 same, read.2, read.3)
+    ]
+
+pub returns-in-Second-clause-not_old : goal.returns-in-Second-clause-not_old
+returns-in-Second-clause-not_old c = λ s next states old.
+    let read = c.in-Ok.ensures.reads First s next states old in
+    absurd (cc (read.0, c.in-Second.is))
+
+pub returns-in-Second-clause-one_spelling : goal.returns-in-Second-clause-one_spelling
+returns-in-Second-clause-one_spelling c = λ other h. h.text_is ∙ sym (returns-in-Second-clause-is_text c).text_is

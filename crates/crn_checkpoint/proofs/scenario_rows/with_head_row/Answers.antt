@@ -6,4 +6,4 @@ returns c =
     let m = c.args.model.now in
     let periods : c.from-periods.result ≡ m.periods = search rules in
     let replications : c.from-replications.result ≡ m.replications = search rules in
-    rw (periods, replications) at c.with_numbers_row.ensures
+    rw (c.number.ensures, periods, replications) at c.with_numbers_row.ensures

@@ -7,7 +7,7 @@ use Rattle.crn_checkpoint.proofs.scenarios.key_of.Goals as goal
 
 pub returns : goal.returns
 unfolding checkpoint_rows
-returns c = λ s next states h.
+returns c = λ v s next states h.
     let key = s.key in
     let long = h.ranges.scenario.key_length in
     let small = h.ranges.scenario.key_words in

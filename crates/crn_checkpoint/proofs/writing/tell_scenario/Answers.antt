@@ -1,10 +1,11 @@
 use Rattle.std.proofs.Common.{rules, ℕ, ◌≡◌, ◌≢◌, ◌<◌, ◌^◌, true, All, AllPairs, List, length, subst}
 use Rattle.crn_stock.specs.declared.rules.Policy.{Policy}
-use Rattle.crn_stock.specs.Models.{IsModel, IsPolicy}
+use Rattle.crn_stock.specs.Models.{ModelParts, IsModel, IsPolicy}
 use Rattle.crn_stock.specs.Scenarios.{AreForScenario, IsRingSize, is_name}
+use Rattle.crn_checkpoint.specs.Reading.{CanDraw}
 use Rattle.crn_checkpoint.proofs.writing.tell_scenario.Goals as goal
 
-others : (c : goal.After-total-leads) → AreForScenario c.args.scenario.now.ring c.args.scenario.now.policies
+others : (c : goal.After-tell_returns) → AreForScenario c.args.scenario.now.ring c.args.scenario.now.policies
 others c =
     let told = c.policies-policies.ensures in
     record {
@@ -25,8 +26,8 @@ returns c =
       key_length = key_length;
       key_words = key_words;
       model = subst IsModel c.model-model.ensures c.periods-periods.ensures.range;
-      no_returns = c.requires;
       demand = rw (c.demand.ensures.value, c.model-model.ensures) at c.total-demands.ensures.fits;
       lead = rw (c.lead.ensures.value, c.model-model.ensures) at c.total-leads.ensures.fits;
+      returns = subst (λ (m : ModelParts). CanDraw m.returns) c.model-model.ensures c.tell_returns.ensures;
       others = others c;
     }

@@ -18,7 +18,6 @@ returns-in_err-text-clause-checkpoint g c f e =
         scenario = s;
         bytes = c.in_ok-bytes.bytes.items;
         read = record { scenario = c.in_ok-scenario.ensures.reads; checkpoint = c.in_ok-bytes.ensures.all };
-        no_returns = c.in_ok-scenario.ensures.no_returns;
         refused = subst (λ (bytes : List ℕ). RefusesCheckpoint s f bytes) c.as_slice.ensures.value h.1;
       },
     )

@@ -1,0 +1,34 @@
+-- What a text in the first version becomes, and what a refusal says of it.
+use Rattle.std.specs.Prelude.{ℕ, ⊤, List}
+use Rattle.crn_stock.specs.Parts.{Parts}
+use Rattle.crn_stock.specs.Scenarios.{ScenarioParts}
+use Rattle.crn_checkpoint.specs.Reading.{IsTextOf, IsOldTextOf, IsNoCheckpoint}
+use Rattle.crn_checkpoint.specs.declared.migrate_fault.MigrateFault.{MigrateFault}
+use Rattle.crn_checkpoint.specs.declared.migrate_fault.MigrateFault.TheVariants as fault
+
+-- the bytes are the text of a checkpoint in the first version, and the text is that of the same scenario, block and states
+pub record IsMigrated (bytes text : List ℕ) : Type 0 where
+  pub scenario : ScenarioParts
+  pub next : ℕ
+  pub states : List Parts
+  pub old : IsOldTextOf scenario next states bytes
+  pub new : IsTextOf scenario next states text
+
+-- the bytes are the text of a checkpoint as it is written
+pub record IsNew (bytes : List ℕ) : Type 0 where
+  pub scenario : ScenarioParts
+  pub next : ℕ
+  pub states : List Parts
+  pub is_text : IsTextOf scenario next states bytes
+
+-- what a refusal says of the bytes: want of memory says nothing
+abbrev pub RefusesMigration : MigrateFault → List ℕ → Type 0
+RefusesMigration fault.NoCheckpoint bytes = IsNoCheckpoint bytes
+RefusesMigration fault.NewVersion bytes = IsNew bytes
+RefusesMigration fault.Memory bytes = ⊤
+
+-- the number by which a fault is told
+abbrev pub number_of : MigrateFault → ℕ
+number_of fault.NoCheckpoint = 1
+number_of fault.NewVersion = 5
+number_of fault.Memory = 90

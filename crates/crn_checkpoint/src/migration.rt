@@ -1,0 +1,43 @@
+// Texts of version 1 become texts of version 2.
+
+ghost use Rattle.std.specs.Prelude.{◌≡◌, ◌⊎◌, ℕ, List, IfOk, IfErr, MatchResult};
+ghost use Rattle.crn_stock.specs.Parts.{Parts};
+ghost use Rattle.crn_stock.specs.Scenarios.{ScenarioParts};
+ghost use Rattle.crn_checkpoint.specs.Reading.{IsTextOf, IsOldTextOf};
+ghost use Rattle.crn_checkpoint.specs.Migration.{IsMigrated, RefusesMigration};
+
+use crate::migrate_fault::MigrateFault;
+use crate::reading::read_cut;
+use crate::unread::Unread;
+use crate::version::Version;
+use crate::writing::write_checkpoint;
+use std::alloc::Global;
+
+// The size of the ring of a scenario that is only written: no text tells it.
+const ANY_RING: u64 = 1;
+
+/// The text, in version 2, of the checkpoint that a text of version 1 spells: the same scenario, block and states.
+///
+/// # Errors
+///
+/// The least that holds: `NoCheckpoint` exactly where the text is that of no checkpoint, of version 1 or 2, with all
+/// amounts within their ranges, `NewVersion` exactly where it is that of a checkpoint in version 2; `Memory` where a
+/// growth was refused.
+pub fn migrate_checkpoint(alloc: Global, bytes: &[u8]) -> Result<Vec<u8>, MigrateFault>
+    ensures migrated { IfOk result (λ text. IsMigrated bytes.now text.items) }
+    ensures old { (s : ScenarioParts) (next : ℕ) (states : List Parts) → IsOldTextOf s next states bytes.now
+        → MatchResult result (λ text. IsTextOf s next states text.items) (λ f. f ≡ MigrateFault.Memory) }
+    ensures new { (s : ScenarioParts) (next : ℕ) (states : List Parts) → IsTextOf s next states bytes.now
+        → MatchResult result (λ text. ⊥) (λ f. (f ≡ MigrateFault.NewVersion) ⊎ (f ≡ MigrateFault.Memory)) }
+    ensures refused { IfErr result (λ f. RefusesMigration f bytes.now) }
+{
+    let cut = match read_cut(alloc, ANY_RING, bytes) {
+        Ok(cut) => cut,
+        Err(Unread::NoCheckpoint) => return Err(MigrateFault::NoCheckpoint),
+        Err(Unread::Memory) => return Err(MigrateFault::Memory),
+    };
+    match cut.version {
+        Version::First => Ok(write_checkpoint(alloc, &cut.scenario, &cut.checkpoint)?),
+        Version::Second => Err(MigrateFault::NewVersion),
+    }
+}

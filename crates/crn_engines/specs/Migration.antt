@@ -1,0 +1,44 @@
+-- What `migrate` reads and writes. `reading` and `reading'` are the bytes that the reader has left before and after, `held`
+-- and `held'` those that the writer holds; either may tell nothing.
+use Rattle.std.specs.Prelude.{ℕ, List, Option}
+use Rattle.std.specs.Io.KnownBytes.{Appends}
+use Rattle.crn_stock.specs.Scenarios.{ScenarioParts}
+use Rattle.crn_checkpoint.specs.Reading.{IsSameButRing, IsLegOf, IsOldLegOf}
+use Rattle.crn_checkpoint.specs.Migration.{IsMigrated, RefusesMigration}
+use Rattle.crn_checkpoint.specs.declared.migrate_fault.MigrateFault.{MigrateFault}
+use Rattle.crn_text.specs.Report.{IsReportOf}
+use Rattle.crn_engines.specs.Bytes.{AppendsFront, ReadAll}
+use Rattle.crn_engines.specs.Resumption.{ReportsLegs}
+
+-- the text is that of a leg of a scenario; so what a resumed run reports from it, on a ring of whatever size, is the
+-- scenario's report
+pub record IsResumable (s : ScenarioParts) (n : ℕ) (text : List ℕ) : Type 0 where
+  pub leg : IsLegOf s n text
+  pub report : (s' : ScenarioParts) (report : List ℕ) → IsSameButRing s s' → ReportsLegs s' text report → IsReportOf s' report
+
+-- where the bytes are the text of a leg in the first version, the text is that leg's
+abbrev pub MigratesLegs : List ℕ → List ℕ → Type 0
+MigratesLegs bytes text = (s : ScenarioParts) (n : ℕ) → IsOldLegOf s n bytes → IsResumable s n text
+
+-- the whole input was read, and just the text that it becomes was written
+pub record WroteMigrated (reading reading' held held' : Option (List ℕ)) : Type 0 where
+  pub input : List ℕ
+  pub read : ReadAll reading reading' input
+  pub text : List ℕ
+  pub answer : IsMigrated input text
+  pub legs : MigratesLegs input text
+  pub written : Appends held held' text
+
+-- the whole input was read, and a front of the text that it becomes was written
+pub record WroteMigratedFront (reading reading' held held' : Option (List ℕ)) : Type 0 where
+  pub input : List ℕ
+  pub read : ReadAll reading reading' input
+  pub text : List ℕ
+  pub answer : IsMigrated input text
+  pub written : AppendsFront held held' text
+
+-- the whole input was read, and it is not migrated for a fault
+pub record ReadRefusedMigration (f : MigrateFault) (reading reading' : Option (List ℕ)) : Type 0 where
+  pub input : List ℕ
+  pub read : ReadAll reading reading' input
+  pub refused : RefusesMigration f input
