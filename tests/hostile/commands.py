@@ -1,0 +1,169 @@
+"""The commands of the program as the tries use them: words, input, and the right bytes.
+
+Right bytes are stored reports and checkpoints, or texts worked by hand. Only of_policies looks into the form of
+a scenario, a report or a checkpoint.
+"""
+import os
+import subprocess
+from typing import NamedTuple, Optional
+
+HERE = os.path.dirname(os.path.abspath(__file__))
+TOP = os.path.dirname(os.path.dirname(HERE))
+SECONDS = 20
+# What a try yields as its verdict where it can't be made here; None is a try that did well.
+SKIPPED = "skipped"
+# The longest input.
+LIMIT = 1048576
+# The policies of the scenario of five periods, A and B, and the last row of a checkpoint.
+POLICIES = (b'{ name = "%s", s = 5, S = 10 }', b'{ name = "%s", s = 4, S = 10 }')
+END = b"end,-,-,-,-\n"
+
+
+class Shown(NamedTuple):
+    """What a run shows. Status None: it did not end in time. A negative one: a signal ended it."""
+
+    output: bytes
+    errors: bytes
+    status: Optional[int]
+
+
+class Command(NamedTuple):
+    """A command with its input. The right output is `output`, or where that is None a text with all of `parts`; or it
+    is refused with `fault`. It starts so many threads."""
+
+    name: str
+    words: list
+    data: bytes = b""
+    output: Optional[bytes] = None
+    parts: tuple = ()
+    file: Optional[bytes] = None
+    starts: int = 0
+    fault: Optional[Shown] = None
+
+    def is_right(self, shown):
+        """Whether a run shows the right bytes, and nothing else."""
+        if self.fault:
+            return shown == self.fault
+        if shown.errors or shown.status != 0:
+            return False
+        return all(it in shown.output for it in self.parts) if self.output is None else shown.output == self.output
+
+
+def stored(name):
+    """The bytes of a file of the repository."""
+    with open(f"{TOP}/{name}", "rb") as it:
+        return it.read()
+
+
+def run(program, words, data=b"", environment=None, prepare=None, seconds=SECONDS, output=subprocess.PIPE):
+    """Runs the program on an input, and says what it shows."""
+    how = {"stdout": output, "stderr": subprocess.PIPE, "preexec_fn": prepare, "timeout": seconds}
+    how |= {"env": {**os.environ, **environment}} if environment else {}
+    how |= {"input": data} if isinstance(data, bytes) else {"stdin": data}
+    try:
+        ran = subprocess.run([program, *words], check=False, **how)
+    except subprocess.TimeoutExpired:
+        return Shown(b"", b"", None)
+    return Shown(ran.stdout or b"", ran.stderr, ran.returncode)
+
+
+def refused(fault, status):
+    """What a run shows that ends with a fault and has written nothing."""
+    return Shown(b"", f"crnsim: {fault}\n".encode(), status)
+
+
+MEMORY, THREAD = refused("memory", 7), refused("thread", 6)
+READING, WRITING = refused("reading", 5), refused("writing", 5)
+
+
+def unlike(shown):
+    """The verdict on a run that shows what it must not."""
+    told = "no end in time" if shown.status is None else f"status {shown.status}"
+    return f"{told}, {shown.errors[:80]!r}, {len(shown.output)} bytes of output that begin {shown.output[:60]!r}"
+
+
+def swapped(text, old, new):
+    """The text with new for old, which it must have just once."""
+    if text.count(old) != 1:
+        raise SystemExit(f"not just one {old!r} in a stored text")
+    return text.replace(old, new)
+
+
+def of_policies(count):
+    """The scenario of five periods with so many policies, A and B by turns under names of their own; its report; and
+    its checkpoint at block 1. Each policy has the rows of the stored texts, as these say nothing of what stands beside
+    it."""
+    scenario, report, cut = (stored(f"tests/program/five_periods{it}") for it in (".toml", ".csv", "_cut.csv"))
+    header, *rows = report.splitlines(keepends=True)
+    front, *states = cut.removesuffix(END).split(b"policy,")
+    lists, reports, states_of_all = [], [], []
+    for number in range(count):
+        name, kind = b"P%d" % (number + 1), number % 2
+        lists.append(POLICIES[kind] % name)
+        reports.append(name + rows[kind][1:])
+        states_of_all.append(b"policy," + name + states[kind][1:])
+    listed = swapped(scenario, b", ".join([POLICIES[0] % b"A", POLICIES[1] % b"B"]), b", ".join(lists))
+    counted = swapped(front, b"sizes,10,1,1,2\n", b"sizes,10,1,1,%d\n" % count)
+    return listed, header + b"".join(reports), counted + b"".join(states_of_all) + END
+
+
+def written(room, name, text):
+    """The path of a new file with this text."""
+    with open(f"{room}/{name}", "wb") as it:
+        it.write(text)
+    return f"{room}/{name}"
+
+
+def runs_of_policies(count, room):
+    """`run`, `leg` and `resume` of so many policies: each starts as many threads."""
+    scenario, report, cut = of_policies(count)
+    file = written(room, f"cut_of_{count}", cut)
+    return [Command("run", ["run"], scenario, report, starts=count),
+            Command("leg", ["leg", "1"], scenario, cut, starts=count),
+            Command("resume", ["resume", file], scenario, report, file=cut, starts=count)]
+
+
+def migration(room):
+    """`migrate` of the stored checkpoint in its older spelling."""
+    old, new = stored("tests/program/five_periods_old_cut.csv"), stored("tests/program/five_periods_cut.csv")
+    return Command("migrate", ["migrate", written(room, "old_cut", old)], b"", new, file=old)
+
+
+def all_commands(room):
+    """Each command once, with its right bytes. The words of the zero key are Random123's, the trace was worked by
+    hand."""
+    words = Command("words", ["words", *["0" * 16] * 4, "0"], output=b"""\
+demand 09218ebde6c85537 55941f5266d86105 4bd25e16282434dc ee29ec846bd2e40b
+lead ca29e96305009de4 1cc27861f52c604b a1e7adf87d24b5b5 fc2291a0341a674c
+returns 5539277864380943 86dc4496ff6c4bf6 b6a16a294c09b67c 3572aa99bcf71983
+""")
+    replay = Command("replay", ["replay", "1", "2", "0"], b"r0\np\nr1\nl0\ne\nr0\n", b"""\
+r0 R1 0 0000000000000000
+p P3 0 0000000000000001
+r1 R1 0 0000000000000001
+l0 R3 1 8000000000000000
+e - - -
+r0 - - -
+published 0 ended 1
+reader 0 taken 0 left 1 ended 0
+reader 1 taken 0 left 0 ended 1
+""")
+    names = (b"run", b"leg", b"resume", b"migrate", b"words", b"replay", b"help")
+    help_text = Command("help", ["help"], parts=tuple(b"\n  %s " % it for it in names))
+    return [*runs_of_policies(2, room), migration(room), words, replay, help_text]
+
+
+def refused_commands(room):
+    """Commands whose words, input or file is refused."""
+    scenario, _, cut = of_policies(2)
+    cases = [("scenario 6", 3, ["run"], swapped(scenario, b"initial = 10\n", b"initial = -1\n")),
+             ("scenario 1", 3, ["leg", "1"], scenario + b"["),
+             ("checkpoint 1", 4, ["resume", written(room, "no_cut", cut + b"end")], scenario),
+             ("checkpoint 2", 4, ["resume", written(room, "a_cut", cut)], scenario.replace(b'"P2"', b'"P3"')),
+             ("checkpoint 5", 4, ["migrate", written(room, "a_cut", cut)], b""),
+             ("schedule 2", 4, ["replay", "1", "2", "0"], b"p\nr2\n"),
+             ("command line", 2, ["leg", "5"], scenario),
+             ("command line", 2, ["walk"], b""),
+             ("reading", 5, ["resume", f"{room}/none"], scenario)]
+    return [Command(f"{words[0]}, {fault}", words, data, fault=refused(fault, status))
+            for fault, status, words, data in cases]

@@ -1,0 +1,248 @@
+#!/usr/bin/env python3
+"""Changed texts with a judge: tests/hostile/judge.py PROGRAM [--seed N] [--cases N] [--show N [--ends]].
+
+Each case is a text that was changed by chance (changes.py), or has a number at the end of its range (ends.py). A second
+reader judges it (readers.py), and the program must say the same. `--show N` writes case N of the seed, or with `--ends`
+of those at the ends: what is wanted, the words, the input, the file and the output. The program knows TOML 1.1, and
+Python's reader 1.0: texts that only the newer one may take are left out (is_for_both), no change nests deeper than
+thirty levels, as readers end at some depth, and integers beyond 64 bits are no document.
+"""
+import argparse
+import collections
+import itertools
+import os
+import random
+import sys
+import tempfile
+from typing import NamedTuple, Optional
+
+import changes
+import ends
+import readers
+from commands import Shown, refused, run, stored, unlike, written
+
+LONG_LEADS = b"""\
+version = 1
+key = ["0123456789abcdef", "0000000000000000", "0000000000000000", "0000000000000001"]
+periods = 10
+replications = 3
+initial = 30
+ring = 2
+costs = { setup = 7, unit = 2, holding = 1, backlog = 4 }
+demand = { values = [2, 5, 9], weights = [1, 2, 1] }
+lead = { values = [1, 2, 3, 4, 5, 6], weights = [1, 1, 1, 1, 1, 1] }
+policy = [{ name = "A", s = 38, S = 40 }, { name = "B", s = 25, S = 30 }]
+"""
+WITH_RETURNS = LONG_LEADS.replace(b"version = 1", b"version = 2\nreturns = { values = [0, 3], weights = [2, 1] }")
+# What checkpoints are cut from, and at which blocks.
+CUTS = [(LONG_LEADS, (0, 1, 2, 3, 4, 8, 9)), (WITH_RETURNS, (0, 1, 2, 5, 9))]
+STORED_CUTS = [("tests/program/five_periods.toml", (0, 1, 2, 3, 4)), ("examples/spare_part.toml", (27,))]
+STORED = ["examples/two_policies.toml", "examples/spare_part.toml", "examples/mail_order.toml",
+          "tests/program/five_periods.toml"]
+HEADER = "policy,s,S,total,per_period,diff_total,diff_mean,diff_var,cov"
+# The answers that two thousand cases meet.
+ANSWERS = {*(f"scenario {it}" for it in range(1, 14)), "checkpoint 1", "checkpoint 2", "checkpoint 4",
+           "migrate 1", "migrate 5", "schedule 1", "schedule 2",
+           *(f"{it} taken" for it in ("scenario", "checkpoint", "migrate", "schedule"))}
+
+
+class Case(NamedTuple):
+    """A run and what is wanted of it: a fault, the whole output, or the beginnings of its lines. `rule` names the
+    answer."""
+
+    rule: str
+    words: list
+    data: bytes
+    fault: Optional[Shown] = None
+    output: Optional[bytes] = None
+    lines: tuple = ()
+    file: Optional[bytes] = None
+
+
+class Cut(NamedTuple):
+    """A scenario's text, its tree, and its checkpoint at some block."""
+
+    text: bytes
+    scenario: dict
+    checkpoint: readers.Checkpoint
+
+
+def answered(shown, case):
+    """Whether a run shows what is wanted of it."""
+    if case.fault:
+        return shown == case.fault
+    if shown.status != 0 or shown.errors:
+        return False
+    if case.output is not None:
+        return shown.output == case.output
+    lines = shown.output.decode("latin-1").split("\n")
+    return len(lines) == len(case.lines) + 1 and all(map(str.startswith, lines, case.lines))
+
+
+def refusal(kind, number):
+    """What a run shows that refuses a text with a number."""
+    return refused(f"{kind} {number}", 3 if kind == "scenario" else 4)
+
+
+def scenario_case(chance, text, room):
+    """A scenario: a fault is any command's, and without one its checkpoint at block 0 stands in the scenario itself."""
+    fault, scenario = readers.scenario_of(text)
+    if fault:
+        words = chance.choice([["run"], [], ["leg", "0"], ["leg", "99999999"], ["resume", f"{room}/FILE"]])
+        return Case(f"scenario {fault}", words, text, refusal("scenario", fault), file=b"")
+    return Case("scenario taken", ["leg", "0"], text, output=readers.text_of(readers.start_of(scenario)))
+
+
+def resume_case(data, file, room):
+    """A checkpoint that is resumed for a scenario's text."""
+    words = ["resume", f"{room}/FILE"]
+    fault, scenario = readers.scenario_of(data)
+    if fault:
+        return Case(f"scenario {fault}", words, data, refusal("scenario", fault), file=file)
+    number = readers.resume_fault(readers.checkpoint_of(file), scenario)
+    if number:
+        return Case(f"checkpoint {number}", words, data, refusal("checkpoint", number), file=file)
+    lines = tuple(f"{it['name']},{it['s']},{it['S']}," for it in scenario["policy"])
+    return Case("checkpoint taken", words, data, lines=(HEADER, *lines), file=file)
+
+
+def migrate_case(file, room):
+    """A checkpoint that is written anew."""
+    checkpoint, words = readers.checkpoint_of(file), ["migrate", f"{room}/FILE"]
+    number = readers.migrate_fault(checkpoint)
+    if number:
+        return Case(f"migrate {number}", words, b"", refusal("checkpoint", number), file=file)
+    output = readers.text_of(checkpoint._replace(spelling=2))
+    return Case("migrate taken", words, b"", output=output, file=file)
+
+
+def ends_of(checkpoint):
+    """Numbers at the ends of the ranges that a checkpoint's amounts have."""
+    periods = checkpoint.scenario["periods"]
+    total, each = readers.blocks_of(checkpoint.scenario)
+    done = 4 * (checkpoint.block % each)
+    near = [-10_000 * done, 1_000_000 + 10_000 * done, -10_000, 1_000_000, done, done + 31, total,
+            200_000_000_000 * done, 200_000_000_000 * periods]
+    return [it + step for it in near for step in (-1, 0, 1)]
+
+
+def changed_file(chance, cut, spelling):
+    """The checkpoint of a cut in a spelling, or sometimes in the other, with changes."""
+    spelling = spelling if chance.random() < 0.9 else 3 - spelling
+    text = readers.text_of(cut.checkpoint._replace(spelling=spelling))
+    return changes.changed_checkpoint(chance, text, ends_of(cut.checkpoint))
+
+
+def schedule_case(chance):
+    """A changed schedule. The trace of a good one has a line for each turn, which begins with the turn itself."""
+    count = chance.choice([1, 2, 16])
+    text = changes.changed_schedule(chance, count)
+    words = ["replay", str(2**chance.randint(0, 4)), str(count), str(chance.choice([0, 1, 2, 65536]))]
+    fault, turns = readers.schedule_of(text, count)
+    if fault:
+        return Case(f"schedule {fault}", words, text, refusal("schedule", fault))
+    shown = ["published ", *(f"reader {it} taken " for it in range(count))]
+    return Case("schedule taken", words, text, lines=(*(f"{it.decode()} " for it in turns), *shown))
+
+
+def cuts_of(program):
+    """The checkpoints that are changed, cut by the program and read by the second reader. None where it reads one
+    otherwise."""
+    cuts = []
+    for text, blocks in CUTS + [(stored(name), blocks) for name, blocks in STORED_CUTS]:
+        for block in blocks:
+            _, scenario = readers.scenario_of(text)
+            made = run(program, ["leg", str(block)], text)
+            checkpoint = readers.checkpoint_of(made.output)
+            if made.status != 0 or readers.resume_fault(checkpoint, scenario) != 0:
+                return None
+            if checkpoint.block != block or readers.text_of(checkpoint) != made.output:
+                return None
+            cuts.append(Cut(text, scenario, checkpoint))
+    return cuts
+
+
+def case_of(seed, number, texts, cuts, room):
+    """A changed text by its number."""
+    chance = random.Random(f"{seed} {number}")
+    kind = chance.random()
+    if kind < 0.5:
+        while not readers.is_for_both(text := changes.changed_scenario(chance, texts)):
+            pass
+        return scenario_case(chance, text, room)
+    if kind < 0.7:
+        cut = chance.choice(cuts)
+        data = changes.with_other_number(chance, cut.text) if chance.random() < 0.15 else cut.text
+        return resume_case(data, changed_file(chance, cut, 2), room)
+    if kind < 0.85:
+        cut = chance.choice([it for it in cuts if "returns" not in it.scenario])
+        return migrate_case(changed_file(chance, cut, 1), room)
+    return schedule_case(chance)
+
+
+def end_cases(cuts, room):
+    """Scenarios and checkpoints at the ends of their ranges."""
+    chance = random.Random(0)
+    for tree in ends.scenario_ends():
+        yield scenario_case(chance, changes.document(chance, tree), room)
+    for cut in cuts:
+        if cut.text in (LONG_LEADS, WITH_RETURNS) and cut.checkpoint.block in (1, 5, 8):
+            for checkpoint in ends.checkpoint_ends(cut.checkpoint):
+                yield resume_case(cut.text, readers.text_of(checkpoint), room)
+                if "returns" not in cut.scenario:
+                    yield migrate_case(readers.text_of(checkpoint._replace(spelling=1)), room)
+
+
+def judged(program, room, seed, cases):
+    """Tries so many cases by chance, and those at the ends of ranges. The last line tells how often each answer was
+    wanted."""
+    texts, cuts = [stored(it) for it in STORED], cuts_of(program)
+    if cuts is None:
+        yield "the program's own checkpoints", "the second reader reads them otherwise"
+        return
+    met = collections.Counter()
+    numbered = ((f"seed {seed}, case {it}", case_of(seed, it, texts, cuts, room)) for it in range(cases))
+    at_ends = ((f"ends, case {it}", case) for it, case in enumerate(end_cases(cuts, room)))
+    for name, case in itertools.chain(at_ends, numbered):
+        if case.file is not None:
+            written(room, "FILE", case.file)
+        shown = run(program, case.words, case.data)
+        met[case.rule] += 1
+        yield name, None if answered(shown, case) else f"wanted {case.rule}: {unlike(shown)}"
+    print(", ".join(f"{rule}: {met[rule]}" for rule in sorted(met)), flush=True)
+    yield "every answer was wanted", ", ".join(sorted(ANSWERS - met.keys())) or None
+
+
+def show(case):
+    """Writes a case: what is wanted, its words, its input, its file and its output."""
+    for part in (case.rule, case.words, case.data, case.file, case.output or case.lines):
+        print(part.decode("latin-1") if isinstance(part, bytes) else part, end="\n----\n")
+
+
+def main():
+    """Tries the cases that the words of the command line ask for."""
+    words = argparse.ArgumentParser()
+    words.add_argument("program", type=os.path.abspath)
+    words.add_argument("--seed", type=int, default=random.randrange(10**9))
+    words.add_argument("--cases", type=int, default=2000)
+    words.add_argument("--show", type=int)
+    words.add_argument("--ends", action="store_true")
+    asked = words.parse_args()
+    with tempfile.TemporaryDirectory(prefix="crnsim-") as room:
+        if asked.show is not None:
+            cuts = cuts_of(asked.program)
+            if asked.ends:
+                return show(next(itertools.islice(end_cases(cuts, room), asked.show, None)))
+            return show(case_of(asked.seed, asked.show, [stored(it) for it in STORED], cuts, room))
+        print(f"seed {asked.seed}")
+        passed = failed = 0
+        for name, wrong in judged(asked.program, room, asked.seed, asked.cases):
+            passed, failed = passed + (not wrong), failed + bool(wrong)
+            if wrong:
+                print(f"FAILED {name}: {wrong}")
+    print(f"{passed} passed, {failed} failed")
+    return 1 if failed else 0
+
+
+if __name__ == "__main__":
+    sys.exit(main())

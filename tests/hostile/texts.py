@@ -1,0 +1,240 @@
+#!/usr/bin/env python3
+"""Texts of 1,048,576 bytes that are made to cost time or memory: each is answered within a second of processor time and
+128 MB.
+
+Scenarios of many small tables are beyond that, as the program's reader of TOML takes a kilobyte for each table, and a
+table needs two bytes. They have limits of their own, and a line tells what each took. tests/hostile/texts.py PROGRAM
+says of all texts what they took.
+"""
+import os
+import subprocess
+import sys
+import tempfile
+from typing import NamedTuple, Optional
+
+from commands import HERE, LIMIT, stored, swapped, written
+
+MOST = (1.0, 128)
+MOST_OF_TABLES = (5.0, 768)
+SECONDS = 60
+
+
+class Text(NamedTuple):
+    """A text, the command that gets it (FILE where it is not the input), the line with which it is refused, or its
+    front, empty where it is answered, and the seconds and megabytes that it may take."""
+
+    name: str
+    words: str
+    text: bytes
+    fault: str = ""
+    most: tuple = MOST
+
+
+class Cost(NamedTuple):
+    """What an answer took. The least that is seen as its megabytes are those of cost.py, some ten."""
+
+    seconds: float
+    megabytes: float
+    status: Optional[int]
+    errors: bytes
+
+
+def filled(piece, front=b"", end=b""):
+    """A text of the most bytes: a front, a piece again and again as far as it fits whole, spaces, and an end."""
+    count = (LIMIT - len(front) - len(end)) // len(piece)
+    return front + piece * count + end
+
+
+def listed(piece_of, front=b"", end=b""):
+    """A text of nearly the most bytes: a front, the pieces of the numbers from 0 on, and an end."""
+    pieces, size, number = [], len(front) + len(end), 0
+    while size + len(piece := piece_of(number)) <= LIMIT:
+        pieces.append(piece)
+        size, number = size + len(piece), number + 1
+    return front + b"".join(pieces) + end
+
+
+def nested(opening, closing, front=b"a = "):
+    """As many levels as there is room for."""
+    count = (LIMIT - len(front) - 1) // (len(opening) + len(closing))
+    return front + opening * count + closing * count
+
+
+def scenario_texts():
+    """Scenarios. What they lack is told where they are documents."""
+    good = stored("tests/program/five_periods.toml")
+    front, policies = good.split(b"policy = ")
+    tables = front + b"\n"
+    a_table = b'[[policy]]\nname = "p%d"\ns = 1\nS = 2\n'
+    key = b"0" * 16
+    return [
+        Text("lists in lists", "run", nested(b"[", b"]"), "scenario"),
+        Text("lists that are not closed", "run", filled(b"[", b"a = "), "scenario 1"),
+        Text("tables in tables", "run", nested(b"{a=", b"}", b"a = {b="), "scenario"),
+        Text("lists and tables in each other", "run", nested(b"[{a=", b"}]"), "scenario"),
+        Text("a dotted key of many parts", "run", filled(b"a.", end=b"a = 1\n"), "scenario"),
+        Text("a header of many parts", "run", filled(b"a.", b"[", b"a]\n"), "scenario"),
+        Text("many headers below each other", "run", listed(lambda it: b"[" + b"a." * it + b"a]\n"), "scenario"),
+        Text("many dotted keys of fifty parts", "run", listed(lambda it: b"a." * 50 + b"b%d = 1\n" % it), "scenario 2"),
+        Text("many policies", "run", listed(lambda it: a_table % it, tables), "scenario 13"),
+        Text("many policies of one name", "run", filled(a_table % 1, tables), "scenario 11"),
+        Text("many empty policies", "run", filled(b"{},", front + b"policy = [", b"]\n"), "scenario 4"),
+        Text("many policies in a list", "run",
+             listed(lambda it: b'{name="%x",s=0,S=0},' % it, front + b"policy=[", b"]\n"), "scenario 13"),
+        Text("a policy with many keys", "run", listed(lambda it: b"k%d=1\n" % it, tables + a_table % 1), "scenario 3"),
+        Text("a million digits", "run", filled(b"1", b"version = ", b"\n"), "scenario 1"),
+        Text("a million digits of a fraction", "run", filled(b"1", b"version = 0.", b"\n"), "scenario 2"),
+        Text("a million digits and underscores", "run", filled(b"1_", b"version = ", b"1\n"), "scenario 1"),
+        Text("a key of a million bytes", "run", filled(b"k", good, b" = 1\n"), "scenario 3"),
+        Text("a quoted key of a million escapes", "run", filled(b"\\n", good + b'"', b'" = 1\n'), "scenario 3"),
+        Text("a name of a million bytes", "run",
+             filled(b"n", tables + b'[[policy]]\ns = 1\nS = 1\nname = "', b'"\n'), "scenario 11"),
+        Text("a text of many lines", "run", filled(b"\n", good + b'name = """', b'"""\n'), "scenario 3"),
+        Text("a text that is not closed", "run", filled(b'""', good + b'name = """'), "scenario 1"),
+        Text("many keys", "run", listed(lambda it: b"k%d=1\n" % it), "scenario 2"),
+        Text("many keys that begin alike", "run", listed(lambda it: b"k" * 1000 + b"%d=1\n" % it), "scenario 2"),
+        Text("many keys from the last on", "run", listed(lambda it: b"k%06d=1\n" % (999999 - it)), "scenario 2"),
+        Text("many tables", "run", listed(lambda it: b"[k%d]\n" % it), "scenario 2"),
+        Text("many tables of one list", "run", filled(b"[[a]]\n"), "scenario 2"),
+        Text("many tables of a table", "run", listed(lambda it: b"[a.b.c.k%d]\n" % it), "scenario 2"),
+        Text("many words of the key", "run", filled(b'"%s",' % key, b"key = [", b"]\n"), "scenario 2"),
+        Text("many demands", "run", filled(b"0,", swapped(good, b"demand = { values = [3]", b"demand = { values = [#")
+                                           .partition(b"#")[0], good.partition(b"values = [")[2]), "scenario 7"),
+        Text("many comments", "run", filled(b"#\n", end=good)),
+        Text("one long comment", "run", filled(b"#", end=b"\n" + good)),
+        Text("many empty lines", "run", filled(b"\n", end=good)),
+        Text("many spaces", "run", filled(b" ", end=good)),
+        Text("many carriage returns", "run", filled(b"\r\n", end=good)),
+        Text("no bytes but zeros", "run", filled(b"\0"), "scenario 1"),
+        Text("no UTF-8", "run", filled(b"\xff"), "scenario 1"),
+        Text("policies that are no list", "run", filled(b"[", front + b"policy = "), "scenario 1"),
+        Text("many quoted names", "leg 0",
+             listed(lambda it: b'{name="\\u004%d",s=1,S=1},' % (it % 10), front + b"policy=[", b"]"), "scenario 11"),
+    ]
+
+
+def table_texts():
+    """Scenarios of many small tables. Readers end at some depth, so few of these go deeper than seventy levels."""
+    texts = {
+        "many tables of a key": filled(b"{a=0},", b"a = [", b"]\n"),
+        "many policies of a wrong key": filled(b"{a=0},", b"version = 1\npolicy = [", b"]\n"),
+        "tables of seventy levels": filled(b"{a=" * 70 + b"0" + b"}" * 70 + b",", b"a = [", b"]\n"),
+        "tables of seventy dots": filled(b"{" + b"a." * 70 + b"a=0},", b"a = [", b"]\n"),
+        "lists of seventy levels": filled(b"[" * 70 + b"]" * 70 + b",", b"a = [", b"]\n"),
+        "lists and tables of seventy levels": filled(b"[{a=" * 35 + b"0" + b"}]" * 35 + b",", b"a = [", b"]\n"),
+        "many lists of one": filled(b"[0],", b"a = [", b"]\n"),
+        "many dotted keys": listed(lambda it: b"%x.a=1\n" % it),
+        "many dotted keys of seventy parts": listed(lambda it: b"%x." % it + b"a." * 70 + b"a=1\n"),
+        "many headers of three parts": listed(lambda it: b"[%x.a.a]\n" % it),
+        "headers below tables of a list": filled(b"[[a]]\n[a.b.b.b.b.b]\n"),
+    }
+    fault_of = {it: "scenario 3" if "policies" in it else "scenario 2" for it in texts}
+    return [Text(it, "run", texts[it], fault_of[it], MOST_OF_TABLES) for it in texts]
+
+
+def checkpoint_texts(words, name):
+    """Checkpoints made from a stored one, for a command that reads FILE: none of them is one."""
+    good = stored(f"tests/program/{name}")
+    spelling = good.split(b",")[1]
+    front, state = good.partition(b"demand,")[0], good.partition(b"state,")[0]
+    policies = state.rpartition(b"policy,")[0]
+    texts = {
+        "many demand rows": listed(lambda it: b"demand,%d,1,-,-\n" % it, front),
+        "many demand rows that are counted":
+            listed(lambda it: b"demand,%d,1,-,-\n" % it, front.replace(b",1,1,2\n", b",60000,1,2\n")),
+        "many policy rows": listed(lambda it: b"policy,P%d,1,1,-\n" % it, state),
+        "many policies with states":
+            listed(lambda it: b"policy,P%d,1,1,-\nstate,0,0,0,0\n" % it, policies, b"end,-,-,-,-\n"),
+        "many due rows": listed(lambda it: b"due,%d,1,-,-\n" % it, state + b"state,4,35,99999,0\n"),
+        "many cost rows": listed(lambda it: b"cost,%d,1,-,-\n" % it, state + b"state,4,35,0,99999\n"),
+        "many whole checkpoints": filled(good),
+        "many end rows": filled(b"end,-,-,-,-\n", good),
+        "many empty lines behind": filled(b"\n", good),
+        "empty lines alone": filled(b"\n"),
+        "commas alone": filled(b","),
+        "rows of commas": filled(b",,,,\n"),
+        "quotes alone": filled(b'"'),
+        "a quoted field": filled(b"\n", b'checkpoint,"', b'",1,5,2\n'),
+        "a field of a million digits": filled(b"1", b"checkpoint,", b",1,5,2\n"),
+        "a block of a million digits": filled(b"0", b"checkpoint," + spelling + b",", b"1,5,2\n"),
+        "a name of a million bytes": filled(b"n", policies + b"policy,", b",4,10,-\n"),
+        "counts beyond all rows": filled(b"demand,3,1,-,-\n", front.replace(b",1,1,2\n", b",4294967295,1,2\n")),
+    }
+    return [Text(it, words, texts[it], "checkpoint 1") for it in texts]
+
+
+def schedule_texts():
+    """Schedules, of which a good one has a trace of up to thirty times its size."""
+    ring, small = "replay 1024 16 65536", "replay 1 1 0"
+    return [
+        Text("a producer alone", ring, filled(b"p\n")),
+        Text("readers by turns", ring, filled(b"".join(b"r%d\n" % it for it in range(16)))),
+        Text("producer and readers by turns", ring, filled(b"p\n" + b"".join(b"r%d\n" % it for it in range(16)))),
+        Text("readers that leave", ring, filled(b"".join(b"l%d\n" % it for it in range(16)))),
+        Text("ends", small, filled(b"e\n")),
+        Text("an actor of a million digits", small, filled(b"1", b"r", b"\n"), "schedule 1"),
+        Text("a reader that is not there, at last", small, filled(b"p\n", end=b"r1"), "schedule 2"),
+        Text("a line of another form, at last", small, filled(b"p\n", end=b"r4294967296"), "schedule 1"),
+        Text("many empty turns", small, filled(b"\n"), "schedule 1"),
+        Text("many high readers", small, filled(b"r4294967295\n"), "schedule 2"),
+    ]
+
+
+def cost_of(program, words, text, room):
+    """What the answer to a text takes."""
+    data = stored("tests/program/five_periods.toml") if "FILE" in words else text
+    words = [written(room, "FILE", text) if it == "FILE" else it for it in words.split()]
+    how = [sys.executable, "-S", f"{HERE}/cost.py", written(room, "input", data), f"{room}/errors", program, *words]
+    try:
+        took = subprocess.run(how, capture_output=True, check=True, timeout=SECONDS).stdout.split()
+    except subprocess.TimeoutExpired:
+        return Cost(SECONDS, 0, None, b"no end in time")
+    with open(f"{room}/errors", "rb") as it:
+        return Cost(float(took[0]), int(took[1]) / 1024, int(took[2]), it.read())
+
+
+def wrong_cost(text, cost):
+    """What is wrong with the answer to a text, and with what it took."""
+    status = 0 if not text.fault else 3 if text.fault.startswith("scenario") else 4
+    line = f"crnsim: {text.fault}".encode() if text.fault else b""
+    if cost.status != status or not cost.errors.startswith(line) or (not text.fault and cost.errors):
+        return f"status {cost.status}, {cost.errors[:80]!r}"
+    return f"took {told(cost)}" if is_over(cost, text.most) else None
+
+
+def is_over(cost, most):
+    """Whether an answer took more than it may."""
+    return cost.seconds > most[0] or cost.megabytes > most[1]
+
+
+def told(cost):
+    """What an answer took, in words."""
+    return f"{cost.seconds:.2f} seconds of processor time and {cost.megabytes:.0f} MB"
+
+
+def all_texts():
+    """All texts. A checkpoint in the older spelling is read by `resume` as well, but only `migrate` wants one."""
+    return [*scenario_texts(), *table_texts(), *checkpoint_texts("resume FILE", "five_periods_cut.csv"),
+            *checkpoint_texts("migrate FILE", "five_periods_old_cut.csv"), *schedule_texts()]
+
+
+def tries(program, room):
+    """All texts, and a line for each that took more than the others may."""
+    for text in all_texts():
+        assert LIMIT - 2000 < len(text.text) <= LIMIT, text.name
+        cost = cost_of(program, text.words, text.text, room)
+        if is_over(cost, MOST):
+            print(f"OVER texts: {text.words}, {text.name}: {told(cost)}", flush=True)
+        yield f"{text.words}, {text.name}", wrong_cost(text, cost)
+
+
+def main(program):
+    """Says of each text what its answer took, the costliest last."""
+    with tempfile.TemporaryDirectory(prefix="crnsim-") as room:
+        costs = [(cost_of(program, it.words, it.text, room), it) for it in all_texts()]
+    for cost, text in sorted(costs, key=lambda it: it[0][:2]):
+        print(f"{told(cost)}: {text.words}, {text.name}")
+
+
+if __name__ == "__main__":
+    main(os.path.abspath(sys.argv[1]))
