@@ -24,31 +24,31 @@ KEYS = ["colour", "Version", "s", "S", "name", "values", "weights", "", "a b", "
 MARKS = b"[]{}=.,\"'#\\\n\r\t -+_0123456789abefnrSsxZ:\x00\x7f\x80\xc3\xa4\xff"
 
 
-def number_near(random, old, more=()):
+def number_near(chance, old, more=()):
     """A number for another one: a step off, at an end of a range or beyond, or any."""
-    far, end = random.choice(NUMBERS), random.choice(more or NUMBERS)
-    return random.choice([old + 1, old - 1, far, end, random.randrange(0, 40)])
+    far, end = chance.choice(NUMBERS), chance.choice(more or NUMBERS)
+    return chance.choice([old + 1, old - 1, far, end, chance.randrange(0, 40)])
 
 
 # ---- changes of any text
 
 
-def with_other_bytes(random, text):
+def with_other_bytes(chance, text):
     """One to three bytes are set, put in or taken out."""
     text = bytearray(text)
-    for _ in range(random.randint(1, 3)):
-        at, byte = random.randint(0, len(text)), random.choice(MARKS)
-        text[at:at + random.randint(0, 1)] = random.choice([b"", bytes([byte]), bytes([byte, byte])])
+    for _ in range(chance.randint(1, 3)):
+        at, byte = chance.randint(0, len(text)), chance.choice(MARKS)
+        text[at:at + chance.randint(0, 1)] = chance.choice([b"", bytes([byte]), bytes([byte, byte])])
     return bytes(text)
 
 
-def with_other_lines(random, text):
+def with_other_lines(chance, text):
     """A line is dropped, doubled, moved or cut in two."""
     lines = text.split(b"\n")
-    at, to = random.randrange(len(lines)), random.randrange(len(lines))
-    kind = random.randrange(4)
+    at, to = chance.randrange(len(lines)), chance.randrange(len(lines))
+    kind = chance.randrange(4)
     if kind == 3:
-        place = random.randint(0, len(lines[at]))
+        place = chance.randint(0, len(lines[at]))
         lines[at:at + 1] = [lines[at][:place], lines[at][place:]]
     else:
         line = lines[at] if kind == 1 else lines.pop(at)
@@ -56,30 +56,30 @@ def with_other_lines(random, text):
     return b"\n".join(lines)
 
 
-def cut_off(random, text):
+def cut_off(chance, text):
     """A front of the text, up to anywhere, the end of a line or the last byte; sometimes with an end that closes
     nothing."""
     ends = [it.start() + more for it in re.finditer(rb"\n", text) for more in (0, 1)] or [0]
-    size = random.choice([random.randint(0, len(text)), random.choice(ends), len(text) - 1])
-    return text[:size] + random.choice([b"", b"", b"\n", b"]", b"#"])
+    size = chance.choice([chance.randint(0, len(text)), chance.choice(ends), len(text) - 1])
+    return text[:size] + chance.choice([b"", b"", b"\n", b"]", b"#"])
 
 
-def with_other_number(random, text, more=()):
+def with_other_number(chance, text, more=()):
     """One number of the text is another."""
     places = list(re.finditer(rb"-?[0-9]+", text))
     if not places:
         return text
-    place = random.choice(places)
-    return text[:place.start()] + b"%d" % number_near(random, int(place[0][:18]), more) + text[place.end():]
+    place = chance.choice(places)
+    return text[:place.start()] + b"%d" % number_near(chance, int(place[0][:18]), more) + text[place.end():]
 
 
-def with_other_spelling(random, text):
+def with_other_spelling(chance, text):
     """A number of the text is spelt in another way, or the text's line ends are."""
     places = list(re.finditer(rb"[0-9]+", text))
-    kind = random.randrange(10)
+    kind = chance.randrange(10)
     if kind == 0 or not places:
         return text.replace(b"\n", b"\r\n")
-    place = random.choice(places)
+    place = chance.choice(places)
     number = place[0]
     spelt = [b"+" + number, b"0" + number, b"-" + number, b"0x" + number, number + b"_0", b"1_" + number, number + b" ",
              number + b".0", b"\"" + number + b"\""][kind - 1]
@@ -89,22 +89,22 @@ def with_other_spelling(random, text):
 # ---- trees of scenarios
 
 
-def a_scenario(random):
+def a_scenario(chance):
     """The tree of a scenario that has no fault."""
     def draws(low, high):
-        values = sorted(random.sample(range(low, high + 1), random.randint(1, min(6, high - low + 1))))
-        return {"values": values, "weights": [random.randint(1, 9) for _ in values]}
+        values = sorted(chance.sample(range(low, high + 1), chance.randint(1, min(6, high - low + 1))))
+        return {"values": values, "weights": [chance.randint(1, 9) for _ in values]}
 
-    tree = {"version": random.choice([1, 2]), "key": ["%016x" % random.getrandbits(64) for _ in range(4)],
-            "periods": random.choice([1, 3, 4, 5, 16, 1024]), "replications": random.choice([1, 2, 3, 256]),
-            "initial": random.choice([0, 10, 1_000_000]), "ring": 2**random.randint(0, 10),
-            "costs": {it: random.randint(0, 100) for it in ("setup", "unit", "holding", "backlog")},
-            "demand": draws(0, random.choice([5, 10_000])), "lead": draws(1, 32), "policy": []}
+    tree = {"version": chance.choice([1, 2]), "key": ["%016x" % chance.getrandbits(64) for _ in range(4)],
+            "periods": chance.choice([1, 3, 4, 5, 16, 1024]), "replications": chance.choice([1, 2, 3, 256]),
+            "initial": chance.choice([0, 10, 1_000_000]), "ring": 2**chance.randint(0, 10),
+            "costs": {it: chance.randint(0, 100) for it in ("setup", "unit", "holding", "backlog")},
+            "demand": draws(0, chance.choice([5, 10_000])), "lead": draws(1, 32), "policy": []}
     if tree["version"] == 2:
         tree["returns"] = draws(0, 8)
-    for number in range(random.choice([1, 2, 3, 16])):
-        name, s = random.choice(["P%d", "p-%d", "_%d"]) % number, random.randint(0, 50)
-        tree["policy"].append({"name": name, "s": s, "S": s + random.randint(0, 50)})
+    for number in range(chance.choice([1, 2, 3, 16])):
+        name, s = chance.choice(["P%d", "p-%d", "_%d"]) % number, chance.randint(0, 50)
+        tree["policy"].append({"name": name, "s": s, "S": s + chance.randint(0, 50)})
     return tree
 
 
@@ -118,19 +118,19 @@ def places_of(tree):
     return found
 
 
-def deep(random, value):
+def deep(chance, value):
     """The value within lists or tables. Readers may end at some depth: it is kept below any that was met."""
-    for _ in range(random.choice([1, 2, 30])):
-        value = [value] if random.random() < 0.5 else {"a": value}
+    for _ in range(chance.choice([1, 2, 30])):
+        value = [value] if chance.random() < 0.5 else {"a": value}
     return value
 
 
-def list_changed(random, value):
+def list_changed(chance, value):
     """A list with an entry more or less, or two that changed places."""
-    kind = random.randrange(3)
+    kind = chance.randrange(3)
     if not value or kind == 0:
-        return value + [random.choice([*value, 1])]
-    at, to = random.randrange(len(value)), random.randrange(len(value))
+        return value + [chance.choice([*value, 1])]
+    at, to = chance.randrange(len(value)), chance.randrange(len(value))
     if kind == 1:
         return value[:at] + value[at + 1:]
     value = list(value)
@@ -138,144 +138,144 @@ def list_changed(random, value):
     return value
 
 
-def tree_changed(random, tree):
+def tree_changed(chance, tree):
     """The tree with one change."""
     tree = copy.deepcopy(tree)
-    holder, key = random.choice(places_of(tree) or [(tree, None)])
-    kind = random.randrange(9)
+    holder, key = chance.choice(places_of(tree) or [(tree, None)])
+    kind = chance.randrange(9)
     old = None if key is None else holder[key]
     if key is None or kind == 0:
-        tree[random.choice(KEYS)] = random.choice(OTHER_KINDS)
+        tree[chance.choice(KEYS)] = chance.choice(OTHER_KINDS)
     elif kind == 1 and isinstance(holder, dict):
         del holder[key]
     elif kind == 2 and isinstance(holder, dict):
-        holder[random.choice(KEYS)] = old
+        holder[chance.choice(KEYS)] = old
     elif kind == 3:
-        holder[key] = random.choice(OTHER_KINDS)
+        holder[key] = chance.choice(OTHER_KINDS)
     elif kind == 4:
-        holder[key] = deep(random, old)
+        holder[key] = deep(chance, old)
     elif isinstance(old, list):
-        holder[key] = list_changed(random, old) if kind < 8 else old * random.choice([0, 2, 9])
+        holder[key] = list_changed(chance, old) if kind < 8 else old * chance.choice([0, 2, 9])
     elif isinstance(old, str):
-        holder[key] = random.choice(STRINGS)
+        holder[key] = chance.choice(STRINGS)
     elif type(old) is int:
         ends = [it + step for it in RANGES.get(key, LIST_ENDS) for step in (-1, 0, 1)]
-        holder[key] = random.choice([number_near(random, old), random.choice(ends)])
+        holder[key] = chance.choice([number_near(chance, old), chance.choice(ends)])
     elif isinstance(old, dict):
-        old[random.choice(KEYS)] = random.choice(OTHER_KINDS)
+        old[chance.choice(KEYS)] = chance.choice(OTHER_KINDS)
     return tree
 
 
-def rule_changed(random, tree):
+def rule_changed(chance, tree):
     """The tree with a change that is at the very end of a rule, or just beyond it."""
     tree = copy.deepcopy(tree)
-    draws = tree[random.choice(["demand", "lead", "returns"] if "returns" in tree else ["demand", "lead"])]
-    policies, policy = tree["policy"], random.choice(tree["policy"])
-    kind, more = random.randrange(7), random.randrange(2)
+    draws = tree[chance.choice(["demand", "lead", "returns"] if "returns" in tree else ["demand", "lead"])]
+    policies, policy = tree["policy"], chance.choice(tree["policy"])
+    kind, more = chance.randrange(7), chance.randrange(2)
     if kind == 0:
-        draws["weights"] = [0] * (len(draws["values"]) - 1) + [random.choice([0, 1, 65536, 65537])]
+        draws["weights"] = [0] * (len(draws["values"]) - 1) + [chance.choice([0, 1, 65536, 65537])]
     elif kind == 1:
         draws["values"] = draws["values"] + [draws["values"][-1] + more]
         draws["weights"] = draws["weights"] + [65536 - sum(draws["weights"])]
     elif kind == 2:
         policy["s"] = policy["S"] + more
     elif kind == 3:
-        policy["name"] = random.choice(policies)["name"] + "x" * random.choice([0, 10, 14, 15])
+        policy["name"] = chance.choice(policies)["name"] + "x" * chance.choice([0, 10, 14, 15])
     elif kind == 4:
-        tree["ring"] = random.choice([0, 1, 3, 512, 1023, 1024, 1025, 2048, -2])
+        tree["ring"] = chance.choice([0, 1, 3, 512, 1023, 1024, 1025, 2048, -2])
     elif kind == 5:
-        tree["policy"] = [{**policy, "name": f"N{it}"} for it in range(random.choice([0, 16, 17, 40]))]
+        tree["policy"] = [{**policy, "name": f"N{it}"} for it in range(chance.choice([0, 16, 17, 40]))]
     else:
-        tree["key"] = tree["key"][more:] + random.choice([[], ["0" * 16], ["0" * 15], ["0" * 17]])
+        tree["key"] = tree["key"][more:] + chance.choice([[], ["0" * 16], ["0" * 15], ["0" * 17]])
     return tree
 
 
-def spelt(random, value):
+def spelt(chance, value):
     """A value in TOML, tables inline."""
     if isinstance(value, dict):
-        return "{" + ", ".join(f"{spelt_key(random, it)} = {spelt(random, value[it])}" for it in value) + "}"
+        return "{" + ", ".join(f"{spelt_key(chance, it)} = {spelt(chance, value[it])}" for it in value) + "}"
     if isinstance(value, list):
-        gap = random.choice(["", " ", "\n  ", " # more\n"]) if value else ""
-        end = random.choice(["", ",", gap]) if value else ""
-        return "[" + ("," + gap).join(spelt(random, it) for it in value) + end + "]"
+        gap = chance.choice(["", " ", "\n  ", " # more\n"]) if value else ""
+        end = chance.choice(["", ",", gap]) if value else ""
+        return "[" + ("," + gap).join(spelt(chance, it) for it in value) + end + "]"
     if isinstance(value, str):
         return json.dumps(value, ensure_ascii=False).replace("\x7f", "\\u007f")
-    if type(value) is int and value >= 0 and random.random() < 0.1:
-        return random.choice([hex, oct, bin, "{:_}".format, "+{}".format])(value)
+    if type(value) is int and value >= 0 and chance.random() < 0.1:
+        return chance.choice([hex, oct, bin, "{:_}".format, "+{}".format])(value)
     return str(value).lower()
 
 
-def spelt_key(random, key):
+def spelt_key(chance, key):
     """A key in TOML."""
-    return key if re.fullmatch("[A-Za-z0-9_-]+", key) and random.random() < 0.9 else json.dumps(key)
+    return key if re.fullmatch("[A-Za-z0-9_-]+", key) and chance.random() < 0.9 else json.dumps(key)
 
 
-def document(random, tree):
+def document(chance, tree):
     """A tree as a document: each table inline, dotted or under a header, in any order."""
     items, tail = [], []
-    for key, value in random.sample(sorted(tree.items()), len(tree)):
-        name = spelt_key(random, key)
+    for key, value in chance.sample(sorted(tree.items()), len(tree)):
+        name = spelt_key(chance, key)
         tables = isinstance(value, list) and value and all(isinstance(it, dict) for it in value)
-        way = random.randrange(3)
+        way = chance.randrange(3)
         if isinstance(value, dict) and value and way == 1:
-            items += [f"{name}.{spelt_key(random, it)} = {spelt(random, value[it])}" for it in value]
+            items += [f"{name}.{spelt_key(chance, it)} = {spelt(chance, value[it])}" for it in value]
         elif (isinstance(value, dict) or tables) and way == 2:
             for table in value if tables else [value]:
                 head = f"[[{name}]]" if tables else f"[ {name} ]"
-                tail += [head, *(f"{spelt_key(random, it)} = {spelt(random, table[it])}" for it in table)]
+                tail += [head, *(f"{spelt_key(chance, it)} = {spelt(chance, table[it])}" for it in table)]
         else:
-            items.append(f"{name} = {spelt(random, value)}")
-    end = random.choice(["\n", "\r\n", " # end\n", "\n\n"])
+            items.append(f"{name} = {spelt(chance, value)}")
+    end = chance.choice(["\n", "\r\n", " # end\n", "\n\n"])
     return "".join(it + end for it in items + tail).encode()
 
 
-def changed_scenario(random, stored):
+def changed_scenario(chance, stored):
     """A scenario's text with up to three changes, of its tree or of its bytes."""
-    if random.random() < 0.6:
-        tree = a_scenario(random)
-        tree = rule_changed(random, tree) if random.random() < 0.4 else tree
-        for _ in range(random.choice([0, 0, 1, 1, 1, 2, 3])):
-            tree = tree_changed(random, tree)
-        text = document(random, tree)
-        return with_other_bytes(random, text) if random.random() < 0.1 else text
-    text = random.choice(stored)
-    for _ in range(random.choice([1, 1, 2, 3])):
-        change = random.choice([with_other_bytes, with_other_lines, cut_off, with_other_number, with_other_number,
+    if chance.random() < 0.6:
+        tree = a_scenario(chance)
+        tree = rule_changed(chance, tree) if chance.random() < 0.4 else tree
+        for _ in range(chance.choice([0, 0, 1, 1, 1, 2, 3])):
+            tree = tree_changed(chance, tree)
+        text = document(chance, tree)
+        return with_other_bytes(chance, text) if chance.random() < 0.1 else text
+    text = chance.choice(stored)
+    for _ in range(chance.choice([1, 1, 2, 3])):
+        change = chance.choice([with_other_bytes, with_other_lines, cut_off, with_other_number, with_other_number,
                                 with_other_spelling])
-        text = change(random, text)
+        text = change(chance, text)
     return text
 
 
 # ---- checkpoints and schedules
 
 
-def with_other_field(random, text):
+def with_other_field(chance, text):
     """A field of a row is emptied, doubled, dropped, or another row's."""
     lines = text.split(b"\n")
-    at = random.randrange(len(lines))
-    fields, others = lines[at].split(b","), random.choice(lines).split(b",")
-    place = random.randrange(len(fields))
-    fields[place:place + 1] = random.choice([[], [b""], [b"-"], fields[place:place + 1] * 2, [random.choice(others)]])
+    at = chance.randrange(len(lines))
+    fields, others = lines[at].split(b","), chance.choice(lines).split(b",")
+    place = chance.randrange(len(fields))
+    fields[place:place + 1] = chance.choice([[], [b""], [b"-"], fields[place:place + 1] * 2, [chance.choice(others)]])
     lines[at] = b",".join(fields)
     return b"\n".join(lines)
 
 
-def changed_checkpoint(random, text, ends):
+def changed_checkpoint(chance, text, ends):
     """A checkpoint's text with up to three changes; numbers may also be these ends of its ranges."""
     others = [with_other_bytes, with_other_lines, cut_off, with_other_field, with_other_spelling]
-    for _ in range(random.choice([0, 1, 1, 1, 2, 3])):
-        text = with_other_number(random, text, ends) if random.random() < 0.6 else random.choice(others)(random, text)
+    for _ in range(chance.choice([0, 1, 1, 1, 2, 3])):
+        text = with_other_number(chance, text, ends) if chance.random() < 0.6 else chance.choice(others)(chance, text)
     return text
 
 
-def changed_schedule(random, readers):
+def changed_schedule(chance, readers):
     """A schedule of up to forty lines, with some that are of another form."""
     odd = ["", "r", "l", "P", "p ", " p", "p0", "e1", "r+1", "r-1", "r01", "r00", "r 1", "r1\r", "rr", "r0x1",
            "r\u0661", "r1.", "x", "r4294967296", "r4294967295", "l18446744073709551616", "r" + "1" * 400,
            f"r{readers}", f"l{readers}"]
     good = ["p", "p", "e", *(f"{it}{number}" for it in "rrl" for number in range(readers))]
-    lines = random.choices(good, k=random.randint(0, 40))
-    for _ in range(random.choice([0, 0, 0, 1, 2])):
-        lines.insert(random.randint(0, len(lines)), random.choice(odd))
-    text = "\n".join(lines).encode() + random.choice([b"", b"\n"])
-    return with_other_bytes(random, text) if random.random() < 0.2 else text
+    lines = chance.choices(good, k=chance.randint(0, 40))
+    for _ in range(chance.choice([0, 0, 0, 1, 2])):
+        lines.insert(chance.randint(0, len(lines)), chance.choice(odd))
+    text = "\n".join(lines).encode() + chance.choice([b"", b"\n"])
+    return with_other_bytes(chance, text) if chance.random() < 0.2 else text

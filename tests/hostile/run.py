@@ -38,8 +38,10 @@ def main(program, names):
         with tempfile.TemporaryDirectory(prefix="crnsim-") as room:
             for name, wrong in PARTS[part](program, room):
                 counts["skipped" if wrong == SKIPPED else "failed" if wrong else "passed"] += 1
-                if wrong:
-                    print(f"{'SKIPPED' if wrong == SKIPPED else 'FAILED'} {part}: {name}: {wrong}", flush=True)
+                if wrong == SKIPPED:
+                    print(f"SKIPPED {part}: {name}", flush=True)
+                elif wrong:
+                    print(f"FAILED {part}: {name}: {wrong}", flush=True)
         tried = sum(counts.values()) - sum(before.values())
         print(f"{part}: {tried} tries in {time.monotonic() - begun:.0f} seconds", flush=True)
     skipped = f", {counts['skipped']} skipped" if counts["skipped"] else ""

@@ -90,7 +90,7 @@ def input_tries(program, commands):
             front = command.data[:len(command.data) * part // FRONTS]
             wanted = front_answer(command, front)
             # A front of a schedule that ends with a whole line is a schedule, with a trace of its own.
-            if wanted or command.name != "replay":
+            if wanted:
                 yield f"{name} cut at byte {len(front)}", verdict(run(program, command.words, front), wanted)
 
 
@@ -194,7 +194,7 @@ def without_rights():
 
 def unreadable_tries(program, command, room):
     """A file that may not be read."""
-    file = written(room, "unreadable", command.file)
+    file = written(room, f"unreadable_{command.name}", command.file)
     os.chmod(file, 0)
     prepare = without_rights if os.geteuid() == 0 else None
     shown = run(program, [command.name, file], command.data, prepare=prepare)
