@@ -108,10 +108,11 @@ fn put_policy(
 // A checkpoint at the end of all replications.
 fn checkpoint_text(alloc: Global, policies: u32, replications: u32) -> Result<String, AllocError> {
     let mut text = format!(in alloc;
-        "checkpoint,1,{replications},4,{replications}
+        "checkpoint,2,{replications},4,{replications}
 key,0000000000000000,0000000000000000,0000000000000000,0000000000000000
 costs,7,2,1,4
 sizes,10,1,1,{policies}
+returns,0,-,-,-
 demand,3,1,-,-
 lead,1,1,-,-
 "
