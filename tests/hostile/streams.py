@@ -82,8 +82,7 @@ def input_tries(program, commands):
             yield f"{name} closed", right(command, closed)
             yield f"{name} a folder", right(command, unread)
             continue
-        # Where no input is open the system opens FILE in its place, so the checkpoint is read as the scenario.
-        yield f"{name} closed", verdict(closed, READING if command.file is None else refused("scenario 1", 3))
+        yield f"{name} closed", verdict(closed, READING)
         yield f"{name} a folder", verdict(unread, READING)
         yield f"{name} byte by byte", right(command, run_dribbled(program, command.words, command.data))
         for part in range(FRONTS):

@@ -11,7 +11,7 @@ pub use crn_engines::{Fault, leg, migrate, replay_run, resume, simulate, write_w
 pub use dispatch::answer_command;
 use std::env;
 use std::fs::File;
-use std::io::ErrorKind;
+use std::io::{ErrorKind, Read, Stdin};
 use std::process::ExitCode;
 use std::sync::Wait;
 use std::thread::Threads;
@@ -28,11 +28,14 @@ fn main(rt: HostRuntime) -> ExitCode {
 }
 
 // Answers the words of the command line, a run of policies on threads of `threads`. The file of a checkpoint is opened
-// before any input is read.
+// before a byte of any input is read.
 fn run<H: Threads + Wait + Sync>(rt: &HostRuntime, threads: &H) -> Result<(), Fault> {
     let alloc = rt.alloc();
     let command = read_words(alloc, words_of(rt)?.as_slice())?;
     let (mut input, mut output) = (rt.stdin(), rt.stdout());
+    if let Command::Resume { .. } = &command {
+        check_open(&mut input)?;
+    }
     match &command {
         Command::Resume { file } | Command::Migrate { file } => {
             let mut saved = opened(rt, file.as_str())?;
@@ -49,6 +52,15 @@ fn run<H: Threads + Wait + Sync>(rt: &HostRuntime, threads: &H) -> Result<(), Fa
             let mut none: &[u8] = &[];
             answer_command(threads, alloc, &command, &mut none, &mut input, &mut output)
         }
+    }
+}
+
+// Refuses a standard input that is closed: the system would put the next file that is opened in its place, and the
+// checkpoint would be read as the scenario.
+fn check_open(input: &mut Stdin) -> Result<(), Fault> {
+    match input.read(&mut []) {
+        Ok(_) => Ok(()),
+        Err(_) => Err(Fault::Reading),
     }
 }
 
