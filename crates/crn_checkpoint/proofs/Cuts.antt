@@ -1,5 +1,5 @@
 -- A checkpoint and its scenario, as they are read.
-use Rattle.std.proofs.Common.{◌≡◌, ℕ, ◌<◌, ◌≤◌, ◌^◌, Option, Some, List, decimal, refl, ap, sym, ◌∙◌, subst, arith}
+use Rattle.std.proofs.Common.{true, ◌≡◌, ℕ, ◌<◌, ◌≤◌, ◌^◌, Option, Some, List, decimal, refl, ap, sym, ◌∙◌, subst, arith, inl, inr}
 use Rattle.crn_stock.specs.declared.rules.Policy.{Policy}
 use Rattle.crn_stock.specs.Parts.{Parts}
 use Rattle.crn_stock.specs.Models.{ModelParts, total}
@@ -7,10 +7,9 @@ use Rattle.crn_stock.specs.Scenarios.{ScenarioParts, AreForScenario, IsRingSize}
 use Rattle.crn_checkpoint.specs.declared.version.Version.{Version}
 use Rattle.crn_checkpoint.specs.declared.version.Version.TheVariants.{First, Second}
 use Rattle.crn_checkpoint.specs.CheckpointText.{version_number, checkpoint_rows, checkpoint_text}
-use Rattle.crn_checkpoint.specs.Reading.{IsTextIn, IsSameButRing}
+use Rattle.crn_checkpoint.specs.Reading.{IsTextIn, IsAnyTextOf, IsSameButRing}
 use Rattle.crn_checkpoint.specs.Cells.{cell, AreRowsOf}
 use Rattle.crn_checkpoint.proofs.Lengths.{total_high}
-use Rattle.std.proofs.Common.{true}
 use Rattle.crn_rows.specs.Plain.{are_rows}
 use Rattle.crn_rows.specs.Rows.{rows_text}
 use Rattle.crn_checkpoint.proofs.PlainRows.{rows_plain}
@@ -74,3 +73,8 @@ pub rows_of_text : (v : Version) (s : ScenarioParts) (next : ℕ) (states : List
     → ((rows : List (List (List ℕ))) → are_rows rows ≡ true → bytes ≡ rows_text rows → items ≡ rows) → {now : List (List (List ℕ))} → now ≡ items → AreRowsOf v s next states now
 unfolding checkpoint_text
 rows_of_text v s next states bytes items h reads {now} e = record { ranges = h.ranges; tells = h.tells; rows_are = e ∙ reads (checkpoint_rows v s next states) (rows_plain v s next states h.ranges) h.text_is }
+
+-- a text in some version is one in whatever version
+pub any_text : (v : Version) (s : ScenarioParts) (next : ℕ) (states : List Parts) (bytes : List ℕ) → IsTextIn v s next states bytes → IsAnyTextOf s next states bytes
+any_text First s next states bytes text = inr text
+any_text Second s next states bytes text = inl text

@@ -1,7 +1,8 @@
 -- The guide to the search: for the words that share their leading bits, the values that they can draw.
-use Rattle.std.specs.Prelude.{◌≡◌, ℕ, ◌+◌, ◌-◌, ◌*◌, ◌^◌, ◌<◌, ◌≤◌, List, length, slice_index_or}
-use Rattle.crn_draw.specs.declared.guide.Bucket.{Bucket}
-use Rattle.crn_draw.specs.declared.guide.Bucket.TheVariants.{One, Several}
+use Rattle.std.specs.Prelude.{◌≡◌, ◌≢◌, ℕ, ◌+◌, ◌-◌, ◌*◌, ◌^◌, ◌<◌, ◌≤◌, List, length, slice_index, slice_index_or}
+use Rattle.crn_draw.specs.declared.guide.Bracket.{Bracket}
+use Rattle.crn_draw.specs.declared.guide.Guide.{Guide}
+use Rattle.crn_draw.specs.declared.guide.TheConstants.{SEVERAL}
 use Rattle.crn_draw.specs.declared.runs.Run.{Run}
 use Rattle.crn_draw.specs.Spread.{place_of}
 use Rattle.crn_draw.specs.Runs.{IsBracket, StandsAt}
@@ -13,16 +14,24 @@ first_place bits total = place_of (bits * 2 ^ 54) total
 abbrev pub last_place : ℕ → ℕ → ℕ
 last_place bits total = place_of (bits * 2 ^ 54 + (2 ^ 54 - 1)) total
 
--- what a bucket says of the places from `low` to `high`
-abbrev pub IsBucket : List Run → ℕ → ℕ → Bucket → Type 0
-IsBucket runs low high (One value) = (place : ℕ) → low ≤ place → place ≤ high → StandsAt runs place value
-IsBucket runs low high (Several first last) = IsBracket runs low high first last
+-- an entry that is not the mark stands at each place from `low` to `high`
+abbrev pub IsEntry : List Run → ℕ → ℕ → ℕ → Type 0
+IsEntry runs low high entry = entry ≢ SEVERAL → (place : ℕ) → low ≤ place → place ≤ high → StandsAt runs place entry
 
--- what stands past the end of a guide
-abbrev pub no_bucket : Bucket
-no_bucket = One 0
+-- what stands past the end of the brackets
+abbrev pub no_bracket : Bracket
+no_bracket = record { first = 0; last = 0 }
 
--- a bucket for each number of ten bits
-pub record IsGuide (runs : List Run) (total : ℕ) (guide : List Bucket) : Type 0 where
-  pub buckets : length guide ≡ 1024
-  pub each : (bits : ℕ) → bits < 1024 → IsBucket runs (first_place bits total) (last_place bits total) (slice_index_or guide bits no_bucket)
+-- what an entry and a bracket say of the words whose leading bits are a number
+abbrev pub EntryFits : List Run → ℕ → ℕ → ℕ → Type 0
+EntryFits runs total bits entry = IsEntry runs (first_place bits total) (last_place bits total) entry
+
+abbrev pub BracketFits : List Run → ℕ → ℕ → Bracket → Type 0
+BracketFits runs total bits bracket = IsBracket runs (first_place bits total) (last_place bits total) bracket.first bracket.last
+
+-- an entry and a bracket for each number of ten bits
+pub record IsGuide (runs : List Run) (total : ℕ) (guide : Guide) : Type 0 where
+  pub entries : length guide.entries.items ≡ 1024
+  pub brackets : length guide.brackets.items ≡ 1024
+  pub each_entry : (bits : ℕ) → bits < 1024 → EntryFits runs total bits (slice_index guide.entries.items bits)
+  pub each_bracket : (bits : ℕ) → bits < 1024 → BracketFits runs total bits (slice_index_or guide.brackets.items bits no_bracket)

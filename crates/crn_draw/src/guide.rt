@@ -3,7 +3,7 @@
 ghost use Rattle.std.specs.Prelude.{◌≡◌, ℕ, ◌≤◌, ◌<◌, IfOk, length};
 ghost use Rattle.crn_draw.specs.Spread.{place_of};
 ghost use Rattle.crn_draw.specs.Runs.{start_at, IsBracket, StandsAt, StartsRise};
-ghost use Rattle.crn_draw.specs.Guide.{IsBucket, IsGuide};
+ghost use Rattle.crn_draw.specs.Guide.{IsEntry, IsGuide};
 
 use crate::runs::{Run, index_of, place_at, value_at};
 use std::alloc::{AllocError, Global};
@@ -17,59 +17,76 @@ const BUCKET_WORDS: u64 = 1 << 54;
 // How many numbers the leading bits can be.
 const BUCKETS: u64 = 1024;
 
-// What the words with the same leading bits draw.
+// The mark of words that have to be searched for. A value that equals it is searched for like the others.
+const SEVERAL: u32 = u32::MAX;
+
+// The indices of the first and the last run that hold the places of words, both included.
 #[derive(Clone, Copy)]
-pub enum Bucket {
-    // All draw this value.
-    One(u32),
-    // Each draws the value of a run between two indices, both included.
-    Several(u16, u16),
+struct Bracket {
+    first: u16,
+    last: u16,
 }
 
-// The bucket of words whose places lie in the runs from `first` to `last`.
-fn bucket_of(runs: &[Run], first: usize, last: usize) -> Bucket
-    requires few { length runs.now ≤ 65536 }
-    requires ordered { first ≤ last }
-    requires inside { last < length runs.now }
-    ensures { (low high : ℕ) → IsBracket runs.now low high first last → IsBucket runs.now low high result }
+// What the words with the same leading bits draw, at the index that these bits are. The brackets stand apart, so that
+// the entries, which are read for each word, take little room.
+#[derive(Drop)]
+pub struct Guide {
+    // The value that all these words draw, or `SEVERAL`.
+    entries: Vec<u32>,
+    // The runs to search where the entry is `SEVERAL`.
+    brackets: Vec<Bracket>,
+}
+
+// The entry of words whose places lie in the runs from `first` to `last`.
+fn entry_of(runs: &[Run], first: usize, last: usize) -> u32
+    requires { last < length runs.now }
+    ensures { (low high : ℕ) → IsBracket runs.now low high first last → IsEntry runs.now low high result }
 {
     if first == last {
-        Bucket::One(runs[first].value)
+        runs[first].value
     } else {
-        Bucket::Several(first as u16, last as u16)
+        SEVERAL
     }
 }
 
-// A bucket for each number of leading bits, found in one walk over the runs of `total` places.
-pub fn guide_of(alloc: Global, runs: &[Run], total: u64) -> Result<Vec<Bucket>, AllocError>
+// The entry and the bracket of each number of leading bits, found in one walk over the runs of `total` places.
+pub fn guide_of(alloc: Global, runs: &[Run], total: u64) -> Result<Guide, AllocError>
     requires some { 0 < length runs.now }
     requires few { length runs.now ≤ 65536 }
     requires first { start_at runs.now 0 ≡ 0 }
     requires rising { StartsRise runs.now }
     requires total { total ≤ 65536 }
-    ensures { IfOk result (λ v. IsGuide runs.now total v.items) }
+    ensures { IfOk result (IsGuide runs.now total) }
 {
-    let mut guide = Vec::with_capacity(alloc, BUCKETS as usize)?;
-    let mut index = 0;
+    let mut entries = Vec::with_capacity(alloc, BUCKETS as usize)?;
+    let mut brackets = Vec::with_capacity(alloc, BUCKETS as usize)?;
+    let mut last = 0;
     for bits in 0..BUCKETS {
         let word = bits * BUCKET_WORDS;
-        let first = index_of(runs, index, place_at(word, total));
-        index = index_of(runs, first, place_at(word + (BUCKET_WORDS - 1), total));
-        guide.push(bucket_of(runs, first, index))?;
+        let first = index_of(runs, last, place_at(word, total));
+        last = index_of(runs, first, place_at(word + (BUCKET_WORDS - 1), total));
+        entries.push(entry_of(runs, first, last))?;
+        brackets.push(Bracket {
+            first: first as u16,
+            last: last as u16,
+        })?;
     }
-    Ok(guide)
+    Ok(Guide { entries, brackets })
 }
 
 // The value at the place of a word.
 #[inline(always)]
-pub fn draw(runs: &[Run], guide: &[Bucket], total: u64, word: u64) -> u32
+pub fn draw(runs: &[Run], guide: &Guide, total: u64, word: u64) -> u32
     requires rising { StartsRise runs.now }
     requires total { total ≤ 65536 }
     requires guide { IsGuide runs.now total guide.now }
     ensures { StandsAt runs.now (place_of word total) result }
 {
-    match guide[(word >> REST_BITS) as usize] {
-        Bucket::One(value) => value,
-        Bucket::Several(first, last) => value_at(runs, first, last, place_at(word, total)),
+    let bits = (word >> REST_BITS) as usize;
+    let value = guide.entries[bits];
+    if value != SEVERAL {
+        return value;
     }
+    let Bracket { first, last } = guide.brackets[bits];
+    value_at(runs, first, last, place_at(word, total))
 }

@@ -56,7 +56,7 @@ pub fn index_of(runs: &[Run], from: usize, place: u32) -> usize
 }
 
 // The value at `place`, which lies in one of the runs from `first` to `last`: a search by halves.
-#[inline(always)]
+#[inline(never)]
 pub fn value_at(runs: &[Run], first: u16, last: u16, place: u32) -> u32
     requires bracket { IsBracket runs.now place place first last }
     requires rising { StartsRise runs.now }

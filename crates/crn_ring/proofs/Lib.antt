@@ -9,3 +9,4 @@ pub mod Remembering
 pub mod Rooms
 pub mod Rows
 pub mod Schedules
+pub mod Slots

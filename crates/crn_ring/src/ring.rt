@@ -1,5 +1,6 @@
 //! The table of words that all actors share, and its rule.
-ghost use Rattle.std.specs.Prelude.{◌≡◌, ◌+◌, ◌-◌, ◌*◌, ◌<◌, ◌≤◌};
+ghost use Rattle.std.specs.Prelude.{◌≡◌, ◌+◌, ◌-◌, ◌*◌, ◌<◌, ◌≤◌, true};
+ghost use Rattle.std.specs.Int.{is_power_of_two};
 ghost use Rattle.crn_proto.specs.Ring.{word_count};
 
 use crate::view::View;
@@ -37,6 +38,7 @@ pub struct Ring {
     pub ghost counted: { table.shared.table_id.words ≡ word_count spec },
     pub ghost no_slots: { table.shared.table_id.slots ≡ 0 },
     pub ghost some_slot: { 0 < spec.size },
+    pub ghost power: { is_power_of_two spec.size ≡ true },
     pub ghost few_slots: { spec.size ≤ 1024 },
     pub ghost few_readers: { spec.readers ≤ 16 },
     pub ghost ordered: { spec.id.first ≤ spec.id.total },

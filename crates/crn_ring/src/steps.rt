@@ -16,13 +16,13 @@ use crn_cipher::BLOCK_WORDS;
 use crn_proto::LEFT;
 
 impl Ring {
-    // Where the words of block n begin. The one division that a block needs.
+    // Where the words of block n begin. The size is a power of two, so that the slot is told by a mask.
     #[inline(always)]
     pub(crate) fn base(&self, n: u64) -> usize
         ensures same { result ≡ place self.now.spec n 0 }
         ensures within { result + BLOCK_WORDS ≤ self.now.table.shared.table_id.words }
     {
-        (1 + self.spec.readers as u64 + BLOCK_WORDS as u64 * (n % self.spec.size)) as usize
+        (1 + self.spec.readers as u64 + BLOCK_WORDS as u64 * (n & (self.spec.size - 1))) as usize
     }
 
     // The producer loads the cursor of reader r.

@@ -1,5 +1,5 @@
 -- The runs of all policies, as stacks: of their jobs, and of their ends.
-use Rattle.std.proofs.Common.{◌≡◌, ℕ, zero, suc, refl, ◌+◌, ◌<◌, List, [], ◌∷◌, ◌++◌, length, Some, slice_get, get_or, Result, Ok, Err, IfOk, true, false, subst, sym, ap, ◌∙◌, arith, length-append}
+use Rattle.std.proofs.Common.{◌≡◌, ℕ, zero, suc, refl, ◌+◌, ◌<◌, List, [], ◌∷◌, ◌++◌, length, Some, slice_get, get_or, Result, Ok, Err, IfOk, OnOk, true, false, subst, sym, ap, ◌∙◌, arith, length-append}
 use Rattle.std.proofs.lemmas.Bool.{false≢true}
 use Rattle.std.specs.List.{list_any}
 use Rattle.std.proofs.lemmas.Option.{slice_get_within, slice_get-get_or}
@@ -82,6 +82,11 @@ one_more_end s ring jobs jobs' ends ends' j e more_jobs more_ends are last =
       count = omega (arith, are.count, ap length more_jobs, ap length more_ends, length-append jobs (j ∷ []), length-append ends (e ∷ []));
       each = λ i k x is_job is_end. all i x is_end k is_job;
     }
+
+-- what follows where there is a value, and from one fact more
+pub with_value : {T E P L Q : Type 0} (r : Result T E) → (P → L → Q) → OnOk r P → L → OnOk r Q
+with_value (Ok x) follows before last = follows before last
+with_value (Err e) follows before last = before
 
 -- ---- what is gathered from the ends
 

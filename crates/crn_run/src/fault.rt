@@ -5,8 +5,8 @@ use std::alloc::AllocError;
 use std::error::Error;
 use std::fmt;
 
-/// Why [`run_all`](crate::run_all) has no result. As a number, each fault is what the program's messages call it; where
-/// several hold, the least is answered.
+/// Why [`run_all`](crate::run_all) has no result. Where several hold, the least by number is answered. The program's messages
+/// call them by words, and not by these numbers.
 #[derive(Clone, Copy, Debug, PartialEq, Eq)]
 pub enum RunFault {
     /// A thread was refused.

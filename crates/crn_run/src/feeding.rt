@@ -4,9 +4,9 @@ ghost use Rattle.crn_cipher.specs.declared.stream.Block.{Block};
 ghost use Rattle.crn_ring.specs.Calls.{FollowOn, IsProducerOf, producer_part, spec_of};
 
 use crate::BATCH;
+use crate::waiting::Waiting;
 use crn_cipher::{Block, block};
 use crn_ring::{Producer, PublishMany, Ring};
-use crossbeam_utils::Backoff;
 use std::sync::Wait;
 
 /// Publishes all blocks of the ring's stream that are not published, by batches of 16 at most, and then the end.
@@ -24,6 +24,7 @@ pub fn feed<R: Wait>(rt: &R, ring: &Ring, producer: &mut Producer)
 {
     let id = ring.spec().id;
     let mut blocks = [block(id.key, id.first); BATCH];
+    let waiting = Waiting::of_producer(ring);
     for _ in rt.forever() {
         let n = producer.published();
         if n == id.total {
@@ -32,7 +33,7 @@ pub fn feed<R: Wait>(rt: &R, ring: &Ring, producer: &mut Producer)
         }
         let count = BATCH.min((id.total - n) as usize);
         fill(id.key, n, &mut blocks, count);
-        publish_all(rt, ring, producer, &blocks[..count]);
+        publish_all(rt, ring, producer, &blocks[..count], &waiting);
     }
     unreachable!()
 }
@@ -48,7 +49,13 @@ fn fill(key: [u64; 4], n: u64, blocks: &mut [Block], count: usize)
 }
 
 // Publishes these blocks, which are the next ones, and tries again where there is no room.
-fn publish_all<R: Wait>(rt: &R, ring: &Ring, producer: &mut Producer, blocks: &[Block])
+fn publish_all<R: Wait>(
+    rt: &R,
+    ring: &Ring,
+    producer: &mut Producer,
+    blocks: &[Block],
+    waiting: &Waiting,
+)
     requires of { IsProducerOf ring.now producer.old }
     requires running { (producer_part producer.old).ended ≡ false }
     requires blocks { ((producer_part producer.old).published + length blocks.now ≤ (spec_of ring.now).id.total) × FollowOn (spec_of ring.now) (producer_part producer.old).published (length blocks.now) blocks.now }
@@ -56,7 +63,6 @@ fn publish_all<R: Wait>(rt: &R, ring: &Ring, producer: &mut Producer, blocks: &[
     ensures running { (producer_part producer.new).ended ≡ false }
     ensures published { (producer_part producer.new).published ≡ (producer_part producer.old).published + length blocks.now }
 {
-    let backoff = Backoff::new();
     let mut start = 0;
     for _ in rt.forever() {
         if start == blocks.len() {
@@ -65,12 +71,12 @@ fn publish_all<R: Wait>(rt: &R, ring: &Ring, producer: &mut Producer, blocks: &[
         match producer.publish_batch(ring, &blocks[start..]) {
             PublishMany::Done { count } => {
                 start += count;
-                backoff.reset();
+                waiting.reset();
             }
             PublishMany::Full {
                 reader: _,
                 taken: _,
-            } => backoff.snooze(),
+            } => waiting.wait(rt),
         }
     }
     unreachable!()

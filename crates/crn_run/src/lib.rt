@@ -10,6 +10,7 @@ mod plain;
 mod prepared;
 mod run;
 mod threads;
+mod waiting;
 mod worker;
 
 pub use checkpoint::Checkpoint;

@@ -1,5 +1,5 @@
 //! One thread for each policy.
-ghost use Rattle.std.specs.Prelude.{◌≡◌, ◌≤◌, true, false, [], length, OnOk, OnErr, IfOk, All, vec_len, vec_capacity, IfErr};
+ghost use Rattle.std.specs.Prelude.{◌≡◌, ◌+◌, ◌≤◌, true, false, [], length, OnOk, OnErr, IfOk, All, vec_len, vec_capacity, IfErr};
 ghost use Rattle.std.specs.Slice.Iter.{iter_mut_rest};
 ghost use Rattle.crn_ring.specs.Calls.{IsProducerOf, producer_part};
 ghost use Rattle.crn_run.specs.Ends.{EndsAs, is_held};
@@ -37,7 +37,7 @@ impl<G: Gate> Promise<PolicyEnd> for EndsJob<G> {
 }
 
 // Starts a thread for the last job, goes on with those before it, and then joins that thread. Where no job is left it
-// feeds the ring, and where a thread is refused it ends the ring as it is.
+// feeds the ring, and where a thread is refused it ends the ring as it is, and has an end of each thread that was started.
 fn start_from<'s, 'e: 's, 'g: 's, R: Threads + Wait + Sync, G: Gate + Send>(
     rt: &'e R,
     scope: &'s Scope<'s, &'e ()>,
@@ -60,6 +60,7 @@ fn start_from<'s, 'e: 's, 'g: 's, R: Threads + Wait + Sync, G: Gate + Send>(
     ensures capacity { vec_capacity ends.old ≤ vec_capacity ends.new }
     ensures ended { (producer_part producer.new).ended ≡ true }
     ensures refused { OnErr result ((producer_part producer.new).published ≡ (producer_part producer.old).published) }
+    ensures joined { OnErr result (vec_len ends.new + vec_len jobs.new + 1 ≡ vec_len jobs.old) }
 {
     let Some(job) = jobs.pop() else {
         feed(rt, ring, producer);
@@ -88,10 +89,8 @@ fn start_from<'s, 'e: 's, 'g: 's, R: Threads + Wait + Sync, G: Gate + Send>(
         }
         Ok(child) => {
             let others = start_from(rt, scope, ring, scenario, producer, jobs, gates, ends);
-            let end = child.join(rt);
-            others?;
-            ends.push_reserved(end);
-            Ok(())
+            ends.push_reserved(child.join(rt));
+            others
         }
     }
 }

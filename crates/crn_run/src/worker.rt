@@ -10,11 +10,11 @@ ghost use Rattle.crn_run.specs.Ends.{Advances, EndsAs, is_held, FollowFrom};
 
 use crate::BATCH;
 use crate::gate::{Gate, Permit, ask};
+use crate::waiting::Waiting;
 use crn_cipher::{Block, block};
 use crn_ring::{Batch, LeftReader, Reader, Ring};
 use crn_stock::laws::onward_from_itself;
 use crn_stock::{Policy, Scenario, State};
-use crossbeam_utils::Backoff;
 use std::sync::Wait;
 
 /// How the run of one policy has ended.
@@ -104,7 +104,7 @@ fn run_until_held<R: Wait, G: Gate>(
     let rules = &scenario.policies()[policy as usize];
     onward_from_itself(&state);
     let mut blocks = [block(scenario.key(), 0); BATCH];
-    let backoff = Backoff::new();
+    let waiting = Waiting::of_reader(ring);
     for _ in rt.forever() {
         match reader.take_batch(ring, &mut blocks) {
             Batch::Got { count } => {
@@ -112,9 +112,9 @@ fn run_until_held<R: Wait, G: Gate>(
                     let left = reader.into_left(ring);
                     return Err(HeldRun { state, left });
                 }
-                backoff.reset();
+                waiting.reset();
             }
-            Batch::Empty { published: _ } => backoff.snooze(),
+            Batch::Empty { published: _ } => waiting.wait(rt),
             Batch::Ended { published } if published == ring.spec().id.total => {
                 return Ok(PolicyEnd::Reached { state, reader });
             }

@@ -1,7 +1,19 @@
-use Rattle.std.proofs.Common.{rules, ◌∙◌, sym, inl, inr}
+use Rattle.std.proofs.Common.{rules, ◌≡◌, ◌∙◌, false, sym, inl, inr}
 use Rattle.crn_checkpoint.specs.declared.version.Version.TheVariants.{First, Second}
-use Rattle.crn_checkpoint.proofs.Cuts.{same_too, text_of_same}
+use Rattle.crn_checkpoint.proofs.Cuts.{same_too, text_of_same, any_text}
 use Rattle.crn_checkpoint.proofs.reading.read_checkpoint.Goals as goal
+
+pub returns-then-not-same_but_ring-clause-refused : goal.returns-then-not-same_but_ring-clause-refused
+returns-then-not-same_but_ring-clause-refused c =
+    let cut = c.in-Ok.cut in
+    let other : c.same_but_ring.result ≡ false = search rules in
+    record {
+      scenario = cut.scenario;
+      next = cut.checkpoint.next;
+      states = cut.checkpoint.states.items;
+      is_text = any_text cut.version cut.scenario cut.checkpoint.next cut.checkpoint.states.items c.args.bytes.now c.in-Ok.ensures.is_text;
+      differs = λ same. absurd (cc (sym (c.same_but_ring.ensures.1 same) ∙ other));
+    }
 
 pub returns-in-First-clause-refused : goal.returns-in-First-clause-refused
 returns-in-First-clause-refused c =

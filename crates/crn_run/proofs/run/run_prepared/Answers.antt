@@ -1,12 +1,10 @@
 use Rattle.std.proofs.Common.{rules, ◌≡◌, List, ap, ◌∙◌}
-use Rattle.crn_stock.specs.Parts.{Parts}
 use Rattle.crn_stock.specs.Scenarios.{ScenarioParts}
 use Rattle.crn_proto.specs.declared.spec.RingSpec.{RingSpec}
 use Rattle.crn_ring.specs.declared.ring.Ring.{Ring}
-use Rattle.crn_ring.specs.Calls.{spec_of}
 use Rattle.crn_run.specs.declared.jobs.Job.{Job}
 use Rattle.crn_run.specs.declared.worker.PolicyEnd.{PolicyEnd}
-use Rattle.crn_run.specs.Jobs.{AreEnds, AreJobs, Gathers}
+use Rattle.crn_run.specs.Jobs.{AreEnds, Gathers}
 use Rattle.crn_run.proofs.Ending.{has_run}
 use Rattle.crn_run.proofs.run.run_prepared.Goals as goal
 

@@ -3,9 +3,9 @@ use Rattle.std.specs.Slice.Iter.{iter_mut_rest}
 use Rattle.crn_run.specs.declared.jobs.Job.{Job}
 use Rattle.crn_run.specs.declared.worker.PolicyEnd.{PolicyEnd}
 use Rattle.crn_run.specs.Ends.{EndsAs, is_held}
-use Rattle.crn_run.specs.Jobs.{AreEnds, HasRefused, HeldByGates, IsReady}
+use Rattle.crn_run.specs.Jobs.{HasRefused, IsReady}
 use Rattle.crn_run.proofs.Growing.{all-head, all-tail, each-front, each-last}
-use Rattle.crn_run.proofs.Ending.{held_or_last, one_more_end}
+use Rattle.crn_run.proofs.Ending.{held_or_last, one_more_end, with_value}
 use Rattle.crn_run.proofs.threads.+start_from.Goals as goal
 
 pub spawn_with-requires-clause-runs : goal.spawn_with-requires-clause-runs
@@ -29,20 +29,22 @@ start_from-others-requires-clause-jobs g t c κs within =
     let whole : c.args.jobs.now.items ≡ front ++ c.in-Some.job ∷ [] = search rules in
     each-front (λ _. IsReady c.args.scenario.now c.args.ring.now) front c.args.jobs.now.items c.in-Some.job whole c.requires.jobs
 
-pub returns-in_ok-others-in-Ok-clause-ends : goal.returns-in_ok-others-in-Ok-clause-ends
-returns-in_ok-others-in-Ok-clause-ends g t c =
+pub returns-in-Ok-clause-ends : goal.returns-in-Ok-clause-ends
+returns-in-Ok-clause-ends g t c =
     let front : List Job = c.pop.new.self.items in
     let below : List PolicyEnd = c.start_from-others.new.ends.items in
     let whole : c.args.jobs.now.items ≡ front ++ c.in-Some.job ∷ [] = search rules in
-    let grown : c.push_reserved.new.self.items ≡ below ++ c.join-end.result ∷ [] = search rules in
-    let last : EndsAs c.args.scenario.now c.in-Some.job.policy c.in-Some.job.state c.args.ring.now c.in-Some.job.policy c.join-end.result = search rules in
-    let ends : AreEnds c.args.scenario.now c.args.ring.now front below = search rules in
-    one_more_end c.args.scenario.now c.args.ring.now front c.args.jobs.now.items below c.push_reserved.new.self.items c.in-Some.job c.join-end.result whole grown ends last
+    let grown : c.push_reserved.new.self.items ≡ below ++ c.join.result ∷ [] = search rules in
+    let last : EndsAs c.args.scenario.now c.in-Some.job.policy c.in-Some.job.state c.args.ring.now c.in-Some.job.policy c.join.result = search rules in
+    with_value c.start_from-others.result
+    (one_more_end c.args.scenario.now c.args.ring.now front c.args.jobs.now.items below c.push_reserved.new.self.items c.in-Some.job c.join.result whole grown)
+    c.start_from-others.ensures.ends last
 
-pub returns-in_ok-others-in-Ok-clause-held : goal.returns-in_ok-others-in-Ok-clause-held
-returns-in_ok-others-in-Ok-clause-held g t c =
+pub returns-in-Ok-clause-held : goal.returns-in-Ok-clause-held
+returns-in-Ok-clause-held g t c =
     let below : List PolicyEnd = c.start_from-others.new.ends.items in
-    let grown : c.push_reserved.new.self.items ≡ below ++ c.join-end.result ∷ [] = search rules in
-    let others : HeldByGates g.G.Gate.refused below = search rules in
-    let last : is_held c.join-end.result ≡ true → HasRefused g.G.Gate.refused = search rules in
-    rw grown (held_or_last below c.join-end.result (HasRefused g.G.Gate.refused) others last)
+    let grown : c.push_reserved.new.self.items ≡ below ++ c.join.result ∷ [] = search rules in
+    let last : is_held c.join.result ≡ true → HasRefused g.G.Gate.refused = search rules in
+    with_value c.start_from-others.result
+    (λ others end. rw grown (held_or_last below c.join.result (HasRefused g.G.Gate.refused) others end))
+    c.start_from-others.ensures.held last
