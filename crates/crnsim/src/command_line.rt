@@ -3,6 +3,11 @@
 ghost use Rattle.std.specs.Prelude.{◌≡◌, ◌⊎◌, ℕ, ◌<◌, ◌^◌, Some, ◌↔◌, IfErr, IfSome, IsTrue, decimal};
 ghost use Rattle.crnsim.specs.CommandLine.{key_word_of};
 
+use crate::help::{
+    ABOUT, AFTER_HELP, KEY_WORDS, LEG_ABOUT, LEG_EXAMPLE, MIGRATE_ABOUT, MIGRATE_EXAMPLE,
+    REPLAY_ABOUT, REPLAY_EXAMPLE, RESUME_ABOUT, RESUME_EXAMPLE, RING_ARGS, RUN_ABOUT, RUN_EXAMPLE,
+    WORDS_ABOUT, WORDS_EXAMPLE,
+};
 use clap::error::ErrorKind;
 use clap::{Arg, ArgMatches};
 use crn_engines::Fault;
@@ -29,82 +34,6 @@ pub enum Command {
     /// The program's help.
     Help { text: String },
 }
-
-const ABOUT: &str =
-    "Compares (s,S) inventory policies by common random numbers: every policy meets the very \
-same demands and delivery times, and the report has whole costs and exact differences.";
-
-const EXAMPLE: &str = "Without a command the program runs a scenario, as by `run`.
-
-Example:
-  crnsim < examples/two_policies.toml";
-
-const RUN_ABOUT: &str =
-    "Reads a scenario in TOML on standard input and writes its report in CSV on standard output";
-
-const WORDS_ABOUT: &str =
-    "Writes the words of one block of the random stream, to be compared with Random123's \
-threefry4x64: a line each of demand words, lead time words and returns words";
-
-const KEY_WORDS: [&str; 4] = ["K0", "K1", "K2", "K3"];
-
-const WORDS_EXAMPLE: &str = "Example, block 0 of the zero key:
-  crnsim words 0000000000000000 0000000000000000 0000000000000000 0000000000000000 0";
-
-const REPLAY_ABOUT: &str =
-    "Reads a schedule on standard input and writes its trace: the steps of the ring's actors, one load or store each, \
-and where they lead to. The ring carries blocks 0 to TOTAL - 1 of the zero key";
-
-const REPLAY_EXAMPLE: &str =
-    "A schedule has a line for each step, with the actor that makes it: `p` is the producer, `e` \
-the producer as it ends the stream, `r0` reader 0 and `l0` reader 0 as it leaves.
-
-Example, two readers that look for a block of an empty stream:
-  printf 'r0\nr1\np\nr0\n' | crnsim replay 1 2 0";
-
-const RING_ARGS: [(&str, &str); 3] = [
-    (
-        "SIZE",
-        "The slots of the ring: a power of two from 1 to 1024",
-    ),
-    (
-        "READERS",
-        "The readers, from 1 to 16, which are numbered from 0",
-    ),
-    ("TOTAL", "The blocks in all, from 0 to 65536"),
-];
-
-const LEG_ABOUT: &str =
-    "Reads a scenario on standard input, runs its blocks 0 to N - 1 and writes the checkpoint there: \
-a text from which `resume` goes on";
-
-const LEG_EXAMPLE: &str =
-    "N is at most the number of blocks of the scenario, a block for each 4 periods of a \
-replication or part of them.
-
-Example, a run that is cut half way:
-  crnsim leg 832 < examples/spare_part.toml > cut.csv";
-
-const RESUME_ABOUT: &str =
-    "Reads a scenario on standard input, goes on from the checkpoint of it in FILE and writes the report: after a leg it \
-is the report that `run` writes";
-
-const RESUME_EXAMPLE: &str =
-    "The size of the ring may be another than that of the leg's scenario. A checkpoint of \
-version 1 is migrated first.
-
-Example, from the checkpoint that `leg` has written:
-  crnsim resume cut.csv < examples/spare_part.toml";
-
-const MIGRATE_ABOUT: &str =
-    "Reads the checkpoint of version 1 in FILE and writes it in version 2, from which `resume` goes on: the same scenario, \
-block and amounts";
-
-const MIGRATE_EXAMPLE: &str =
-    "Checkpoints of version 1 were written by crnsim before it knew returns. Standard input is not read.
-
-Example, from a checkpoint that was kept:
-  crnsim migrate old_cut.csv > cut.csv";
 
 /// Reads the words that follow the program's name, with `clap`: no word or `run` for a run, `words` with four key
 /// words of 16 digits `0-9a-f` and the number of a block in decimal for its words, `replay` with the size, the
@@ -139,7 +68,9 @@ pub fn read_words<'a>(alloc: Global, words: &'a [String]) -> Result<Command, Fau
 
 // What `clap` knows of the commands.
 fn parser<'a>(alloc: Global) -> Result<clap::Command<'a>, AllocError> {
-    let run = clap::Command::new(alloc, "run").about(RUN_ABOUT);
+    let run = clap::Command::new(alloc, "run")
+        .about(RUN_ABOUT)
+        .after_help(RUN_EXAMPLE);
     let mut words = clap::Command::new(alloc, "words")
         .about(WORDS_ABOUT)
         .after_help(WORDS_EXAMPLE);
@@ -162,7 +93,7 @@ fn parser<'a>(alloc: Global) -> Result<clap::Command<'a>, AllocError> {
     clap::Command::new(alloc, "crnsim")
         .bin_name("crnsim")?
         .about(ABOUT)
-        .after_help(EXAMPLE)
+        .after_help(AFTER_HELP)
         .no_binary_name(true)
         .subcommand(run)?
         .subcommand(leg_parser(alloc)?)?

@@ -5,6 +5,7 @@
 
 mod command_line;
 mod dispatch;
+mod help;
 
 pub use command_line::{Command, read_words};
 pub use crn_engines::{Fault, leg, migrate, replay_run, resume, simulate, write_words};
