@@ -1,0 +1,112 @@
+"""Tries of the worked case, the reports and the tools but sweep.py, for examples/check.
+
+Each part takes a room, which is a folder with a copy of the examples and the program, and what tries.toml has. It
+answers the name of each try and how it went: True, None where it was skipped, and else what went wrong.
+"""
+import contextlib
+import importlib.util
+import io
+import os
+import subprocess
+import sys
+import unittest.mock
+
+HERE = os.path.dirname(os.path.dirname(os.path.abspath(__file__)))
+sys.path.append(f"{HERE}/tools")
+STORED = ["scenario.toml", "report.csv", "decision.txt", "sweep.csv", "why.txt"]
+
+
+def run(room, words, data=""):
+    """What a command does in the room: its status, and what it prints."""
+    ran = subprocess.run(words, cwd=room, input=data.encode("latin-1"), capture_output=True, timeout=60)
+    return ran.returncode, ran.stdout.decode(), ran.stderr.decode()
+
+
+def tool(room, name, *words):
+    """What a tool does in the room."""
+    return run(room, [sys.executable, f"examples/tools/{name}", *words])
+
+
+def text_of(path):
+    """A file's text, byte for byte; the empty text where it is missing."""
+    if not os.path.exists(path):
+        return ""
+    with open(path, encoding="latin-1", newline="") as file:
+        return file.read()
+
+
+def write(path, text):
+    """Writes a file, byte for byte."""
+    with open(path, "w", encoding="latin-1", newline="") as file:
+        file.write(text)
+
+
+def case_tries(room, _):
+    """Each command of the worked case, and each file that they write."""
+    for name in STORED:
+        os.remove(f"{room}/examples/case/{name}")
+    blocks = text_of(f"{HERE}/case/README.md").split("```sh\n")[1:]
+    for command in [line for block in blocks for line in block.split("```")[0].splitlines()]:
+        status, _, errors = run(room, ["sh", "-c", command])
+        yield command, status == (3 if "broken" in command else 0) or errors
+    for name in STORED:
+        yield f"examples/case/{name}", 0 < len(text_of(f"{HERE}/case/{name}")) and \
+            text_of(f"{room}/examples/case/{name}") == text_of(f"{HERE}/case/{name}")
+
+
+def report_tries(room, tries):
+    """The report of each example, what decide.py makes of reports, and the quantiles that it stands on."""
+    for name in sorted(name.removesuffix(".toml") for name in os.listdir(HERE) if name.endswith(".toml")):
+        shown = run(room, [f"{room}/crates/crnsim/out/crnsim"], text_of(f"{HERE}/{name}.toml"))
+        yield f"examples/{name}.csv", shown == (0, text_of(f"{HERE}/{name}.csv"), "")
+    heading, *rows = text_of(f"{HERE}/spare_part.csv").splitlines(keepends=True)
+    write(f"{room}/turned.csv", "".join([heading, *reversed(rows)]))
+    for words, *wanted in tries["decisions"]:
+        status, output, errors = tool(room, "decide.py", *words.split())
+        yield f"decide.py {words}", status == wanted[0] and wanted[1] in output + errors or output + errors
+    t_quantile = importlib.import_module("intervals").t_quantile
+    for probability, degrees, wanted in tries["quantiles"]:
+        yield f"t {probability} {degrees}", f"{t_quantile(probability, degrees):.3f}" == wanted
+
+
+def picture_tries(room, _):
+    """The picture, where matplotlib is there."""
+    words = ["examples/spare_part.csv", "--replications", "64", "--plot", "picture.svg"]
+    status, _, errors = tool(room, "decide.py", *words)
+    if importlib.util.find_spec("matplotlib") is None:
+        yield "decide.py --plot without matplotlib", status == 2 and "needs matplotlib" in errors
+        yield "decide.py --plot", None
+    else:
+        picture = text_of(f"{room}/picture.svg")
+        yield "decide.py --plot", status == 0 and "</svg>" in picture and "smaller (10, 20)" in picture
+
+
+def why_answer(path):
+    """What why.py does with a file, without a process of its own: its status, and what it prints."""
+    why = importlib.import_module("why")
+    with contextlib.redirect_stdout(io.StringIO()) as output, unittest.mock.patch("sys.argv", ["why.py", path]):
+        return why.main(), output.getvalue()
+
+
+def edit_tries(room, tries):
+    """Edits of scenarios: the number that is wanted is the program's, and the first that why.py says."""
+    for name, edits in tries["edits"].items():
+        for number, *pairs in edits:
+            text = text_of(f"{HERE}/{name}.toml")
+            for old, new in zip(pairs[::2], pairs[1::2]):
+                text = text.replace(old, new) if old in text else None
+            write(f"{room}/edited.toml", text)
+            status, _, errors = run(room, [f"{room}/crates/crnsim/out/crnsim"], text)
+            told, said = why_answer(f"{room}/edited.toml")
+            wanted = (3, f"crnsim: scenario {number}\n", f"fault {number}: ") if number else (0, "", "no fault\n")
+            right = (status, errors) == wanted[:2] and told == wanted[0] and said.startswith(wanted[2])
+            yield f"{name}.toml, {number}: {pairs}", right or errors + said
+
+
+def history_tries(room, tries):
+    """Histories, good and bad."""
+    for text, copies, words, *wanted in tries["histories"]:
+        write(f"{room}/FILE", text * copies)
+        status, output, errors = tool(room, "history_to_scenario.py", "FILE", *words.split())
+        shown, other = (errors, output) if wanted[0] else (output, errors)
+        yield f"{text[:40]!r} {words}", status == wanted[0] and wanted[1] in shown and not other or output + errors
