@@ -1,11 +1,11 @@
 #!/usr/bin/env python3
 """Tries the built program from outside: tests/program/run.py PROGRAM.
 
-cases.toml and checkpoints.toml have groups of cases: what a group says holds for each of its cases. A case has the words
-of the command line (args), and may have what stands on standard input (input) and in the file FILE (file), what is wanted
-on standard output (output, or some parts of it (has)), the fault's line and the status. Each of these texts is given, or
-is that of a file of the repository (input_from), with one change (input_change), filled up with a piece to a size
-(input_fill, input_size) and followed by an end (input_end).
+cases.toml and checkpoints.toml have groups of cases: what a group says holds for each of its cases. A case has the
+words of the command line (args), and may have what stands on standard input (input) and in the file FILE (file), what
+is wanted on standard output (output, or some parts of it (has), in lines of at most so many columns), the fault's line
+and the status. Each of these texts is given, or is that of a file of the repository (input_from), with one change
+(input_change), filled up with a piece to a size (input_fill, input_size) and followed by an end (input_end).
 
 A case is tried with each of its commands and each of its files (of the repository), where it has lists of them. Some
 cases stand for many tries. blocks: the scenario is cut at each of these blocks, or at all. old_blocks: its checkpoints of
@@ -98,7 +98,8 @@ def is_wanted(case, shown):
     if "fault" in case:
         return shown == wanted_fault(case)
     if "has" in case:
-        return not errors and not status and all(it in output.decode() for it in case["has"])
+        wide = max(map(len, output.decode().splitlines()), default=0) > case.get("columns", sys.maxsize)
+        return not errors and not status and not wide and all(it in output.decode() for it in case["has"])
     return shown == (text_of(case, "output"), b"", 0)
 
 
