@@ -15,7 +15,7 @@ RINGS = {1: 1, 16: 3, 1024: 3}
 def scenarios(room):
     """For each ring: a file with the scenario of a spare part on that ring. No report depends on it."""
     text = stored("examples/spare_part.toml")
-    return [(it, written(room, f"ring_{it}", swapped(text, b"ring = 64\n", b"ring = %d\n" % it))) for it in RINGS]
+    return [(it, written(room, f"ring_{it}", swapped(text, b"ring = 1024\n", b"ring = %d\n" % it))) for it in RINGS]
 
 
 def begun(program, file, prepare=None):
