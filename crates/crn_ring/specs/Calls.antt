@@ -55,10 +55,11 @@ IsProducerOf ring p = IsAt ring p.seat
 abbrev pub IsReaderOf : Ring → Reader → Type 0
 IsReaderOf ring r = IsAt ring r.seat
 
--- What is left is reader number r of this ring.
+-- What a reader that has left has done.
 abbrev pub left_part : LeftReader → ReaderPart
 left_part x = x.seat.me.0.reader
 
+-- What is left is reader number r of this ring.
 abbrev pub HasLeft : Ring → ℕ → LeftReader → Type 0
 HasLeft ring r x = IsAt ring x.seat × (x.seat.me.0.number ≡ r)
 

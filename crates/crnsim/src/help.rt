@@ -65,7 +65,7 @@ that makes it: `p` is the producer, `e` the producer as it ends the stream,
 ring carries blocks 0 to TOTAL - 1 of the zero key.
 
 Example, two readers that look for a block of an empty stream:
-  printf 'r0\nr1\np\nr0\n' | crnsim replay 1 2 0";
+  printf 'r0\\nr1\\np\\nr0\\n' | crnsim replay 1 2 0";
 
 pub(crate) const RING_ARGS: [(&str, &str); 3] = [
     (
