@@ -12,6 +12,8 @@ import re
 import subprocess
 import sys
 
+from believed import believed_tries
+
 TOP = os.path.dirname(os.path.dirname(os.path.dirname(os.path.abspath(__file__))))
 PAGES = [name for it in ("*.md", "docs/*.md", "examples/*.md", "examples/case/*.md") for name in glob.glob(it, root_dir=TOP)]
 
@@ -100,7 +102,7 @@ def readme_tries(program):
 def main(program):
     """Tries all."""
     counts = {True: 0, False: 0}
-    for tries in (link_tries(), crate_tries(), quote_tries(), edit_tries(), readme_tries(program)):
+    for tries in (link_tries(), crate_tries(), quote_tries(), edit_tries(), believed_tries(), readme_tries(program)):
         for name, right in tries:
             counts[bool(right)] += 1
             if not right:

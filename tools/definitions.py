@@ -1,0 +1,185 @@
+#!/usr/bin/env python3
+"""Which definitions public contracts state: tools/definitions.py reached [CRATE::FUNCTION ..], or `kinds` for all.
+
+`reached` prints what the contracts of the named functions reach of `specs/`, through definitions, types of signatures
+and ghost parts of types; with no name, what any public function or type reaches. `kinds` sorts all: "stated" is reached
+so, "kept" only from the `ghost invariant` of such a type, of which callers learn nothing, "private" only from private
+functions, types, closures and the clauses of loops, "proof" only from proofs and tactics, "unused" from nowhere.
+
+It goes by names and scopes, not by types: what a binder hides, or stands behind a dot, is no definition. In doubt it
+counts as stated: all fields of a type, private ones too, and each type that a signature names. Public is what the root
+of a crate gives out, and in the program what `main` calls, also through functions without clauses.
+"""
+import collections
+import itertools
+import pathlib
+import re
+import sys
+
+from rattle_text import CLAUSE, definitions_of, free_names, items_of, members_of, names_of, tokens_of, uses_of
+
+SORTS, MARKS = ("stated", "kept", "private", "proof", "unused"), {"stated": "", "kept": " (by an invariant alone)"}
+IMPL = re.compile(r"impl\s*(?:<(?:[^<>]|<[^<>]*>)*>)?\s*(?:(\S+?)(?:<.*>)?\s+for\s+)?[&\s]*([\w:]+)", re.DOTALL)
+
+
+class Repository:
+    """The definitions, types and functions, each a sort, a crate, a module and a name; and which names which."""
+
+    def __init__(self, top=pathlib.Path(__file__).resolve().parent.parent):
+        self.top, self.definitions, self.exports, self.local, self.imports = pathlib.Path(top), {}, {}, {}, {}
+        self.edges, self.methods, self.calls = (collections.defaultdict(set) for _ in range(3))
+        specs = self.files("specs/**/*.antt")
+        for key, text in specs.items():
+            self.exports[key] = {here: (path, name) for path, name, here, public in uses_of(text) if public}
+            for it in definitions_of(text):
+                self.definitions["definition", *key, it.name] = it
+                names = [it.name, *it.name.split("◌"), *(name for name, _ in members_of(it) if it.kind == "data")]
+                self.exports[key].update({name: ("definition", *key, it.name) for name in names if name})
+        for node, it in self.definitions.items():
+            look = self.scope(uses_of(specs[node[1:3]]), self.exports[node[1:3]].get)
+            self.edges[node].update(map(look, names_of(it, look)))
+        code = self.files("src/**/*.rt")
+        self.items = {key: items_of(text) for key, text in code.items()}
+        for key, items in self.items.items():
+            self.local[key] = {it.name: ("function" if it.kind == "fn" else "type", *key, it.name)
+                               for it in items if it.kind in ("fn", "struct", "enum", "trait", "type")}
+            self.imports[key] = {here: path for it in items for here, path in it.imports}
+            for path, name in re.findall(r"crate::specs::([\w:]+)::(\w+)", code[key]):
+                self.edges["proof", *key, ""].add(self.exports.get((key[0], path.replace("::", ".")), {}).get(name))
+        for key, items in self.items.items():
+            self.read_items(key, items, lambda it, key=key: self.item_at(key, it.split(".")[:1]))
+        for (crate, module), text in self.files("proofs/**/*.antt").items():
+            node = "private" if module.endswith("Invariants") else "proof", crate, module, ""
+            self.edges[node].update(map(self.scope(uses_of(text)), tokens_of(text)))
+
+    def files(self, pattern):
+        """The texts of some files of each crate, by crate and module."""
+        texts = {}
+        for path in sorted(self.top.glob(f"crates/*/{pattern}")):
+            crate, _, *module = path.relative_to(self.top / "crates").with_suffix("").parts
+            texts[crate, "" if module in (["lib"], ["main"]) else ".".join(module)] = path.read_text(encoding="utf-8")
+        return texts
+
+    def scope(self, uses, outer=lambda it: None):
+        """What names stand for under imports, and else by an outer scope."""
+        names = {part: (path, name) for path, name, here, _ in uses for part in [here, *here.split("◌")] if part}
+        def look(token):
+            """What a name stands for, behind the dot of a module too."""
+            first, _, rest = token.partition(".")
+            path, name = names.get(first, (None, None))
+            return self.definition_at(path, name or rest.split(".")[0]) if path else outer(token)
+        return look
+
+    def definition_at(self, path, name):
+        """The definition, or the type, that a name of a module of specs stands for."""
+        path = [it for it in path if it not in ("TheVariants", "TheInside")]
+        if path[3:4] == ["declared"]:
+            return "type", path[1], ".".join(path[4:-1]), path[-1]
+        found = self.exports.get(("".join(path[1:2]), ".".join(path[3:])), {}).get(name)
+        return self.definition_at(*found) if found and len(found) == 2 else found
+
+    def item_at(self, key, path):
+        """The function or the type of the code that a path stands for."""
+        while path:
+            (crate, module), first, path = key, path[0], path[1:]
+            inner, above = (crate, f"{module}.{first}".strip(".")), (crate, module.rpartition(".")[0])
+            if first in ("crate", "self", "super") or (first, "") in self.items:
+                key = {"crate": (crate, ""), "self": key, "super": above}.get(first, (first, ""))
+            elif path and inner in self.items:
+                key = inner
+            elif first in self.local[key]:
+                return self.local[key][first]
+            else:
+                path = self.imports[key][first] + path if self.imports[key].get(first, [first])[0] != first else []
+        return None
+
+    def read_items(self, key, items, outer, owner=None, trait=False):
+        """What items of code name; those of an impl or a trait belong to its type."""
+        look = self.scope([use for it in items if it.kind == "use" for use in uses_of(it.head)], outer)
+        for it in items:
+            node = owner or ("type", *key, it.name)
+            if it.kind == "ghost":
+                self.add(("kept", *node[1:]) if it.name == "invariant" else node, key, "", it.clauses, look)
+            elif it.kind in ("struct", "enum", "type"):
+                fields = re.findall(r"(?<!ghost )\b(\w+)\s*:(?!:)", it.body)
+                self.add(node, key, it.head + it.body, CLAUSE.findall(it.body), look, fields)
+            elif it.kind in ("impl", "trait"):
+                of, name = IMPL.match(it.head).groups() if it.kind == "impl" else (it.name, it.name)
+                inner = self.item_at(key, name.split("::")) or self.item_at(key, (of or "").split("::")) or node
+                self.read_items(key, items_of(it.body), look, inner, bool(of))
+            elif it.kind == "fn":
+                node = "function", *key, f"{owner[3]}::{it.name}" if owner else it.name
+                bound = ["self", "result", *re.findall(r"(\w+)\s*:(?!:)", it.head)]
+                self.add(node, key, it.head, it.clauses, look, bound)
+                self.add(("private", *node[1:]), key, "", CLAUSE.findall(it.body), look)
+                self.edges[node].update([owner] if owner else [])
+                self.methods[owner].update([node] if it.public or trait else [])
+                called = re.findall(r"([A-Za-z_][\w:]*)\s*\(", it.body if not it.clauses else "")
+                self.calls[node].update(self.item_at(key, path.split("::")) for path in called)
+
+    def add(self, node, key, head, terms, look, bound=()):
+        """Notes the types that a head names, and what terms name."""
+        types = [self.item_at(key, path.strip(":").split("::")) for path in re.findall(r"[A-Za-z_][\w:]*", head)]
+        self.edges[node].update(it for it in types if it and it[0] == "type")
+        found = [look(name) for term in terms for name in free_names(tokens_of(term), bound)]
+        self.edges[node].update(it for it in found if it and it[0] != "function")
+
+    def given_out(self, key, prefix):
+        """The functions and types that a module gives out, by their paths from outside."""
+        for it in (it for it in self.items[key] if it.public):
+            for name, path in it.imports or [(it.name, [it.name])]:
+                inner = key[0], ".".join([key[1], *path]).strip(".")
+                yield from self.given_out(inner, f"{prefix}::{name}") if inner in self.items else ()
+                yield f"{prefix}::{name}", self.item_at(key, path)
+
+    def public(self):
+        """All that is public, each with its path from outside."""
+        found = [it for key in self.items if not key[1] for it in self.given_out(key, key[0]) if it[1]]
+        found += [(f"{path}::{it[3].rpartition('::')[2]}", it) for path, owner in found for it in self.methods[owner]]
+        called = [it for it in self.calls if it[2:] == ("", "main")]
+        for caller in called:
+            called += [it for it in self.calls[caller] if it and it[0] == "function" and it not in called]
+        return found + [(f"{it[1]}::{it[3]}", it) for it in called]
+
+    def reached(self, nodes):
+        """All that is reached from some nodes."""
+        found, further = set(), set(nodes)
+        while further:
+            found |= further
+            further = set().union(*(self.edges[it] for it in further)) - found - {None}
+        return found
+
+    def sorts(self, roots):
+        """The sort of each definition, where these are the public functions and types."""
+        stated = self.reached(roots)
+        kept = self.reached(("kept", *it[1:]) for it in stated if it[0] == "type")
+        private = self.reached([it for it in self.edges if it[0] in ("function", "type", "kept", "private")])
+        proof = self.reached([it for it in self.edges if it[0] == "proof"])
+        levels = list(zip(SORTS, (stated, kept, private, proof, self.definitions)))
+        return {it: next(sort for sort, nodes in levels if it in nodes) for it in self.definitions}
+
+
+def main(command, *paths):
+    """Prints what is reached by the named functions or by all that is public, or all definitions by their sorts."""
+    repository, files = Repository(), collections.defaultdict(set)
+    public, definitions = repository.public(), repository.definitions
+    if set(paths) - {path for path, _ in public}:
+        sys.exit(f"no crate gives out {', '.join(set(paths) - {path for path, _ in public})}")
+    sorts = repository.sorts([it for path, it in public if path in paths or not paths])
+    for node in sorted(definitions, key=lambda it: (*it[1:3], definitions[it].line)):
+        place = f"crates/{node[1]}/specs/{node[2].replace('.', '/')}.antt"
+        files[place].add(sorts[node] == "stated")
+        if command == "reached" and sorts[node] in MARKS:
+            print(f"{place}:{definitions[node].line}: {node[3]}{MARKS[sorts[node]]}")
+    for crate, sort in itertools.product(sorted({it[1] for it in sorts}), SORTS if command == "kinds" else ()):
+        nodes = [it for it in definitions if it[1] == crate and sorts[it] == sort]
+        lines = sum(definitions[it].end - definitions[it].line + 1 for it in nodes)
+        print(f"{crate} {sort}: {len(nodes)} definitions, {lines} lines")
+        for module in sorted({it[2] for it in nodes}):
+            print(f"    {module}: {' '.join(it[3] for it in nodes if it[2] == module)}")
+    if command == "kinds":
+        print("files of stated definitions and others:", ", ".join(it for it in files if len(files[it]) > 1) or "none")
+
+
+if __name__ == "__main__":
+    main(*sys.argv[1:]) if sys.argv[1:2] == ["reached"] or sys.argv[1:] == ["kinds"] else sys.exit(__doc__)
