@@ -1,13 +1,12 @@
 """Compares what READING.md says must be believed with what the contracts reach, by tools/definitions.py."""
 import collections
-import os
 import re
 import sys
 
-TOP = os.path.dirname(os.path.dirname(os.path.dirname(os.path.abspath(__file__))))
-sys.path.insert(0, f"{TOP}/tools")
+from pages import TOP
 
-from definitions import Repository  # noqa: E402  (the path stands above)
+sys.path.insert(0, f"{TOP}/tools")
+from definitions import Repository
 
 
 def section_of(page, heading):
@@ -29,7 +28,7 @@ def listed_in(table, names):
     return listed
 
 
-def believed_tries():
+def believed_tries(_):
     """READING's tables have each definition that the chain's contracts reach, or invariants alone, and no other."""
     section = section_of("docs/READING.md", "## What must be believed")
     command = re.search(r"^tools/definitions\.py reached ((?:.*\\\n)*.*)$", section, re.MULTILINE)

@@ -1,43 +1,39 @@
 #!/usr/bin/env python3
-"""Compares the pages with the repository: tests/documents/run.py PROGRAM.
+"""Compares the pages with the repository and the program: tests/documents/run.py PROGRAM.
 
 That each link leads to a file and a heading; that the map's crates stand on what crates.txt says; that what
-READING.md quotes stands in the files that it names; that the list of wrong bodies names each must-fail edit, once and
-by a sentence of its own; and that the scenario and the report of README are those that the program takes and writes.
-There is a line for each failure and a last line that counts.
+READING.md quotes stands in the files that it names, and that it lists what must be believed (believed.py); that the
+list of wrong bodies names each must-fail edit, once and by a sentence of its own; and that the scenario and the report
+of README are those that the program takes and writes.
+That the commands of README, of the guide and of the formats can be copied and print what stands there (commands.py),
+and the help's examples too (helps.py); that ranges, rules and statuses are those of the program (ranges.py, rules.py,
+statuses.py), also wherever else they stand (facts.py, sentences.py); and that the figures of tables and of sentences
+are those that come out (figures.py, readings.py). There is a line for each failure and each try that this machine
+cannot make, and a last line that counts.
 """
 import glob
 import os
 import re
-import subprocess
 import sys
+import tempfile
 
+# Compiled text is not to stand in the repository.
+sys.dont_write_bytecode = True
 from believed import believed_tries
-
-TOP = os.path.dirname(os.path.dirname(os.path.dirname(os.path.abspath(__file__))))
-PAGES = [name for it in ("*.md", "docs/*.md", "examples/*.md", "examples/case/*.md") for name in glob.glob(it, root_dir=TOP)]
-
-
-def text_of(name):
-    """The text of a file of the repository."""
-    with open(f"{TOP}/{name}", encoding="utf-8") as it:
-        return it.read()
-
-
-def blocks_of(name, kind=""):
-    """The blocks of a page that stand between fences of a kind."""
-    fenced = re.findall(r"^```(\w*)\n(.*?)^```$", text_of(name), re.MULTILINE | re.DOTALL)
-    return [text for it, text in fenced if it == kind]
+from commands import command_tries
+from facts import checkpoint_tries, header_tries, option_tries, toml_tries, usage_tries
+from figures import figure_tries
+from helps import example_tries
+from pages import PAGES, TOP, anchors_of, blocks_of, text_of
+from program import Program
+from ranges import range_tries
+from readings import reading_tries
+from rules import rule_tries
+from sentences import number_tries
+from statuses import status_tries
 
 
-def anchors_of(name):
-    """The names by which links reach a page's headings."""
-    prose = re.sub(r"^```.*?^```$", "", text_of(name), flags=re.MULTILINE | re.DOTALL)
-    headings = re.findall(r"^#+ (.*)$", prose, re.MULTILINE)
-    return {re.sub(r"[^\w\- ]", "", it.lower()).replace(" ", "-") for it in headings}
-
-
-def link_tries():
+def link_tries(_):
     """Each link to a file of the repository, and to a heading."""
     for page in PAGES:
         for link in re.findall(r"\]\(([^)\s]+)\)", text_of(page)):
@@ -49,7 +45,7 @@ def link_tries():
             yield f"{page}: {link}", there and (not anchor or anchor in anchors_of(name))
 
 
-def crate_tries():
+def crate_tries(_):
     """What each crate stands on, by the map; tests alone may stand on more."""
     listed = {line.split(":")[0]: line.split(":")[1].split() for line in text_of("crates.txt").splitlines()
               if ":" in line and not line.startswith("#")}
@@ -59,7 +55,7 @@ def crate_tries():
         yield f"docs/ARCHITECTURE.md: {name}", sorted(re.findall("`([a-z_]+)`", row)) == sorted(listed.get(name, []))
 
 
-def quote_tries():
+def quote_tries(_):
     """Each quoted line stands in one of the files that the paragraph before it names."""
     page = text_of("docs/READING.md")
     links = page[page.index("## The chain"):page.index("## What must be believed")]
@@ -71,7 +67,7 @@ def quote_tries():
             yield f"docs/READING.md quotes {wanted}", len(texts) == len(files) > 0 and any(wanted in it for it in texts)
 
 
-def edit_tries():
+def edit_tries(_):
     """The list of wrong bodies has each edit once, and no two say the same."""
     crate, listed, sentences = None, [], []
     for line in text_of("docs/WRONG_BODIES.md").splitlines():
@@ -88,26 +84,45 @@ def edit_tries():
 
 
 def readme_tries(program):
-    """README's scenario and report, and the command that prints it."""
+    """README's scenario and report, and its table of both."""
     scenario, report = blocks_of("README.md", "toml")[0], text_of("examples/two_policies.csv")
     for name, text in (("README.md", scenario), ("examples/two_policies.toml", text_of("examples/two_policies.toml"))):
-        ran = subprocess.run([program], input=text.encode(), capture_output=True, timeout=60)
-        yield f"the report of {name}", ran.stdout.decode() == report and ran.returncode == 0
+        yield f"the report of {name}", program.ask("", text) == (0, report, "")
     yield "README.md prints that report", report in blocks_of("README.md")
     for row in report.splitlines()[1:]:
         policy, low, high, total = row.split(",")[:4]
         yield f"README.md's table: {policy}", f"| {policy} | {low} | {high} | {total} |" in text_of("README.md")
 
 
-def main(program):
+PARTS = [link_tries, crate_tries, quote_tries, edit_tries, believed_tries, readme_tries, command_tries, example_tries,
+         header_tries, checkpoint_tries, usage_tries, option_tries, toml_tries, range_tries, number_tries, rule_tries, status_tries,
+         figure_tries, reading_tries]
+
+
+def tried(part, program):
+    """The tries of a part; one that breaks off has failed."""
+    try:
+        yield from part(program)
+    except Exception as fault:
+        yield f"{part.__module__}.py: {part.__name__} breaks off", repr(fault)
+
+
+def main(path):
     """Tries all."""
-    counts = {True: 0, False: 0}
-    for tries in (link_tries(), crate_tries(), quote_tries(), edit_tries(), believed_tries(), readme_tries(program)):
-        for name, right in tries:
-            counts[bool(right)] += 1
-            if not right:
-                print(f"FAILED {name}")
-    print(f"{counts[True]} passed, {counts[False]} failed")
+    if not os.access(path, os.X_OK):
+        print(f"FAILED {path}: there is no such program\n0 passed, 1 failed")
+        return 1
+    counts = {True: 0, False: 0, None: 0}
+    with tempfile.TemporaryDirectory(prefix="crnsim-") as folder:
+        program = Program(path, folder)
+        for name, right in (each for part in PARTS for each in tried(part, program)):
+            counts[right if right in (True, None) else False] += 1
+            if right is None:
+                print(f"skipped {name}")
+            elif right is not True:
+                print(f"FAILED {name}" + (f": {right}" if right else ""))
+    skipped = f", {counts[None]} skipped" if counts[None] else ""
+    print(f"{counts[True]} passed, {counts[False]} failed{skipped}")
     return 1 if counts[False] else 0
 
 

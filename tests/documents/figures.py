@@ -1,0 +1,105 @@
+"""The tables of the pages with figures that are computed: reports in round numbers, quantiles, counts, periods."""
+import csv
+import importlib
+import math
+import re
+from fractions import Fraction
+from math import sqrt
+
+from pages import prose_of, rows_of, text_of
+from program import oracle
+
+GUIDE = "docs/GUIDE.md"
+SCENARIO = "examples/spare_part.toml"
+COSTS = ["setup", "unit", "holding", "backlog"]
+FRACTIONS = ["per_period", "diff_mean", "diff_var", "cov"]
+
+
+def rounded(number, places=0):
+    """A number in round figures, halves away from zero, with commas between thousands."""
+    number = Fraction(number)
+    whole = math.floor(abs(number) * 10**places + Fraction(1, 2))
+    sign = "-" if number < 0 and whole else ""
+    rest = f".{whole % 10**places:0{places}}" if places else ""
+    return f"{sign}{whole // 10**places:,}{rest}"
+
+
+def report_of(text):
+    """The rows of a report by their policies, with numbers for texts."""
+    rows = {row["policy"]: row for row in csv.DictReader(text.splitlines())}
+    for row in rows.values():
+        row |= {name: Fraction(row[name]) for name in [*FRACTIONS, "total", "diff_total"] if row[name] != "-"}
+    return rows
+
+
+def table_tries(_):
+    """The reports of the two larger examples in round numbers, and the quantiles of Student's t."""
+    period, rest = ("policy", "cost a week"), ("`diff_mean`", "its standard error", "`cov`")
+    for name, heading, places in (("spare_part", period, 1), ("mail_order", ("policy", "s", "S", "cost a day"), 0)):
+        wanted = []
+        for policy, row in report_of(text_of(f"examples/{name}.csv")).items():
+            levels = [row["s"], row["S"]] if "s" in heading else []
+            means = [rounded(it, places) if wanted else "" for it in (row["diff_mean"], sqrt(row["diff_var"]))]
+            wanted.append([policy, *levels, rounded(row["per_period"], 2), *means, rounded(row["cov"])])
+        shown = rows_of(GUIDE, *heading, *rest)
+        for row in wanted:
+            yield f"{GUIDE}: the row of {row[0]} in {name}", row in shown or f"it should be {row}"
+        yield f"{GUIDE}: the rows of {name}", len(shown) == len(wanted)
+    t_quantile = importlib.import_module("intervals").t_quantile
+    counts = [1, 3, 11, 15]
+    shown = rows_of(GUIDE, "R", "degrees of freedom, R - 1", *(f"c = {it}" for it in counts))
+    for size, degrees, *quantiles in shown:
+        wanted = [f"{t_quantile(1 - 0.05 / (2 * it), int(size) - 1):.3f}" for it in counts]
+        yield f"{GUIDE}: t for {size}", (int(degrees), quantiles) == (int(size) - 1, wanted) or f"it should be {wanted}"
+    yield f"{GUIDE}: the table of t", len(shown) == 5
+
+
+def count_tries(program):
+    """What each total is made of: the table, and the sentences that read it."""
+    text, counts = text_of(SCENARIO), {}
+    for cost in COSTS:
+        only = re.sub(rf"^({'|'.join(COSTS)}) = .*$", lambda it: f"{it[1]} = {int(it[1] == cost)}", text, flags=re.M)
+        for policy, row in report_of(program.ask("", only).output).items():
+            counts.setdefault(policy, []).append(row["total"])
+    shown = rows_of(GUIDE, "policy", "orders (`setup`)", "items ordered (`unit`)", "item-weeks in stock (`holding`)",
+                    "items owed at weeks' ends (`backlog`)")
+    yield f"{GUIDE}: the rows of counts", [row[0] for row in shown] == list(counts)
+    for policy, *cells in shown:
+        wanted = [rounded(it) for it in counts.get(policy, [])]
+        yield f"{GUIDE}: the counts of {policy}", cells == wanted or f"they should be {wanted}"
+    rates = [int(re.search(rf"^{it} = ([0-9]+)", text, re.MULTILINE)[1]) for it in COSTS]
+    parts = " + ".join(f"{rate} * {rounded(it)}" for rate, it in zip(rates, counts["today"]))
+    total = sum(rate * it for rate, it in zip(rates, counts["today"]))
+    (_, _, today, owed_today), (_, _, both, owed_both) = counts["today"], counts["both"]
+    yield from sentence_tries([
+        f"for `today` {parts} = {rounded(total)}.",
+        f"`both` has {rounded(both / 6656, 1)} items in stock at the end of a week in place of "
+        f"{rounded(today / 6656, 1)}, and owes {rounded(owed_both)} item-weeks in place of {rounded(owed_today)}."])
+
+
+def sentence_tries(sentences, page=GUIDE):
+    """That a page has each of these sentences."""
+    prose = prose_of(page)
+    for sentence in sentences:
+        yield f"{page}: {sentence}", sentence in prose or "it has no such sentence"
+
+
+def period_tries(_):
+    """The example of FORMATS, period by period, as the oracle has it: of each cell the last number."""
+    run = oracle.run_of(text_of("examples/two_policies.toml"))
+    placed, stocks, spent = run.histories[1][0]
+    demands = run.scenario.draws(0, "demand")
+    rows = rows_of("docs/FORMATS.md", "Period", "Arrives", "Position at the review", "Ordered", "Demand",
+                   "Stock at the end", "Cost")
+    yield "docs/FORMATS.md: the periods of the example", len(rows) == len(stocks)
+    for period, row in enumerate(rows[:len(stocks)]):
+        arrived = sum(amount for amount, due in placed if due == period)
+        wanted = [period, arrived, placed[period][0], demands[period], stocks[period], spent[period]]
+        shown = [int(re.findall("[0-9]+", row[it])[-1]) for it in (0, 1, 3, 4, 5, 6)]
+        yield f"docs/FORMATS.md: period {period} of the example", shown == wanted or f"it should be {wanted}"
+
+
+def figure_tries(program):
+    """All tables with figures."""
+    for part in (table_tries, count_tries, period_tries):
+        yield from part(program)
