@@ -54,6 +54,8 @@ def answers_of_cluster(address, program, scenarios):
             running = [client.submit(run_program, program, scenario.text, pure=False) for scenario in scenarios]
             asked = {future.key: scenario for future, scenario in zip(running, scenarios)}
             for future, answer in distributed.as_completed(running, with_results=True):
+                if future.cancelled():
+                    raise Refused(f"--cluster {address}: a run was cancelled (has the scheduler ended?)")
                 yield asked[future.key], answer
     except (OSError, ValueError, distributed.scheduler.KilledWorker) as fault:
         raise Refused(f"--cluster {address}: {fault}") from fault

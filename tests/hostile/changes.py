@@ -7,6 +7,8 @@ import copy
 import json
 import re
 
+from trees import MARK, MOST_LEVELS
+
 ENDS = [0, 1, 4, 16, 31, 32, 256, 1023, 1024, 10_000, 65_536, 1_000_000, 100_000_000, 200_000_000_000,
         2**31, 2**32, 2**63, 2**64]
 NUMBERS = sorted({sign * it + step for it in ENDS for sign in (1, -1) for step in (-1, 0, 1)})
@@ -16,7 +18,7 @@ RANGES = {"periods": (1, 1024), "replications": (1, 256), "initial": (0, 1_000_0
           "backlog": (0, 10_000), "version": (1, 2), "ring": (1, 1024)}
 LIST_ENDS = (0, 1, 32, 10_000, 65_536)
 STRINGS = ["", "A", "B", "A b", "a" * 16, "a" * 17, "a" * 5000, "0" * 16, "f" * 15 + "F", "\u00e4", "x\u0000", "q,r",
-           "-", "_0-Z"]
+           "-", "_0-Z", "\ufeff"]
 OTHER_KINDS = [True, 1.0, "1", [], {}, [1], [[1]], [{}], {"a": 1}, ["1"], [1, "1"], 2**63 - 1, -(2**63), float("inf"),
                ""]
 KEYS = ["colour", "Version", "s", "S", "name", "values", "weights", "", "a b", "returns", "ring", "x" * 300]
@@ -62,6 +64,13 @@ def cut_off(chance, text):
     ends = [it.start() + more for it in re.finditer(rb"\n", text) for more in (0, 1)] or [0]
     size = chance.choice([chance.randint(0, len(text)), chance.choice(ends), len(text) - 1])
     return text[:size] + chance.choice([b"", b"", b"\n", b"]", b"#"])
+
+
+def with_mark(chance, text):
+    """A byte order mark is put before the text, or before a line of it."""
+    lines = [it.end() for it in re.finditer(rb"\n", text)]
+    at = chance.choice(lines) if lines and chance.random() < 0.3 else 0
+    return text[:at] + MARK + text[at:]
 
 
 def with_other_number(chance, text, more=()):
@@ -119,8 +128,8 @@ def places_of(tree):
 
 
 def deep(chance, value):
-    """The value within lists or tables. Readers may end at some depth: it is kept below any that was met."""
-    for _ in range(chance.choice([1, 2, 30])):
+    """The value within lists or tables: a few of them, or about as many as a document may have."""
+    for _ in range(chance.choice([1, 2, 30, *range(MOST_LEVELS - 4, MOST_LEVELS + 2)])):
         value = [value] if chance.random() < 0.5 else {"a": value}
     return value
 
@@ -241,7 +250,7 @@ def changed_scenario(chance, stored):
     text = chance.choice(stored)
     for _ in range(chance.choice([1, 1, 2, 3])):
         change = chance.choice([with_other_bytes, with_other_lines, cut_off, with_other_number, with_other_number,
-                                with_other_spelling])
+                                with_other_spelling, with_mark])
         text = change(chance, text)
     return text
 

@@ -5,10 +5,14 @@ a scenario, a report or a checkpoint.
 """
 import os
 import subprocess
+import sys
 from typing import NamedTuple, Optional
 
 HERE = os.path.dirname(os.path.abspath(__file__))
 TOP = os.path.dirname(os.path.dirname(HERE))
+sys.path.append(f"{TOP}/tests")
+from scenarios import swapped
+
 SECONDS = 20
 # What a try yields as its verdict where it can't be made here; None is a try that did well.
 SKIPPED = "skipped"
@@ -80,13 +84,6 @@ def unlike(shown):
     """The verdict on a run that shows what it must not."""
     told = "no end in time" if shown.status is None else f"status {shown.status}"
     return f"{told}, {shown.errors[:80]!r}, {len(shown.output)} bytes of output that begin {shown.output[:60]!r}"
-
-
-def swapped(text, old, new):
-    """The text with new for old, which it must have just once."""
-    if text.count(old) != 1:
-        raise SystemExit(f"not just one {old!r} in a stored text")
-    return text.replace(old, new)
 
 
 def of_policies(count):

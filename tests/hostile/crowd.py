@@ -3,7 +3,8 @@ import os
 import subprocess
 import sys
 
-from commands import SECONDS, Shown, stored, swapped, unlike, written
+from commands import SECONDS, Shown, stored, unlike, written
+from scenarios import on_ring
 
 PROCESSES = 100
 BUSY = 4
@@ -13,9 +14,9 @@ RINGS = {1: 1, 16: 3, 1024: 3}
 
 
 def scenarios(room):
-    """For each ring: a file with the scenario of a spare part on that ring. No report depends on it."""
+    """For each ring: a file with the scenario of a spare part on that ring."""
     text = stored("examples/spare_part.toml")
-    return [(it, written(room, f"ring_{it}", swapped(text, b"ring = 1024\n", b"ring = %d\n" % it))) for it in RINGS]
+    return [(it, written(room, f"ring_{it}", on_ring(text, it))) for it in RINGS]
 
 
 def begun(program, file, prepare=None):

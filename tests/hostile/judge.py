@@ -1,11 +1,11 @@
 #!/usr/bin/env python3
-"""Changed texts with a judge: tests/hostile/judge.py PROGRAM [--seed N] [--cases N] [--show N [--ends]].
+"""Changed texts with a judge: tests/hostile/judge.py PROGRAM [--seed N] [--cases N] [--show N [--ends | --edges]].
 
-Each case is a text that was changed by chance (changes.py), or has a number at the end of its range (ends.py). A second
-reader judges it (readers.py), and the program must say the same. `--show N` writes case N of the seed, or with `--ends`
-of those at the ends: what is wanted, the words, the input, the file and the output. The program knows TOML 1.1, and
-Python's reader 1.0: texts that only the newer one may take are left out (is_for_both), no change nests deeper than
-thirty levels, as readers end at some depth, and integers beyond 64 bits are no document.
+Each case is a text that was changed by chance (changes.py), has a number at the end of its range (ends.py), or is at
+the edge of what is a document (edges.py). A second reader judges it (readers.py), and the program must say the same.
+`--show N` writes case N of the seed, or with `--ends` or `--edges` of those: what is wanted, the words, the input, the
+file and the output. The program knows TOML 1.1, and Python's reader 1.0: texts that only the newer one may take are
+left out (is_for_both).
 """
 import argparse
 import collections
@@ -17,9 +17,12 @@ import tempfile
 from typing import NamedTuple, Optional
 
 import changes
+import edges
 import ends
 import readers
+import trees
 from commands import Shown, refused, run, stored, unlike, written
+from scenarios import swapped
 
 LONG_LEADS = b"""\
 version = 1
@@ -33,7 +36,7 @@ demand = { values = [2, 5, 9], weights = [1, 2, 1] }
 lead = { values = [1, 2, 3, 4, 5, 6], weights = [1, 1, 1, 1, 1, 1] }
 policy = [{ name = "A", s = 38, S = 40 }, { name = "B", s = 25, S = 30 }]
 """
-WITH_RETURNS = LONG_LEADS.replace(b"version = 1", b"version = 2\nreturns = { values = [0, 3], weights = [2, 1] }")
+WITH_RETURNS = swapped(LONG_LEADS, b"version = 1", b"version = 2\nreturns = { values = [0, 3], weights = [2, 1] }")
 # What checkpoints are cut from, and at which blocks.
 CUTS = [(LONG_LEADS, (0, 1, 2, 3, 4, 8, 9)), (WITH_RETURNS, (0, 1, 2, 5, 9))]
 STORED_CUTS = [("tests/program/five_periods.toml", (0, 1, 2, 3, 4)), ("examples/spare_part.toml", (27,))]
@@ -167,7 +170,7 @@ def case_of(seed, number, texts, cuts, room):
     chance = random.Random(f"{seed} {number}")
     kind = chance.random()
     if kind < 0.5:
-        while not readers.is_for_both(text := changes.changed_scenario(chance, texts)):
+        while not trees.is_for_both(text := changes.changed_scenario(chance, texts)):
             pass
         return scenario_case(chance, text, room)
     if kind < 0.7:
@@ -193,9 +196,15 @@ def end_cases(cuts, room):
                     yield migrate_case(readers.text_of(checkpoint._replace(spelling=1)), room)
 
 
+def edge_cases(room):
+    """Scenarios at the edge of what is a document, and the name of each."""
+    chance = random.Random(0)
+    return ((name, scenario_case(chance, text, room)) for name, text in edges.edge_texts())
+
+
 def judged(program, room, seed, cases):
-    """Tries so many cases by chance, and those at the ends of ranges. The last line tells how often each answer was
-    wanted."""
+    """Tries so many cases by chance, those at the ends of ranges and those at edges. The last line tells how often each
+    answer was wanted."""
     texts, cuts = [stored(it) for it in STORED], cuts_of(program)
     if cuts is None:
         yield "the program's own checkpoints", "the second reader reads them otherwise"
@@ -203,7 +212,8 @@ def judged(program, room, seed, cases):
     met = collections.Counter()
     numbered = ((f"seed {seed}, case {it}", case_of(seed, it, texts, cuts, room)) for it in range(cases))
     at_ends = ((f"ends, case {it}", case) for it, case in enumerate(end_cases(cuts, room)))
-    for name, case in itertools.chain(at_ends, numbered):
+    at_edges = ((f"edges, case {it}, {name}", case) for it, (name, case) in enumerate(edge_cases(room)))
+    for name, case in itertools.chain(at_ends, at_edges, numbered):
         if case.file is not None:
             written(room, "FILE", case.file)
         shown = run(program, case.words, case.data)
@@ -227,8 +237,11 @@ def main():
     words.add_argument("--cases", type=int, default=2000)
     words.add_argument("--show", type=int)
     words.add_argument("--ends", action="store_true")
+    words.add_argument("--edges", action="store_true")
     asked = words.parse_args()
     with tempfile.TemporaryDirectory(prefix="crnsim-") as room:
+        if asked.show is not None and asked.edges:
+            return show(next(itertools.islice(edge_cases(room), asked.show, None))[1])
         if asked.show is not None:
             cuts = cuts_of(asked.program)
             if asked.ends:

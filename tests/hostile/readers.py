@@ -1,8 +1,9 @@
 """A second reader of scenarios, checkpoints and schedules, written from docs/FORMATS.md: which fault a text has, and
 what it says."""
 import re
-import tomllib
-from typing import NamedTuple, Optional
+from typing import NamedTuple
+
+from trees import is_integer, tree_of
 
 WORD = re.compile(r"[0-9a-f]{16}")
 NAME = re.compile(r"[A-Za-z0-9_-]{1,16}")
@@ -25,39 +26,6 @@ DOCUMENT = {"version": ("number", 1, 2), "key": ("key",), "periods": ("number", 
             "costs": ("table", COSTS), "demand": ("table", DEMAND), "lead": ("table", LEAD),
             "policy": ("tables", POLICY)}
 WITH_RETURNS = {**DOCUMENT, "returns": ("table", DEMAND)}
-
-
-def is_integer(value):
-    """Whether a value of a document is an integer; True and False are none."""
-    return type(value) is int
-
-
-def has_huge_integer(value):
-    """Whether an integer beyond 64 bits stands anywhere in a tree."""
-    if isinstance(value, dict):
-        return any(map(has_huge_integer, value.values()))
-    if isinstance(value, list):
-        return any(map(has_huge_integer, value))
-    return is_integer(value) and not -2**63 <= value < 2**63
-
-
-def tree_of(data):
-    """The tree of a TOML document; None where the bytes are none."""
-    try:
-        tree = tomllib.loads(data.decode("utf-8"))
-    except (ValueError, RecursionError):
-        return None
-    return None if has_huge_integer(tree) else tree
-
-
-# What TOML 1.1 takes and 1.0, which Python's reader knows, does not: a comma or a line's end before the end of an
-# inline table, two escapes, and a time without seconds.
-NEWER = re.compile(rb",\s*}|{[^}]*\n|\\[ex]|[0-9]{2}:[0-9]{2}")
-
-
-def is_for_both(data):
-    """Whether both versions of TOML say the same of a text, as far as can be told."""
-    return tree_of(data) is not None or not NEWER.search(data)
 
 
 def rises(values):

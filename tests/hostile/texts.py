@@ -12,15 +12,16 @@ import sys
 import tempfile
 from typing import NamedTuple
 
-from commands import HERE, LIMIT, stored, swapped, written
+from commands import HERE, LIMIT, stored, written
+from scenarios import swapped
 
 MOST = (1.0, 128)
 MOST_OF_TABLES = (5.0, 768)
 
 
 class Text(NamedTuple):
-    """A text, the command that gets it (FILE where it is not the input), the line with which it is refused, or its
-    front, empty where it is answered, and the seconds and megabytes that it may take."""
+    """A text, the command that gets it (FILE where it is not the input), the fault with which it is refused (empty
+    where it is answered), and the seconds and megabytes that it may take."""
 
     name: str
     words: str
@@ -67,13 +68,13 @@ def scenario_texts():
     a_table = b'[[policy]]\nname = "p%d"\ns = 1\nS = 2\n'
     key = b"0" * 16
     return [
-        Text("lists in lists", "run", nested(b"[", b"]"), "scenario"),
+        Text("lists in lists", "run", nested(b"[", b"]"), "scenario 1"),
         Text("lists that are not closed", "run", filled(b"[", b"a = "), "scenario 1"),
-        Text("tables in tables", "run", nested(b"{a=", b"}", b"a = {b="), "scenario"),
-        Text("lists and tables in each other", "run", nested(b"[{a=", b"}]"), "scenario"),
-        Text("a dotted key of many parts", "run", filled(b"a.", end=b"a = 1\n"), "scenario"),
-        Text("a header of many parts", "run", filled(b"a.", b"[", b"a]\n"), "scenario"),
-        Text("many headers below each other", "run", listed(lambda it: b"[" + b"a." * it + b"a]\n"), "scenario"),
+        Text("tables in tables", "run", nested(b"{a=", b"}", b"a = {b="), "scenario 1"),
+        Text("lists and tables in each other", "run", nested(b"[{a=", b"}]"), "scenario 1"),
+        Text("a dotted key of many parts", "run", filled(b"a.", end=b"a = 1\n"), "scenario 1"),
+        Text("a header of many parts", "run", filled(b"a.", b"[", b"a]\n"), "scenario 1"),
+        Text("many headers below each other", "run", listed(lambda it: b"[" + b"a." * it + b"a]\n"), "scenario 1"),
         Text("many dotted keys of fifty parts", "run", listed(lambda it: b"a." * 50 + b"b%d = 1\n" % it), "scenario 2"),
         Text("many policies", "run", listed(lambda it: a_table % it, tables), "scenario 13"),
         Text("many policies of one name", "run", filled(a_table % 1, tables), "scenario 11"),
@@ -113,7 +114,7 @@ def scenario_texts():
 
 
 def table_texts():
-    """Scenarios of many small tables. Readers end at some depth, so few of these go deeper than seventy levels."""
+    """Scenarios of many small tables. A document has 80 levels at most, so that these go to seventy."""
     texts = {
         "many tables of a key": filled(b"{a=0},", b"a = [", b"]\n"),
         "many policies of a wrong key": filled(b"{a=0},", b"version = 1\npolicy = [", b"]\n"),
@@ -192,8 +193,8 @@ def cost_of(program, words, text, room):
 def wrong_cost(text, cost):
     """What is wrong with the answer to a text, and with what it took."""
     status = 0 if not text.fault else 3 if text.fault.startswith("scenario") else 4
-    line = f"crnsim: {text.fault}".encode() if text.fault else b""
-    if cost.status != status or not cost.errors.startswith(line) or (not text.fault and cost.errors):
+    line = f"crnsim: {text.fault}\n".encode() if text.fault else b""
+    if (cost.status, cost.errors) != (status, line):
         return f"status {cost.status}, {cost.errors[:80]!r}"
     return f"took {told(cost)}" if is_over(cost, text.most) else None
 

@@ -21,12 +21,14 @@ import sys
 import tempfile
 import tomllib
 
-# The oracle's compiled text is not to stand in the repository.
-sys.dont_write_bytecode = True
-import oracle
-
 HERE = os.path.dirname(os.path.abspath(__file__))
 TOP = os.path.dirname(os.path.dirname(HERE))
+# Compiled text is not to stand in the repository.
+sys.dont_write_bytecode = True
+sys.path.append(f"{TOP}/tests")
+import oracle
+from scenarios import on_ring
+
 FILES = ["cases.toml", "checkpoints.toml"]
 SECONDS = 10
 # A standard input that says nothing and doesn't end.
@@ -138,11 +140,6 @@ def on_file(program, room, args, file, data=None):
     """What a run shows where this text is in FILE."""
     write_file(room, file)
     return run(program, args, data)
-
-
-def on_ring(data, size):
-    """A scenario on a ring of another size."""
-    return data.replace(b"ring = ", b"ring = %d # " % size)
 
 
 def blocks_of(case, name):
