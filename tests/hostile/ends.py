@@ -1,5 +1,5 @@
-"""Scenarios and checkpoints with each of their numbers at the ends of its range and one beyond: what chance may
-miss."""
+"""Scenarios and checkpoints with each of their numbers at the ends of its range and one beyond, and scenarios that are
+cut or damaged at each byte: what chance may miss."""
 import copy
 
 import readers
@@ -62,6 +62,12 @@ def scenario_ends():
         yield with_value(SCENARIO, ["policy"], [{**policy, "name": f"P{it}"} for it in range(count)])
     for first in SCENARIO:
         yield {it: SCENARIO[it] for it in SCENARIO if it != first}
+
+
+def damaged(text):
+    """Each proper front of a text, and the text with each of its bytes set to `0`."""
+    yield from (text[:size] for size in range(len(text)))
+    yield from (text[:at] + b"0" + text[at + 1:] for at in range(len(text)))
 
 
 def due_ends(stock, period, top):

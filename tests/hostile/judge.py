@@ -1,11 +1,11 @@
 #!/usr/bin/env python3
 """Changed texts with a judge: tests/hostile/judge.py PROGRAM [--seed N] [--cases N] [--show N [--ends | --edges]].
 
-Each case is a text that was changed by chance (changes.py), has a number at the end of its range (ends.py), or is at
-the edge of what is a document (edges.py). A second reader judges it (readers.py), and the program must say the same.
-`--show N` writes case N of the seed, or with `--ends` or `--edges` of those: what is wanted, the words, the input, the
-file and the output. The program knows TOML 1.1, and Python's reader 1.0: texts that only the newer one may take are
-left out (is_for_both).
+Each case is a text that was changed by chance (changes.py), has a number at the end of its range or was cut or damaged
+at one byte (ends.py), or is at the edge of what is a document (edges.py). A second reader judges it (readers.py), and
+the program must say the same. `--show N` writes case N of the seed, or with `--ends` or `--edges` of those: what is
+wanted, the words, the input, the file and the output. The program knows TOML 1.1, and Python's reader 1.0: texts that
+only the newer one may take are left out (is_for_both).
 """
 import argparse
 import collections
@@ -184,7 +184,7 @@ def case_of(seed, number, texts, cuts, room):
 
 
 def end_cases(cuts, room):
-    """Scenarios and checkpoints at the ends of their ranges."""
+    """Scenarios and checkpoints at the ends of their ranges, and a scenario that is cut or damaged at each byte."""
     chance = random.Random(0)
     for tree in ends.scenario_ends():
         yield scenario_case(chance, changes.document(chance, tree), room)
@@ -194,6 +194,7 @@ def end_cases(cuts, room):
                 yield resume_case(cut.text, readers.text_of(checkpoint), room)
                 if "returns" not in cut.scenario:
                     yield migrate_case(readers.text_of(checkpoint._replace(spelling=1)), room)
+    yield from (scenario_case(chance, it, room) for it in ends.damaged(stored("examples/two_policies.toml")))
 
 
 def edge_cases(room):

@@ -1,17 +1,20 @@
 #!/usr/bin/env python3
 """Tries the built program from outside: tests/program/run.py PROGRAM.
 
-cases.toml and checkpoints.toml have groups of cases: what a group says holds for each of its cases. A case has the
-words of the command line (args), and may have what stands on standard input (input) and in the file FILE (file), what
-is wanted on standard output (output, or some parts of it (has), in lines of at most so many columns), the fault's line
-and the status. Each of these texts is given, or is that of a file of the repository (input_from), with one change
-(input_change), filled up with a piece to a size (input_fill, input_size) and followed by an end (input_end).
+The files of FILES have groups of cases: what a group says holds for each of its cases. A case has the words of the
+command line (args), and may have what stands on standard input (input) and in the file FILE (file), what is wanted on
+standard output (output, or some parts of it (has), in lines of at most so many columns), the fault's line and the
+status. Each of these texts is given, or is that of a file of the repository (input_from), with one change
+(input_change) and then others (input_changes), filled up with a piece to a size (input_fill, input_size), followed by
+an end (input_end), and in UTF-8 or another encoding (input_encoding). A change is an old piece and a new one; where a
+first number and a count come after them, the new piece stands so many times, each time with the next number for `#`.
 
 A case is tried with each of its commands and each of its files (of the repository), where it has lists of them. Some
-cases stand for many tries. blocks: the scenario is cut at each of these blocks, or at all. old_blocks: its checkpoints of
-the old version there are migrated. prefixes: the fault is told of each proper prefix of the file. rows: and of the file
-with one of these rows put in, at each place. What the oracle, a second program (oracle.py), can tell of a case is tried
-too: it has to write the output that is wanted, so to agree with what was worked by hand.
+cases stand for many tries. blocks: the scenario is cut at each of these blocks, or at all. old_blocks: its checkpoints
+of the old version there are migrated. prefixes: the fault is told of each proper prefix of the file. rows: and of the
+file with one of these rows put in, at each place. steps: of changes of the input that are made one after the other,
+each tells the scenario's fault that comes next. What the oracle, a second program (oracle.py), can tell of a case is
+tried too: it has to write the output that is wanted, so to agree with what was worked by hand.
 """
 import itertools
 import os
@@ -29,10 +32,21 @@ sys.path.append(f"{TOP}/tests")
 import oracle
 from scenarios import on_ring
 
-FILES = ["cases.toml", "checkpoints.toml"]
+FILES = ["cases.toml", "checkpoints.toml", "scenarios.toml"]
 SECONDS = 10
 # A standard input that says nothing and doesn't end.
 SILENT = os.pipe()
+
+
+def changed(text, change, case):
+    """A text of a case with a change."""
+    old, new, *numbers = change
+    if old not in text:
+        raise SystemExit(f"no {old!r} in a text of {case['name']}")
+    if numbers:
+        first, count = numbers
+        new = "".join(new.replace("#", str(it)) for it in range(first, first + count))
+    return text.replace(old, new)
 
 
 def text_of(case, name):
@@ -43,15 +57,13 @@ def text_of(case, name):
     if f"{name}_from" in case:
         with open(f"{TOP}/{case[f'{name}_from']}", encoding="utf-8") as it:
             text = it.read()
-    if f"{name}_change" in case:
-        old, new = case[f"{name}_change"]
-        if old not in text:
-            raise SystemExit(f"no {old!r} in the {name} of {case['name']}")
-        text = text.replace(old, new)
+    first = [case[f"{name}_change"]] if f"{name}_change" in case else []
+    for change in first + case.get(f"{name}_changes", []):
+        text = changed(text, change, case)
     if f"{name}_fill" in case:
         fill, size = case[f"{name}_fill"], case[f"{name}_size"]
         text = (text + fill * (size // len(fill) + 1))[:size]
-    return (text + case.get(f"{name}_end", "")).encode()
+    return (text + case.get(f"{name}_end", "")).encode(case.get(f"{name}_encoding", "utf-8"))
 
 
 def words_of(case, room):
@@ -71,7 +83,9 @@ def run(program, args, data, to=None, kilobytes=None):
 
     output = open(to, "wb") if to and to != "closed" else subprocess.PIPE
     how = {"stdin": SILENT[0]} if data is None else {"input": data}
-    how |= {"stdout": output, "stderr": subprocess.PIPE, "preexec_fn": prepare, "cwd": TOP, "timeout": SECONDS}
+    how |= {"stdout": output, "stderr": subprocess.PIPE, "cwd": TOP, "timeout": SECONDS}
+    # Where nothing is to be done in between, a process starts without a copy of this one, which takes less time.
+    how |= {"preexec_fn": prepare} if kilobytes or to == "closed" else {}
     try:
         ran = subprocess.run([program, *args], **how)
     except subprocess.TimeoutExpired:
@@ -123,9 +137,9 @@ def try_case(program, case, room):
 
 def told(case):
     """What the oracle writes for a case, or None where a fault is wanted or the oracle knows no such command."""
-    text = (text_of(case, "input") or b"").decode()
     if "fault" in case:
         return None
+    text = (text_of(case, "input") or b"").decode()
     match words_of(case, None):
         case [] | ["run"]:
             return oracle.report(text)
@@ -189,6 +203,15 @@ def row_tries(program, case, room):
         yield f"{row} in place {place}", lambda: on_file(program, room, args, changed, data) == wanted_fault(case)
 
 
+def step_tries(program, case, _room):
+    """The changes of a scenario one after the other: each adds a fault that comes before all those already there."""
+    text = text_of(case, "input").decode()
+    for number, (old, new, fault) in enumerate(case["steps"], 1):
+        text = changed(text, (old, new), case)
+        data, wanted = text.encode(), refused(f"scenario {fault}", 3)
+        yield f"step {number}, {new!r}", lambda: run(program, ["run"], data) == wanted
+
+
 def try_limits(program, case, room):
     """Limits the address space more and less: each run shows its output, or that a thread or memory was refused, and
     the first of these and a refused thread come."""
@@ -200,7 +223,7 @@ def try_limits(program, case, room):
 
 
 # Cases that stand for many tries, by the key that says so.
-MANY = {"blocks": cut_tries, "old_blocks": old_tries, "prefixes": prefix_tries, "rows": row_tries}
+MANY = {"blocks": cut_tries, "old_blocks": old_tries, "prefixes": prefix_tries, "rows": row_tries, "steps": step_tries}
 
 
 def cases_of(groups):

@@ -1,14 +1,10 @@
-// Scenarios as texts: which are read, and why others are not.
-
-mod damaged;
-mod least;
-mod refusals;
-mod returns;
-mod sizes;
+// The parts of a scenario that was read, and the numbers of faults. Which texts are read, and why others are not, is
+// tried on the built program: tests/program/scenarios.toml.
 
 use super::*;
-use crn_stock::Scenario;
-use std::alloc::{AllocError, Global};
+use crn_draw::Weights;
+use crn_stock::{Model, Policy, Scenario};
+use std::alloc::Global;
 use std::test::Fail;
 
 const BASE: &str = "version = 1
@@ -43,131 +39,103 @@ s = 60
 S = 80
 ";
 
-// The same tree, spelt otherwise.
-const SPELT_OTHERWISE: &str = "# two policies
-costs = { unit = 3, setup = 0x20, backlog = 5, holding = 1 }
-demand.weights = [1, 2, 2, 1]
-demand.values = [
-  1, 2,
-  3, 4, # no more
-]
-lead = { values = [1], weights = [+1] }
-policy = [{ name = 'A', s = 20, S = 40 }, { \"S\" = 80, s = 6_0, name = \"\\u0042\" }]
-ring = 2
-initial = 60
-replications = 1
-periods = 4
-key = ['0000000000000000', '0000000000000000', '0000000000000000', '0000000000000000']
-version = 1
-";
+fn are_draws(draws: &Weights, values: &[u32], weights: &[u32]) -> bool {
+    draws.values() == values && draws.weights() == weights
+}
 
-fn read(alloc: Global, text: &str) -> Result<Scenario, AllocError> {
+fn has_costs(model: &Model) -> bool {
+    let costs = model.costs();
+    costs.setup == 32 && costs.unit == 3 && costs.holding == 1 && costs.backlog == 5
+}
+
+fn has_draws(model: &Model) -> bool {
+    are_draws(model.demand(), &[1, 2, 3, 4], &[1, 2, 2, 1]) && are_draws(model.lead(), &[1], &[1])
+}
+
+fn are_of_base(policies: &[Policy]) -> bool {
+    let want: [(&str, i64, i64); 2] = [("A", 20, 40), ("B", 60, 80)];
+    for (policy, (name, low, high)) in policies.iter().zip(want) {
+        if policy.name.as_str() != name || policy.low != low || policy.high != high {
+            return false;
+        }
+    }
+    policies.len() == 2
+}
+
+// Whether a scenario is the base, whatever its customers return.
+fn is_base(scenario: &Scenario) -> bool {
+    let model = scenario.model();
+    scenario.key() == [0; 4]
+        && scenario.ring() == 2
+        && model.periods() == 4
+        && model.replications() == 1
+        && model.initial() == 60
+        && has_costs(model)
+        && has_draws(model)
+        && are_of_base(scenario.policies())
+}
+
+// Whether a text is read as the base, whose customers return nothing.
+fn is_read(alloc: Global, text: &str) -> bool {
     match read_scenario(alloc, text.as_bytes()) {
-        Ok(scenario) => Ok(scenario),
-        Err(_) => Err(AllocError),
+        Ok(scenario) => is_base(&scenario) && scenario.model().returns().is_none(),
+        Err(_) => false,
+    }
+}
+
+// Whether a scenario's customers return these numbers of items with these weights.
+fn are_returned(scenario: &Scenario, values: &[u32], weights: &[u32]) -> bool {
+    match scenario.model().returns() {
+        Some(returns) => are_draws(returns, values, weights),
+        None => false,
+    }
+}
+
+// Whether a text is read as the base, whose customers return items.
+fn is_read_with_returns(alloc: Global, text: &str) -> bool {
+    match read_scenario(alloc, text.as_bytes()) {
+        Ok(scenario) => is_base(&scenario) && are_returned(&scenario, &[0, 5], &[2, 1]),
+        Err(_) => false,
     }
 }
 
 #[test]
 fn base(rt: HostRuntime) -> Result<(), Fail> {
-    let second = BASE.replace(
+    assert!(rt; is_read(rt.alloc(), BASE));
+    Ok(())
+}
+
+#[test]
+fn returns(rt: HostRuntime) -> Result<(), Fail> {
+    let text = BASE.replace(
         rt.alloc(),
         "version = 1",
-        "version = 2\nreturns = { values = [0], weights = [1] }",
+        "version = 2\nreturns = { values = [0, 5], weights = [2, 1] }",
     )?;
-    for text in [BASE, SPELT_OTHERWISE, second.as_str()] {
-        let scenario = read(rt.alloc(), text)?;
-        assert_eq!(rt; scenario.key(), [0; 4]);
-        assert_eq!(rt; scenario.ring(), 2);
-        let model = scenario.model();
-        assert_eq!(rt; (model.periods(), model.replications()), (4, 1));
-        assert_eq!(rt; model.initial(), 60);
-        let costs = model.costs();
-        assert_eq!(rt; (costs.setup, costs.unit), (32, 3));
-        assert_eq!(rt; (costs.holding, costs.backlog), (1, 5));
-        assert_eq!(rt; model.demand().values(), [1, 2, 3, 4].as_slice());
-        assert_eq!(rt; model.demand().weights(), [1, 2, 2, 1].as_slice());
-        assert_eq!(rt; model.lead().values(), [1].as_slice());
-        assert_eq!(rt; model.lead().weights(), [1].as_slice());
-        let want = [("A", 20, 40), ("B", 60, 80)];
-        assert_eq!(rt; scenario.policies().len(), want.len());
-        for (policy, (name, low, high)) in scenario.policies().iter().zip(want) {
-            assert_eq!(rt; policy.name.as_str(), name);
-            assert_eq!(rt; (policy.low, policy.high), (low, high));
-        }
-    }
-    Ok(())
-}
-
-// The base with so many policies of different names.
-fn with_policies(alloc: Global, count: u32) -> Result<String, AllocError> {
-    let mut text = String::new(alloc);
-    if let Some((before, _policies)) = BASE.split_once("[[policy]]") {
-        text.push_str(before)?;
-    }
-    for i in 0..count {
-        let policy = format!(in alloc; "[[policy]]\nname = \"P{i}\"\ns = 1\nS = 2\n")?;
-        text.push_str(policy.as_str())?;
-    }
-    Ok(text)
-}
-
-#[test]
-fn key_words(rt: HostRuntime) -> Result<(), Fail> {
-    let alloc = rt.alloc();
-    let words =
-        "\"0123456789abcdef\", \"ffffffffffffffff\", \"0000000000000000\", \"0000000000000010\"]";
-    let zeros =
-        "\"0000000000000000\", \"0000000000000000\", \"0000000000000000\", \"0000000000000000\"]";
-    let text = BASE.replace(alloc, zeros, words)?;
-    let scenario = read(alloc, text.as_str())?;
-    assert_eq!(rt; scenario.key(), [0x0123_4567_89ab_cdef, u64::MAX, 0, 16]);
+    assert!(rt; is_read_with_returns(rt.alloc(), text.as_str()));
     Ok(())
 }
 
 #[test]
-fn accepted(rt: HostRuntime) -> Result<(), Fail> {
-    let alloc = rt.alloc();
-    let changes = [
-        ("periods = 4", "periods = 1024"),
-        ("periods = 4", "periods = 1"),
-        ("replications = 1", "replications = 2"),
-        ("replications = 1", "replications = 256"),
-        ("initial = 60", "initial = 1000000"),
-        ("initial = 60", "initial = 0"),
-        ("setup = 32", "setup = 100000000"),
-        ("setup = 32", "setup = 0"),
-        ("unit = 3", "unit = 10000"),
-        ("unit = 3", "unit = 0"),
-        ("holding = 1", "holding = 10000"),
-        ("holding = 1", "holding = 0"),
-        ("backlog = 5", "backlog = 10000"),
-        ("backlog = 5", "backlog = 0"),
-        ("values = [1]", "values = [32]"),
-        ("[1, 2, 3, 4]", "[0, 2, 3, 10000]"),
-        ("[1, 2, 2, 1]", "[65536, 0, 0, 0]"),
-        ("[1, 2, 2, 1]", "[0, 0, 0, 1]"),
-        ("weights = [1]", "weights = [65536]"),
-        ("s = 60\nS = 80", "s = 1000000\nS = 1000000"),
-        ("s = 60\nS = 80", "s = 0\nS = 0"),
-        ("name = \"B\"", "name = \"ABCDEFGHIJKLMNOP\""),
-        ("name = \"B\"", "name = \"a_-09z\""),
-        ("ring = 2", "ring = 1024"),
-        ("ring = 2", "ring = 1"),
+fn numbers(rt: HostRuntime) -> Result<(), Fail> {
+    let table = [
+        (ScenarioFault::NoDocument, 1u8),
+        (ScenarioFault::Version, 2),
+        (ScenarioFault::UnknownKey, 3),
+        (ScenarioFault::MissingKey, 4),
+        (ScenarioFault::Kind, 5),
+        (ScenarioFault::Range, 6),
+        (ScenarioFault::Lengths, 7),
+        (ScenarioFault::Order, 8),
+        (ScenarioFault::WeightSum, 9),
+        (ScenarioFault::Levels, 10),
+        (ScenarioFault::Name, 11),
+        (ScenarioFault::RingSize, 12),
+        (ScenarioFault::PolicyCount, 13),
+        (ScenarioFault::Memory, 90),
     ];
-    for (piece, with) in changes {
-        let text = BASE.replace(alloc, piece, with)?;
-        assert!(rt; text.as_str() != BASE, "{piece}");
-        assert!(rt; read_scenario(alloc, text.as_bytes()).is_ok(), "{with}");
+    for (fault, number) in table {
+        assert_eq!(rt; fault.number(), number);
     }
-    Ok(())
-}
-
-#[test]
-fn two_replications(rt: HostRuntime) -> Result<(), Fail> {
-    let alloc = rt.alloc();
-    let text = BASE.replace(alloc, "replications = 1", "replications = 2")?;
-    let scenario = read(alloc, text.as_str())?;
-    assert_eq!(rt; scenario.model().replications(), 2);
     Ok(())
 }
