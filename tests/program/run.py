@@ -4,17 +4,20 @@
 The files of FILES have groups of cases: what a group says holds for each of its cases. A case has the words of the
 command line (args), and may have what stands on standard input (input) and in the file FILE (file), what is wanted on
 standard output (output, or some parts of it (has), in lines of at most so many columns), the fault's line and the
-status. Each of these texts is given, or is that of a file of the repository (input_from), with one change
-(input_change) and then others (input_changes), filled up with a piece to a size (input_fill, input_size), followed by
-an end (input_end), and in UTF-8 or another encoding (input_encoding). A change is an old piece and a new one; where a
-first number and a count come after them, the new piece stands so many times, each time with the next number for `#`.
+status. Each of these texts is given, or is that of a file of the repository (input_from), or is made of some numbers by
+a function of made.py (input_made), with one change (input_change) and then others (input_changes), cut after so many
+lines (input_lines), filled up with a piece to a size (input_fill, input_size), followed by an end (input_end), and in
+UTF-8 or another encoding (input_encoding). A change is an old piece and a new one; where a first number and a count
+come after them, the new piece stands so many times, each time with the next number for `#`.
 
 A case is tried with each of its commands and each of its files (of the repository), where it has lists of them. Some
-cases stand for many tries. blocks: the scenario is cut at each of these blocks, or at all. old_blocks: its checkpoints
-of the old version there are migrated. prefixes: the fault is told of each proper prefix of the file. rows: and of the
-file with one of these rows put in, at each place. steps: of changes of the input that are made one after the other,
-each tells the scenario's fault that comes next. What the oracle, a second program (oracle.py), can tell of a case is
-tried too: it has to write the output that is wanted, so to agree with what was worked by hand.
+cases stand for many tries. blocks: the scenario is cut at each of these blocks, or at all, and resumed on another ring
+(ring). old_blocks: its checkpoints of the old version there are migrated. prefixes: the fault is told of each proper
+prefix of the file. turned: and of the file with each of its bytes put to this one. Where these are answered in several
+ways, a map has in place of each byte the name of an answer; a case without a file has its input changed. rows: the
+fault is told of the file with one of these rows put in, at each place. steps: of changes of the input that are made one
+after the other, each tells the scenario's fault that comes next. What the oracle, a second program (oracle.py), can
+tell of a case is tried too: it has to write the output that is wanted, so to agree with what was worked by hand.
 """
 import itertools
 import os
@@ -29,10 +32,11 @@ TOP = os.path.dirname(os.path.dirname(HERE))
 # Compiled text is not to stand in the repository.
 sys.dont_write_bytecode = True
 sys.path.append(f"{TOP}/tests")
+import made
 import oracle
 from scenarios import on_ring
 
-FILES = ["cases.toml", "checkpoints.toml", "scenarios.toml"]
+FILES = ["cases.toml", "checkpoints.toml", "scenarios.toml", "legs.toml"]
 SECONDS = 10
 # A standard input that says nothing and doesn't end.
 SILENT = os.pipe()
@@ -51,15 +55,20 @@ def changed(text, change, case):
 
 def text_of(case, name):
     """The bytes of a case's text, or None where it has none."""
-    if name not in case and f"{name}_from" not in case:
+    if not {name, f"{name}_from", f"{name}_made"} & case.keys():
         return None
     text = case.get(name, "")
+    if f"{name}_made" in case:
+        maker, *numbers = case[f"{name}_made"]
+        text = made.MAKERS[maker](*numbers)
     if f"{name}_from" in case:
         with open(f"{TOP}/{case[f'{name}_from']}", encoding="utf-8") as it:
             text = it.read()
     first = [case[f"{name}_change"]] if f"{name}_change" in case else []
     for change in first + case.get(f"{name}_changes", []):
         text = changed(text, change, case)
+    if f"{name}_lines" in case:
+        text = "".join(text.splitlines(keepends=True)[:case[f"{name}_lines"]])
     if f"{name}_fill" in case:
         fill, size = case[f"{name}_fill"], case[f"{name}_size"]
         text = (text + fill * (size // len(fill) + 1))[:size]
@@ -164,14 +173,14 @@ def blocks_of(case, name):
 
 
 def cut_tries(program, case, room):
-    """Cuts a run at blocks, and resumes it on a ring of one block: it ends as the whole run."""
-    data, resume = text_of(case, "input"), ["resume", f"{room}/FILE"]
+    """Cuts a run at blocks, and resumes it on a ring of one block or of the size said: it ends as the whole run."""
+    data, resume, size = text_of(case, "input"), ["resume", f"{room}/FILE"], case.get("ring", 1)
     text = data.decode()
     whole = (oracle.report(text).encode(), b"", 0)
     for block in blocks_of(case, "blocks"):
         leg = oracle.checkpoint(text, block, 2).encode()
         yield f"leg {block}", lambda: run(program, ["leg", str(block)], data) == (leg, b"", 0)
-        yield f"resumed from {block}", lambda: on_file(program, room, resume, leg, on_ring(data, 1)) == whole
+        yield f"resumed from {block}", lambda: on_file(program, room, resume, leg, on_ring(data, size)) == whole
 
 
 def old_tries(program, case, room):
@@ -187,11 +196,44 @@ def old_tries(program, case, room):
         yield f"old resumed at {block}", lambda: on_file(program, room, resume, old, data) == refused("checkpoint 4", 4)
 
 
+def changed_text(case):
+    """The text that a case changes: the file, or the input of a case without one. A map has a letter for each byte."""
+    text = text_of(case, "input" if text_of(case, "file") is None else "file")
+    if len(case.get("map", text)) != len(text):
+        raise SystemExit(f"the map of {case['name']} is for another text")
+    return text
+
+
+def is_wanted_at(program, case, room, place, changed):
+    """Whether a run on a changed text shows what the case wants of a change at this place, by its map if it has one."""
+    args, data = words_of(case, room), text_of(case, "input")
+    wanted = case
+    if "map" in case:
+        letter = case["map"][place]
+        wanted = {**case, **case["answers"]["line end" if letter == "\n" else letter]}
+    if "becomes" in wanted:
+        text = changed.decode()
+        for old, new in wanted["becomes"]:
+            text = text.replace(old, new)
+        wanted = {**wanted, "output": text}
+    if text_of(case, "file") is None:
+        return is_wanted(wanted, run(program, args, changed))
+    return is_wanted(wanted, on_file(program, room, args, changed, data))
+
+
 def prefix_tries(program, case, room):
-    """The fault is told of each proper prefix of the file."""
-    file, data, args = text_of(case, "file"), text_of(case, "input"), words_of(case, room)
-    for size in range(len(file)):
-        yield f"{size} bytes", lambda: on_file(program, room, args, file[:size], data) == wanted_fault(case)
+    """Tries each proper prefix of the text."""
+    text = changed_text(case)
+    for size in range(len(text)):
+        yield f"{size} bytes", lambda: is_wanted_at(program, case, room, size, text[:size])
+
+
+def turned_tries(program, case, room):
+    """Tries the text with each of its bytes put to another."""
+    text, byte = changed_text(case), case["turned"].encode()
+    for place in range(len(text)):
+        changed = text[:place] + byte + text[place + 1:]
+        yield f"byte {place}", lambda: is_wanted_at(program, case, room, place, changed)
 
 
 def row_tries(program, case, room):
@@ -223,7 +265,8 @@ def try_limits(program, case, room):
 
 
 # Cases that stand for many tries, by the key that says so.
-MANY = {"blocks": cut_tries, "old_blocks": old_tries, "prefixes": prefix_tries, "rows": row_tries, "steps": step_tries}
+MANY = {"blocks": cut_tries, "old_blocks": old_tries, "prefixes": prefix_tries, "turned": turned_tries,
+        "rows": row_tries, "steps": step_tries}
 
 
 def cases_of(groups):

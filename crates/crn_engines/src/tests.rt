@@ -1,23 +1,21 @@
-// The program's engine on whole texts, with readers and writers that fail.
+// The program's engine on whole texts, with readers and writers that fail, and the lines of faults. What it answers to
+// texts of all kinds is tried from outside, by tests/program.
 
 mod fakes;
 mod legs;
 mod migrations;
 mod replays;
-mod runs;
 
 use super::*;
 use crn_text::{CheckpointFault, MigrateFault, ScenarioFault, ScheduleFault};
-use fakes::{Narrow, Trickle};
-use std::alloc::{AllocError, Global};
+use fakes::{Narrow, Trickle, tells_read};
+use std::alloc::Global;
+use std::sync::Wait;
 use std::test::Fail;
+use std::thread::Threads;
 
-const HEADER: &str = "policy,s,S,total,per_period,diff_total,diff_mean,diff_var,cov\n";
-
-const ROW_A: &str = "A,20,40,222,111/2,0,0/1,-,-\n";
-
-// Four periods, demands of 1 to 4, lead times of 1, no policy yet.
-const MODEL: &str = "version = 1
+// Four periods, demands of 1 to 4, lead times of 1.
+const ONE_POLICY: &str = "version = 1
 key = [\"0000000000000000\", \"0000000000000000\", \"0000000000000000\", \"0000000000000000\"]
 periods = 4
 replications = 1
@@ -26,11 +24,18 @@ ring = 2
 costs = { setup = 32, unit = 3, holding = 1, backlog = 5 }
 demand = { values = [1, 2, 3, 4], weights = [1, 2, 2, 1] }
 lead = { values = [1], weights = [1] }
+policy = [{ name = \"A\", s = 20, S = 40 }]
 ";
 
-const POLICY_A: &str = "[[policy]]\nname = \"A\"\ns = 20\nS = 40\n";
+const REPORT: &str = "policy,s,S,total,per_period,diff_total,diff_mean,diff_var,cov
+A,20,40,222,111/2,0,0/1,-,-
+";
 
-const POLICY_B: &str = "[[policy]]\nname = \"B\"\ns = 60\nS = 80\n";
+// The words of block 0 of the zero key, by Random123.
+const WORDS: &str = "demand 09218ebde6c85537 55941f5266d86105 4bd25e16282434dc ee29ec846bd2e40b
+lead ca29e96305009de4 1cc27861f52c604b a1e7adf87d24b5b5 fc2291a0341a674c
+returns 5539277864380943 86dc4496ff6c4bf6 b6a16a294c09b67c 3572aa99bcf71983
+";
 
 // Two replications of two blocks each.
 const TWO_REPLICATIONS: &str = "version = 1
@@ -44,19 +49,6 @@ demand = { values = [3], weights = [1] }
 lead = { values = [1], weights = [1] }
 policy = [{ name = \"A\", s = 5, S = 10 }, { name = \"B\", s = 4, S = 10 }]
 ";
-
-// A scenario's text with one line of it changed.
-fn changed(rt: &HostRuntime, text: &str, from: &str, to: &str) -> Result<String, AllocError> {
-    text.replace(rt.alloc(), from, to)
-}
-
-fn joined(rt: &HostRuntime, parts: &[&str]) -> Result<String, AllocError> {
-    let mut text = String::new(rt.alloc());
-    for part in parts {
-        text.push_str(*part)?;
-    }
-    Ok(text)
-}
 
 #[test]
 fn lines_and_statuses(rt: HostRuntime) -> Result<(), Fail> {
@@ -101,51 +93,59 @@ fn lines_and_statuses(rt: HostRuntime) -> Result<(), Fail> {
     Ok(())
 }
 
+// Whether a run whose k-th read fails, of so many, says so and writes nothing. Where none fails it writes the report.
+fn run_tells_read<H: Threads + Wait + Sync>(rt: &H, alloc: Global, k: u64, reads: u64) -> bool {
+    let mut reader = Trickle::new(ONE_POLICY.as_bytes(), 100, k);
+    let mut out = Vec::new(alloc);
+    let answer = simulate(rt, alloc, &mut reader, &mut out);
+    tells_read(answer, out.as_slice(), k <= reads, REPORT)
+}
+
 #[test]
 fn reads_that_fail(rt: HostRuntime) -> Result<(), Fail> {
-    let text = joined(&rt, &[MODEL, POLICY_A])?;
-    let report = joined(&rt, &[HEADER, ROW_A])?;
-    let reads = text.len() as u64 / 100 + 2;
+    let reads = ONE_POLICY.len() as u64 / 100 + 2;
     for k in 1..reads + 2 {
-        let mut reader = Trickle::new(text.as_bytes(), 100, k);
-        let mut out = Vec::new(rt.alloc());
-        let answer = simulate(&rt, rt.alloc(), &mut reader, &mut out);
-        if k <= reads {
-            assert_eq!(rt; answer, Err(Fault::Reading), "at {k}");
-            assert_eq!(rt; out.len(), 0, "at {k}");
-        } else {
-            assert_eq!(rt; answer, Ok(()), "at {k}");
-            assert_eq!(rt; out.as_slice(), report.as_bytes());
-        }
+        assert!(rt; run_tells_read(&rt, rt.alloc(), k, reads), "at {k}");
     }
     Ok(())
+}
+
+// Whether a run whose k-th write fails, or takes no byte, says so and has written just what went out before.
+fn run_tells_write<H: Threads + Wait + Sync>(
+    rt: &H,
+    alloc: Global,
+    k: u64,
+    takes_none: bool,
+) -> bool {
+    let mut reader = ONE_POLICY.as_bytes();
+    let mut out = Narrow::new(alloc, k, takes_none);
+    let answer = simulate(rt, alloc, &mut reader, &mut out);
+    out.tells(answer, REPORT)
 }
 
 #[test]
 fn writes_that_fail(rt: HostRuntime) -> Result<(), Fail> {
-    let text = joined(&rt, &[MODEL, POLICY_A])?;
-    let report = joined(&rt, &[HEADER, ROW_A])?;
     for takes_none in [false, true] {
-        for k in 1..report.len() as u64 + 2 {
-            let mut reader = text.as_bytes();
-            let mut out = Narrow::new(rt.alloc(), k, takes_none);
-            let answer = simulate(&rt, rt.alloc(), &mut reader, &mut out);
-            assert!(rt; out.tells(answer, report.as_str()), "at {k}");
+        for k in 1..REPORT.len() as u64 + 2 {
+            let is_told = run_tells_write(&rt, rt.alloc(), k, takes_none);
+            assert!(rt; is_told, "at {k}");
         }
     }
     Ok(())
 }
 
-// A writer that takes one byte a call has just the bytes before the call that fails.
+// Whether a writer that takes one byte a call has just the bytes before the call that fails.
+fn words_are_cut(alloc: Global, k: u64) -> bool {
+    let mut out = Narrow::new(alloc, k, false);
+    let answer = write_words(alloc, [0; 4], 0, &mut out);
+    out.tells(answer, WORDS)
+}
+
+// After no byte, one byte, a line, all but a byte of two lines, and two lines; and never, as all three have 224 bytes.
 #[test]
 fn words_cut_short(rt: HostRuntime) -> Result<(), Fail> {
-    let mut whole = Vec::new(rt.alloc());
-    assert_eq!(rt; write_words(rt.alloc(), [0; 4], 7, &mut whole), Ok(()));
-    let text = std::str::from_utf8(whole.as_slice())?;
-    for k in [1u64, 2, 76, 148] {
-        let mut out = Narrow::new(rt.alloc(), k, false);
-        let answer = write_words(rt.alloc(), [0; 4], 7, &mut out);
-        assert!(rt; answer.is_err() && out.tells(answer, text), "at {k}");
+    for k in [1u64, 2, 76, 148, 149, 225] {
+        assert!(rt; words_are_cut(rt.alloc(), k), "at {k}");
     }
     Ok(())
 }

@@ -1,8 +1,47 @@
-// Texts of all sizes, with memory for them.
-
-mod reports;
-mod schedules;
+// A block's words, a schedule, and the numbers of faults. Reports, and schedules and traces of all sizes, are tried
+// from outside, by tests/program/cases.toml and legs.toml.
 
 use super::*;
-use std::alloc::{AllocError, Global};
+use crn_proto::Actor;
 use std::test::Fail;
+
+// The words of block 0 of the zero key, by Random123.
+const WORDS: &str = "demand 09218ebde6c85537 55941f5266d86105 4bd25e16282434dc ee29ec846bd2e40b
+lead ca29e96305009de4 1cc27861f52c604b a1e7adf87d24b5b5 fc2291a0341a674c
+returns 5539277864380943 86dc4496ff6c4bf6 b6a16a294c09b67c 3572aa99bcf71983
+";
+
+#[test]
+fn words_of_a_block(rt: HostRuntime) -> Result<(), Fail> {
+    let text = words_text(rt.alloc(), [0; 4], 0)?;
+    assert_eq!(rt; text.as_slice(), WORDS.as_bytes());
+    Ok(())
+}
+
+const TWO_READERS: &str = "r0\np\nr1\nl0\ne\nr0\n";
+
+const TWO_READERS_ACTORS: [Actor; 6] = [
+    Actor::Reader(0),
+    Actor::Producer,
+    Actor::Reader(1),
+    Actor::Leave(0),
+    Actor::Finish,
+    Actor::Reader(0),
+];
+
+#[test]
+fn actors_of_a_schedule(rt: HostRuntime) -> Result<(), Fail> {
+    match read_schedule(rt.alloc(), 2, TWO_READERS.as_bytes()) {
+        Ok(actors) => assert_eq!(rt; actors.as_slice(), TWO_READERS_ACTORS.as_slice()),
+        Err(_) => assert!(rt; false, "the schedule is refused"),
+    }
+    Ok(())
+}
+
+#[test]
+fn numbers_of_faults(rt: HostRuntime) -> Result<(), Fail> {
+    assert_eq!(rt; ScheduleFault::Line.number(), 1);
+    assert_eq!(rt; ScheduleFault::Reader.number(), 2);
+    assert_eq!(rt; ScheduleFault::Memory.number(), 90);
+    Ok(())
+}

@@ -38,6 +38,14 @@ impl Read for Trickle<'_> {
     }
 }
 
+/// Whether a call whose read failed, as said, told it and wrote nothing, or else wrote the whole text.
+pub fn tells_read(answer: Result<(), Fault>, out: &[u8], is_failed: bool, text: &str) -> bool {
+    match answer {
+        Ok(()) => !is_failed && out == text.as_bytes(),
+        Err(fault) => is_failed && fault == Fault::Reading && out.is_empty(),
+    }
+}
+
 /// Takes one byte a call. At one call it fails or takes none.
 #[derive(Drop)]
 pub struct Narrow {

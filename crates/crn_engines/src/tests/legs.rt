@@ -1,9 +1,12 @@
 // Runs that are cut at a block and resumed, where a read or a write fails.
 
 use super::TWO_REPLICATIONS;
-use super::fakes::{Narrow, Trickle};
-use crate::{Fault, leg, resume};
+use super::fakes::{Narrow, Trickle, tells_read};
+use crate::{leg, resume};
+use std::alloc::Global;
+use std::sync::Wait;
 use std::test::Fail;
+use std::thread::Threads;
 
 // TWO_REPLICATIONS after its first block.
 pub const CUT: &str = "checkpoint,2,1,5,2
@@ -26,64 +29,81 @@ A,5,10,110,11/1,0,0/1,0/1,0/1
 B,4,10,98,49/5,-12,-6/1,0/1,0/1
 ";
 
+// Whether a leg whose k-th read fails, of so many, says so and writes nothing. Where none fails it writes CUT.
+fn leg_tells_read<H: Threads + Wait + Sync>(rt: &H, alloc: Global, k: u64, reads: u64) -> bool {
+    let mut reader = Trickle::new(TWO_REPLICATIONS.as_bytes(), 100, k);
+    let mut out = Vec::new(alloc);
+    let answer = leg(rt, alloc, 1, &mut reader, &mut out);
+    tells_read(answer, out.as_slice(), k <= reads, CUT)
+}
+
 #[test]
 fn reads_of_a_leg_that_fail(rt: HostRuntime) -> Result<(), Fail> {
     let reads = TWO_REPLICATIONS.len() as u64 / 100 + 2;
     for k in 1..reads + 2 {
-        let mut reader = Trickle::new(TWO_REPLICATIONS.as_bytes(), 100, k);
-        let mut out = Vec::new(rt.alloc());
-        let answer = leg(&rt, rt.alloc(), 1, &mut reader, &mut out);
-        if k <= reads {
-            assert_eq!(rt; answer, Err(Fault::Reading), "at {k}");
-            assert_eq!(rt; out.len(), 0, "at {k}");
-        } else {
-            assert_eq!(rt; answer, Ok(()), "at {k}");
-            assert_eq!(rt; out.as_slice(), CUT.as_bytes());
-        }
+        assert!(rt; leg_tells_read(&rt, rt.alloc(), k, reads), "at {k}");
     }
     Ok(())
 }
 
-// The k-th read of the scenario fails, or else the k-th of the checkpoint, counted on after those of the scenario.
+// Whether a resumed run says so and writes nothing where the k-th read of the scenario fails, which takes `first`, or
+// else the k-th of the checkpoint, counted on after those of the scenario. After so many none fails.
+fn resume_tells_read<H: Threads + Wait + Sync>(
+    rt: &H,
+    alloc: Global,
+    k: u64,
+    first: u64,
+    reads: u64,
+) -> bool {
+    let mut reader = Trickle::new(TWO_REPLICATIONS.as_bytes(), 100, k);
+    let mut saved = Trickle::new(CUT.as_bytes(), 100, k.saturating_sub(first));
+    let mut out = Vec::new(alloc);
+    let answer = resume(rt, alloc, &mut saved, &mut reader, &mut out);
+    tells_read(answer, out.as_slice(), k <= reads, REPORT)
+}
+
 #[test]
 fn reads_of_a_resumed_run_that_fail(rt: HostRuntime) -> Result<(), Fail> {
     let first = TWO_REPLICATIONS.len() as u64 / 100 + 2;
     let reads = first + CUT.len() as u64 / 100 + 2;
     for k in 1..reads + 2 {
-        let mut reader = Trickle::new(TWO_REPLICATIONS.as_bytes(), 100, k);
-        let mut saved = Trickle::new(CUT.as_bytes(), 100, k.saturating_sub(first));
-        let mut out = Vec::new(rt.alloc());
-        let answer = resume(&rt, rt.alloc(), &mut saved, &mut reader, &mut out);
-        if k <= reads {
-            assert_eq!(rt; answer, Err(Fault::Reading), "at {k}");
-            assert_eq!(rt; out.len(), 0, "at {k}");
-        } else {
-            assert_eq!(rt; answer, Ok(()), "at {k}");
-            assert_eq!(rt; out.as_slice(), REPORT.as_bytes());
-        }
+        assert!(rt;
+            resume_tells_read(&rt, rt.alloc(), k, first, reads),
+            "at {k}"
+        );
     }
     Ok(())
+}
+
+// Whether a leg whose k-th write fails, or takes no byte, says so and has written just what went out before.
+fn leg_tells_write<H: Threads + Wait + Sync>(rt: &H, alloc: Global, k: u64) -> bool {
+    let mut reader = TWO_REPLICATIONS.as_bytes();
+    let mut out = Narrow::new(alloc, k, k % 2 == 0);
+    let answer = leg(rt, alloc, 1, &mut reader, &mut out);
+    out.tells(answer, CUT)
 }
 
 #[test]
 fn writes_of_a_leg_that_fail(rt: HostRuntime) -> Result<(), Fail> {
     for k in 1..CUT.len() as u64 + 2 {
-        let mut reader = TWO_REPLICATIONS.as_bytes();
-        let mut out = Narrow::new(rt.alloc(), k, k % 2 == 0);
-        let answer = leg(&rt, rt.alloc(), 1, &mut reader, &mut out);
-        assert!(rt; out.tells(answer, CUT), "at {k}");
+        assert!(rt; leg_tells_write(&rt, rt.alloc(), k), "at {k}");
     }
     Ok(())
+}
+
+// The same of a resumed run.
+fn resume_tells_write<H: Threads + Wait + Sync>(rt: &H, alloc: Global, k: u64) -> bool {
+    let mut saved = CUT.as_bytes();
+    let mut reader = TWO_REPLICATIONS.as_bytes();
+    let mut out = Narrow::new(alloc, k, k % 2 == 0);
+    let answer = resume(rt, alloc, &mut saved, &mut reader, &mut out);
+    out.tells(answer, REPORT)
 }
 
 #[test]
 fn writes_of_a_resumed_run_that_fail(rt: HostRuntime) -> Result<(), Fail> {
     for k in 1..REPORT.len() as u64 + 2 {
-        let mut saved = CUT.as_bytes();
-        let mut reader = TWO_REPLICATIONS.as_bytes();
-        let mut out = Narrow::new(rt.alloc(), k, k % 2 == 0);
-        let answer = resume(&rt, rt.alloc(), &mut saved, &mut reader, &mut out);
-        assert!(rt; out.tells(answer, REPORT), "at {k}");
+        assert!(rt; resume_tells_write(&rt, rt.alloc(), k), "at {k}");
     }
     Ok(())
 }

@@ -1,0 +1,35 @@
+"""Texts that are too long to be written down, made of some numbers for the cases of run.py.
+
+Policy p costs 1,000 + 10 p + (p + 1) i in replication i. With R replications the sum of (i - j)^2 over pairs is
+R^2 (R^2 - 1) / 12, so the variance of the mean difference to policy 0 is p^2 (R + 1) / 12 and the covariance
+(p + 1) R (R + 1) / 12.
+"""
+
+
+def scenario(policies, replications):
+    """A scenario of so many policies over so many replications of one block each."""
+    head = f"""version = 1
+key = ["0000000000000000", "0000000000000000", "0000000000000000", "0000000000000000"]
+periods = 4
+replications = {replications}
+initial = 10
+ring = 2
+costs = {{ setup = 7, unit = 2, holding = 1, backlog = 4 }}
+demand = {{ values = [3], weights = [1] }}
+lead = {{ values = [1], weights = [1] }}
+"""
+    return head + "".join(f'[[policy]]\nname = "p{p}"\ns = {p}\nS = {100 + p}\n' for p in range(policies))
+
+
+def checkpoint(policies, replications):
+    """Its checkpoint at the end, as if the policies had cost what is said above."""
+    rows = [f"checkpoint,2,{replications},4,{replications}",
+            "key,0000000000000000,0000000000000000,0000000000000000,0000000000000000",
+            "costs,7,2,1,4", f"sizes,10,1,1,{policies}", "returns,0,-,-,-", "demand,3,1,-,-", "lead,1,1,-,-"]
+    for p in range(policies):
+        rows += [f"policy,p{p},{p},{100 + p},-", f"state,10,0,0,{replications}"]
+        rows += [f"cost,{i},{1000 + 10 * p + (p + 1) * i},-,-" for i in range(replications)]
+    return "".join(f"{row}\n" for row in [*rows, "end,-,-,-,-"])
+
+
+MAKERS = {"scenario": scenario, "checkpoint": checkpoint}
