@@ -1,0 +1,154 @@
+#!/usr/bin/env python3
+"""Says where the time of the gate goes.
+
+    tools/measure.py checks [CRATE ..]    each crate, each crate's tests and the twenty slowest functions, from nothing
+    tools/measure.py edits [CRATE ..]     each must-fail edit, with the function and the clause that refuse it
+    tools/measure.py runs                 what .ci/run does after its proofs, on the program that stands built
+
+With no crate: all of them. It works on a copy of the repository with one job at a time; seconds are of processor time,
+which another process beside it changes little. What it prints can be pasted into a table.
+"""
+import os
+import re
+import shutil
+import subprocess
+import sys
+import tempfile
+import time
+
+TOP = os.path.dirname(os.path.dirname(os.path.abspath(__file__)))
+TICKS = os.sysconf("SC_CLK_TCK")
+SLOWEST = 20
+
+
+def crates():
+    """The crates, each after those that it stands on."""
+    with open(f"{TOP}/crates.txt", encoding="utf-8") as file:
+        return [line.split(":")[0] for line in file if ":" in line and not line.startswith("#")]
+
+
+def seconds_of(session):
+    """The processor time that the processes of a session, and those that they waited for, have taken so far."""
+    ticks = 0
+    for name in filter(str.isdigit, os.listdir("/proc")):
+        try:
+            with open(f"/proc/{name}/stat", encoding="utf-8") as file:
+                fields = file.read().rsplit(")", 1)[1].split()
+        except OSError:
+            continue
+        if int(fields[3]) == session:
+            ticks += sum(map(int, fields[11:15]))
+    return ticks / TICKS
+
+
+def lines_of(command, folder):
+    """Each line that a command prints, with the processor time of the command until then; last its status."""
+    ran = subprocess.Popen(command, cwd=folder, text=True, errors="replace", start_new_session=True,
+                           stdin=subprocess.DEVNULL, stdout=subprocess.PIPE, stderr=subprocess.STDOUT)
+    spent = 0
+    for line in ran.stdout:
+        spent = max(spent, seconds_of(ran.pid))
+        yield line.rstrip("\n"), spent
+    yield ran.wait(), spent
+
+
+def check(folder, *flags):
+    """One check: its lines, the processor time of each function's proof by name, the time of all, and the status."""
+    lines, functions, before, spent, status = [], [], 0, 0, 1
+    for line, spent in lines_of(["rt", "check", "--jobs", "1", "--progress", *flags], folder):
+        if isinstance(line, int):
+            status = line
+        elif done := re.match(r"checked (\S+), \d+ of \d+$", line):
+            functions.append((spent - before, done[1]))
+            before = spent
+        else:
+            lines.append(line)
+    return lines, functions, spent, status
+
+
+def checks(names, copy):
+    """The time of each crate and of its tests, and the functions that take longest."""
+    slowest, sums = [], [0, 0]
+    print(f"{'crate':16} {'proofs':>8} {'with tests':>11}")
+    for name in crates():
+        _, functions, proofs, status = check(f"{copy}/crates/{name}")
+        if name not in names:
+            continue
+        shutil.rmtree(f"{copy}/crates/{name}/out/incremental", ignore_errors=True)
+        _, of_tests, tests, with_tests = check(f"{copy}/crates/{name}", "--test")
+        slowest += functions + [it for it in of_tests if it[1] not in dict(map(reversed, functions))]
+        sums = [sums[0] + proofs, sums[1] + tests]
+        print(f"{name:16} {proofs:8.0f} {tests:11.0f}{'' if status == with_tests == 0 else '  NOT PROVED'}", flush=True)
+    print(f"{'all':16} {sums[0]:8.0f} {sums[1]:11.0f}\n")
+    for seconds, function in sorted(slowest, reverse=True)[:SLOWEST]:
+        print(f"{seconds:6.1f} {function}")
+
+
+def changes_of(edit):
+    """The file that an edit changes, and its pairs of old and new text."""
+    with open(edit, encoding="utf-8") as file:
+        lines = file.read().splitlines()
+    told = [line.split(": ", 1) if ": " in line else [line.rstrip(":"), ""] for line in lines if line]
+    pairs = zip([text for word, text in told if word == "old"], [text for word, text in told if word == "new"])
+    return next(text for word, text in told if word == "file"), list(pairs)
+
+
+def refusal(lines):
+    """The first function that is not proved, and what of it: a clause, or a step of its proof."""
+    function = next((it[1] for line in lines if (it := re.match(r"fn (\S+): (?!proved)", line))), "-")
+    part = next((it[1] for line in lines if (it := re.match(r"(?:note: )?\S+:\d+:\d+: .*?`([a-z][\w.-]*)`", line))), "-")
+    return function, part
+
+
+def edits(names, copy):
+    """The time of each edit, tried on a copy of the crate over the work that its check kept."""
+    whole = 0
+    for name in crates():
+        folder = f"{copy}/crates/{name}"
+        _, _, _, status = check(folder)
+        kept = sorted(os.listdir(f"{folder}/must-fail")) if name in names and status == 0 else []
+        for edit in filter(lambda it: it.endswith(".edit"), kept):
+            path, pairs = changes_of(f"{folder}/must-fail/{edit}")
+            with open(f"{folder}/{path}", encoding="utf-8") as file:
+                before = after = file.read()
+            for old, new in pairs:
+                after = after.replace(old, new)
+            with open(f"{folder}/{path}", "w", encoding="utf-8") as file:
+                file.write(after)
+            lines, _, spent, status = check(folder)
+            with open(f"{folder}/{path}", "w", encoding="utf-8") as file:
+                file.write(before)
+            whole += spent
+            function, part = refusal(lines) if status else ("NOT REFUSED", "-")
+            print(f"{spent:6.1f} {name}/{edit.removesuffix('.edit')} | {function} | {part}", flush=True)
+    print(f"{whole:6.0f} all")
+
+
+def runs(copy):
+    """The wall time of what the gate does once all is proved."""
+    program = f"{TOP}/crates/crnsim/out/crnsim"
+    for part in ("tests/program/run.py", "tests/hostile/run.py", "examples/check", "tests/documents/run.py"):
+        began = time.monotonic()
+        said = subprocess.run([f"{TOP}/{part}", program], cwd=copy, capture_output=True, text=True).stdout
+        print(f"{time.monotonic() - began:6.1f} {part}: {said.splitlines()[-1] if said else 'nothing said'}", flush=True)
+
+
+def main(words):
+    """Runs one part on a copy."""
+    with tempfile.TemporaryDirectory(prefix="crnsim-") as room:
+        copy = f"{room}/copy"
+        shutil.copytree(TOP, copy, ignore=shutil.ignore_patterns(".git", "out"))
+        subprocess.run(["git", "init", "-q", copy], check=True)
+        if words[:1] == ["checks"]:
+            checks(words[1:] or crates(), copy)
+        elif words[:1] == ["edits"]:
+            edits(words[1:] or crates(), copy)
+        elif words == ["runs"]:
+            runs(copy)
+        else:
+            return __doc__
+    return 0
+
+
+if __name__ == "__main__":
+    sys.exit(main(sys.argv[1:]))
