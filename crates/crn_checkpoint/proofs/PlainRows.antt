@@ -15,7 +15,7 @@ use Rattle.crn_stock.specs.Parts.{Parts, AreInRange, stock_limit, period_cost_li
 use Rattle.crn_stock.specs.Models.{ModelParts, IsModel, IsPolicy, AreCosts, blocks_per_replication, returned_values, total}
 use Rattle.crn_stock.specs.Scenarios.{ScenarioParts, is_name}
 use Rattle.crn_scenario.specs.Hex.{hex_word}
-use Rattle.crn_run.specs.Runs.{IsCheckpointOf, StandsAt}
+use Rattle.crn_plain.specs.Runs.{IsCheckpointOf, StandsAt}
 use Rattle.crn_rows.specs.Plain.{is_plain, is_row, are_rows}
 use Rattle.crn_rows.proofs.Plainness.{signed_plain}
 use Rattle.crn_checkpoint.specs.CheckpointText.{numbers_row, pair_row, dash, head_row, key_row, costs_row, sizes_row, count_rows, weight_rows, drawn_rows, returned_rows, list_rows, policy_row, due_rows, cost_rows, state_row, policy_rows, all_policy_rows, end_row, checkpoint_rows}

@@ -7,7 +7,7 @@ use Rattle.crn_stock.specs.Parts.{Parts, AreInRange}
 use Rattle.crn_stock.specs.Models.{ModelParts, IsModel, has_returns, blocks_per_replication, total}
 use Rattle.crn_stock.specs.Restored.{restored, first_period}
 use Rattle.crn_stock.specs.Scenarios.{ScenarioParts}
-use Rattle.crn_run.specs.Runs.{StandsAt}
+use Rattle.crn_plain.specs.Runs.{StandsAt}
 use Rattle.crn_checkpoint.specs.Reading.{IsInRange}
 use Rattle.crn_checkpoint.specs.Amounts.{IsRestorable, ArePoliciesOf}
 

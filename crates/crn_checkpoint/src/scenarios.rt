@@ -5,7 +5,7 @@ ghost use Rattle.std.specs.List.{AllPairs};
 ghost use Rattle.crn_stock.specs.Parts.{Parts};
 ghost use Rattle.crn_stock.specs.Models.{IsPolicy, total};
 ghost use Rattle.crn_stock.specs.Scenarios.{ScenarioParts, AreForScenario, IsRingSize, is_name};
-ghost use Rattle.crn_run.specs.Runs.{IsCheckpointOf, StandsAt};
+ghost use Rattle.crn_plain.specs.Runs.{IsCheckpointOf, StandsAt};
 ghost use Rattle.crn_checkpoint.specs.Cells.{AreRowsOf};
 ghost use Rattle.crn_checkpoint.specs.Reading.{IsSameButRing, CanTell};
 
@@ -16,8 +16,8 @@ use crate::policies::{Policies, policies_of};
 use crate::unread::Unread;
 use crate::version::Version;
 use crn_draw::Weights;
+use crn_plain::Checkpoint;
 use crn_rows::Row;
-use crn_run::Checkpoint;
 use crn_scenario::hex::word_of;
 use crn_scenario::names::is_name;
 use crn_stock::{Model, Policy, Scenario};

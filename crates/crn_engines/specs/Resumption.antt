@@ -6,7 +6,7 @@ use Rattle.std.specs.Io.KnownBytes.{Appends}
 use Rattle.crn_stock.specs.Models.{total}
 use Rattle.crn_stock.specs.Parts.{Parts}
 use Rattle.crn_stock.specs.Scenarios.{ScenarioParts}
-use Rattle.crn_run.specs.Runs.{EachOnward}
+use Rattle.crn_plain.specs.Runs.{EachOnward}
 use Rattle.crn_checkpoint.specs.Reading.{IsTextOf, IsSameButRing, IsLegOf, RefusesCheckpoint}
 use Rattle.crn_checkpoint.specs.declared.checkpoint_fault.CheckpointFault.{CheckpointFault}
 use Rattle.crn_scenario.specs.Reading.{Reads}

@@ -2,7 +2,7 @@ ghost use Rattle.std.specs.Prelude.{◌≡◌, ◌≢◌, ◌⊎◌, ◌↔◌, 
 ghost use Rattle.std.specs.Io.KnownBytes.{Keeps};
 ghost use Rattle.crn_scenario.specs.declared.scenario_fault.ScenarioFault.{ScenarioFault};
 ghost use Rattle.crn_stock.specs.Models.{total};
-ghost use Rattle.crn_run.specs.Runs.{IsCheckpointOf, EachAt};
+ghost use Rattle.crn_plain.specs.Runs.{IsCheckpointOf, EachAt};
 ghost use Rattle.crn_checkpoint.specs.Reading.{IsLegOf};
 ghost use Rattle.crn_engines.specs.Statuses.{is_of_leg, is_of_run};
 ghost use Rattle.crn_engines.specs.Inputs.{ReadRefused};

@@ -4,7 +4,7 @@ ghost use Rattle.std.specs.Prelude.{◌≡◌, ◌≤◌, ◌≢◌, ◌↔◌, 
 ghost use Rattle.std.specs.Io.KnownBytes.{Appends};
 ghost use Rattle.crn_scenario.specs.declared.scenario_fault.ScenarioFault.{ScenarioFault};
 ghost use Rattle.crn_stock.specs.Models.{total};
-ghost use Rattle.crn_run.specs.Runs.{IsCheckpointOf, EachAt, EachOnward};
+ghost use Rattle.crn_plain.specs.Runs.{IsCheckpointOf, EachAt, EachOnward};
 ghost use Rattle.crn_text.specs.Report.{IsReportOf};
 ghost use Rattle.crn_engines.specs.Bytes.{AppendsFront, ReadAll};
 ghost use Rattle.crn_engines.specs.Inputs.{ReadScenario, ReadRefused};

@@ -8,9 +8,9 @@ use Rattle.crn_stock.specs.Parts.{Parts}
 use Rattle.crn_stock.specs.Models.{ModelParts}
 use Rattle.crn_stock.specs.Scenarios.{ScenarioParts}
 use Rattle.crn_stock.specs.Draws.{At, OnwardAt, next_block}
-use Rattle.crn_run.specs.Runs.{StandsAt}
+use Rattle.crn_plain.specs.Runs.{StandsAt}
 use Rattle.crn_run.specs.Ends.{Advances, FollowFrom, IsRun}
-use Rattle.crn_run.proofs.Running.{same_of}
+use Rattle.crn_plain.proofs.Running.{same_of}
 
 -- no block
 pub advances_none : (m : ModelParts) (p : Policy) (key : List ℕ) (v : Parts) → StandsAt m (next_block v) v → Advances m p key v v

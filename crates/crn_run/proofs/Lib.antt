@@ -1,7 +1,3 @@
-pub mod Growing
-mod Beginning
-mod Running
 mod Advancing
 mod Opening
 mod Ending
-pub mod Costs

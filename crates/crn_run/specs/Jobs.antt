@@ -8,7 +8,7 @@ use Rattle.crn_proto.specs.declared.spec.RingSpec.{RingSpec}
 use Rattle.crn_ring.specs.declared.ring.Ring.{Ring}
 use Rattle.crn_ring.specs.declared.reader_end.Reader.{Reader}
 use Rattle.crn_ring.specs.Calls.{IsReaderOf, number_of, reader_part, spec_of}
-use Rattle.crn_run.specs.Runs.{StandsAt, IsCheckpointOf, EachAt, EachOnward}
+use Rattle.crn_plain.specs.Runs.{StandsAt, IsCheckpointOf, EachAt, EachOnward}
 use Rattle.crn_run.specs.Ends.{EndsAs, HasReadAll, is_held}
 use Rattle.crn_run.specs.declared.jobs.Job.{Job}
 use Rattle.crn_run.specs.declared.worker.PolicyEnd.{PolicyEnd}

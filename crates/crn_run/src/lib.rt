@@ -1,23 +1,20 @@
 //! Runs of all policies of a scenario over the blocks of its stream.
 #![tactic(auto)]
 
-mod checkpoint;
 mod fault;
 mod feeding;
 mod gate;
 mod jobs;
-mod plain;
 mod prepared;
 mod run;
 mod threads;
 mod waiting;
 mod worker;
 
-pub use checkpoint::Checkpoint;
+pub use crn_plain::{Checkpoint, run_plain};
 pub use fault::RunFault;
 pub use feeding::feed;
 pub use gate::{Gate, OpenGate};
-pub use plain::run_plain;
 pub use run::{Finished, run_all};
 pub use worker::{PolicyEnd, run_policy};
 

@@ -2,18 +2,18 @@
 ghost use Rattle.std.specs.Prelude.{◌≡◌, ◌≢◌, ℕ, ◌≤◌, true, false, length, All, List, IfOk, IfErr, OnOk, vec_len, vec_capacity, []};
 ghost use Rattle.crn_stock.specs.Parts.{Parts};
 ghost use Rattle.crn_stock.specs.Models.{total};
-ghost use Rattle.crn_run.specs.Runs.{IsCheckpointOf, EachAt, EachOnward};
+ghost use Rattle.crn_plain.specs.Runs.{IsCheckpointOf, EachAt, EachOnward};
 ghost use Rattle.crn_ring.specs.Calls.{spec_of};
 ghost use Rattle.crn_run.specs.Jobs.{AllReached, AllReady, AreJobs, AreReaders, CarriesFor, Gathers, HasRefused, HasRun, ring_spec};
 ghost use Rattle.std.specs.List.{list_any};
 ghost use Rattle.crn_run.specs.Ends as spec;
 
-use crate::checkpoint::Checkpoint;
 use crate::fault::RunFault;
 use crate::gate::Gate;
 use crate::prepared::{Prepared, prepare};
 use crate::threads::run_jobs;
 use crate::worker::PolicyEnd;
+use crn_plain::Checkpoint;
 use crn_ring::Reader;
 use crn_stock::{Scenario, State};
 use std::alloc::Global;

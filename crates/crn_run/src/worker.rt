@@ -4,7 +4,7 @@ ghost use Rattle.crn_cipher.specs.declared.stream.Block.{Block};
 ghost use Rattle.crn_stock.specs.Models.{IsPolicy, total};
 ghost use Rattle.crn_stock.specs.Draws.{next_block};
 ghost use Rattle.crn_ring.specs.Calls.{HasLeft, IsReaderOf, number_of, reader_part, spec_of};
-ghost use Rattle.crn_run.specs.Runs.{StandsAt};
+ghost use Rattle.crn_plain.specs.Runs.{StandsAt};
 ghost use Rattle.crn_run.specs.declared.worker.PolicyEnd.TheVariants.{Held};
 ghost use Rattle.crn_run.specs.Ends.{Advances, EndsAs, is_held, FollowFrom};
 

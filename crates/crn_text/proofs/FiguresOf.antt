@@ -3,7 +3,7 @@ use Rattle.std.proofs.Common.{◌≡◌, ℕ, ◌<◌, List, [], ◌∷◌, leng
 use Rattle.std.proofs.lemmas.Option.{slice_get_read, slice_get-map}
 use Rattle.crn_stock.specs.Parts.{Parts}
 use Rattle.crn_stock.specs.Models.{ModelParts, total}
-use Rattle.crn_run.specs.Runs.{StandsAt}
+use Rattle.crn_plain.specs.Runs.{StandsAt}
 use Rattle.crn_text.specs.declared.figures.Figures.{Figures}
 use Rattle.crn_text.specs.Rows.{IsFigures}
 

@@ -4,7 +4,7 @@ use Rattle.std.specs.Fmt.{signed_decimal}
 use Rattle.crn_pair.specs.declared.fraction.Fraction.{Fraction}
 use Rattle.crn_stock.specs.declared.rules.Policy.{Policy}
 use Rattle.crn_stock.specs.Scenarios.{ScenarioParts}
-use Rattle.crn_run.specs.Runs.{costs_of}
+use Rattle.crn_plain.specs.Runs.{costs_of}
 use Rattle.crn_rows.specs.Rows.{row_text}
 use Rattle.crn_text.specs.declared.figures.Figures.{Figures}
 use Rattle.crn_text.specs.Rows.{AreFigures}

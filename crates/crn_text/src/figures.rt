@@ -3,7 +3,7 @@
 ghost use Rattle.std.specs.Prelude.{◌≡◌, ◌+◌, ◌*◌, ◌≤◌, ◌<◌, ◌^◌, All, IfOk, ℕ, List, length, map, sum, Some, slice_get};
 ghost use Rattle.crn_stock.specs.Parts.{Parts, period_cost_limit};
 ghost use Rattle.crn_stock.specs.Models.{total};
-ghost use Rattle.crn_run.specs.Runs.{StandsAt};
+ghost use Rattle.crn_plain.specs.Runs.{StandsAt};
 ghost use Rattle.crn_pair.specs.Pairs.{IsPairOf};
 ghost use Rattle.crn_text.specs.Rows.{IsFigures, AreFigures};
 

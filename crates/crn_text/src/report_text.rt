@@ -1,14 +1,14 @@
 ghost use Rattle.std.specs.Prelude.{◌≡◌, ◌++◌, IfOk, true, length, map, All};
 ghost use Rattle.crn_stock.specs.Models.{total};
 ghost use Rattle.crn_stock.specs.Scenarios.{is_name};
-ghost use Rattle.crn_run.specs.Runs.{IsCheckpointOf};
+ghost use Rattle.crn_plain.specs.Runs.{IsCheckpointOf};
 ghost use Rattle.crn_rows.specs.Rows.{row_text};
 ghost use Rattle.crn_text.specs.Report.{header, rows_text, fields, IsReportText};
 
 use crate::field_texts::{figure_texts, level_texts};
 use crate::figures::{Figures, all_figures};
+use crn_plain::Checkpoint;
 use crn_rows::Sheet;
-use crn_run::Checkpoint;
 use crn_stock::{Policy, Scenario};
 use std::alloc::{AllocError, Global};
 

@@ -1,7 +1,7 @@
 use Rattle.std.proofs.Common.{◌≡◌, ◌∙◌, ℕ, List, ap, map, subst}
 use Rattle.crn_stock.specs.Models.{total}
-use Rattle.crn_run.specs.Runs.{EachAt, EachOnward, costs_of}
-use Rattle.crn_run.proofs.Costs.{costs_at_end}
+use Rattle.crn_plain.specs.Runs.{EachAt, EachOnward, costs_of}
+use Rattle.crn_plain.proofs.Costs.{costs_at_end}
 use Rattle.crn_text.specs.Report.{IsReportText}
 use Rattle.crn_engines.proofs.steps.run_and_report.Goals as goal
 

@@ -1,6 +1,6 @@
 use Rattle.std.proofs.Common.{rules, ◌≡◌, ◌++◌, ◌∷◌, [], map, arith}
 use Rattle.std.proofs.lemmas.Grind.{common_steps}
-use Rattle.crn_run.proofs.Growing.{each-grown}
+use Rattle.crn_plain.proofs.Growing.{each-grown}
 use Rattle.crn_text.proofs.FiguresOf.{FiguresAt, figures_at, stands_at}
 use Rattle.crn_text.proofs.figures.all_figures.Goals as goal
 

@@ -1,5 +1,5 @@
 use Rattle.std.proofs.Common.{◌≡◌, length, map}
-use Rattle.crn_run.proofs.Growing.{HoldsOfEach}
+use Rattle.crn_plain.proofs.Growing.{HoldsOfEach}
 use Rattle.crn_text.proofs.FiguresOf.{FiguresAt}
 use Rattle.crn_text.proofs.figures.all_figures.Given as goal
 

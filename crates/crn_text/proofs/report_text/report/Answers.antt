@@ -1,7 +1,7 @@
 use Rattle.std.proofs.Common.{◌≡◌, subst, sym, List, ℕ, Some, slice_get}
 use Rattle.crn_stock.specs.Parts.{Parts}
 use Rattle.crn_stock.specs.Models.{total}
-use Rattle.crn_run.specs.Runs.{StandsAt}
+use Rattle.crn_plain.specs.Runs.{StandsAt}
 use Rattle.crn_text.proofs.report_text.report.Goals as goal
 
 pub all_figures-requires : goal.all_figures-requires

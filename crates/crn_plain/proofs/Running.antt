@@ -5,7 +5,7 @@ use Rattle.crn_stock.specs.declared.rules.Policy.{Policy}
 use Rattle.crn_stock.specs.Parts.{Parts}
 use Rattle.crn_stock.specs.Scenarios.{ScenarioParts}
 use Rattle.crn_stock.specs.Draws.{At, OnwardAt, next_block}
-use Rattle.crn_run.specs.Runs.{StandsAt}
+use Rattle.crn_plain.specs.Runs.{StandsAt}
 
 -- v is the state that policy i's state of `start` at block `from` becomes at block `upto`
 abbrev pub Ran : ScenarioParts → List Parts → ℕ → ℕ → ℕ → Parts → Type 0

@@ -1,8 +1,8 @@
 use Rattle.std.proofs.Common.{rules, ◌≡◌, ◌++◌, ◌∷◌, [], ap, length, arith}
 use Rattle.std.proofs.lemmas.Grind.{common_steps}
-use Rattle.crn_run.proofs.Growing.{each-grown}
-use Rattle.crn_run.proofs.Beginning.{Begun, begun}
-use Rattle.crn_run.proofs.checkpoint.Checkpoint.start.Goals as goal
+use Rattle.crn_plain.proofs.Growing.{each-grown}
+use Rattle.crn_plain.proofs.Beginning.{Begun, begun}
+use Rattle.crn_plain.proofs.checkpoint.Checkpoint.start.Goals as goal
 
 pub loop-policy-preserved : goal.loop-policy-preserved
 loop-policy-preserved c =

@@ -1,7 +1,7 @@
 use Rattle.std.proofs.Common.{◌≡◌, length}
-use Rattle.crn_run.proofs.Growing.{HoldsOfEach}
-use Rattle.crn_run.proofs.Beginning.{Begun}
-use Rattle.crn_run.proofs.checkpoint.Checkpoint.start.Given as goal
+use Rattle.crn_plain.proofs.Growing.{HoldsOfEach}
+use Rattle.crn_plain.proofs.Beginning.{Begun}
+use Rattle.crn_plain.proofs.checkpoint.Checkpoint.start.Given as goal
 
 abbrev pub invariant-loop-policy : goal.invariant-loop-policy
 invariant-loop-policy l = record {

@@ -5,7 +5,7 @@ use Rattle.crn_stock.specs.Parts.{Parts}
 use Rattle.crn_stock.specs.Models.{total}
 use Rattle.crn_stock.specs.Scenarios.{ScenarioParts}
 use Rattle.crn_stock.specs.Draws.{At}
-use Rattle.crn_run.specs.Runs.{EachAt, costs_of}
+use Rattle.crn_plain.specs.Runs.{EachAt, costs_of}
 
 at_end : (s : ScenarioParts) (p : Policy) (v : Parts) → At s.model p s.key (total s.model) v → v.costs ≡ costs_of s p
 unfolding costs_of

@@ -1,7 +1,7 @@
 use Rattle.std.proofs.Common.{◌≡◌, length}
-use Rattle.crn_run.proofs.Growing.{HoldsOfEach}
-use Rattle.crn_run.proofs.Running.{Ran}
-use Rattle.crn_run.proofs.plain.run_plain.Given as goal
+use Rattle.crn_plain.proofs.Growing.{HoldsOfEach}
+use Rattle.crn_plain.proofs.Running.{Ran}
+use Rattle.crn_plain.proofs.plain.run_plain.Given as goal
 
 abbrev pub invariant-loop-i : goal.invariant-loop-i
 invariant-loop-i l = record {

@@ -4,7 +4,7 @@ use Rattle.crn_stock.specs.declared.rules.Policy.{Policy}
 use Rattle.crn_stock.specs.Parts.{Parts}
 use Rattle.crn_stock.specs.Models.{ModelParts}
 use Rattle.crn_stock.specs.Draws.{At, IsOf, IsBetween, next_block}
-use Rattle.crn_run.specs.Runs.{StandsAt}
+use Rattle.crn_plain.specs.Runs.{StandsAt}
 
 -- before block 0, whatever the policy
 abbrev pub Begun : ModelParts → List ℕ → ℕ → Parts → Type 0

@@ -1,5 +1,5 @@
 ghost use Rattle.std.specs.Prelude.{◌≡◌, IfOk};
-ghost use Rattle.crn_run.specs.Runs.{IsCheckpointOf, EachAt};
+ghost use Rattle.crn_plain.specs.Runs.{IsCheckpointOf, EachAt};
 
 use crn_stock::{Scenario, State};
 use std::alloc::{AllocError, Global};

@@ -1,6 +1,6 @@
 use Rattle.std.proofs.Common.{rules, ◌≡◌, ℕ, subst}
 use Rattle.crn_stock.specs.Draws.{At, OnwardAt}
-use Rattle.crn_run.proofs.plain.run_policy_plain.Goals as goal
+use Rattle.crn_plain.proofs.plain.run_policy_plain.Goals as goal
 
 pub returns-clause-at : goal.returns-clause-at
 returns-clause-at c h =

@@ -1,9 +1,9 @@
 use Rattle.std.proofs.Common.{rules, ◌≡◌, ◌++◌, ◌∷◌, [], ap, length, arith, Some, slice_get, ℕ, subst, sym}
 use Rattle.std.proofs.lemmas.Grind.{common_steps}
-use Rattle.crn_run.specs.Runs.{StandsAt}
-use Rattle.crn_run.proofs.Growing.{each-grown}
-use Rattle.crn_run.proofs.Running.{Ran, ran, read_at, read_policy, reached}
-use Rattle.crn_run.proofs.plain.run_plain.Goals as goal
+use Rattle.crn_plain.specs.Runs.{StandsAt}
+use Rattle.crn_plain.proofs.Growing.{each-grown}
+use Rattle.crn_plain.proofs.Running.{Ran, ran, read_at, read_policy, reached}
+use Rattle.crn_plain.proofs.plain.run_plain.Goals as goal
 
 -- the state that is taken further stands where the checkpoint does
 stands : (c : goal.After-index-policies-i) → StandsAt c.args.scenario.now.model c.args.start.now.next c.index-from.result.now

@@ -1,6 +1,6 @@
 use Rattle.crn_stock.specs.Draws.{At, OnwardAt, next_block}
-use Rattle.crn_run.specs.Runs.{StandsAt}
-use Rattle.crn_run.proofs.plain.run_policy_plain.Given as goal
+use Rattle.crn_plain.specs.Runs.{StandsAt}
+use Rattle.crn_plain.proofs.plain.run_policy_plain.Given as goal
 
 abbrev pub invariant-loop-number : goal.invariant-loop-number
 invariant-loop-number l = record {

@@ -1,7 +1,7 @@
 ghost use Rattle.std.specs.Prelude.{◌≡◌, ◌≤◌, IfOk};
 ghost use Rattle.crn_stock.specs.Models.{IsPolicy, total};
 ghost use Rattle.crn_stock.specs.Draws.{At, OnwardAt, next_block};
-ghost use Rattle.crn_run.specs.Runs.{IsCheckpointOf, StandsAt, EachAt, EachOnward};
+ghost use Rattle.crn_plain.specs.Runs.{IsCheckpointOf, StandsAt, EachAt, EachOnward};
 
 use crate::checkpoint::Checkpoint;
 use crn_cipher::block;

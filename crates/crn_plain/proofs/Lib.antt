@@ -1,0 +1,4 @@
+pub mod Growing
+mod Beginning
+pub mod Running
+pub mod Costs
