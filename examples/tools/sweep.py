@@ -87,8 +87,8 @@ def joined(rows):
     base = rows[0][0]
     if any(part[0] != base for part in rows.values()):
         raise Refused("the base has not the same row in all reports")
-    grid = [row for number in sorted(rows) for row in rows[number][1:]]
-    ranked = sorted(grid, key=lambda row: int(row[HEADER.split(",").index("diff_total")]))
+    place = HEADER.split(",").index("diff_total")
+    ranked = sorted((row for number in sorted(rows) for row in rows[number][1:]), key=lambda row: int(row[place]))
     return "".join(line + "\n" for line in [HEADER, *map(",".join, [base, *ranked])])
 
 
@@ -103,8 +103,7 @@ def main():
     words.add_argument("--out", metavar="FOLDER", help="keep each report here, and go on with what is here")
     words.add_argument("--cluster", metavar="ADDRESS", help="a Dask scheduler, as tcp://host:8786")
     asked = words.parse_args()
-    # A worker may stand in another folder; a plain name is looked for on its PATH.
-    asked.program = os.path.abspath(asked.program) if "/" in asked.program else asked.program
+    asked.program = os.path.abspath(asked.program) if "/" in asked.program else asked.program  # a plain name is on PATH
     try:
         if asked.out is not None:
             os.makedirs(asked.out, exist_ok=True)

@@ -67,15 +67,24 @@ def quote_tries(_):
             yield f"docs/READING.md quotes {wanted}", len(texts) == len(files) > 0 and any(wanted in it for it in texts)
 
 
+def refuses(crate, refusal):
+    """Whether a crate has the function that a line of the list names, and with it the clause of that name."""
+    name, clause = re.match(r"`(?:\w+::)*(\w+)`: (?:`([\w-]+)`)?", refusal).groups()
+    files = glob.glob(f"crates/{crate}/src/**/*.rt", root_dir=TOP, recursive=True)
+    texts = [text for text in map(text_of, files) if re.search(rf"\bfn {name}\b", text)]
+    return any(not clause or re.search(rf"\bensures {clause} {{", text) for text in texts)
+
+
 def edit_tries(_):
-    """The list of wrong bodies has each edit once, and no two say the same."""
+    """The list of wrong bodies has each edit once, no two say the same, and what refuses them is there."""
     crate, listed, sentences = None, [], []
     for line in text_of("docs/WRONG_BODIES.md").splitlines():
         crate = line[3:].strip("`") if line.startswith("## ") else crate
-        row = re.match(r"\| `(\w+)` \| ([^|]+) \| ([^|]+) \|$", line)
+        row = re.match(r"\| `(\w+)` \| ([^|]+) \| ([^|]+) \| (`[^|]+) \|$", line)
         if row:
             listed.append(f"{crate}/{row[1]}")
             sentences.append(row[2])
+            yield f"docs/WRONG_BODIES.md: {crate}/{row[1]} is refused by {row[4]}", bool(refuses(crate, row[4]))
     files = glob.glob("crates/*/must-fail/*.edit", root_dir=TOP)
     edits = [f"{it.split('/')[1]}/{os.path.basename(it).removesuffix('.edit')}" for it in files]
     for name in sorted(set(listed + edits)):
