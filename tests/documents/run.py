@@ -103,9 +103,9 @@ def readme_tries(program):
         yield f"README.md's table: {policy}", f"| {policy} | {low} | {high} | {total} |" in text_of("README.md")
 
 
-PARTS = [link_tries, crate_tries, quote_tries, edit_tries, believed_tries, readme_tries, command_tries, example_tries,
-         header_tries, checkpoint_tries, usage_tries, option_tries, toml_tries, range_tries, number_tries, rule_tries, status_tries,
-         figure_tries, reading_tries]
+PARTS = [link_tries, crate_tries, quote_tries, edit_tries, believed_tries, readme_tries, command_tries,
+         example_tries, header_tries, checkpoint_tries, usage_tries, option_tries, toml_tries, range_tries,
+         number_tries, rule_tries, status_tries, figure_tries, reading_tries]
 
 
 def tried(part, program):
