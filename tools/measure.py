@@ -21,10 +21,11 @@ TICKS = os.sysconf("SC_CLK_TCK")
 SLOWEST = 20
 
 
-def crates():
-    """The crates, each after those that it stands on."""
+def crates(names=()):
+    """The crates, each after those that it stands on; where some are named, up to the last of these."""
     with open(f"{TOP}/crates.txt", encoding="utf-8") as file:
-        return [line.split(":")[0] for line in file if ":" in line and not line.startswith("#")]
+        listed = [line.split(":")[0] for line in file if ":" in line and not line.startswith("#")]
+    return listed[:max(map(listed.index, names)) + 1] if names else listed
 
 
 def seconds_of(session):
@@ -70,7 +71,7 @@ def checks(names, copy):
     """The time of each crate and of its tests, and the functions that take longest."""
     slowest, sums = [], [0, 0]
     print(f"{'crate':16} {'proofs':>8} {'with tests':>11}")
-    for name in crates():
+    for name in crates(names):
         _, functions, proofs, status = check(f"{copy}/crates/{name}")
         if name not in names:
             continue
@@ -78,7 +79,8 @@ def checks(names, copy):
         _, of_tests, tests, with_tests = check(f"{copy}/crates/{name}", "--test")
         slowest += functions + [it for it in of_tests if it[1] not in dict(map(reversed, functions))]
         sums = [sums[0] + proofs, sums[1] + tests]
-        print(f"{name:16} {proofs:8.0f} {tests:11.0f}{'' if status == with_tests == 0 else '  NOT PROVED'}", flush=True)
+        verdict = "" if status == with_tests == 0 else "  NOT PROVED"
+        print(f"{name:16} {proofs:8.0f} {tests:11.0f}{verdict}", flush=True)
     print(f"{'all':16} {sums[0]:8.0f} {sums[1]:11.0f}\n")
     for seconds, function in sorted(slowest, reverse=True)[:SLOWEST]:
         print(f"{seconds:6.1f} {function}")
@@ -96,14 +98,15 @@ def changes_of(edit):
 def refusal(lines):
     """The first function that is not proved, and what of it: a clause, or a step of its proof."""
     function = next((it[1] for line in lines if (it := re.match(r"fn (\S+): (?!proved)", line))), "-")
-    part = next((it[1] for line in lines if (it := re.match(r"(?:note: )?\S+:\d+:\d+: .*?`([a-z][\w.-]*)`", line))), "-")
+    told = r"(?:note: )?\S+:\d+:\d+: .*?`(?!search|grind)([a-z][\w.-]*)`"
+    part = next((it[1] for line in lines if (it := re.match(told, line))), "-")
     return function, part
 
 
 def edits(names, copy):
     """The time of each edit, tried on a copy of the crate over the work that its check kept."""
     whole = 0
-    for name in crates():
+    for name in crates(names):
         folder = f"{copy}/crates/{name}"
         _, _, _, status = check(folder)
         kept = sorted(os.listdir(f"{folder}/must-fail")) if name in names and status == 0 else []
@@ -130,7 +133,8 @@ def runs(copy):
     for part in ("tests/program/run.py", "tests/hostile/run.py", "examples/check", "tests/documents/run.py"):
         began = time.monotonic()
         said = subprocess.run([f"{TOP}/{part}", program], cwd=copy, capture_output=True, text=True).stdout
-        print(f"{time.monotonic() - began:6.1f} {part}: {said.splitlines()[-1] if said else 'nothing said'}", flush=True)
+        last = said.splitlines()[-1] if said else "nothing said"
+        print(f"{time.monotonic() - began:6.1f} {part}: {last}", flush=True)
 
 
 def main(words):
