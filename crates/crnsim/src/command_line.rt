@@ -68,9 +68,26 @@ pub fn read_words<'a>(alloc: Global, words: &'a [String]) -> Result<Command, Fau
 
 // What `clap` knows of the commands.
 fn parser<'a>(alloc: Global) -> Result<clap::Command<'a>, AllocError> {
-    let run = clap::Command::new(alloc, "run")
+    clap::Command::new(alloc, "crnsim")
+        .bin_name("crnsim")?
+        .about(ABOUT)
+        .after_help(AFTER_HELP)
+        .no_binary_name(true)
+        .subcommand(run_parser(alloc))?
+        .subcommand(leg_parser(alloc)?)?
+        .subcommand(resume_parser(alloc)?)?
+        .subcommand(migrate_parser(alloc)?)?
+        .subcommand(words_parser(alloc)?)?
+        .subcommand(replay_parser(alloc)?)
+}
+
+fn run_parser<'a>(alloc: Global) -> clap::Command<'a> {
+    clap::Command::new(alloc, "run")
         .about(RUN_ABOUT)
-        .after_help(RUN_EXAMPLE);
+        .after_help(RUN_EXAMPLE)
+}
+
+fn words_parser<'a>(alloc: Global) -> Result<clap::Command<'a>, AllocError> {
     let mut words = clap::Command::new(alloc, "words")
         .about(WORDS_ABOUT)
         .after_help(WORDS_EXAMPLE);
@@ -83,24 +100,17 @@ fn parser<'a>(alloc: Global) -> Result<clap::Command<'a>, AllocError> {
     let number = Arg::new(alloc, "N")
         .required(true)
         .help("The number of the block, in decimal");
-    let words = words.arg(number)?;
+    words.arg(number)
+}
+
+fn replay_parser<'a>(alloc: Global) -> Result<clap::Command<'a>, AllocError> {
     let mut replay = clap::Command::new(alloc, "replay")
         .about(REPLAY_ABOUT)
         .after_help(REPLAY_EXAMPLE);
     for (name, help) in RING_ARGS {
         replay = replay.arg(Arg::new(alloc, name).required(true).help(help))?;
     }
-    clap::Command::new(alloc, "crnsim")
-        .bin_name("crnsim")?
-        .about(ABOUT)
-        .after_help(AFTER_HELP)
-        .no_binary_name(true)
-        .subcommand(run)?
-        .subcommand(leg_parser(alloc)?)?
-        .subcommand(resume_parser(alloc)?)?
-        .subcommand(migrate_parser(alloc)?)?
-        .subcommand(words)?
-        .subcommand(replay)
+    Ok(replay)
 }
 
 fn leg_parser<'a>(alloc: Global) -> Result<clap::Command<'a>, AllocError> {

@@ -1,4 +1,4 @@
-use Rattle.std.proofs.Common.{arith}
+use Rattle.std.proofs.Common.{rules, arith}
 use Rattle.std.proofs.lemmas.List.{take_rest, length-drop}
 use Rattle.crn_engines.proofs.KnownBytes.{Appends-turn}
 use Rattle.crn_engines.proofs.output.write_text.Goals as goal
@@ -11,3 +11,9 @@ loop-sent-preserved g c =
       within = omega arith;
       went = Appends-turn _ _ _ _ _ _ c.loop-sent.invariant.went bytes;
     }
+
+pub returns-in-Ok-eq0-clause-whole : goal.returns-in-Ok-eq0-clause-whole
+returns-in-Ok-eq0-clause-whole g c = search rules
+
+pub returns-in-Ok-eq0-2-clause-whole : goal.returns-in-Ok-eq0-2-clause-whole
+returns-in-Ok-eq0-2-clause-whole g c = search rules

@@ -48,3 +48,6 @@ returns-in-Ok-clause-held g t c =
     with_value c.start_from-others.result
     (λ others end. rw grown (held_or_last below c.join.result (HasRefused g.G.Gate.refused) others end))
     c.start_from-others.ensures.held last
+
+pub returns-in-Err-clause-thread : goal.returns-in-Err-clause-thread
+returns-in-Err-clause-thread g t c = search rules

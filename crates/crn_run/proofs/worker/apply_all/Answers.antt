@@ -1,4 +1,4 @@
-use Rattle.std.proofs.Common.{◌≡◌, ◌∙◌, Some, slice_get, length, refl, sym, arith}
+use Rattle.std.proofs.Common.{rules, ◌≡◌, ◌∙◌, Some, slice_get, length, refl, sym, arith}
 use Rattle.std.proofs.lemmas.Option.{slice_get_read}
 use Rattle.crn_stock.specs.Draws.{next_block}
 use Rattle.crn_run.proofs.Advancing.{advances_none, advances_then, next_but}
@@ -38,3 +38,6 @@ loop-k-preserved g c =
       next = next_but (next_block c.args.state.now) (next_block c.apply.new.state) b.number c.loop-k.k (c.requires.blocks.1 c.loop-k.k b c.loop-k-test.true is).1 c.apply.ensures.next;
       gate = c.in-Some.ensures.passed.2;
     }
+
+pub apply-requires-clause-permit : goal.apply-requires-clause-permit
+apply-requires-clause-permit g c = search rules
