@@ -98,7 +98,7 @@ def changes_of(edit):
 def refusal(lines):
     """The first function that is not proved, and what of it: a clause, or a step of its proof."""
     function = next((it[1] for line in lines if (it := re.match(r"fn (\S+): (?!proved)", line))), "-")
-    told = r"(?:note: )?\S+:\d+:\d+: .*?`(?!search|grind)([a-z][\w.-]*)`"
+    told = r"(?:note: )?\S+:\d+:\d+: (?!note: ).*?`(?!search|grind)([a-z][\w.-]*)`"
     part = next((it[1] for line in lines if (it := re.match(told, line))), "-")
     return function, part
 
