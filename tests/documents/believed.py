@@ -1,4 +1,5 @@
-"""Compares what READING.md says must be believed with what the contracts reach, by tools/definitions.py."""
+"""Compares what READING.md says must be believed with what the contracts reach, by tools/definitions.py; and that what
+no public contract reaches, and nothing else, stands in specs/Inner."""
 import collections
 import re
 import sys
@@ -53,3 +54,16 @@ def believed_tries(_):
             yield f"docs/READING.md on {crate} {module}: lacks {lacks}, not reached {extra}", not lacks and not extra
     count = len([node for node in sorts if sorts[node] == "stated"])
     yield f"docs/READING.md counts {count} of {len(sorts)}", f"They are {count} of {len(sorts)} definitions" in section
+
+
+def inner_tries(_):
+    """Each file of specs/Inner has only definitions that no public contract states, and each other file no such one."""
+    repository = Repository()
+    sorts = repository.sorts([it for _, it in repository.public()])
+    for crate, module in sorted({node[1:3] for node in sorts}):
+        inner = module.startswith("Inner.")
+        wrong = [f"{it[3]} ({sorts[it]})" for it in sorts if it[1:3] == (crate, module)
+                 and (sorts[it] == "stated") == inner]
+        place = f"crates/{crate}/specs/{module.replace('.', '/')}.antt"
+        by = "no public contract" if inner else "a public contract"
+        yield f"{place}: each definition is stated by {by}", not wrong or f"not so {', '.join(wrong)}"

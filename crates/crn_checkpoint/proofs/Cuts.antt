@@ -8,7 +8,7 @@ use Rattle.crn_checkpoint.specs.declared.version.Version.{Version}
 use Rattle.crn_checkpoint.specs.declared.version.Version.TheVariants.{First, Second}
 use Rattle.crn_checkpoint.specs.CheckpointText.{version_number, checkpoint_rows, checkpoint_text}
 use Rattle.crn_checkpoint.specs.Reading.{IsTextIn, IsAnyTextOf, IsSameButRing}
-use Rattle.crn_checkpoint.specs.Cells.{cell, AreRowsOf}
+use Rattle.crn_checkpoint.specs.Inner.Cells.{cell, AreRowsOf}
 use Rattle.crn_checkpoint.proofs.Lengths.{total_high}
 use Rattle.crn_rows.specs.Plain.{are_rows}
 use Rattle.crn_rows.specs.Rows.{rows_text}

@@ -3,7 +3,7 @@ use Rattle.std.proofs.Common.{◌≡◌, ℕ, zero, suc, ◌+◌, ◌<◌, ◌�
 use Rattle.std.proofs.Common.{drop-cons, length-drop}
 use Rattle.std.proofs.lemmas.List.{take_more, take_more_set}
 use Rattle.crn_checkpoint.specs.CheckpointText.{due_rows}
-use Rattle.crn_checkpoint.specs.Cells.{cell}
+use Rattle.crn_checkpoint.specs.Inner.Cells.{cell}
 
 -- the first row is of some period from t on
 pub record IsFirst (t n : ℕ) (rows : List (List (List ℕ))) : Type 0 where

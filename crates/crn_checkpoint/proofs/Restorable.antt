@@ -9,7 +9,7 @@ use Rattle.crn_stock.specs.Restored.{restored, first_period}
 use Rattle.crn_stock.specs.Scenarios.{ScenarioParts}
 use Rattle.crn_plain.specs.Runs.{StandsAt}
 use Rattle.crn_checkpoint.specs.Reading.{IsInRange}
-use Rattle.crn_checkpoint.specs.Amounts.{IsRestorable, ArePoliciesOf}
+use Rattle.crn_checkpoint.specs.Inner.Amounts.{IsRestorable, ArePoliciesOf}
 
 -- a whole number of blocks of `b` and a part of one, taken apart
 quotient : (a b t n : ℕ) → t < b → n ≡ a * b + t → n / b ≡ a

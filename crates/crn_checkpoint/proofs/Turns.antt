@@ -7,7 +7,7 @@ use Rattle.crn_stock.specs.Parts.{Parts}
 use Rattle.crn_stock.specs.Models.{ModelParts, IsPolicy}
 use Rattle.crn_stock.specs.Scenarios.{is_name}
 use Rattle.crn_checkpoint.specs.CheckpointText.{policy_rows, all_policy_rows}
-use Rattle.crn_checkpoint.specs.Amounts.{IsRestorable, ArePoliciesOf}
+use Rattle.crn_checkpoint.specs.Inner.Amounts.{IsRestorable, ArePoliciesOf}
 
 -- the item at a place, and what stands before and after it
 pub record IsAt {A : Type 0} (P : A → Type 0) (xs : List A) (i : ℕ) : Type 0 where

@@ -7,7 +7,7 @@ use Rattle.crn_draw.specs.Faults.{least_fault}
 use Rattle.crn_draw.specs.declared.fault.DrawFault.{DrawFault}
 use Rattle.crn_stock.specs.Parts.{stock_limit}
 use Rattle.crn_stock.specs.Models.{ModelParts}
-use Rattle.crn_checkpoint.specs.Sizes.{parts_of}
+use Rattle.crn_checkpoint.specs.Inner.Sizes.{parts_of}
 use Rattle.crn_checkpoint.specs.declared.models.Sizes.{Sizes}
 use Rattle.crn_checkpoint.specs.declared.unread.Unread.{Unread}
 use Rattle.crn_checkpoint.specs.declared.unread.Unread.TheVariants.{Memory}

@@ -5,7 +5,7 @@ ghost use Rattle.crn_stock.specs.Restored.{first_period};
 ghost use Rattle.crn_stock.specs.Parts.{Parts};
 ghost use Rattle.crn_plain.specs.Runs.{StandsAt};
 ghost use Rattle.crn_checkpoint.specs.CheckpointText.{due_rows, policy_rows};
-ghost use Rattle.crn_checkpoint.specs.Amounts.{IsRestorable, AreOf};
+ghost use Rattle.crn_checkpoint.specs.Inner.Amounts.{IsRestorable, AreOf};
 ghost use Rattle.crn_stock.specs.declared.rules.Policy.{Policy};
 
 use crate::cells::{after, column, front, integer_in, natural_in};

@@ -3,7 +3,7 @@
 ghost use Rattle.std.specs.Prelude.{◌≡◌, ℕ, ℤ, List, ◌<◌, ◌^◌, [], IfOk, All, decimal, drop, map, slice_index_or, take, unsigned_abs};
 ghost use Rattle.std.specs.Fmt.{signed_decimal};
 ghost use Rattle.std.specs.Str.{IsUtf8};
-ghost use Rattle.crn_checkpoint.specs.Cells.{cell};
+ghost use Rattle.crn_checkpoint.specs.Inner.Cells.{cell};
 
 use crn_rows::Row;
 use std::alloc::{AllocError, Global};

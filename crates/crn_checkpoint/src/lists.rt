@@ -5,7 +5,7 @@ ghost use Rattle.crn_stock.specs.Models.{returned_values};
 ghost use Rattle.crn_stock.specs.Parts.{Parts};
 ghost use Rattle.crn_stock.specs.Scenarios.{ScenarioParts};
 ghost use Rattle.crn_checkpoint.specs.CheckpointText as spec;
-ghost use Rattle.crn_checkpoint.specs.Cells.{AreRowsOf};
+ghost use Rattle.crn_checkpoint.specs.Inner.Cells.{AreRowsOf};
 
 use crate::cells::{after, front, natural_in};
 use crate::version::Version;

@@ -8,8 +8,8 @@ ghost use Rattle.crn_stock.specs.Models.{IsModel, AreCosts, returned_values};
 ghost use Rattle.crn_stock.specs.Scenarios.{ScenarioParts};
 ghost use Rattle.crn_checkpoint.specs.CheckpointText.{drawn_rows, returned_rows};
 ghost use Rattle.crn_checkpoint.specs.Reading.{CanDraw, CanTell};
-ghost use Rattle.crn_checkpoint.specs.Cells.{AreRowsOf};
-ghost use Rattle.crn_checkpoint.specs.Sizes.{parts_of};
+ghost use Rattle.crn_checkpoint.specs.Inner.Cells.{AreRowsOf};
+ghost use Rattle.crn_checkpoint.specs.Inner.Sizes.{parts_of};
 
 use crate::cells::{integer_in, natural_in, small_column};
 use crate::lists::{demand_rows, lead_rows, returned_rows};

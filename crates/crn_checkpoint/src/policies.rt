@@ -6,7 +6,7 @@ ghost use Rattle.crn_stock.specs.Scenarios.{is_name};
 ghost use Rattle.crn_stock.specs.Parts.{Parts};
 ghost use Rattle.crn_plain.specs.Runs.{StandsAt};
 ghost use Rattle.crn_checkpoint.specs.CheckpointText.{policy_row, all_policy_rows};
-ghost use Rattle.crn_checkpoint.specs.Amounts.{ArePoliciesOf};
+ghost use Rattle.crn_checkpoint.specs.Inner.Amounts.{ArePoliciesOf};
 ghost use Rattle.crn_stock.specs.declared.rules.Policy.{Policy};
 
 use crate::amounts::{after_policy, state_of};

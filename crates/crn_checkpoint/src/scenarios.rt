@@ -6,7 +6,7 @@ ghost use Rattle.crn_stock.specs.Parts.{Parts};
 ghost use Rattle.crn_stock.specs.Models.{IsPolicy, total};
 ghost use Rattle.crn_stock.specs.Scenarios.{ScenarioParts, AreForScenario, IsRingSize, is_name};
 ghost use Rattle.crn_plain.specs.Runs.{IsCheckpointOf, StandsAt};
-ghost use Rattle.crn_checkpoint.specs.Cells.{AreRowsOf};
+ghost use Rattle.crn_checkpoint.specs.Inner.Cells.{AreRowsOf};
 ghost use Rattle.crn_checkpoint.specs.Reading.{IsSameButRing, CanTell};
 
 use crate::cells::{natural_in, text_in};

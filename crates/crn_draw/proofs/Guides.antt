@@ -7,8 +7,8 @@ use Rattle.crn_draw.specs.declared.guide.Guide.{Guide}
 use Rattle.crn_draw.specs.declared.guide.TheConstants.{SEVERAL}
 use Rattle.crn_draw.specs.declared.runs.Run.{Run}
 use Rattle.crn_draw.specs.Spread.{place_of}
-use Rattle.crn_draw.specs.Runs.{IsBracket, StandsAt}
-use Rattle.crn_draw.specs.Guide.{first_place, last_place, EntryFits, BracketFits, IsGuide, no_bracket}
+use Rattle.crn_draw.specs.Inner.Runs.{IsBracket, StandsAt}
+use Rattle.crn_draw.specs.Inner.Guide.{first_place, last_place, EntryFits, BracketFits, IsGuide, no_bracket}
 use Rattle.crn_draw.proofs.Drawn.{place-rises}
 
 -- the place of a word is between those of the first and the last word with its leading bits

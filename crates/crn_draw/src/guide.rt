@@ -2,8 +2,8 @@
 
 ghost use Rattle.std.specs.Prelude.{◌≡◌, ℕ, ◌≤◌, ◌<◌, IfOk, length};
 ghost use Rattle.crn_draw.specs.Spread.{place_of};
-ghost use Rattle.crn_draw.specs.Runs.{start_at, IsBracket, StandsAt, StartsRise};
-ghost use Rattle.crn_draw.specs.Guide.{IsEntry, IsGuide};
+ghost use Rattle.crn_draw.specs.Inner.Runs.{start_at, IsBracket, StandsAt, StartsRise};
+ghost use Rattle.crn_draw.specs.Inner.Guide.{IsEntry, IsGuide};
 
 use crate::runs::{Run, index_of, place_at, value_at};
 use std::alloc::{AllocError, Global};

@@ -2,7 +2,7 @@
 
 ghost use Rattle.std.specs.Prelude.{◌≡◌, ℕ, ◌≤◌, ◌<◌, IfOk, length, sum};
 ghost use Rattle.crn_draw.specs.Spread.{place_of};
-ghost use Rattle.crn_draw.specs.Runs.{runs_from, start_at, IsBracket, StandsAt, StartsRise};
+ghost use Rattle.crn_draw.specs.Inner.Runs.{runs_from, start_at, IsBracket, StandsAt, StartsRise};
 
 use std::alloc::{AllocError, Global};
 

@@ -1,5 +1,5 @@
 -- What is read from a reader, and what is written to a writer, where they tell their bytes.
-use Rattle.std.specs.Prelude.{◌≡◌, ℕ, ◌≤◌, ◌<◌, List, [], ◌++◌, length, take, Option, Bool, true, false}
+use Rattle.std.specs.Prelude.{ℕ, ◌≤◌, List, length, take, Option}
 use Rattle.std.specs.Io.KnownBytes.{Appends, Consumes, IsAtEnd}
 use Rattle.crn_engines.specs.declared.input.TheConstants.{INPUT_LIMIT}
 
@@ -12,17 +12,3 @@ pub record ReadAll (old new : Option (List ℕ)) (input : List ℕ) : Type 0 whe
   pub taken : Consumes old new input
   pub at_end : IsAtEnd new
   pub short : length input ≤ INPUT_LIMIT
-
--- one read whose bytes were appended to the input: some bytes where the input goes on, none where it has ended
-pub record ReadMore (old new : Option (List ℕ)) (input input' : List ℕ) (more : Bool) : Type 0 where
-  pub bytes : List ℕ
-  pub taken : Consumes old new bytes
-  pub grown : input' ≡ input ++ bytes
-  pub some : more ≡ true → 0 < length bytes
-  pub none : more ≡ false → (bytes ≡ []) × IsAtEnd new
-
--- there was more than the limit
-pub record ReadTooMuch (old new : Option (List ℕ)) : Type 0 where
-  pub bytes : List ℕ
-  pub taken : Consumes old new bytes
-  pub long : INPUT_LIMIT < length bytes

@@ -6,3 +6,4 @@ pub mod Legs
 pub mod Resumption
 pub mod Migration
 pub mod Replay
+pub mod Inner

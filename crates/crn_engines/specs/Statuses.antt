@@ -43,12 +43,6 @@ is_of_scenario (fault.Scenario _) = true
 is_of_scenario fault.Memory = true
 is_of_scenario _ = false
 
--- a text that is judged as a checkpoint
-abbrev pub is_of_checkpoint : Fault → Bool
-is_of_checkpoint (fault.Checkpoint _) = true
-is_of_checkpoint fault.Memory = true
-is_of_checkpoint _ = false
-
 -- a text that is migrated
 abbrev pub is_of_migration : Fault → Bool
 is_of_migration (fault.Migration _) = true

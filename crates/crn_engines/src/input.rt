@@ -1,5 +1,6 @@
 ghost use Rattle.std.specs.Prelude.{◌≡◌, ◌≢◌, IfOk, IfErr};
-ghost use Rattle.crn_engines.specs.Bytes.{ReadAll, ReadMore, ReadTooMuch};
+ghost use Rattle.crn_engines.specs.Bytes.{ReadAll};
+ghost use Rattle.crn_engines.specs.Inner.Bytes.{ReadMore, ReadTooMuch};
 
 use std::alloc::Global;
 use std::io::Read;

@@ -5,7 +5,8 @@ ghost use Rattle.crn_stock.specs.Parts.{Parts};
 ghost use Rattle.crn_stock.specs.Scenarios.{ScenarioParts};
 ghost use Rattle.crn_checkpoint.specs.Reading.{IsTextOf, IsAnyTextOf, IsSameButRing, RefusesCheckpoint};
 ghost use Rattle.crn_checkpoint.specs.declared.checkpoint_fault.CheckpointFault.{CheckpointFault};
-ghost use Rattle.crn_engines.specs.Statuses.{is_of_checkpoint, is_of_resume};
+ghost use Rattle.crn_engines.specs.Statuses.{is_of_resume};
+ghost use Rattle.crn_engines.specs.Inner.Statuses.{is_of_checkpoint};
 ghost use Rattle.crn_engines.specs.Inputs.{ReadRefused};
 ghost use Rattle.crn_engines.specs.Resumption.{IsResumedReport, ReportsLegs, WroteResumed, WroteResumedFront, WroteLegsReport, ReadRefusedCheckpoint};
 

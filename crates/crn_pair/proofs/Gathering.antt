@@ -4,7 +4,7 @@ use Rattle.std.proofs.lemmas.Int.{ints, unsigned_abs-mul}
 use Rattle.std.proofs.lemmas.Bool.{and_parts, leb-true}
 use Rattle.std.proofs.Math.Nat.{mul-le-mul_left}
 use Rattle.crn_pair.specs.Limits.{cost_limit, are_costs}
-use Rattle.crn_pair.specs.Places.{products, AreSums, AreWithin}
+use Rattle.crn_pair.specs.Inner.Places.{products, AreSums, AreWithin}
 use Rattle.crn_pair.specs.Sums.{signed, differences, total, over_pairs}
 use Rattle.crn_pair.proofs.Products.{pairs_are}
 use Rattle.crn_pair.specs.declared.moments.Moments.{Moments}

@@ -3,7 +3,7 @@ use Rattle.std.proofs.Common.{◌≡◌, ℕ, suc, ◌*◌, ℤ, pos, ◌*ℤ◌
 use Rattle.std.proofs.lemmas.Int.{ints}
 use Rattle.std.proofs.Math.IntN.{*ℤ_comm, suc_ℤ-*ℤ}
 use borrow.Author.Differences.{up, down, sum_is_lem}
-use Rattle.crn_pair.specs.Places.{products}
+use Rattle.crn_pair.specs.Inner.Places.{products}
 use Rattle.crn_pair.specs.Sums.{total, against, over_pairs}
 
 sum_left : (a b c : ℤ) → (a +ℤ b) *ℤ c ≡ a *ℤ c +ℤ b *ℤ c

@@ -3,7 +3,7 @@
 ghost use Rattle.std.specs.Prelude.{◌≡◌, ◌≤◌, ◌<◌, ◌-ℤ◌, pos, unsigned_abs, length, true};
 ghost use Rattle.crn_pair.specs.Limits.{cost_limit, are_costs};
 ghost use Rattle.crn_pair.specs.Sums.{signed, differences};
-ghost use Rattle.crn_pair.specs.Places.{AreSums, AreWithin};
+ghost use Rattle.crn_pair.specs.Inner.Places.{AreSums, AreWithin};
 ghost use Rattle.crn_pair.specs.Refused as spec;
 
 use crate::fault::PairFault;

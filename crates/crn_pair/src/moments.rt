@@ -12,7 +12,7 @@ pub(crate) struct Moments {
 }
 
 impl Moments {
-    ghost use Rattle.crn_pair.specs.Places.{AreWithin};
+    ghost use Rattle.crn_pair.specs.Inner.Places.{AreWithin};
 
     // The sums over no place.
     pub(crate) fn none() -> Moments

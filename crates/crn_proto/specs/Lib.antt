@@ -8,3 +8,4 @@ pub mod Views
 pub mod Laws
 pub mod Machine
 pub mod Traces
+pub mod Inner

@@ -1,5 +1,5 @@
 -- The machine: which step each actor makes next, one block at a time.
-use Rattle.std.specs.Prelude.{◌≡◌, ℕ, ◌+◌, ◌*◌, ◌/◌, ◌<◌, ◌≤◌, ◌==◌, ◌||◌, nat_lt, not, Bool, true, false, if◌then◌else◌, List, [], ◌∷◌, length, replicate, Option, Some, None, slice_set, slice_index, slice_index_or}
+use Rattle.std.specs.Prelude.{ℕ, ◌+◌, ◌*◌, ◌/◌, ◌<◌, ◌==◌, ◌||◌, nat_lt, not, Bool, true, false, if◌then◌else◌, List, [], ◌∷◌, replicate, Option, Some, None, slice_set, slice_index, slice_index_or}
 use Rattle.crn_cipher.specs.declared.TheConstants.{BLOCK_WORDS}
 use Rattle.crn_proto.specs.declared.spec.RingSpec.{RingSpec}
 use Rattle.crn_proto.specs.declared.schedule.Actor.{Actor}
@@ -8,7 +8,7 @@ use Rattle.crn_proto.specs.declared.schedule.Kind.TheVariants.{P1, P2, P3, R1, R
 use Rattle.crn_proto.specs.declared.schedule.Step.{Step}
 use Rattle.crn_proto.specs.declared.machine.Taker.{Taker}
 use Rattle.crn_cipher.specs.Blocks.{block_word}
-use Rattle.crn_proto.specs.Ring.{left_mark, place, open_words, word_count, bit}
+use Rattle.crn_proto.specs.Ring.{left_mark, place, open_words}
 
 -- what a machine keeps: the ring's words, and where each actor stands
 pub record MachineState : Type 0 where
@@ -165,23 +165,3 @@ machine_after m (who ∷ actors) = machine_after (machine_steps m who).0 actors
 abbrev pub machine_answers : MachineState → List Actor → List (Option Step)
 machine_answers m [] = []
 machine_answers m (who ∷ actors) = (machine_steps m who).1 ∷ machine_answers (machine_steps m who).0 actors
-
--- a taker's count stays below the total while it reads
-pub record TakerFits (total : ℕ) (t : Taker) : Type 0 where
-  pub low : t.taken ≤ total
-  pub reads : t.reading ≡ true → t.taken < total
-  pub few : t.read ≤ BLOCK_WORDS
-
--- what the machine's fields keep
-pub record MachineFits (m : MachineState) : Type 0 where
-  pub words : length m.words ≡ word_count m.spec
-  pub has_slots : 0 < m.spec.size
-  pub size : m.spec.size ≤ 1024
-  pub readers : m.spec.readers ≤ 16
-  pub total : m.spec.id.total ≤ 65536
-  pub in_total : m.published ≤ m.spec.id.total
-  pub cursor : slice_index m.words 0 ≡ 2 * m.published + bit m.ended
-  pub passed : m.passed ≤ m.spec.readers
-  pub stored : m.stored ≤ BLOCK_WORDS
-  pub takers : length m.takers ≡ m.spec.readers
-  pub each : (r : ℕ) → r < m.spec.readers → TakerFits m.spec.id.total (taker_at m r)

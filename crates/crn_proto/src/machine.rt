@@ -4,7 +4,8 @@ ghost use Rattle.std.specs.Prelude.{◌≡◌, ℕ, ◌+◌, ◌-◌, ◌*◌, �
 ghost use Rattle.std.specs.List.{All};
 ghost use Rattle.crn_proto.specs.Ring.{IsRing, left_mark, place, word_count, open_words};
 ghost use Rattle.crn_proto.specs.Opening.{IsRingSize, IsReaderCount, IsStream};
-ghost use Rattle.crn_proto.specs.Machine.{MachineState, MachineFits, machine_of, machine_steps, ends, loads_gate, stores_word, publishes, producer_steps, finish_steps, loads_cursor, loads_word, takes, leaves, reader_steps, leave_steps, IsActor, open_machine, taker_at, machine_after, machine_answers};
+ghost use Rattle.crn_proto.specs.Machine.{MachineState, machine_of, machine_steps, ends, loads_gate, stores_word, publishes, producer_steps, finish_steps, loads_cursor, loads_word, takes, leaves, reader_steps, leave_steps, IsActor, open_machine, taker_at, machine_after, machine_answers};
+ghost use Rattle.crn_proto.specs.Inner.Machine.{MachineFits};
 
 mod shown;
 

@@ -8,7 +8,7 @@ use Rattle.crn_cipher.specs.declared.stream.Block.{Block}
 use Rattle.crn_proto.specs.declared.spec.RingSpec.{RingSpec}
 use Rattle.crn_ring.specs.declared.view.View.{View}
 use Rattle.crn_ring.specs.Calls.{FollowOn}
-use Rattle.crn_ring.specs.Plays.{read_many, wrote_many}
+use Rattle.crn_ring.specs.Inner.Plays.{read_many, wrote_many}
 
 pub read_many_join : (ns ms : List ℕ) (v : View) → read_many ms (read_many ns v) ≡ read_many (ns ++ ms) v
 read_many_join ns ms v = λ i. record v { reader = record v.reader { read = append_assoc v.reader.read ns ms i; steps = (let e : (v.reader.steps + length ns) + length ms ≡ v.reader.steps + length (ns ++ ms) = omega (arith, length-append ns ms) in e) i } }

@@ -3,7 +3,8 @@ use Rattle.std.proofs.Common.{◌≡◌, ℕ, ◌+◌, ◌-◌, ◌<◌, ◌≤�
 use Rattle.std.proofs.lemmas.Bool.{cases_eq, cases_lt}
 use Rattle.std.proofs.lemmas.List.{get_or-replicate}
 use Rattle.crn_proto.specs.Ring.{left_mark}
-use Rattle.crn_ring.specs.Gates.{LeastOf, Passes, Remembers}
+use Rattle.crn_ring.specs.Gates.{Passes, Remembers}
+use Rattle.crn_ring.specs.Inner.Gates.{LeastOf}
 
 pub at_open : (size first readers : ℕ) → 0 < readers → first ≤ left_mark → Remembers size first readers (replicate readers first) first
 at_open size first readers some few = record {

@@ -9,10 +9,12 @@ use Rattle.crn_proto.specs.Ring.{left_mark, LoadGate, ProducerMay, producer_afte
 use Rattle.crn_proto.specs.Chains.{ProducerReaches, ReaderReaches}
 use Rattle.crn_proto.proofs.Chains.{reaches_join, reaches_more}
 use Rattle.crn_ring.specs.declared.view.View.{View}
-use Rattle.crn_ring.specs.Gates.{HaveRoom, LeastOf, Loaded, Passes, Remembers}
-use Rattle.crn_ring.specs.Plays.{by_producer, Gauged}
+use Rattle.crn_ring.specs.Gates.{HaveRoom, Loaded, Passes, Remembers}
+use Rattle.crn_ring.specs.Inner.Gates.{LeastOf}
+use Rattle.crn_ring.specs.Plays.{by_producer}
+use Rattle.crn_ring.specs.Inner.Plays.{Gauged}
 use Rattle.crn_ring.specs.Parts.{IsFull, Publishes, Takes}
-use Rattle.crn_ring.specs.Rooms.{HasFound}
+use Rattle.crn_ring.specs.Inner.Rooms.{HasFound}
 use Rattle.crn_ring.proofs.Gauging.{least_room, loaded_more, gauged_same}
 use Rattle.crn_ring.proofs.Remembering.{after_full, all_fit}
 

@@ -1,5 +1,5 @@
 -- The gates of a producer: what it last loaded from each reader's cursor, a count, or the mark of a reader that left.
-use Rattle.std.specs.Prelude.{◌≡◌, ◌≢◌, ℕ, ◌+◌, ◌<◌, ◌≤◌, ◌⊎◌, List, ◌++◌, length, Some, slice_get, slice_index}
+use Rattle.std.specs.Prelude.{◌≡◌, ◌≢◌, ℕ, ◌+◌, ◌<◌, ◌≤◌, List, ◌++◌, length, Some, slice_get, slice_index}
 use Rattle.crn_proto.specs.declared.spec.RingSpec.{RingSpec}
 use Rattle.crn_proto.specs.declared.actor_parts.ProducerPart.{ProducerPart}
 use Rattle.crn_proto.specs.Ring.{left_mark}
@@ -18,12 +18,6 @@ pub record Loaded (k : ℕ) (p p' : ProducerPart) : Type 0 where
   pub added : p'.loads ≡ p.loads ++ entries
   pub one_each : length entries ≡ k
   pub in_order : (r : ℕ) → r < k → slice_get entries r ≡ Some (r, slice_index p'.gates r)
-
--- least is the least of the first k gates, where the mark of a reader that left is above all counts
-pub record LeastOf (k : ℕ) (gates : List ℕ) (least : ℕ) : Type 0 where
-  pub low : (r : ℕ) → r < k → least ≤ slice_index gates r
-  pub high : least ≤ left_mark
-  pub met : (least ≡ left_mark) ⊎ ((r : ℕ) × (r < k) × (slice_index gates r ≡ least))
 
 -- least is the greatest number that no gate is below, and each gate still lets in what is published
 pub record Remembers (size published readers : ℕ) (gates : List ℕ) (least : ℕ) : Type 0 where

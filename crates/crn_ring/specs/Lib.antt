@@ -3,6 +3,6 @@ pub mod Gates
 pub mod Plays
 pub mod Parts
 pub mod Calls
-pub mod Rooms
 pub mod Closes
 pub mod Schedules
+pub mod Inner

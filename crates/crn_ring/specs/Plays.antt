@@ -1,12 +1,11 @@
 -- What each kind of step does to the view of its seat, and what it tells besides.
-use Rattle.std.specs.Prelude.{◌≡◌, ◌≢◌, ℕ, ◌+◌, ◌-◌, ◌/◌, ◌%◌, ◌<◌, ◌≤◌, List, ◌++◌, length, slice_index}
+use Rattle.std.specs.Prelude.{◌≡◌, ◌≢◌, ℕ, ◌+◌, ◌-◌, ◌/◌, ◌%◌, ◌≤◌, length}
 use Rattle.atomic_table.specs.Table.{Me, Step}
 use Rattle.crn_cipher.specs.declared.TheConstants.{BLOCK_WORDS}
 use Rattle.crn_cipher.specs.Blocks.{block_word}
 use Rattle.crn_proto.specs.Ring.{left_mark, ProducerMove, LoadGate, StoreWord, Publish, Finish, ProducerMay, producer_word, producer_leaves, producer_after, ReaderMove, LoadCursor, LoadWord, Take, Leave, ReaderMay, reader_word, reader_leaves, reader_after, reading}
 use Rattle.crn_ring.specs.declared.view.Role.TheVariants.{Reader}
 use Rattle.crn_ring.specs.declared.view.View.{View}
-use Rattle.crn_ring.specs.Gates.{Passes, Loaded}
 use Rattle.crn_ring.specs.Holds.{HasProducer, HasReader}
 
 abbrev pub Sat : Type 0
@@ -73,17 +72,3 @@ cut_left v = record v { number = v.number + 1 }
 
 abbrev pub cut_right : View → View
 cut_right v = record v { role = Reader }
-
--- the views after many stores, and after many loads, of words
-abbrev pub wrote_many : ℕ → View → View
-wrote_many k v = record v { producer = record v.producer { stored = v.producer.stored + k; steps = v.producer.steps + k } }
-
-abbrev pub read_many : List ℕ → View → View
-read_many ns v = record v { reader = record v.reader { read = v.reader.read ++ ns; steps = v.reader.steps + length ns } }
-
--- the gates of the readers below r were loaded, in order, and have room for block n; the gates above are as they were
-pub record Gauged (size n r : ℕ) (v v' : View) : Type 0 where
-  pub same : v' ≡ record v { producer = record v.producer { gates = v'.producer.gates; loads = v'.producer.loads; steps = v.producer.steps + r } }
-  pub loaded : Loaded r v.producer v'.producer
-  pub passed : (q : ℕ) → q < r → Passes size n (slice_index v'.producer.gates q)
-  pub kept : (q : ℕ) → r ≤ q → slice_index v'.producer.gates q ≡ slice_index v.producer.gates q

@@ -4,9 +4,10 @@ ghost use Rattle.crn_proto.specs.Ring.{Finish, left_mark, LoadGate, PassesGates,
 ghost use Rattle.crn_proto.specs.Chains.{ProducerReaches};
 ghost use Rattle.crn_ring.specs.Holds.{HasProducer};
 ghost use Rattle.crn_ring.specs.Gates.{HaveRoom, Passes};
-ghost use Rattle.crn_ring.specs.Plays.{by_producer, wrote_many};
+ghost use Rattle.crn_ring.specs.Plays.{by_producer};
+ghost use Rattle.crn_ring.specs.Inner.Plays.{wrote_many};
 ghost use Rattle.crn_ring.specs.Calls.{AfterPublish, AfterPublishMany, FollowOn, IsAt, IsProducerOf, producer_part, spec_of};
-ghost use Rattle.crn_ring.specs.Rooms.{Finds, Gauges};
+ghost use Rattle.crn_ring.specs.Inner.Rooms.{Finds, Gauges};
 
 use crate::answers::{Publish, PublishMany};
 use crate::producer_end::Producer;

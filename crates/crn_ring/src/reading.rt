@@ -4,7 +4,7 @@ ghost use Rattle.crn_cipher.specs.Blocks.{BlockWords};
 ghost use Rattle.crn_proto.specs.Ring.{place, reading};
 ghost use Rattle.crn_proto.specs.Chains.{ReaderReaches};
 ghost use Rattle.crn_ring.specs.Holds.{HasReader};
-ghost use Rattle.crn_ring.specs.Plays.{read_many};
+ghost use Rattle.crn_ring.specs.Inner.Plays.{read_many};
 ghost use Rattle.crn_ring.specs.Calls.{AfterBatch, AfterTake, FollowOn, IsAt, HasLeft, IsReaderOf, left_part, number_of, reader_part, spec_of};
 
 use crate::answers::{Batch, Take};

@@ -19,7 +19,7 @@ pub struct Sheet {
 impl std::marker::Model for Sheet {
     ghost use Rattle.std.specs.Prelude.{ℕ, List, ◌++◌};
     ghost use Rattle.csv.specs.Writing.{writer_under, writer_pending};
-    ghost use Rattle.crn_rows.specs.Plain.{IsReady};
+    ghost use Rattle.crn_rows.specs.Inner.Plain.{IsReady};
 
     ghost Value = { List ℕ };
 

@@ -9,7 +9,8 @@ use Rattle.crn_stock.specs.Models.{ModelParts}
 use Rattle.crn_stock.specs.Scenarios.{ScenarioParts}
 use Rattle.crn_stock.specs.Draws.{At, OnwardAt, next_block}
 use Rattle.crn_plain.specs.Runs.{StandsAt}
-use Rattle.crn_run.specs.Ends.{Advances, FollowFrom, IsRun}
+use Rattle.crn_run.specs.Ends.{IsRun}
+use Rattle.crn_run.specs.Inner.Ends.{Advances, FollowFrom}
 use Rattle.crn_plain.proofs.Running.{same_of}
 
 -- no block

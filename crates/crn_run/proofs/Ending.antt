@@ -17,8 +17,10 @@ use Rattle.crn_run.specs.declared.jobs.Job.{Job}
 use Rattle.crn_plain.specs.Runs.{IsCheckpointOf, StandsAt, EachAt, EachOnward}
 use Rattle.crn_run.specs.declared.worker.PolicyEnd.{PolicyEnd}
 use Rattle.crn_run.specs.declared.worker.PolicyEnd.TheVariants.{Reached, Short, Held}
-use Rattle.crn_run.specs.Ends.{EndsAs, HasReadAll, IsRun, is_short, is_held}
-use Rattle.crn_run.specs.Jobs.{IsReady, AllReached, has_reached, AreEnds, AreJobs, Gathers, HasRun, ring_spec}
+use Rattle.crn_run.specs.Ends.{EndsAs, HasReadAll, IsRun, is_held}
+use Rattle.crn_run.specs.Inner.Ends.{is_short}
+use Rattle.crn_run.specs.Jobs.{ring_spec}
+use Rattle.crn_run.specs.Inner.Jobs.{IsReady, AllReached, has_reached, AreEnds, AreJobs, Gathers, HasRun}
 use Rattle.crn_plain.proofs.Growing.{HoldsOfEach, each-grown, slice_get_front, slice_get_last}
 use Rattle.crn_plain.proofs.Running.{same_of}
 

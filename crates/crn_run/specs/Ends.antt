@@ -1,8 +1,6 @@
 -- How the run of one policy ends.
-use Rattle.std.specs.Prelude.{◌≡◌, ℕ, ◌+◌, ◌<◌, Bool, true, false, List, Some, slice_get}
-use Rattle.crn_cipher.specs.declared.stream.Block.{Block}
+use Rattle.std.specs.Prelude.{◌≡◌, ℕ, ◌<◌, Bool, true, false, Some, slice_get}
 use Rattle.crn_stock.specs.Parts.{Parts}
-use Rattle.crn_stock.specs.Models.{ModelParts}
 use Rattle.crn_stock.specs.Scenarios.{ScenarioParts}
 use Rattle.crn_stock.specs.Draws.{At, OnwardAt, next_block}
 use Rattle.crn_stock.specs.declared.rules.Policy.{Policy}
@@ -32,26 +30,8 @@ EndsAs s k v ring r (Reached w x) = IsRun s k v (spec_of ring).id.total w × Has
 EndsAs s k v ring r (Short n w x) = (n < (spec_of ring).id.total) × IsRun s k v n w × HasReadAll ring r n x
 EndsAs s k v ring r (Held w) = IsRun s k v (next_block w) w
 
--- whether the end was marked early
-abbrev pub is_short : PolicyEnd → Bool
-is_short (Reached w x) = false
-is_short (Short n w x) = true
-is_short (Held w) = false
-
 -- whether the gate has held the run
 abbrev pub is_held : PolicyEnd → Bool
 is_held (Reached w x) = false
 is_held (Short n w x) = false
 is_held (Held w) = true
-
--- ---- between two blocks of a run
-
--- w is what v becomes by the blocks from its next one on: what leads to v by the blocks below leads to w
-pub record Advances (m : ModelParts) (p : Policy) (key : List ℕ) (v w : Parts) : Type 0 where
-  pub stands : StandsAt m (next_block w) w
-  pub at : At m p key (next_block v) v → At m p key (next_block w) w
-  pub onward : (q : Parts) → OnwardAt m p key q (next_block v) v → OnwardAt m p key q (next_block w) w
-
--- the first `count` of these are the key's blocks from n on
-abbrev pub FollowFrom : List ℕ → ℕ → ℕ → List Block → Type 0
-FollowFrom key n count blocks = (j : ℕ) (b : Block) → j < count → slice_get blocks j ≡ Some b → (b.key ≡ key) × (b.number ≡ n + j)

@@ -4,7 +4,8 @@ ghost use Rattle.crn_stock.specs.Models.{total};
 ghost use Rattle.crn_ring.specs.Calls.{AllFresh, IsOpened, number_of, spec_of};
 ghost use Rattle.crn_plain.specs.Runs.{IsCheckpointOf};
 ghost use Rattle.crn_run.specs.Ends.{EndsAs, is_held};
-ghost use Rattle.crn_run.specs.Jobs.{AreJobs, CarriesFor, IsReady, ring_spec};
+ghost use Rattle.crn_run.specs.Jobs.{ring_spec};
+ghost use Rattle.crn_run.specs.Inner.Jobs.{AreJobs, CarriesFor, IsReady};
 
 use crate::gate::Gate;
 use crate::worker::{PolicyEnd, run_policy};

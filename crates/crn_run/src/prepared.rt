@@ -3,7 +3,8 @@ ghost use Rattle.std.specs.Prelude.{◌≡◌, ◌≤◌, false, [], IfOk, vec_l
 ghost use Rattle.crn_stock.specs.Models.{total};
 ghost use Rattle.crn_ring.specs.Calls.{IsProducerOf, producer_part, spec_of};
 ghost use Rattle.crn_plain.specs.Runs.{IsCheckpointOf};
-ghost use Rattle.crn_run.specs.Jobs.{AreJobs, ring_spec};
+ghost use Rattle.crn_run.specs.Jobs.{ring_spec};
+ghost use Rattle.crn_run.specs.Inner.Jobs.{AreJobs};
 
 use crate::jobs::{Job, jobs_of, open_ring};
 use crate::worker::PolicyEnd;

@@ -4,9 +4,11 @@ ghost use Rattle.crn_stock.specs.Parts.{Parts};
 ghost use Rattle.crn_stock.specs.Models.{total};
 ghost use Rattle.crn_plain.specs.Runs.{IsCheckpointOf, EachAt, EachOnward};
 ghost use Rattle.crn_ring.specs.Calls.{spec_of};
-ghost use Rattle.crn_run.specs.Jobs.{AllReached, AllReady, AreJobs, AreReaders, CarriesFor, Gathers, HasRefused, HasRun, ring_spec};
+ghost use Rattle.crn_run.specs.Jobs.{AreReaders, HasRefused, ring_spec};
+ghost use Rattle.crn_run.specs.Inner.Jobs.{AllReached, AllReady, AreJobs, CarriesFor, Gathers, HasRun};
 ghost use Rattle.std.specs.List.{list_any};
 ghost use Rattle.crn_run.specs.Ends as spec;
+ghost use Rattle.crn_run.specs.Inner.Ends as inner;
 
 use crate::fault::RunFault;
 use crate::gate::Gate;
@@ -101,7 +103,7 @@ fn run_prepared<R: Threads + Wait + Sync, G: Gate + Send>(
 }
 
 fn is_short(end: &PolicyEnd) -> bool
-    ensures { result ≡ spec.is_short end.now }
+    ensures { result ≡ inner.is_short end.now }
 {
     matches!(
         end,
@@ -120,7 +122,7 @@ fn is_held(end: &PolicyEnd) -> bool
 }
 
 fn any_short(ends: &[PolicyEnd]) -> bool
-    ensures { result ≡ list_any spec.is_short ends.now }
+    ensures { result ≡ list_any inner.is_short ends.now }
 {
     ends.iter().any(is_short)
 }
@@ -134,7 +136,7 @@ fn any_held(ends: &[PolicyEnd]) -> bool
 // Refuses ends of which one is short, or else one was held.
 fn all_reached(ends: &[PolicyEnd]) -> Result<(), RunFault>
     ensures all { OnOk result (AllReached ends.now) }
-    ensures thread { IfErr result (λ e. e ≡ RunFault.Thread → list_any spec.is_short ends.now ≡ true) }
+    ensures thread { IfErr result (λ e. e ≡ RunFault.Thread → list_any inner.is_short ends.now ≡ true) }
     ensures gate { IfErr result (λ e. e ≡ RunFault.Gate → list_any spec.is_held ends.now ≡ true) }
     ensures refused { IfErr result (λ e. e ≢ RunFault.Memory) }
 {

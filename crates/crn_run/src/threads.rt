@@ -3,7 +3,8 @@ ghost use Rattle.std.specs.Prelude.{◌≡◌, ◌+◌, ◌≤◌, true, false, 
 ghost use Rattle.std.specs.Slice.Iter.{iter_mut_rest};
 ghost use Rattle.crn_ring.specs.Calls.{IsProducerOf, producer_part};
 ghost use Rattle.crn_run.specs.Ends.{EndsAs, is_held};
-ghost use Rattle.crn_run.specs.Jobs.{HasRefused, HeldByGates, AllReady, AreEnds, CarriesFor, IsReady};
+ghost use Rattle.crn_run.specs.Jobs.{HasRefused};
+ghost use Rattle.crn_run.specs.Inner.Jobs.{HeldByGates, AllReady, AreEnds, CarriesFor, IsReady};
 
 use crate::fault::RunFault;
 use crate::feeding::feed;

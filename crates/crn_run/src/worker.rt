@@ -6,7 +6,8 @@ ghost use Rattle.crn_stock.specs.Draws.{next_block};
 ghost use Rattle.crn_ring.specs.Calls.{HasLeft, IsReaderOf, number_of, reader_part, spec_of};
 ghost use Rattle.crn_plain.specs.Runs.{StandsAt};
 ghost use Rattle.crn_run.specs.declared.worker.PolicyEnd.TheVariants.{Held};
-ghost use Rattle.crn_run.specs.Ends.{Advances, EndsAs, is_held, FollowFrom};
+ghost use Rattle.crn_run.specs.Ends.{EndsAs, is_held};
+ghost use Rattle.crn_run.specs.Inner.Ends.{Advances, FollowFrom};
 
 use crate::BATCH;
 use crate::gate::{Gate, Permit, ask};

@@ -4,7 +4,8 @@ use Rattle.std.proofs.lemmas.Bool.{false≢true}
 use Rattle.std.proofs.lemmas.Bool.Decides.{nat_tests}
 use Rattle.std.specs.Prelude.{⊤}
 use Rattle.toml.specs.Data.{Members}
-use Rattle.crn_scenario.specs.Faults.{holds_at, first_true, faults, IsLeast, HasNone}
+use Rattle.crn_scenario.specs.Faults.{holds_at, faults, IsLeast, HasNone}
+use Rattle.crn_scenario.specs.Inner.Faults.{first_true}
 use Rattle.crn_scenario.specs.declared.scenario_fault.ScenarioFault.{ScenarioFault}
 use Rattle.crn_scenario.specs.declared.scenario_fault.ScenarioFault.TheVariants as fault
 use Rattle.crn_scenario.specs.Reading.{number_of, IsDocument, Refuses}

@@ -1,6 +1,6 @@
 -- The faults of a scenario's tree, each a fact of the tree by itself: a key that is absent and a value of
 -- another kind are faults of their own, and break no other rule.
-use Rattle.std.specs.Prelude.{◌≡◌, ℕ, ◌<◌, ℤ, pos, ◌+ℤ◌, List, [], ◌∷◌, Bool, true, false, not, ◌&&◌, ◌||◌, ◌==◌, if◌then◌else◌, Option, Some, None, int_le, int_lt, nat_le, option_and_then, codes}
+use Rattle.std.specs.Prelude.{◌≡◌, ℕ, ◌<◌, ℤ, pos, ◌+ℤ◌, List, [], ◌∷◌, Bool, true, false, not, ◌&&◌, ◌||◌, ◌==◌, Option, Some, None, int_le, int_lt, nat_le, option_and_then, codes}
 use Rattle.std.specs.List.{list_all, list_any}
 use Rattle.std.specs.Str.{bytes_eq}
 use Rattle.toml.specs.Data.{Data, Items, no_items, item, Members, as_table}
@@ -98,11 +98,6 @@ rise_above last (z ∷ zs) = is_above last z && rise_above (Some z) zs
 abbrev pub have_other_order : Option Items → Bool
 have_other_order None = false
 have_other_order (Some vs) = not (rise_above None (integers_of vs))
-
--- a sum with one number more, where there is one
-abbrev pub plus : ℤ → Option ℤ → ℤ
-plus total None = total
-plus total (Some z) = total +ℤ z
 
 abbrev pub total_of : List ℤ → ℤ
 total_of [] = pos 0
@@ -224,11 +219,6 @@ faults ms =
 abbrev pub holds_at : ℕ → List (ℕ × Bool) → Bool
 holds_at k [] = false
 holds_at k (p ∷ ps) = ((k == p.0) && p.1) || holds_at k ps
-
--- the first number that holds
-abbrev pub first_true : List (ℕ × Bool) → Option ℕ
-first_true [] = None
-first_true (p ∷ ps) = if p.1 then Some p.0 else first_true ps
 
 -- fault k holds
 abbrev pub Fault : Members → ℕ → Type 0

@@ -5,7 +5,6 @@ use Rattle.std.specs.Str.{bytes_eq}
 use Rattle.toml.specs.Data.{Data, Items, Members, no_members, member, get_member, as_integer, as_str, as_array, as_table}
 use Rattle.crn_scenario.specs.Hex.{is_hex_word}
 use Rattle.crn_scenario.specs.Tree.{integers_of, texts_of, count_items, are_integers, are_texts, are_tables}
-use Rattle.crn_scenario.specs.declared.fields.Field.{Field}
 use Rattle.crn_scenario.specs.declared.fields.Kind.{Kind}
 use Rattle.crn_scenario.specs.declared.fields.Kind.TheVariants as kind
 use Rattle.crn_scenario.specs.declared.fields.Rule.{Rule}
@@ -23,10 +22,6 @@ entry_since version name k = record { name = name; kind = k; since = version }
 -- a key of all versions
 abbrev pub entry : List ℕ → Kind → Entry
 entry name k = entry_since 1 name k
-
--- the same of the code's table
-abbrev pub entry_of : Field → Entry
-entry_of f = record { name = f.name.now; kind = f.kind; since = f.since }
 
 -- those of the keys that a version has
 unfoldable pub keys_of : ℕ → List Entry → List Entry

@@ -4,3 +4,4 @@ pub mod Fields
 pub mod Faults
 pub mod Reading
 pub mod Sound
+pub mod Inner

@@ -1,9 +1,8 @@
 -- The scenario that a tree says, and what a text is to its reader. What is absent or of another kind counts
 -- as 0 or as nothing: a tree without a fault has none of it.
-use Rattle.std.specs.Prelude.{◌≡◌, ℕ, ℤ, pos, List, [], ◌∷◌, map, Option, Some, None, true, nat_abs, option_and_then, codes, IsUtf8, ⊤}
+use Rattle.std.specs.Prelude.{◌≡◌, ℕ, ℤ, pos, List, [], ◌∷◌, map, Option, Some, None, nat_abs, option_and_then, codes, IsUtf8, ⊤}
 use Rattle.toml.specs.Data.{Data, Items, Members, at, get_member, as_str}
 use Rattle.toml.specs.Parse.{parse_document}
-use Rattle.crn_draw.specs.Faults.{least_fault}
 use Rattle.crn_draw.specs.Spread.{Weighted}
 use Rattle.crn_stock.specs.declared.rules.Costs.{Costs}
 use Rattle.crn_stock.specs.declared.rules.Policy.{Policy}
@@ -13,7 +12,6 @@ use Rattle.crn_scenario.specs.declared.scenario_fault.ScenarioFault.{ScenarioFau
 use Rattle.crn_scenario.specs.declared.scenario_fault.ScenarioFault.TheVariants as fault
 use Rattle.crn_scenario.specs.Hex.{word_of}
 use Rattle.crn_scenario.specs.Tree.{integer_at, natural, text_at, array_at, table_at, integers_of}
-use Rattle.crn_scenario.specs.Fields.{are_within}
 use Rattle.crn_scenario.specs.Faults.{policies_at, IsLeast, HasNone}
 
 -- ---- numbers and texts
@@ -52,17 +50,6 @@ costs_of o = record {
 
 abbrev pub weighted_of : Option Members → Weighted
 weighted_of o = record { values = naturals_in (codes "values") o; weights = naturals_in (codes "weights") o }
-
--- values and weights that can be drawn from
-pub record AreDraws (o : Option Members) : Type 0 where
-  pub values : are_within (pos 0) (pos 65536) (integers_in (option_and_then (array_at (codes "values")) o)) ≡ true
-  pub weights : are_within (pos 0) (pos 65536) (integers_in (option_and_then (array_at (codes "weights")) o)) ≡ true
-  pub no_fault : least_fault (naturals_in (codes "values") o) (naturals_in (codes "weights") o) ≡ None
-
--- nothing stands there, or what can be drawn from
-abbrev pub MayBeDraws : Option Members → Type 0
-MayBeDraws None = ⊤
-MayBeDraws (Some ms) = AreDraws (Some ms)
 
 -- what customers return, where a table says it
 abbrev pub returns_of : Option Members → Option Weighted

@@ -6,7 +6,9 @@ ghost use Rattle.toml.specs.View.{view, table_view, array_view};
 ghost use Rattle.crn_stock.specs.Scenarios.{is_name};
 ghost use Rattle.crn_scenario.specs.Tree.{table_at, integers_of, tables_of};
 ghost use Rattle.crn_scenario.specs.Fields as tables;
+ghost use Rattle.crn_scenario.specs.Inner.Fields.{entry_of};
 ghost use Rattle.crn_scenario.specs.Faults as spec;
+ghost use Rattle.crn_scenario.specs.Inner.Faults as inner;
 ghost use Rattle.crn_scenario.specs.Reading.{number_of};
 
 use crate::fields::{
@@ -30,7 +32,7 @@ fn version_of(table: &Table) -> u64
 
 // Whether a table, where there is one, keeps a rule.
 fn keeps_in(rule: Rule, version: u64, fields: &[Field], table: Option<&Table>) -> bool
-    ensures { result ≡ spec.keeps_in rule (tables.keys_of version (map tables.entry_of fields.now)) (option_map (λ t. table_view t.now) table.entry) }
+    ensures { result ≡ spec.keeps_in rule (tables.keys_of version (map entry_of fields.now)) (option_map (λ t. table_view t.now) table.entry) }
 {
     match table {
         Some(table) => keeps(rule, version, fields, table),
@@ -198,7 +200,7 @@ fn have_other_order(draws: &Table) -> bool
 fn plus(total: i128, number: Option<i64>) -> i128
     requires low { pos 0 ≤ℤ (total +ℤ pos (2 ^ 126)) }
     requires high { total ≤ℤ pos (2 ^ 126) }
-    ensures { result ≡ spec.plus total number }
+    ensures { result ≡ inner.plus total number }
 {
     match number {
         Some(number) => total + i128::from(number),
@@ -393,7 +395,7 @@ fn has_other_policy_count(table: &Table) -> bool
 
 /// The fault with the least number that holds of a tree, if one does. `AllocError` where a growth was refused.
 pub fn first_fault(alloc: Global, table: &Table) -> Result<Option<ScenarioFault>, AllocError>
-    ensures { IfOk result (λ o. option_map number_of o ≡ spec.first_true (spec.faults (table_view table.now))) }
+    ensures { IfOk result (λ o. option_map number_of o ≡ inner.first_true (spec.faults (table_view table.now))) }
 {
     if has_other_version(table) {
         return Ok(Some(ScenarioFault::Version));

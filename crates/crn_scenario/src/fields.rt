@@ -6,6 +6,7 @@ ghost use Rattle.crn_scenario.specs.Hex.{is_hex_word};
 ghost use Rattle.std.specs.List.{list_all};
 ghost use Rattle.crn_scenario.specs.Tree.{integers_of, texts_of};
 ghost use Rattle.crn_scenario.specs.Fields as spec;
+ghost use Rattle.crn_scenario.specs.Inner.Fields.{entry_of};
 
 use crate::hex;
 use crate::tree::{are_integers, are_tables, are_texts, count_items, member_at};
@@ -314,7 +315,7 @@ fn keeps_at(rule: Rule, kind: Kind, value: Option<&Value>) -> bool
 // Whether what stands at each key that a version has keeps a rule.
 #[tactic(auto, unfolding(crate::specs::Fields::keys_of))]
 fn keeps_at_all(rule: Rule, version: u64, fields: &[Field], table: &Table) -> bool
-    ensures { result ≡ spec.keeps_at_all rule (spec.keys_of version (map spec.entry_of fields.now)) (table_view table.now) }
+    ensures { result ≡ spec.keeps_at_all rule (spec.keys_of version (map entry_of fields.now)) (table_view table.now) }
 {
     for field in fields {
         if u64::from(field.since) <= version
@@ -328,7 +329,7 @@ fn keeps_at_all(rule: Rule, version: u64, fields: &[Field], table: &Table) -> bo
 
 #[tactic(auto, unfolding(crate::specs::Fields::keys_of))]
 fn is_key(version: u64, fields: &[Field], key: &str) -> bool
-    ensures { result ≡ spec.is_key (spec.keys_of version (map spec.entry_of fields.now)) key.now }
+    ensures { result ≡ spec.is_key (spec.keys_of version (map entry_of fields.now)) key.now }
 {
     for field in fields {
         if u64::from(field.since) <= version && field.name == key {
@@ -340,7 +341,7 @@ fn is_key(version: u64, fields: &[Field], key: &str) -> bool
 
 // Whether each key of a table is one that a version has.
 fn knows_all(version: u64, fields: &[Field], table: &Table) -> bool
-    ensures { result ≡ spec.knows_all (spec.keys_of version (map spec.entry_of fields.now)) (table_view table.now) }
+    ensures { result ≡ spec.knows_all (spec.keys_of version (map entry_of fields.now)) (table_view table.now) }
 {
     'members: for (key, _value) in table.iter() {
         if !is_key(version, fields, key.as_str()) {
@@ -352,7 +353,7 @@ fn knows_all(version: u64, fields: &[Field], table: &Table) -> bool
 
 /// Whether a table with those of these fields that a version has keeps a rule.
 pub fn keeps(rule: Rule, version: u64, fields: &[Field], table: &Table) -> bool
-    ensures { result ≡ spec.keeps rule (spec.keys_of version (map spec.entry_of fields.now)) (table_view table.now) }
+    ensures { result ≡ spec.keeps rule (spec.keys_of version (map entry_of fields.now)) (table_view table.now) }
 {
     match rule {
         Rule::Known => knows_all(version, fields, table),

@@ -7,6 +7,7 @@ ghost use Rattle.crn_scenario.specs.Tree.{array_at, tables_of, integers_of};
 ghost use Rattle.crn_scenario.specs.Fields.{are_within};
 ghost use Rattle.crn_scenario.specs.Faults.{HasNone, policies_at};
 ghost use Rattle.crn_scenario.specs.Reading as spec;
+ghost use Rattle.crn_scenario.specs.Inner.Reading.{AreDraws, MayBeDraws};
 
 use crate::hex;
 use crate::tree::{array_at, integer_at, member_at, natural, table_at, text_at};
@@ -67,7 +68,7 @@ fn naturals_in(alloc: Global, table: Option<&Table>, key: &str) -> Result<Vec<u3
 
 // Values with weights that are known to have no fault.
 fn weights_of(alloc: Global, table: Option<&Table>) -> Result<Weights, AllocError>
-    requires draws { spec.AreDraws (option_map (λ t. table_view t.now) table) }
+    requires draws { AreDraws (option_map (λ t. table_view t.now) table) }
     ensures { IfOk result (λ w. w ≡ spec.weighted_of (option_map (λ t. table_view t.now) table.entry)) }
 {
     let values = naturals_in(alloc, table, "values")?;
@@ -81,7 +82,7 @@ fn weights_of(alloc: Global, table: Option<&Table>) -> Result<Weights, AllocErro
 
 // What customers return, where a table says it.
 fn returns_of(alloc: Global, table: Option<&Table>) -> Result<Option<Weights>, AllocError>
-    requires draws { spec.MayBeDraws (option_map (λ t. table_view t.now) table) }
+    requires draws { MayBeDraws (option_map (λ t. table_view t.now) table) }
     ensures { IfOk result (λ r. r ≡ spec.returns_of (option_map (λ t. table_view t.now) table.entry)) }
 {
     match table {

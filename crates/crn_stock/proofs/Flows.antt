@@ -7,10 +7,11 @@ use Rattle.std.proofs.lemmas.Bool.Decides.{nat_tests}
 use Rattle.crn_stock.specs.declared.drawn.Drawn.{Drawn}
 use Rattle.crn_stock.specs.declared.drawn.DrawSource.{DrawSource}
 use Rattle.crn_stock.specs.declared.period.Inventory.{Inventory}
-use Rattle.crn_stock.specs.Parts.{Parts, IsInRange, stock_limit, rotated}
+use Rattle.crn_stock.specs.Parts.{Parts, stock_limit, rotated}
+use Rattle.crn_stock.specs.Inner.Parts.{IsInRange}
 use Rattle.crn_stock.specs.Stock.{Draw, Rules, order_quantity, cost_of}
-use Rattle.crn_stock.specs.Steps.{next_due, after_period, after_draw, after_last_period}
-use Rattle.crn_stock.specs.Flows.{IsInventory, HasRun, with_inventory, draw_in, nth_draw, after_periods, after_draws}
+use Rattle.crn_stock.specs.Inner.Steps.{next_due, after_period, after_draw, after_last_period}
+use Rattle.crn_stock.specs.Inner.Flows.{IsInventory, HasRun, with_inventory, draw_in, nth_draw, after_periods, after_draws}
 use Rattle.crn_stock.proofs.Ranges.{limit_more, advanced_is, stepped_on}
 
 -- one period more: a arrived, z were ordered, g returned and d demanded, at the cost k

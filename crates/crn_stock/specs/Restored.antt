@@ -1,9 +1,9 @@
 -- The state that is restored from amounts that were written down at a block, and the numbers of the faults.
-use Rattle.std.specs.Prelude.{◌≡◌, ℕ, ◌*◌, ◌/◌, ◌%◌, ◌≤◌, Bool, ℤ, pos, ◌+ℤ◌, ◌≤ℤ◌, List, length}
+use Rattle.std.specs.Prelude.{◌≡◌, ℕ, ◌*◌, ◌/◌, ◌%◌, ◌≤◌, ℤ, List, length}
 use Rattle.crn_cipher.specs.declared.TheConstants.{STREAM_WORDS}
 use Rattle.crn_stock.specs.declared.restore.RestoreFault.{RestoreFault}
 use Rattle.crn_stock.specs.declared.restore.RestoreFault.TheVariants.{Range, Memory}
-use Rattle.crn_stock.specs.Parts.{Parts, AreInRange, stock_limit, period_cost_limit}
+use Rattle.crn_stock.specs.Parts.{Parts, AreInRange}
 use Rattle.crn_stock.specs.Models.{ModelParts, has_returns, blocks_per_replication, total}
 
 -- the period that block n begins with, or 0 after the last block
@@ -29,16 +29,6 @@ pub record CanRestore (m : ModelParts) (n : ℕ) (stock : ℤ) (due : List ℕ) 
   pub number : n ≤ total m
   pub count : length costs ≡ n / blocks_per_replication m.periods
   pub ranges : AreInRange (restored m n stock due running costs)
-
--- the ranges of the amounts of a replication under way, before its period `period`
-pub record HasAmounts (initial : ℤ) (has_returns : Bool) (period : ℕ) (stock : ℤ) (on_order running : ℕ) : Type 0 where
-  pub stock_low : pos 0 ≤ℤ (stock +ℤ pos (10000 * period))
-  pub stock_high : stock ≤ℤ pos (stock_limit has_returns period)
-  pub position_low : pos 0 ≤ℤ (stock +ℤ pos on_order +ℤ pos 10000)
-  pub position_high : (stock +ℤ pos on_order) ≤ℤ pos (stock_limit has_returns period)
-  pub running_high : running ≤ period * period_cost_limit
-  pub fresh_stock : period ≡ 0 → stock ≡ initial
-  pub fresh_due : period ≡ 0 → on_order ≡ 0
 
 -- the number by which a fault is told
 abbrev pub number_of : RestoreFault → ℕ

@@ -30,7 +30,7 @@ pub(crate) enum DrawSource<'a> {
 
 impl<'a> DrawSource<'a> {
     ghost use Rattle.std.specs.Prelude.{◌≡◌, ◌<◌, false};
-    ghost use Rattle.crn_stock.specs.Flows.{draw_in, nth_draw, NoneReturned};
+    ghost use Rattle.crn_stock.specs.Inner.Flows.{draw_in, nth_draw, NoneReturned};
 
     /// The draw of the period after `k` others.
     #[inline(always)]

@@ -21,7 +21,7 @@ impl Terms {
     ghost use Rattle.std.specs.Prelude.{◌≡◌};
     ghost use Rattle.crn_stock.specs.Models.{IsPolicy};
     ghost use Rattle.crn_stock.specs.Rule.{rules_of};
-    ghost use Rattle.crn_stock.specs.Flows.{rules_in};
+    ghost use Rattle.crn_stock.specs.Inner.Flows.{rules_in};
 
     /// Those of a policy under cost rates.
     #[inline(always)]

@@ -7,7 +7,8 @@ use Rattle.std.proofs.lemmas.Fmt.{decimal_by_steps_wide}
 use Rattle.std.specs.List.{list_all}
 use Rattle.crn_proto.specs.declared.schedule.Actor.{Actor}
 use Rattle.crn_proto.specs.declared.schedule.Actor.TheVariants.{Producer, Finish, Reader, Leave}
-use Rattle.crn_text.specs.Schedule.{actor_text, actor_lines, is_below, are_below, IsTextOf, IsScheduleOf, HasNoSchedule, is_in_line, IsCut}
+use Rattle.crn_text.specs.Schedule.{actor_text, actor_lines, is_below, are_below, IsTextOf, IsScheduleOf, HasNoSchedule}
+use Rattle.crn_text.specs.Inner.Schedule.{is_in_line, IsCut}
 
 -- ---- no actor has a line feed in it
 

@@ -3,3 +3,4 @@ pub mod Report
 pub mod Rows
 pub mod Schedule
 pub mod Trace
+pub mod Inner

@@ -1,5 +1,5 @@
 -- The text of a schedule: a line for each actor.
-use Rattle.std.specs.Prelude.{◌≡◌, ℕ, ◌^◌, ◌⊎◌, ⊤, List, [], ◌∷◌, ◌++◌, Bool, true, false, ◌==◌, not, nat_lt, codes, decimal}
+use Rattle.std.specs.Prelude.{◌≡◌, ℕ, ◌^◌, ◌⊎◌, ⊤, List, [], ◌∷◌, ◌++◌, Bool, true, false, nat_lt, codes, decimal}
 use Rattle.std.specs.List.{list_all}
 use Rattle.crn_proto.specs.declared.schedule.Actor.{Actor}
 use Rattle.crn_proto.specs.declared.schedule.Actor.TheVariants.{Producer, Finish, Reader, Leave}
@@ -59,13 +59,3 @@ abbrev pub number_of : ScheduleFault → ℕ
 number_of fault.Line = 1
 number_of fault.Reader = 2
 number_of fault.Memory = 90
-
--- ---- line by line
-
-abbrev pub is_in_line : ℕ → Bool
-is_in_line byte = not (byte == 10)
-
--- the text cut at its first line feed, or a last line that has none
-pub record IsCut (text line after : List ℕ) : Type 0 where
-  pub in_line : list_all is_in_line line ≡ true
-  pub whole : (text ≡ line ++ 10 ∷ after) ⊎ ((text ≡ line) × (after ≡ []))

@@ -3,6 +3,7 @@
 ghost use Rattle.std.specs.Prelude.{◌≡◌, ◌⊎◌, ℕ, ◌<◌, ◌^◌, ◌↔◌, Some, IfOk, IfErr, IfSome, IsTrue, decimal, true, length};
 ghost use Rattle.crn_proto.specs.declared.schedule.Actor.{Actor};
 ghost use Rattle.crn_text.specs.Schedule as spec;
+ghost use Rattle.crn_text.specs.Inner.Schedule.{IsCut};
 
 use crate::schedule_fault::ScheduleFault;
 use crn_proto::Actor;
@@ -11,7 +12,7 @@ use std::alloc::Global;
 
 // The first line without its line feed, and what follows it.
 fn cut_line<'a>(text: &'a [u8]) -> (&'a [u8], &'a [u8])
-    ensures cut { spec.IsCut text.now result.0.now result.1.now }
+    ensures cut { IsCut text.now result.0.now result.1.now }
     ensures shorter { 0 < length text.now → length result.1.now < length text.now }
 {
     for i in 0..text.len() {

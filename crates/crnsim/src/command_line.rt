@@ -1,7 +1,7 @@
 // The words of the command line.
 
 ghost use Rattle.std.specs.Prelude.{◌≡◌, ◌⊎◌, ℕ, ◌<◌, ◌^◌, Some, ◌↔◌, IfErr, IfSome, IsTrue, decimal};
-ghost use Rattle.crnsim.specs.CommandLine.{key_word_of};
+ghost use Rattle.crnsim.specs.Inner.CommandLine.{key_word_of};
 
 use crate::help::{
     ABOUT, AFTER_HELP, KEY_WORDS, LEG_ABOUT, LEG_EXAMPLE, MIGRATE_ABOUT, MIGRATE_EXAMPLE,

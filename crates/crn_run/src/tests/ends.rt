@@ -2,7 +2,7 @@
 ghost use Rattle.std.specs.Prelude.{◌≡◌, ◌≤◌, ◌<◌, ◌∷◌, [], false, length, IfOk, IfSome};
 ghost use Rattle.crn_proto.specs.Ring.{open_reader};
 ghost use Rattle.crn_ring.specs.Calls.{AllFresh, IsProducerOf, IsReaderOf, producer_part, reader_part, spec_of};
-ghost use Rattle.crn_run.specs.Jobs.{CarriesFor};
+ghost use Rattle.crn_run.specs.Inner.Jobs.{CarriesFor};
 
 use super::gates::HoldsAt;
 use super::scenarios::{Slots, steady};

@@ -1,6 +1,6 @@
 use Rattle.std.proofs.Common.{◌∙◌, ◌++◌, List, ℕ, [], ap, sym, drop, take, map, get_or, length, append_assoc, arith}
 use Rattle.crn_rows.proofs.Fields.{back}
-use Rattle.crn_checkpoint.specs.Cells.{cell}
+use Rattle.crn_checkpoint.specs.Inner.Cells.{cell}
 use Rattle.crn_checkpoint.specs.CheckpointText.{due_rows, cost_rows}
 use Rattle.crn_checkpoint.proofs.Lengths.{length_due}
 use Rattle.crn_checkpoint.proofs.WholeRows.{take_of, drop_of, count_of_costs, costs_read}

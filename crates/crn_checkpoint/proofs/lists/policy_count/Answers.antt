@@ -1,6 +1,6 @@
 use Rattle.std.proofs.Common.{ap, length, arith}
 use Rattle.crn_checkpoint.specs.CheckpointText.{checkpoint_rows}
-use Rattle.crn_checkpoint.specs.Cells.{cell}
+use Rattle.crn_checkpoint.specs.Inner.Cells.{cell}
 use Rattle.crn_checkpoint.proofs.lists.policy_count.Goals as goal
 
 pub returns : goal.returns

@@ -1,7 +1,7 @@
 use Rattle.std.proofs.Common.{ap, arith}
 use Rattle.crn_rows.proofs.Fields.{back}
 use Rattle.crn_checkpoint.specs.CheckpointText.{checkpoint_rows}
-use Rattle.crn_checkpoint.specs.Cells.{cell}
+use Rattle.crn_checkpoint.specs.Inner.Cells.{cell}
 use Rattle.crn_checkpoint.proofs.WholeRows.{small_amount, same_parts}
 use Rattle.crn_checkpoint.proofs.models.sizes_of.Goals as goal
 

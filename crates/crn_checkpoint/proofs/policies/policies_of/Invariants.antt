@@ -3,7 +3,7 @@ use Rattle.crn_stock.specs.declared.rules.Policy.{Policy}
 use Rattle.crn_stock.specs.Parts.{Parts}
 use Rattle.crn_plain.specs.Runs.{StandsAt}
 use Rattle.crn_checkpoint.specs.CheckpointText.{all_policy_rows}
-use Rattle.crn_checkpoint.specs.Amounts.{ArePoliciesOf}
+use Rattle.crn_checkpoint.specs.Inner.Amounts.{ArePoliciesOf}
 use Rattle.crn_checkpoint.proofs.policies.policies_of.Given as goal
 
 abbrev pub invariant-loop-turn : goal.invariant-loop-turn

@@ -1,7 +1,7 @@
 use Rattle.std.proofs.Common.{◌∙◌, ap, arith}
 use Rattle.std.proofs.lemmas.Int.{ints}
 use Rattle.crn_rows.proofs.Fields.{back}
-use Rattle.crn_checkpoint.specs.Cells.{cell}
+use Rattle.crn_checkpoint.specs.Inner.Cells.{cell}
 use Rattle.crn_checkpoint.proofs.WholeRows.{small_amount, same_policy}
 use Rattle.crn_checkpoint.proofs.Words.{plain_utf8}
 use Rattle.crn_checkpoint.proofs.PlainFields.{name_plain}

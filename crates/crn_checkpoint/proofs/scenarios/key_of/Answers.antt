@@ -1,6 +1,6 @@
 use Rattle.std.proofs.Common.{◌≡◌, ◌∙◌, ◌∷◌, [], ap, arith, get_or}
 use Rattle.crn_checkpoint.specs.CheckpointText.{checkpoint_rows}
-use Rattle.crn_checkpoint.specs.Cells.{cell}
+use Rattle.crn_checkpoint.specs.Inner.Cells.{cell}
 use Rattle.crn_checkpoint.proofs.Words.{word_read}
 use Rattle.crn_checkpoint.proofs.WholeRows.{four_words}
 use Rattle.crn_checkpoint.proofs.scenarios.key_of.Goals as goal

@@ -1,5 +1,5 @@
 use Rattle.std.proofs.Common.{rules, ℕ, sym, subst}
-use Rattle.crn_draw.specs.Runs.{IsBracket}
+use Rattle.crn_draw.specs.Inner.Runs.{IsBracket}
 use Rattle.crn_draw.proofs.Guides.{entry-stands, bracket-holds}
 use Rattle.crn_draw.proofs.guide.draw.Goals as goal
 

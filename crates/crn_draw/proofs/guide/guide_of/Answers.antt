@@ -1,7 +1,7 @@
 use Rattle.std.proofs.Common.{rules, ◌≡◌, ℕ, arith, subst}
 use Rattle.crn_draw.specs.declared.guide.Bracket.{Bracket}
-use Rattle.crn_draw.specs.Runs.{IsBracket}
-use Rattle.crn_draw.specs.Guide.{first_place, last_place, EntryFits, BracketFits, no_bracket}
+use Rattle.crn_draw.specs.Inner.Runs.{IsBracket}
+use Rattle.crn_draw.specs.Inner.Guide.{first_place, last_place, EntryFits, BracketFits, no_bracket}
 use Rattle.crn_draw.proofs.Guides.{last-next, bracket-between, one-more}
 use Rattle.crn_draw.proofs.guide.guide_of.Goals as goal
 

@@ -1,6 +1,6 @@
 use Rattle.std.proofs.Common.{◌≡◌, ◌≤◌, ◌<◌, ℕ, length, slice_index, slice_index_or}
-use Rattle.crn_draw.specs.Runs.{start_at}
-use Rattle.crn_draw.specs.Guide.{first_place, EntryFits, BracketFits, no_bracket}
+use Rattle.crn_draw.specs.Inner.Runs.{start_at}
+use Rattle.crn_draw.specs.Inner.Guide.{first_place, EntryFits, BracketFits, no_bracket}
 use Rattle.crn_draw.proofs.guide.guide_of.Given as goal
 
 abbrev pub invariant-loop-bits : goal.invariant-loop-bits

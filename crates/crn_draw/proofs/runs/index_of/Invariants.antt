@@ -1,5 +1,5 @@
 use Rattle.std.proofs.Common.{◌-◌, ◌≤◌, ◌<◌, length}
-use Rattle.crn_draw.specs.Runs.{start_at}
+use Rattle.crn_draw.specs.Inner.Runs.{start_at}
 use Rattle.crn_draw.proofs.runs.index_of.Given as goal
 
 abbrev pub invariant-loop-index : goal.invariant-loop-index

@@ -1,5 +1,5 @@
 use Rattle.std.proofs.Common.{◌≡◌, ◌++◌, drop, take, sum}
-use Rattle.crn_draw.specs.Runs.{runs_from}
+use Rattle.crn_draw.specs.Inner.Runs.{runs_from}
 use Rattle.crn_draw.proofs.runs.runs_of.Given as goal
 
 abbrev pub invariant-loop-i : goal.invariant-loop-i

@@ -1,5 +1,5 @@
 use Rattle.std.proofs.Common.{◌-◌}
-use Rattle.crn_draw.specs.Runs.{IsBracket}
+use Rattle.crn_draw.specs.Inner.Runs.{IsBracket}
 use Rattle.crn_draw.proofs.runs.value_at.Given as goal
 
 abbrev pub invariant-loop-first : goal.invariant-loop-first

@@ -3,7 +3,7 @@ use Rattle.crn_stock.specs.Parts.{Parts}
 use Rattle.crn_ring.specs.declared.reader_end.Reader.{Reader}
 use Rattle.crn_run.specs.declared.worker.PolicyEnd.{PolicyEnd}
 use Rattle.crn_run.specs.declared.worker.PolicyEnd.TheVariants.{Reached}
-use Rattle.crn_run.specs.Jobs.{has_reached}
+use Rattle.crn_run.specs.Inner.Jobs.{has_reached}
 use Rattle.crn_plain.proofs.Growing.{each-front, each-grown, each-last}
 use Rattle.crn_run.proofs.Ending.{StateFrom, ReaderFrom, state_from, reader_from}
 use Rattle.crn_run.proofs.run.gather.Goals as goal

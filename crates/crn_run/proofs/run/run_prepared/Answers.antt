@@ -4,7 +4,7 @@ use Rattle.crn_proto.specs.declared.spec.RingSpec.{RingSpec}
 use Rattle.crn_ring.specs.declared.ring.Ring.{Ring}
 use Rattle.crn_run.specs.declared.jobs.Job.{Job}
 use Rattle.crn_run.specs.declared.worker.PolicyEnd.{PolicyEnd}
-use Rattle.crn_run.specs.Jobs.{AreEnds, Gathers}
+use Rattle.crn_run.specs.Inner.Jobs.{AreEnds, Gathers}
 use Rattle.crn_run.proofs.Ending.{has_run}
 use Rattle.crn_run.proofs.run.run_prepared.Goals as goal
 

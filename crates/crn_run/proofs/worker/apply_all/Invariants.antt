@@ -1,6 +1,6 @@
 use Rattle.std.proofs.Common.{◌≡◌, ◌+◌, false}
 use Rattle.crn_stock.specs.Draws.{next_block}
-use Rattle.crn_run.specs.Ends.{Advances}
+use Rattle.crn_run.specs.Inner.Ends.{Advances}
 use Rattle.crn_run.proofs.worker.apply_all.Given as goal
 
 abbrev pub invariant-loop-k : goal.invariant-loop-k

@@ -3,7 +3,7 @@ use Rattle.crn_stock.specs.Draws.{next_block}
 use Rattle.crn_proto.specs.declared.spec.RingSpec.{RingSpec}
 use Rattle.crn_ring.specs.Calls.{FollowOn, reader_part, spec_of}
 use Rattle.crn_ring.specs.Parts.{Takes, SeesEnd}
-use Rattle.crn_run.specs.Ends.{Advances}
+use Rattle.crn_run.specs.Inner.Ends.{Advances}
 use Rattle.crn_run.proofs.Advancing.{advances_then, advanced, follow_from, taken_on}
 use Rattle.crn_plain.proofs.Running.{read_policy}
 use Rattle.crn_run.proofs.worker.run_until_held.Goals as goal

@@ -1,7 +1,7 @@
 use Rattle.std.proofs.Common.{◌≡◌, length, false}
 use Rattle.crn_stock.specs.Draws.{next_block}
 use Rattle.crn_ring.specs.Calls.{IsReaderOf, number_of, reader_part}
-use Rattle.crn_run.specs.Ends.{Advances}
+use Rattle.crn_run.specs.Inner.Ends.{Advances}
 use Rattle.crn_run.proofs.worker.run_until_held.Given as goal
 
 abbrev pub invariant-loop : goal.invariant-loop

@@ -1,5 +1,6 @@
 use Rattle.std.proofs.Common.{◌≡◌, map, drop}
-use Rattle.crn_scenario.specs.Fields.{is_key, keys_of, entry_of}
+use Rattle.crn_scenario.specs.Fields.{is_key, keys_of}
+use Rattle.crn_scenario.specs.Inner.Fields.{entry_of}
 use Rattle.crn_scenario.proofs.fields.is_key.Given as goal
 
 abbrev pub invariant-loop-field : goal.invariant-loop-field

@@ -1,6 +1,7 @@
 use Rattle.std.proofs.Common.{◌≡◌, map, drop}
 use Rattle.toml.specs.View.{table_view}
-use Rattle.crn_scenario.specs.Fields.{keeps_at_all, keys_of, entry_of}
+use Rattle.crn_scenario.specs.Fields.{keeps_at_all, keys_of}
+use Rattle.crn_scenario.specs.Inner.Fields.{entry_of}
 use Rattle.crn_scenario.proofs.fields.keeps_at_all.Given as goal
 
 abbrev pub invariant-loop-field : goal.invariant-loop-field

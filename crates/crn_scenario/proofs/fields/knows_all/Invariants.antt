@@ -1,6 +1,7 @@
 use Rattle.std.proofs.Common.{◌≡◌, map}
 use Rattle.toml.specs.View.{members_view}
-use Rattle.crn_scenario.specs.Fields.{knows_all, keys_of, entry_of}
+use Rattle.crn_scenario.specs.Fields.{knows_all, keys_of}
+use Rattle.crn_scenario.specs.Inner.Fields.{entry_of}
 use Rattle.crn_scenario.proofs.fields.knows_all.Given as goal
 
 abbrev pub invariant-members : goal.invariant-members

@@ -1,5 +1,5 @@
 use Rattle.std.proofs.Common.{◌+◌, true, refl}
-use Rattle.crn_stock.specs.Flows.{rules_in}
+use Rattle.crn_stock.specs.Inner.Flows.{rules_in}
 use Rattle.crn_stock.proofs.Flows.{has_run_more}
 use Rattle.crn_stock.proofs.period.after_all.Goals as goal
 

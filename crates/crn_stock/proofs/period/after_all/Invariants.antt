@@ -1,4 +1,4 @@
-use Rattle.crn_stock.specs.Flows.{rules_in, HasRun}
+use Rattle.crn_stock.specs.Inner.Flows.{rules_in, HasRun}
 use Rattle.crn_stock.proofs.period.after_all.Given as goal
 
 abbrev pub invariant-loop-k : goal.invariant-loop-k

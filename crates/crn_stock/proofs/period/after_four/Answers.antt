@@ -1,5 +1,5 @@
 use Rattle.std.proofs.Common.{◌≡◌, ◌+◌, ℕ, true, refl, subst, arith}
-use Rattle.crn_stock.specs.Flows.{rules_in, IsInventory}
+use Rattle.crn_stock.specs.Inner.Flows.{rules_in, IsInventory}
 use Rattle.crn_stock.proofs.Flows.{has_run_none, has_run_more}
 use Rattle.crn_stock.proofs.period.after_four.Goals as goal
 

@@ -1,7 +1,7 @@
 use Rattle.std.proofs.Common.{◌≡◌, ◌<◌, ◌≤◌, ◌∙◌, List, length, sum, arith, ap, sym, subst}
 use Rattle.std.proofs.lemmas.Bool.Decides.{nat_tests}
 use Rattle.crn_draw.specs.declared.runs.Run.{Run}
-use Rattle.crn_draw.specs.Runs.{runs_from, start_at, StartsRise}
+use Rattle.crn_draw.specs.Inner.Runs.{runs_from, start_at, StartsRise}
 use Rattle.crn_draw.proofs.Drawn.{starts-rise, first-start, length-runs, some-run}
 use Rattle.crn_draw.proofs.weights.Weights.new.Goals as goal
 

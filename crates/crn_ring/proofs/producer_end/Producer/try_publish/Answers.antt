@@ -1,5 +1,5 @@
 use Rattle.std.proofs.Common.{◌≡◌, ℕ, ap, subst, arith}
-use Rattle.crn_ring.specs.Rooms.{HasFound}
+use Rattle.crn_ring.specs.Inner.Rooms.{HasFound}
 use Rattle.crn_ring.proofs.Bounds.{producer_steps}
 use Rattle.crn_ring.proofs.Rooms.{publish_moves, publishes}
 use Rattle.crn_ring.proofs.producer_end.Producer.try_publish.Goals as goal

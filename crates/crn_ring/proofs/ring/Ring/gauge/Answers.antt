@@ -1,6 +1,7 @@
 use Rattle.std.proofs.Common.{◌≡◌, ℕ, ◌+◌, ◌∙◌, ap, sym, subst, arith, length}
-use Rattle.crn_ring.specs.Gates.{Passes, LeastOf}
-use Rattle.crn_ring.specs.Plays.{Gauged}
+use Rattle.crn_ring.specs.Gates.{Passes}
+use Rattle.crn_ring.specs.Inner.Gates.{LeastOf}
+use Rattle.crn_ring.specs.Inner.Plays.{Gauged}
 use Rattle.crn_ring.specs.declared.view.View.{View}
 use Rattle.crn_proto.specs.Ring.{ProducerMay, producer_after}
 use Rattle.crn_proto.proofs.Chains.{reaches_join, reaches_more}

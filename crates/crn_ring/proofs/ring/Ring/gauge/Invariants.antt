@@ -1,7 +1,7 @@
 use Rattle.std.proofs.Common.{◌≡◌}
 use Rattle.crn_proto.specs.Chains.{ProducerReaches}
-use Rattle.crn_ring.specs.Gates.{LeastOf}
-use Rattle.crn_ring.specs.Plays.{Gauged}
+use Rattle.crn_ring.specs.Inner.Gates.{LeastOf}
+use Rattle.crn_ring.specs.Inner.Plays.{Gauged}
 use Rattle.crn_ring.proofs.ring.Ring.gauge.Given as goal
 
 abbrev pub invariant-loop-r : goal.invariant-loop-r

@@ -3,7 +3,7 @@ use Rattle.std.specs.Prelude.{take, slice_index}
 use Rattle.crn_cipher.specs.Blocks.{block_word}
 use Rattle.crn_cipher.specs.declared.TheConstants.{BLOCK_WORDS}
 use Rattle.crn_proto.specs.Chains.{ReaderReaches}
-use Rattle.crn_ring.specs.Plays.{read_many}
+use Rattle.crn_ring.specs.Inner.Plays.{read_many}
 use Rattle.crn_ring.proofs.ring.Ring.load_row.Given as goal
 
 abbrev pub invariant-loop-i : goal.invariant-loop-i

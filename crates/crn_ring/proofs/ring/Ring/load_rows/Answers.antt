@@ -3,7 +3,7 @@ use Rattle.std.proofs.lemmas.Grind.{common_steps}
 use Rattle.crn_cipher.specs.declared.TheConstants.{BLOCK_WORDS}
 use Rattle.crn_proto.specs.Ring.{ReaderMay, reader_after}
 use Rattle.crn_proto.proofs.Chains.{reaches_join, reaches_more}
-use Rattle.crn_ring.specs.Plays.{read_many}
+use Rattle.crn_ring.specs.Inner.Plays.{read_many}
 use Rattle.crn_ring.proofs.Filling.{read_many_join, filled_more}
 use Rattle.crn_ring.proofs.ring.Ring.load_rows.Goals as goal
 

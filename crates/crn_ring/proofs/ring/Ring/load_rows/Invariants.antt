@@ -2,7 +2,7 @@ use Rattle.std.proofs.Common.{◌≡◌, ℕ, ◌*◌, List, length, drop}
 use Rattle.crn_cipher.specs.declared.TheConstants.{BLOCK_WORDS}
 use Rattle.crn_proto.specs.Chains.{ReaderReaches}
 use Rattle.crn_ring.specs.Calls.{FollowOn}
-use Rattle.crn_ring.specs.Plays.{read_many}
+use Rattle.crn_ring.specs.Inner.Plays.{read_many}
 use Rattle.crn_ring.proofs.ring.Ring.load_rows.Given as goal
 
 abbrev pub invariant-loop-k : goal.invariant-loop-k

@@ -4,7 +4,7 @@ use Rattle.std.proofs.lemmas.Option.{slice_get-get_or}
 use Rattle.crn_cipher.specs.declared.TheConstants.{BLOCK_WORDS}
 use Rattle.crn_proto.specs.Ring.{ProducerMay, producer_after}
 use Rattle.crn_proto.proofs.Chains.{reaches_join, reaches_more}
-use Rattle.crn_ring.specs.Plays.{wrote_many}
+use Rattle.crn_ring.specs.Inner.Plays.{wrote_many}
 use Rattle.crn_ring.proofs.Filling.{wrote_many_join}
 use Rattle.crn_ring.proofs.ring.Ring.store_rows.Goals as goal
 

@@ -1,7 +1,7 @@
 use Rattle.std.proofs.Common.{◌≡◌, ◌*◌}
 use Rattle.crn_cipher.specs.declared.TheConstants.{BLOCK_WORDS}
 use Rattle.crn_proto.specs.Chains.{ProducerReaches}
-use Rattle.crn_ring.specs.Plays.{wrote_many}
+use Rattle.crn_ring.specs.Inner.Plays.{wrote_many}
 use Rattle.crn_ring.proofs.ring.Ring.store_rows.Given as goal
 
 abbrev pub invariant-loop-k : goal.invariant-loop-k

@@ -12,7 +12,7 @@ use Rattle.crn_stock.specs.Parts.{Parts, rotated, stock_limit, period_cost_limit
 use Rattle.crn_stock.specs.Models.{ModelParts}
 use Rattle.crn_stock.specs.Draws.{returned_by}
 use Rattle.crn_stock.specs.Stock.{Draw, Rules}
-use Rattle.crn_stock.specs.Steps.{after_period, after_draw}
+use Rattle.crn_stock.specs.Inner.Steps.{after_period, after_draw}
 
 -- the rules in terms
 abbrev pub rules_in : Terms → Rules

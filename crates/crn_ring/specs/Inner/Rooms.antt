@@ -8,8 +8,10 @@ use Rattle.crn_ring.specs.declared.room.Gauge.{Gauge}
 use Rattle.crn_ring.specs.declared.room.Gauge.TheVariants as Gate
 use Rattle.crn_ring.specs.declared.room.Room.{Room}
 use Rattle.crn_ring.specs.declared.room.Room.TheVariants.{Blocks, Full}
-use Rattle.crn_ring.specs.Gates.{HaveRoom, Loaded, LeastOf}
-use Rattle.crn_ring.specs.Plays.{by_producer, Gauged}
+use Rattle.crn_ring.specs.Gates.{HaveRoom, Loaded}
+use Rattle.crn_ring.specs.Inner.Gates.{LeastOf}
+use Rattle.crn_ring.specs.Plays.{by_producer}
+use Rattle.crn_ring.specs.Inner.Plays.{Gauged}
 use Rattle.crn_ring.specs.Parts.{IsFull}
 
 -- What the producer's view is after all its gates were loaded, up to the first that has no room for block n.

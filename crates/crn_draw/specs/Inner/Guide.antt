@@ -5,7 +5,7 @@ use Rattle.crn_draw.specs.declared.guide.Guide.{Guide}
 use Rattle.crn_draw.specs.declared.guide.TheConstants.{SEVERAL}
 use Rattle.crn_draw.specs.declared.runs.Run.{Run}
 use Rattle.crn_draw.specs.Spread.{place_of}
-use Rattle.crn_draw.specs.Runs.{IsBracket, StandsAt}
+use Rattle.crn_draw.specs.Inner.Runs.{IsBracket, StandsAt}
 
 -- the places of the first and of the last word whose ten leading bits are those of a number
 abbrev pub first_place : ℕ → ℕ → ℕ

@@ -1,0 +1,4 @@
+-- Definitions that no public contract states: of private functions, of proofs and of what a type keeps by its invariant.
+pub mod Cells
+pub mod Amounts
+pub mod Sizes

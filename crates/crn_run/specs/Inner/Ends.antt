@@ -1,0 +1,28 @@
+-- The run of one policy between two blocks, and whether the end was marked early.
+use Rattle.std.specs.Prelude.{◌≡◌, ℕ, ◌+◌, ◌<◌, Bool, true, false, List, Some, slice_get}
+use Rattle.crn_cipher.specs.declared.stream.Block.{Block}
+use Rattle.crn_stock.specs.Parts.{Parts}
+use Rattle.crn_stock.specs.Models.{ModelParts}
+use Rattle.crn_stock.specs.Draws.{At, OnwardAt, next_block}
+use Rattle.crn_stock.specs.declared.rules.Policy.{Policy}
+use Rattle.crn_plain.specs.Runs.{StandsAt}
+use Rattle.crn_run.specs.declared.worker.PolicyEnd.{PolicyEnd}
+use Rattle.crn_run.specs.declared.worker.PolicyEnd.TheVariants.{Reached, Short, Held}
+
+-- whether the end was marked early
+abbrev pub is_short : PolicyEnd → Bool
+is_short (Reached w x) = false
+is_short (Short n w x) = true
+is_short (Held w) = false
+
+-- ---- between two blocks of a run
+
+-- w is what v becomes by the blocks from its next one on: what leads to v by the blocks below leads to w
+pub record Advances (m : ModelParts) (p : Policy) (key : List ℕ) (v w : Parts) : Type 0 where
+  pub stands : StandsAt m (next_block w) w
+  pub at : At m p key (next_block v) v → At m p key (next_block w) w
+  pub onward : (q : Parts) → OnwardAt m p key q (next_block v) v → OnwardAt m p key q (next_block w) w
+
+-- the first `count` of these are the key's blocks from n on
+abbrev pub FollowFrom : List ℕ → ℕ → ℕ → List Block → Type 0
+FollowFrom key n count blocks = (j : ℕ) (b : Block) → j < count → slice_get blocks j ≡ Some b → (b.key ≡ key) × (b.number ≡ n + j)

@@ -1,0 +1,75 @@
+-- The runs of all policies over one ring, each by a reader and on a thread of its own.
+use Rattle.std.specs.Prelude.{◌≡◌, ℕ, ◌+◌, ◌<◌, ◌≤◌, Bool, true, false, List, Some, length, slice_get}
+use Rattle.std.specs.List.{list_any}
+use Rattle.crn_stock.specs.Parts.{Parts}
+use Rattle.crn_stock.specs.Models.{total}
+use Rattle.crn_stock.specs.Scenarios.{ScenarioParts}
+use Rattle.crn_ring.specs.declared.ring.Ring.{Ring}
+use Rattle.crn_ring.specs.declared.reader_end.Reader.{Reader}
+use Rattle.crn_ring.specs.Calls.{IsReaderOf, number_of, reader_part, spec_of}
+use Rattle.crn_plain.specs.Runs.{StandsAt, IsCheckpointOf, EachAt, EachOnward}
+use Rattle.crn_run.specs.Ends.{EndsAs, is_held}
+use Rattle.crn_run.specs.declared.jobs.Job.{Job}
+use Rattle.crn_run.specs.declared.worker.PolicyEnd.{PolicyEnd}
+use Rattle.crn_run.specs.declared.worker.PolicyEnd.TheVariants.{Reached, Short, Held}
+use Rattle.crn_run.specs.Jobs.{AreReaders, HasRefused}
+
+-- ---- what the threads are given, and give back
+
+-- the ring carries blocks of the scenario's stream
+abbrev pub CarriesFor : ScenarioParts → Ring → Type 0
+CarriesFor s ring = ((spec_of ring).id.key ≡ s.key) × ((spec_of ring).id.total ≤ total s.model)
+
+-- the policy's state stands where its reader does, and the reader has not seen the end
+pub record IsReady (s : ScenarioParts) (ring : Ring) (j : Job) : Type 0 where
+  pub policy : j.policy < length s.policies
+  pub reader : IsReaderOf ring j.reader
+  pub number : number_of j.reader ≡ j.policy
+  pub running : (reader_part j.reader).seen_end ≡ false
+  pub stands : StandsAt s.model (reader_part j.reader).taken j.state
+
+abbrev pub AllReady : ScenarioParts → Ring → List Job → Type 0
+AllReady s ring jobs = (i : ℕ) (j : Job) → slice_get jobs i ≡ Some j → IsReady s ring j
+
+-- a job for each policy, from its state of `start`. The first policy's is the last
+pub record AreJobs (s : ScenarioParts) (ring : Ring) (start : List Parts) (jobs : List Job) : Type 0 where
+  pub count : length jobs ≡ length s.policies
+  pub ready : AllReady s ring jobs
+  pub policies : (i : ℕ) (j : Job) → slice_get jobs i ≡ Some j → i + j.policy + 1 ≡ length s.policies
+  pub states : (i : ℕ) (j : Job) → slice_get jobs i ≡ Some j → slice_get start j.policy ≡ Some j.state
+
+-- each is the end of the job at its place
+pub record AreEnds (s : ScenarioParts) (ring : Ring) (jobs : List Job) (ends : List PolicyEnd) : Type 0 where
+  pub count : length ends ≡ length jobs
+  pub each : (i : ℕ) (j : Job) (e : PolicyEnd) → slice_get jobs i ≡ Some j → slice_get ends i ≡ Some e → EndsAs s j.policy j.state ring j.policy e
+
+-- whether a run has come to the ring's total
+abbrev pub has_reached : PolicyEnd → Bool
+has_reached (Reached w x) = true
+has_reached (Short n w x) = false
+has_reached (Held w) = false
+
+abbrev pub AllReached : List PolicyEnd → Type 0
+AllReached ends = (i : ℕ) (e : PolicyEnd) → slice_get ends i ≡ Some e → has_reached e ≡ true
+
+-- where a policy was held, a gate has answered false
+abbrev pub HeldByGates : {Gate : Type 0} → (Gate → Bool) → List PolicyEnd → Type 0
+HeldByGates refused ends = list_any is_held ends ≡ true → HasRefused refused
+
+-- the states and the readers of these ends, those of the last first
+pub record Gathers (ends : List PolicyEnd) (states : List Parts) (readers : List Reader) : Type 0 where
+  pub state_count : length states ≡ length ends
+  pub reader_count : length readers ≡ length ends
+  pub states_of : (k : ℕ) (w : Parts) → slice_get states k ≡ Some w → (i : ℕ) → i + k + 1 ≡ length ends → (x : Reader) × (slice_get ends i ≡ Some (Reached w x))
+  pub readers_of : (k : ℕ) (x : Reader) → slice_get readers k ≡ Some x → (i : ℕ) → i + k + 1 ≡ length ends → (w : Parts) × (slice_get ends i ≡ Some (Reached w x))
+
+-- ---- what the run comes to
+
+-- From the states `start` before block `first`, the policies have all come to block `upto`, each as its rules say, and so
+-- have their readers.
+pub record HasRun (s : ScenarioParts) (first : ℕ) (start : List Parts) (upto next : ℕ) (states : List Parts) (readers : List Reader) : Type 0 where
+  pub next_is : next ≡ upto
+  pub of_scenario : IsCheckpointOf s upto states
+  pub at : EachAt s first start → EachAt s upto states
+  pub onward : EachOnward s start upto states
+  pub read : AreReaders s first upto readers
