@@ -3,7 +3,7 @@ use Rattle.std.proofs.Common.{true, ◌≡◌, ℕ, ◌<◌, ◌≤◌, ◌^◌,
 use Rattle.crn_stock.specs.declared.rules.Policy.{Policy}
 use Rattle.crn_stock.specs.Parts.{Parts}
 use Rattle.crn_stock.specs.Models.{ModelParts, total}
-use Rattle.crn_stock.specs.Scenarios.{ScenarioParts, AreForScenario, IsRingSize}
+use Rattle.crn_stock.specs.Scenarios.{ScenarioParts, AreForScenario, IsScenarioRingSize}
 use Rattle.crn_checkpoint.specs.declared.version.Version.{Version}
 use Rattle.crn_checkpoint.specs.declared.version.Version.TheVariants.{First, Second}
 use Rattle.crn_checkpoint.specs.CheckpointText.{version_number, checkpoint_rows, checkpoint_text}
@@ -45,7 +45,7 @@ next_read v s next states rows h x says = says next (omega (arith, h.ranges.next
 pub not_over : (m m' : ModelParts) (n x t : ℕ) → m' ≡ m → x ≡ n → t ≡ total m' → n ≤ total m → t < x → ⊥
 not_over m m' n x t em en et high over = omega (arith, et ∙ ap total em, en, high, over)
 
-pub for_scenario : (s : ScenarioParts) (ring : ℕ) (ps : List Policy) → IsRingSize ring → AreForScenario s.ring s.policies → ps ≡ s.policies → AreForScenario ring ps
+pub for_scenario : (s : ScenarioParts) (ring : ℕ) (ps : List Policy) → IsScenarioRingSize ring → AreForScenario s.ring s.policies → ps ≡ s.policies → AreForScenario ring ps
 for_scenario s ring ps size h e = subst (AreForScenario ring) (sym e) (record { size = size; some = h.some; few = h.few; ranges = h.ranges; names = h.names; differ = h.differ })
 
 -- the text tells no ring

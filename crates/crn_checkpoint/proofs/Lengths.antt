@@ -5,7 +5,7 @@ use Rattle.std.proofs.lemmas.Bool.Decides.{nat_tests}
 use Rattle.std.proofs.lemmas.List.Elements.{All-head, All-tail, All-cons, All-nil, All-weaker}
 use Rattle.std.proofs.lemmas.List.Sums.{sum_by-cons}
 use Rattle.std.proofs.lemmas.Nat.{mul-le}
-use Rattle.crn_draw.specs.Faults.{least_fault, rises}
+use Rattle.crn_draw.specs.Faults.{least_weights_fault, rises}
 use Rattle.crn_stock.specs.Models.{ModelParts, IsModel, blocks_per_replication, total}
 use Rattle.crn_draw.proofs.Rising.{rises_from, rises_zero, le-from}
 use Rattle.crn_checkpoint.specs.CheckpointText.{due_rows}
@@ -44,11 +44,11 @@ total_high m h = omega (arith, mul-le m.replications (blocks_per_replication m.p
 
 -- ---- values with weights that have no fault
 
-pub lengths_of : (values weights : List ℕ) → least_fault values weights ≡ None → length values ≡ length weights
+pub lengths_of : (values weights : List ℕ) → least_weights_fault values weights ≡ None → length values ≡ length weights
 lengths_of values weights h = grind (arith, nat_tests, h)
 
-pub rising_of : (values weights : List ℕ) → least_fault values weights ≡ None → rises values ≡ true
+pub rising_of : (values weights : List ℕ) → least_weights_fault values weights ≡ None → rises values ≡ true
 rising_of values weights h = grind (arith, nat_tests, h)
 
-pub sum_of : (values weights : List ℕ) → least_fault values weights ≡ None → sum weights ≤ 65536
+pub sum_of : (values weights : List ℕ) → least_weights_fault values weights ≡ None → sum weights ≤ 65536
 sum_of values weights h = grind (arith, nat_tests, h)

@@ -1,7 +1,7 @@
 -- The lists of a checkpoint's rows: demands, lead times, returned items, and policies with their states.
 use Rattle.std.proofs.Common.{◌≡◌, ℕ, ◌<◌, ◌≤◌, ◌^◌, Option, Some, None, List, [], ◌∷◌, ◌++◌, All, length, drop, codes, refl, ap, ◌∙◌, append_assoc, arith}
 use Rattle.crn_draw.specs.Spread.{Weighted}
-use Rattle.crn_draw.specs.Faults.{least_fault}
+use Rattle.crn_draw.specs.Faults.{least_weights_fault}
 use Rattle.crn_stock.specs.Parts.{Parts}
 use Rattle.crn_stock.specs.Models.{returned_values}
 use Rattle.crn_stock.specs.Scenarios.{ScenarioParts}
@@ -14,7 +14,7 @@ use Rattle.crn_checkpoint.proofs.WholeRows.{count_of_weights}
 -- ---- how many of each kind there are
 
 -- values that rise to a small number are few
-few : (d : Weighted) (n : ℕ) → n < 2 ^ 32 → All (λ v. v ≤ n) d.values → least_fault d.values d.weights ≡ None → length d.values < 2 ^ 64
+few : (d : Weighted) (n : ℕ) → n < 2 ^ 32 → All (λ v. v ≤ n) d.values → least_weights_fault d.values d.weights ≡ None → length d.values < 2 ^ 64
 few d n small high none = omega (arith, small, length_of_rising d.values n (rising_of d.values d.weights none) high)
 
 pub demands_few : (s : ScenarioParts) → IsScenario s → length s.model.demand.values < 2 ^ 64
@@ -43,7 +43,7 @@ returned_small s h = all_below (returned_values s.model.returns) 10000 (2 ^ 32) 
 
 -- ---- each has a row
 
-counted : (name : List ℕ) (d : Weighted) → least_fault d.values d.weights ≡ None → length (drawn_rows name d) ≡ length d.values
+counted : (name : List ℕ) (d : Weighted) → least_weights_fault d.values d.weights ≡ None → length (drawn_rows name d) ≡ length d.values
 counted name d none = count_of_weights name d.values d.weights (lengths_of d.values d.weights none)
 
 pub demand_rows_count : (s : ScenarioParts) → IsScenario s → length (drawn_rows (codes "demand") s.model.demand) ≡ length s.model.demand.values

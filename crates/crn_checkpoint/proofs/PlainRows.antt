@@ -7,7 +7,7 @@ use Rattle.std.proofs.Math.Nat.{le-mul_of_pos_right}
 use Rattle.std.proofs.lemmas.Option.{slice_get-get_or}
 use Rattle.std.specs.Fmt.{signed_decimal}
 use lib.Signed.{mag}
-use Rattle.crn_draw.specs.Faults.{least_fault}
+use Rattle.crn_draw.specs.Faults.{least_weights_fault}
 use Rattle.crn_draw.specs.Spread.{Weighted}
 use Rattle.crn_stock.specs.declared.rules.Policy.{Policy}
 use Rattle.crn_stock.specs.declared.rules.Costs.{Costs}
@@ -15,7 +15,7 @@ use Rattle.crn_stock.specs.Parts.{Parts, AreInRange, stock_limit, period_cost_li
 use Rattle.crn_stock.specs.Models.{ModelParts, IsModel, IsPolicy, AreCosts, blocks_per_replication, returned_values, total}
 use Rattle.crn_stock.specs.Scenarios.{ScenarioParts, is_name}
 use Rattle.crn_scenario.specs.Hex.{hex_word}
-use Rattle.crn_plain.specs.Runs.{IsCheckpointOf, StandsAt}
+use Rattle.crn_plain.specs.Runs.{IsCheckpointOf, StandsBefore}
 use Rattle.crn_rows.specs.Plain.{is_plain, is_row, are_rows}
 use Rattle.crn_rows.proofs.Plainness.{signed_plain}
 use Rattle.crn_checkpoint.specs.CheckpointText.{numbers_row, pair_row, dash, head_row, key_row, costs_row, sizes_row, count_rows, weight_rows, drawn_rows, returned_rows, list_rows, policy_row, due_rows, cost_rows, state_row, policy_rows, all_policy_rows, end_row, checkpoint_rows}
@@ -86,7 +86,7 @@ costs_plain r (c ∷ costs) h k =
     let here = pair_plain (codes "cost") r c refl (omega (arith, h)) (All-head (λ x. x < 2 ^ 64) c costs k) in
     rw (here, costs_plain (r + 1) costs (omega (arith, h)) (All-tail (λ x. x < 2 ^ 64) c costs k)) refl
 
-drawn_plain : (name : List ℕ) (d : Weighted) (n : ℕ) → is_plain name ≡ true → n < 2 ^ 64 → All (λ v. v ≤ n) d.values → least_fault d.values d.weights ≡ None → are_rows (drawn_rows name d) ≡ true
+drawn_plain : (name : List ℕ) (d : Weighted) (n : ℕ) → is_plain name ≡ true → n < 2 ^ 64 → All (λ v. v ≤ n) d.values → least_weights_fault d.values d.weights ≡ None → are_rows (drawn_rows name d) ≡ true
 drawn_plain name d n h high all none =
     weights_plain name d.values d.weights h (all_below d.values n (2 ^ 64) high all) (each_below d.weights (2 ^ 64) (omega (arith, sum_of d.values d.weights none)))
 
@@ -130,13 +130,13 @@ all_plain (p ∷ ps) (v ∷ vs) h name k =
     rows_append (policy_rows p v) (all_policy_rows ps vs) here more
 
 -- a replication takes a block at least
-done_high : (m : ModelParts) (next : ℕ) (v : Parts) → IsModel m → next ≤ total m → StandsAt m next v → length v.costs ≤ 65536
+done_high : (m : ModelParts) (next : ℕ) (v : Parts) → IsModel m → next ≤ total m → StandsBefore m next v → length v.costs ≤ 65536
 done_high m next v h low stands =
     let of_model = stands.of_model in
     let some : 0 < blocks_per_replication v.periods = omega (arith, of_model.periods_are, h.periods_low) in
     omega (arith, le-mul_of_pos_right (length v.costs) some, stands.next, total_high m h, low)
 
-plain_state : (m : ModelParts) (next : ℕ) (v : Parts) → IsModel m → next ≤ total m → StandsAt m next v → AreInRange v → IsPlainState v
+plain_state : (m : ModelParts) (next : ℕ) (v : Parts) → IsModel m → next ≤ total m → StandsBefore m next v → AreInRange v → IsPlainState v
 plain_state m next v h low stands ranges = record {
   ranges = ranges;
   periods = omega (arith, stands.of_model.periods_are, h.periods_high);

@@ -7,7 +7,7 @@ use Rattle.crn_stock.specs.Parts.{Parts, AreInRange}
 use Rattle.crn_stock.specs.Models.{ModelParts, IsModel, has_returns, blocks_per_replication, total}
 use Rattle.crn_stock.specs.Restored.{restored, first_period}
 use Rattle.crn_stock.specs.Scenarios.{ScenarioParts}
-use Rattle.crn_plain.specs.Runs.{StandsAt}
+use Rattle.crn_plain.specs.Runs.{StandsBefore}
 use Rattle.crn_checkpoint.specs.Reading.{IsInRange}
 use Rattle.crn_checkpoint.specs.Inner.Amounts.{IsRestorable, ArePoliciesOf}
 
@@ -29,7 +29,7 @@ same_parts : (v : Parts) (p r t : ℕ) (x : ℤ) (b : Bool) → v.periods ≡ p 
     → v ≡ record { periods = p; replications = r; initial = x; has_returns = b; costs = v.costs; period = t; stock = v.stock; due = v.due; running = v.running }
 same_parts v p r t x b ep er ex eb et = λ j. record { periods = ep j; replications = er j; initial = ex j; has_returns = eb j; costs = v.costs; period = et j; stock = v.stock; due = v.due; running = v.running }
 
-pub restorable : (m : ModelParts) (n : ℕ) (v : Parts) → IsModel m → n ≤ total m → StandsAt m n v → AreInRange v → IsRestorable m n v
+pub restorable : (m : ModelParts) (n : ℕ) (v : Parts) → IsModel m → n ≤ total m → StandsBefore m n v → AreInRange v → IsRestorable m n v
 restorable m n v model high stands ranges =
     let sizes = stands.of_model in
     let b = blocks_per_replication m.periods in

@@ -3,11 +3,11 @@ use Rattle.std.proofs.Common.{◌≡◌, ℕ, ◌+◌, ◌*◌, ◌<◌, ◌≤�
 use Rattle.std.specs.Prelude.{Bool, true, false, ℤ, pos, negsuc, ◌≤ℤ◌, ◌+ℤ◌, unsigned_abs}
 use Rattle.std.proofs.lemmas.Int.{ints}
 use Rattle.crn_draw.specs.Spread.{Weighted}
-use Rattle.crn_draw.specs.Faults.{least_fault}
+use Rattle.crn_draw.specs.Faults.{least_weights_fault}
 use Rattle.crn_draw.specs.declared.fault.DrawFault.{DrawFault}
 use Rattle.crn_stock.specs.Parts.{stock_limit}
 use Rattle.crn_stock.specs.Models.{ModelParts}
-use Rattle.crn_checkpoint.specs.Inner.Sizes.{parts_of}
+use Rattle.crn_checkpoint.specs.Inner.Sizes.{model_parts_of}
 use Rattle.crn_checkpoint.specs.declared.models.Sizes.{Sizes}
 use Rattle.crn_checkpoint.specs.declared.unread.Unread.{Unread}
 use Rattle.crn_checkpoint.specs.declared.unread.Unread.TheVariants.{Memory}
@@ -73,7 +73,7 @@ costs_read r (k ∷ costs) = ap (λ t. decimal k ∷ t) (costs_read (r + 1) cost
 -- ---- the model's parts
 
 pub same_parts : (m : ModelParts) (p r : ℕ) (i : ℤ) (a b c d : ℕ) → p ≡ m.periods → r ≡ m.replications → i ≡ m.initial → a ≡ m.costs.setup → b ≡ m.costs.unit → c ≡ m.costs.holding → d ≡ m.costs.backlog
-    → parts_of (record { periods = p; replications = r; initial = i; costs = record { setup = a; unit = b; holding = c; backlog = d } }) m.demand m.lead m.returns ≡ m
+    → model_parts_of (record { periods = p; replications = r; initial = i; costs = record { setup = a; unit = b; holding = c; backlog = d } }) m.demand m.lead m.returns ≡ m
 same_parts m p r i a b c d ep er ei ea eb ec ed = λ j. record {
   periods = ep j;
   replications = er j;
@@ -95,10 +95,10 @@ four_words (a ∷ b ∷ c ∷ d ∷ f ∷ key) e = absurd (omega (arith, e))
 clash : (r : Option DrawFault) (f : DrawFault) → r ≡ None → r ≡ Some f → ⊥
 clash r f h k = cc
 
-pub no_fault : (values weights values' weights' : List ℕ) (f : DrawFault) → values ≡ values' → weights ≡ weights' → least_fault values' weights' ≡ None → least_fault values weights ≡ Some f → ⊥
+pub no_fault : (values weights values' weights' : List ℕ) (f : DrawFault) → values ≡ values' → weights ≡ weights' → least_weights_fault values' weights' ≡ None → least_weights_fault values weights ≡ Some f → ⊥
 no_fault values weights values' weights' f ev ew none some =
-    let none' : least_fault values weights ≡ None = (λ i. least_fault (ev i) (ew i)) ∙ none in
-    clash (least_fault values weights) f none' some
+    let none' : least_weights_fault values weights ≡ None = (λ i. least_weights_fault (ev i) (ew i)) ∙ none in
+    clash (least_weights_fault values weights) f none' some
 
 pub same_weighted : (d : Weighted) (values weights : List ℕ) → values ≡ d.values → weights ≡ d.weights → Path Weighted (record { values = values; weights = weights }) d
 same_weighted d values weights ev ew = rw (ev, ew) refl
@@ -115,8 +115,8 @@ handed_on (Ok x) e P h m = absurd (cc h.0)
 handed_on (Err f) e P h m = h.1 ∙ m
 
 pub same_model_parts : (z : Sizes) (demand lead : Weighted) (returns : Option Weighted) (m : ModelParts) → demand ≡ m.demand → lead ≡ m.lead → returns ≡ m.returns
-    → parts_of z m.demand m.lead m.returns ≡ m → parts_of z demand lead returns ≡ m
-same_model_parts z demand lead returns m ed el er e = (λ i. parts_of z (ed i) (el i) (er i)) ∙ e
+    → model_parts_of z m.demand m.lead m.returns ≡ m → model_parts_of z demand lead returns ≡ m
+same_model_parts z demand lead returns m ed el er e = (λ i. model_parts_of z (ed i) (el i) (er i)) ∙ e
 
 pub answered : {T : Type 0} (r : Result T Unread) (a b : T) → a ≡ b → MatchResult r (λ x. x ≡ a) (λ f. f ≡ Memory) → MatchResult r (λ x. x ≡ b) (λ f. f ≡ Memory)
 answered (Ok x) a b e h = h ∙ e

@@ -28,7 +28,7 @@ RefusesMigration fault.NewVersion bytes = IsNew bytes
 RefusesMigration fault.Memory bytes = ⊤
 
 -- the number by which a fault is told
-abbrev pub number_of : MigrateFault → ℕ
-number_of fault.NoCheckpoint = 1
-number_of fault.NewVersion = 5
-number_of fault.Memory = 90
+abbrev pub migration_fault_number : MigrateFault → ℕ
+migration_fault_number fault.NoCheckpoint = 1
+migration_fault_number fault.NewVersion = 5
+migration_fault_number fault.Memory = 90

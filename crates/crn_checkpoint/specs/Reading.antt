@@ -1,7 +1,7 @@
 -- What a text is a checkpoint of, and what a refusal says of it.
 use Rattle.std.specs.Prelude.{◌≡◌, ◌⊎◌, ℕ, ◌^◌, ◌<◌, ◌≤◌, ⊤, List, All, Option, Some, None, length}
 use Rattle.crn_draw.specs.Spread.{Weighted}
-use Rattle.crn_draw.specs.Faults.{least_fault}
+use Rattle.crn_draw.specs.Faults.{least_weights_fault}
 use Rattle.crn_stock.specs.Parts.{Parts, AreInRange}
 use Rattle.crn_stock.specs.Models.{ModelParts, IsModel, total}
 use Rattle.crn_stock.specs.Scenarios.{ScenarioParts, AreForScenario}
@@ -15,15 +15,15 @@ use Rattle.crn_checkpoint.specs.declared.checkpoint_fault.CheckpointFault.TheVar
 -- the numbers of returned items can be drawn from by their weights, where customers return any
 abbrev pub CanDraw : Option Weighted → Type 0
 CanDraw None = ⊤
-CanDraw (Some d) = least_fault d.values d.weights ≡ None
+CanDraw (Some d) = least_weights_fault d.values d.weights ≡ None
 
 -- all parts of a scenario are within their ranges
 pub record IsScenario (s : ScenarioParts) : Type 0 where
   pub key_length : length s.key ≡ 4
   pub key_words : All (λ w. w < 2 ^ 64) s.key
   pub model : IsModel s.model
-  pub demand : least_fault s.model.demand.values s.model.demand.weights ≡ None
-  pub lead : least_fault s.model.lead.values s.model.lead.weights ≡ None
+  pub demand : least_weights_fault s.model.demand.values s.model.demand.weights ≡ None
+  pub lead : least_weights_fault s.model.lead.values s.model.lead.weights ≡ None
   pub returns : CanDraw s.model.returns
   pub others : AreForScenario s.ring s.policies
 
@@ -88,11 +88,11 @@ RefusesCheckpoint s fault.OldVersion bytes = IsOld s bytes
 RefusesCheckpoint s fault.Memory bytes = ⊤
 
 -- the number by which a fault is told
-abbrev pub number_of : CheckpointFault → ℕ
-number_of fault.NoCheckpoint = 1
-number_of fault.OtherScenario = 2
-number_of fault.OldVersion = 4
-number_of fault.Memory = 90
+abbrev pub checkpoint_fault_number : CheckpointFault → ℕ
+checkpoint_fault_number fault.NoCheckpoint = 1
+checkpoint_fault_number fault.OtherScenario = 2
+checkpoint_fault_number fault.OldVersion = 4
+checkpoint_fault_number fault.Memory = 90
 
 -- the bytes are the text of a leg: of the states that the scenario's policies have after the blocks below `next`
 pub record IsLegOf (s : ScenarioParts) (next : ℕ) (bytes : List ℕ) : Type 0 where

@@ -3,7 +3,7 @@
 ghost use Rattle.std.specs.Prelude.{◌≡◌, ◌∷◌, ◌++◌, ◌+◌, ℕ, List, ◌<◌, ◌^◌, All, IfOk, MatchResult, length};
 ghost use Rattle.crn_stock.specs.Restored.{first_period};
 ghost use Rattle.crn_stock.specs.Parts.{Parts};
-ghost use Rattle.crn_plain.specs.Runs.{StandsAt};
+ghost use Rattle.crn_plain.specs.Runs.{StandsBefore};
 ghost use Rattle.crn_checkpoint.specs.CheckpointText.{due_rows, policy_rows};
 ghost use Rattle.crn_checkpoint.specs.Inner.Amounts.{IsRestorable, AreOf};
 ghost use Rattle.crn_stock.specs.declared.rules.Policy.{Policy};
@@ -92,7 +92,7 @@ pub(crate) fn state_of(
 ) -> Result<State, Unread>
     ensures reads { (p : Policy) (v : Parts) (rest : List (List (List ℕ))) → IsRestorable model.now next v → rows.now ≡ policy_rows p v ++ rest
         → MatchResult result (λ w. w ≡ v) (λ f. f ≡ Unread.Memory) }
-    ensures stands { IfOk result (λ w. StandsAt model.now next w) }
+    ensures stands { IfOk result (λ w. StandsBefore model.now next w) }
 {
     let a = amounts_of(alloc, model, next, rows)?;
     match State::restore(

@@ -22,7 +22,7 @@ impl CheckpointFault {
     /// The number of the fault: 1 for no checkpoint, 2 for another scenario, 4 for a text of version 1, 90 for want of
     /// memory.
     pub fn number(&self) -> u8
-        ensures { result ≡ spec.number_of self.now }
+        ensures { result ≡ spec.checkpoint_fault_number self.now }
     {
         match self {
             CheckpointFault::NoCheckpoint => 1,

@@ -19,7 +19,7 @@ pub enum MigrateFault {
 impl MigrateFault {
     /// The number of the fault: 1 for no checkpoint, 5 for a text of version 2, 90 for want of memory.
     pub fn number(&self) -> u8
-        ensures { result ≡ spec.number_of self.now }
+        ensures { result ≡ spec.migration_fault_number self.now }
     {
         match self {
             MigrateFault::NoCheckpoint => 1,

@@ -2,14 +2,14 @@
 
 ghost use Rattle.std.specs.Prelude.{◌≡◌, ◌≢◌, ◌⊎◌, ◌↔◌, ◌≤◌, ◌<◌, ◌^◌, ℕ, List, [], Option, None, All, IfOk, IsTrue, MatchResult};
 ghost use Rattle.crn_draw.specs.Spread.{Weighted};
-ghost use Rattle.crn_draw.specs.Faults.{least_fault};
+ghost use Rattle.crn_draw.specs.Faults.{least_weights_fault};
 ghost use Rattle.crn_stock.specs.Parts.{Parts};
 ghost use Rattle.crn_stock.specs.Models.{IsModel, AreCosts, returned_values};
 ghost use Rattle.crn_stock.specs.Scenarios.{ScenarioParts};
 ghost use Rattle.crn_checkpoint.specs.CheckpointText.{drawn_rows, returned_rows};
 ghost use Rattle.crn_checkpoint.specs.Reading.{CanDraw, CanTell};
 ghost use Rattle.crn_checkpoint.specs.Inner.Cells.{AreRowsOf};
-ghost use Rattle.crn_checkpoint.specs.Inner.Sizes.{parts_of};
+ghost use Rattle.crn_checkpoint.specs.Inner.Sizes.{model_parts_of};
 
 use crate::cells::{integer_in, natural_in, small_column};
 use crate::lists::{demand_rows, lead_rows, returned_rows};
@@ -60,7 +60,7 @@ fn are_returned(returns: &Option<Weights>) -> bool
 }
 
 fn is_model(sizes: &Sizes, demand: &Weights, lead: &Weights, returns: &Option<Weights>) -> bool
-    ensures { IsTrue result ↔ IsModel (parts_of sizes.now demand.now lead.now returns.now) }
+    ensures { IsTrue result ↔ IsModel (model_parts_of sizes.now demand.now lead.now returns.now) }
 {
     (1..=1_024).contains(&sizes.periods)
         && (1..=256).contains(&sizes.replications)
@@ -80,7 +80,7 @@ fn model_with(
     returns: Option<Weights>,
 ) -> Result<Model, Unread>
     ensures returns { IfOk result (λ m. m.returns ≡ returns) }
-    ensures model { IsModel (parts_of sizes demand lead returns) → MatchResult result (λ m. m ≡ parts_of sizes demand lead returns) (λ f. f ≡ Unread.Memory) }
+    ensures model { IsModel (model_parts_of sizes demand lead returns) → MatchResult result (λ m. m ≡ model_parts_of sizes demand lead returns) (λ f. f ≡ Unread.Memory) }
 {
     if !is_model(&sizes, &demand, &lead, &returns) {
         return Err(Unread::NoCheckpoint);
@@ -108,7 +108,7 @@ fn unread(fault: DrawFault) -> Unread
 
 // Values with their weights from their rows.
 fn weights_of(alloc: Global, rows: &[Row]) -> Result<Weights, Unread>
-    ensures { (name : List ℕ) (d : Weighted) → least_fault d.values d.weights ≡ None → All (λ v. v < 2 ^ 32) d.values → rows.now ≡ drawn_rows name d
+    ensures { (name : List ℕ) (d : Weighted) → least_weights_fault d.values d.weights ≡ None → All (λ v. v < 2 ^ 32) d.values → rows.now ≡ drawn_rows name d
         → MatchResult result (λ w. w ≡ d) (λ f. f ≡ Unread.Memory) }
 {
     let values = small_column(alloc, rows, 1)?;
@@ -134,7 +134,7 @@ fn returns_of(alloc: Global, rows: &[Row]) -> Result<Option<Weights>, Unread>
 
 fn sizes_of(rows: &[Row]) -> Sizes
     ensures { (v : Version) (s : ScenarioParts) (next : ℕ) (states : List Parts) → AreRowsOf v s next states rows.now
-        → parts_of result s.model.demand s.model.lead s.model.returns ≡ s.model }
+        → model_parts_of result s.model.demand s.model.lead s.model.returns ≡ s.model }
 {
     Sizes {
         periods: natural_in(rows, 0, 3),

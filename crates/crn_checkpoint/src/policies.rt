@@ -4,7 +4,7 @@ ghost use Rattle.std.specs.Prelude.{◌≡◌, ◌∷◌, ◌++◌, ℕ, List, [
 ghost use Rattle.crn_stock.specs.Models.{IsPolicy};
 ghost use Rattle.crn_stock.specs.Scenarios.{is_name};
 ghost use Rattle.crn_stock.specs.Parts.{Parts};
-ghost use Rattle.crn_plain.specs.Runs.{StandsAt};
+ghost use Rattle.crn_plain.specs.Runs.{StandsBefore};
 ghost use Rattle.crn_checkpoint.specs.CheckpointText.{policy_row, all_policy_rows};
 ghost use Rattle.crn_checkpoint.specs.Inner.Amounts.{ArePoliciesOf};
 ghost use Rattle.crn_stock.specs.declared.rules.Policy.{Policy};
@@ -58,7 +58,7 @@ pub(crate) fn policies_of(
     ensures reads { (ps : List Policy) (vs : List Parts) (rest : List (List (List ℕ))) → ArePoliciesOf model.now next ps vs → count ≡ length ps → rows.now ≡ all_policy_rows ps vs ++ rest
         → MatchResult result (λ r. (r.policies.items ≡ ps) × (r.states.items ≡ vs)) (λ f. f ≡ Unread.Memory) }
     ensures count { IfOk result (λ r. length r.states.items ≡ length r.policies.items) }
-    ensures stand { IfOk result (λ r. (i : ℕ) (v : Parts) → slice_get r.states.items i ≡ Some v → StandsAt model.now next v) }
+    ensures stand { IfOk result (λ r. (i : ℕ) (v : Parts) → slice_get r.states.items i ≡ Some v → StandsBefore model.now next v) }
 {
     let mut found = Policies {
         policies: Vec::new(alloc),

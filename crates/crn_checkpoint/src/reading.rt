@@ -2,7 +2,7 @@
 
 ghost use Rattle.std.specs.Prelude.{◌≡◌, ℕ, List, IfOk, IfErr, MatchResult};
 ghost use Rattle.crn_stock.specs.Parts.{Parts};
-ghost use Rattle.crn_stock.specs.Scenarios.{ScenarioParts, IsRingSize};
+ghost use Rattle.crn_stock.specs.Scenarios.{ScenarioParts, IsScenarioRingSize};
 ghost use Rattle.crn_checkpoint.specs.Reading.{IsTextIn, IsTextOf, IsOldTextOf, IsAnyTextOf, IsSameButRing, RefusesCheckpoint};
 
 use crate::checkpoint_fault::CheckpointFault;
@@ -17,7 +17,7 @@ use std::alloc::Global;
 
 // The checkpoint that a text spells, in whatever version and whatever its scenario, which gets this ring.
 pub(crate) fn read_cut(alloc: Global, ring: u64, bytes: &[u8]) -> Result<Cut, Unread>
-    requires { IsRingSize ring }
+    requires { IsScenarioRingSize ring }
     ensures is_text { IfOk result (λ c. IsTextIn c.version c.scenario c.checkpoint.next c.checkpoint.states.items bytes.now) }
     ensures ring { IfOk result (λ c. c.scenario.ring ≡ ring) }
     ensures reads { (v : Version) (s : ScenarioParts) (next : ℕ) (states : List Parts) → IsTextIn v s next states bytes.now

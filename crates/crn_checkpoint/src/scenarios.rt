@@ -4,8 +4,8 @@ ghost use Rattle.std.specs.Prelude.{◌≡◌, ◌≢◌, ◌↔◌, ◌≤◌, 
 ghost use Rattle.std.specs.List.{AllPairs};
 ghost use Rattle.crn_stock.specs.Parts.{Parts};
 ghost use Rattle.crn_stock.specs.Models.{IsPolicy, total};
-ghost use Rattle.crn_stock.specs.Scenarios.{ScenarioParts, AreForScenario, IsRingSize, is_name};
-ghost use Rattle.crn_plain.specs.Runs.{IsCheckpointOf, StandsAt};
+ghost use Rattle.crn_stock.specs.Scenarios.{ScenarioParts, AreForScenario, IsScenarioRingSize, is_name};
+ghost use Rattle.crn_plain.specs.Runs.{IsCheckpointOf, StandsBefore};
 ghost use Rattle.crn_checkpoint.specs.Inner.Cells.{AreRowsOf};
 ghost use Rattle.crn_checkpoint.specs.Reading.{IsSameButRing, CanTell};
 
@@ -88,7 +88,7 @@ fn all_differ(policies: &[Policy]) -> bool
 }
 
 fn are_policies(ring: u64, policies: &[Policy]) -> bool
-    requires { IsRingSize ring }
+    requires { IsScenarioRingSize ring }
     ensures { IsTrue result ↔ AreForScenario ring policies.now }
 {
     (1..=POLICY_LIMIT).contains(&policies.len())
@@ -165,7 +165,7 @@ fn policies_in(
     ensures reads { (s : ScenarioParts) (n : ℕ) (states : List Parts) → AreRowsOf version s n states rows.now → model.now ≡ s.model → next ≡ n
         → MatchResult result (λ r. (r.policies.items ≡ s.policies) × (r.states.items ≡ states)) (λ f. f ≡ Unread.Memory) }
     ensures count { IfOk result (λ r. length r.states.items ≡ length r.policies.items) }
-    ensures stand { IfOk result (λ r. (i : ℕ) (v : Parts) → slice_get r.states.items i ≡ Some v → StandsAt model.now next v) }
+    ensures stand { IfOk result (λ r. (i : ℕ) (v : Parts) → slice_get r.states.items i ≡ Some v → StandsBefore model.now next v) }
 {
     let count = policy_count(rows);
     if count > POLICY_LIMIT {
@@ -176,7 +176,7 @@ fn policies_in(
 
 // The checkpoint that the rows say, and its scenario with this ring, if all of it is within its ranges.
 pub(crate) fn cut_of(alloc: Global, ring: u64, rows: &[Row]) -> Result<Cut, Unread>
-    requires { IsRingSize ring }
+    requires { IsScenarioRingSize ring }
     ensures reads { (v : Version) (s : ScenarioParts) (next : ℕ) (states : List Parts) → AreRowsOf v s next states rows.now
         → MatchResult result (λ c. (v ≡ c.version) × IsSameButRing s c.scenario × (next ≡ c.checkpoint.next) × (states ≡ c.checkpoint.states.items)) (λ f. f ≡ Unread.Memory) }
     ensures ring { IfOk result (λ c. c.scenario.ring ≡ ring) }

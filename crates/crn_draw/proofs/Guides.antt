@@ -7,7 +7,7 @@ use Rattle.crn_draw.specs.declared.guide.Guide.{Guide}
 use Rattle.crn_draw.specs.declared.guide.TheConstants.{SEVERAL}
 use Rattle.crn_draw.specs.declared.runs.Run.{Run}
 use Rattle.crn_draw.specs.Spread.{place_of}
-use Rattle.crn_draw.specs.Inner.Runs.{IsBracket, StandsAt}
+use Rattle.crn_draw.specs.Inner.Runs.{IsBracket, StandsAtPlace}
 use Rattle.crn_draw.specs.Inner.Guide.{first_place, last_place, EntryFits, BracketFits, IsGuide, no_bracket}
 use Rattle.crn_draw.proofs.Drawn.{place-rises}
 
@@ -32,7 +32,7 @@ module _ (runs : List Run) (total word : ℕ) (guide : Guide) (fits : word < 2 ^
   inside : word / 2 ^ 54 < 1024
   inside = omega (arith, fits)
 
-  pub entry-stands : (entry : ℕ) → entry ≡ slice_index_or guide.entries.items (word / 2 ^ 54) entry → entry ≢ SEVERAL → StandsAt runs (place_of word total) entry
+  pub entry-stands : (entry : ℕ) → entry ≡ slice_index_or guide.entries.items (word / 2 ^ 54) entry → entry ≢ SEVERAL → StandsAtPlace runs (place_of word total) entry
   entry-stands entry read one =
       read-one (EntryFits runs total) 1024 guide.entries.items entry 0 g.entries g.each_entry (word / 2 ^ 54) inside read one
       (place_of word total) (first-low word total) (last-high word total)

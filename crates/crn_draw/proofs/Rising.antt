@@ -2,7 +2,7 @@
 use Rattle.std.proofs.Common.{◌≡◌, ℕ, zero, suc, ◌+◌, ◌<◌, ◌≤◌, Bool, true, ◌&&◌, List, [], ◌∷◌, AllPairs, None, length, sum, slice_index_or, refl, arith, nat_le, nat_lt}
 use Rattle.std.proofs.lemmas.Bool.{and_parts}
 use Rattle.std.proofs.lemmas.Bool.Decides.{nat_tests}
-use Rattle.crn_draw.specs.Faults.{rises, least_fault}
+use Rattle.crn_draw.specs.Faults.{rises, least_weights_fault}
 
 -- whether the numbers rise strictly, and the first is at least `least`
 abbrev pub rises_from : ℕ → List ℕ → Bool
@@ -45,5 +45,5 @@ pairs-rise least (x ∷ xs) up (suc i) (suc j) d lt inside =
 
 -- nothing is refused of values and weights with all that is asked
 pub no_fault : (values weights : List ℕ) → 0 < length values → length values ≡ length weights → rises values ≡ true → 0 < sum weights → sum weights ≤ 65536
-    → least_fault values weights ≡ None
+    → least_weights_fault values weights ≡ None
 no_fault values weights some same rising low high = rw rising (grind (arith, nat_tests, some, same, low, high))

@@ -2,7 +2,7 @@
 
 ghost use Rattle.std.specs.Prelude.{◌≡◌, ℕ, ◌≤◌, ◌<◌, IfOk, length};
 ghost use Rattle.crn_draw.specs.Spread.{place_of};
-ghost use Rattle.crn_draw.specs.Inner.Runs.{start_at, IsBracket, StandsAt, StartsRise};
+ghost use Rattle.crn_draw.specs.Inner.Runs.{start_at, IsBracket, StandsAtPlace, StartsRise};
 ghost use Rattle.crn_draw.specs.Inner.Guide.{IsEntry, IsGuide};
 
 use crate::runs::{Run, index_of, place_at, value_at};
@@ -80,7 +80,7 @@ pub fn draw(runs: &[Run], guide: &Guide, total: u64, word: u64) -> u32
     requires rising { StartsRise runs.now }
     requires total { total ≤ 65536 }
     requires guide { IsGuide runs.now total guide.now }
-    ensures { StandsAt runs.now (place_of word total) result }
+    ensures { StandsAtPlace runs.now (place_of word total) result }
 {
     let bits = (word >> REST_BITS) as usize;
     let value = guide.entries[bits];

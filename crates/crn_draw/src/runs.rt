@@ -2,7 +2,7 @@
 
 ghost use Rattle.std.specs.Prelude.{◌≡◌, ℕ, ◌≤◌, ◌<◌, IfOk, length, sum};
 ghost use Rattle.crn_draw.specs.Spread.{place_of};
-ghost use Rattle.crn_draw.specs.Inner.Runs.{runs_from, start_at, IsBracket, StandsAt, StartsRise};
+ghost use Rattle.crn_draw.specs.Inner.Runs.{runs_from, start_at, IsBracket, StandsAtPlace, StartsRise};
 
 use std::alloc::{AllocError, Global};
 
@@ -60,7 +60,7 @@ pub fn index_of(runs: &[Run], from: usize, place: u32) -> usize
 pub fn value_at(runs: &[Run], first: u16, last: u16, place: u32) -> u32
     requires bracket { IsBracket runs.now place place first last }
     requires rising { StartsRise runs.now }
-    ensures { StandsAt runs.now place result }
+    ensures { StandsAtPlace runs.now place result }
 {
     let mut first = first;
     let mut last = last;

@@ -2,7 +2,7 @@
 -- tell nothing.
 use Rattle.std.specs.Prelude.{ℕ, List, Option}
 use Rattle.crn_stock.specs.Scenarios.{ScenarioParts}
-use Rattle.crn_scenario.specs.Reading.{Reads, Refuses}
+use Rattle.crn_scenario.specs.Reading.{Reads, RefusesScenario}
 use Rattle.crn_scenario.specs.declared.scenario_fault.ScenarioFault.{ScenarioFault}
 use Rattle.crn_engines.specs.Bytes.{ReadAll}
 
@@ -16,4 +16,4 @@ pub record ReadScenario (reading reading' : Option (List ℕ)) (scenario : Scena
 pub record ReadRefused (f : ScenarioFault) (reading reading' : Option (List ℕ)) : Type 0 where
   pub input : List ℕ
   pub read : ReadAll reading reading' input
-  pub refused : Refuses f input
+  pub refused : RefusesScenario f input

@@ -5,14 +5,14 @@ use Rattle.std.proofs.lemmas.Bool.{and_parts, leb-true}
 use Rattle.std.proofs.Math.Nat.{mul-le-mul_left}
 use Rattle.crn_pair.specs.Limits.{cost_limit, are_costs}
 use Rattle.crn_pair.specs.Inner.Places.{products, AreSums, AreWithin}
-use Rattle.crn_pair.specs.Sums.{signed, differences, total, over_pairs}
+use Rattle.crn_pair.specs.Sums.{signed, differences, signed_sum, over_pairs}
 use Rattle.crn_pair.proofs.Products.{pairs_are}
 use Rattle.crn_pair.specs.declared.moments.Moments.{Moments}
 
 -- the sums over the first i places, by what is left to gather
 pub record Gathers (xs ys : List ℤ) (i : ℕ) (m : Moments) : Type 0 where
-  pub x_left : m.x +ℤ total (drop i xs) ≡ total xs
-  pub y_left : m.y +ℤ total (drop i ys) ≡ total ys
+  pub x_left : m.x +ℤ signed_sum (drop i xs) ≡ signed_sum xs
+  pub y_left : m.y +ℤ signed_sum (drop i ys) ≡ signed_sum ys
   pub products_left : m.products +ℤ products (drop i xs) (drop i ys) ≡ products xs ys
   pub within : AreWithin i m
 
@@ -22,11 +22,11 @@ pub gathers_more : (xs ys : List ℤ) (i : ℕ) (x y : ℤ) (m m' : Moments)
     → unsigned_abs x ≤ cost_limit → unsigned_abs y ≤ cost_limit
     → Gathers xs ys i m → Gathers xs ys (i + 1) m'
 gathers_more xs ys i x y m m' at_x at_y new_x new_y new_products low_x low_y g =
-    let old_x : m.x +ℤ total (drop i xs) ≡ total xs = g.x_left in
-    let old_y : m.y +ℤ total (drop i ys) ≡ total ys = g.y_left in
+    let old_x : m.x +ℤ signed_sum (drop i xs) ≡ signed_sum xs = g.x_left in
+    let old_y : m.y +ℤ signed_sum (drop i ys) ≡ signed_sum ys = g.y_left in
     let old_p : m.products +ℤ products (drop i xs) (drop i ys) ≡ products xs ys = g.products_left in
-    let head_x : total (drop i xs) ≡ x +ℤ total (drop (suc i) xs) = ap total at_x in
-    let head_y : total (drop i ys) ≡ y +ℤ total (drop (suc i) ys) = ap total at_y in
+    let head_x : signed_sum (drop i xs) ≡ x +ℤ signed_sum (drop (suc i) xs) = ap signed_sum at_x in
+    let head_y : signed_sum (drop i ys) ≡ y +ℤ signed_sum (drop (suc i) ys) = ap signed_sum at_y in
     let head_p : products (drop i xs) (drop i ys) ≡ (x *ℤ y) +ℤ products (drop (suc i) xs) (drop (suc i) ys) =
     ap (λ (l : List ℤ). products l (drop i ys)) at_x ∙ ap (λ (l : List ℤ). products (x ∷ drop (suc i) xs) l) at_y in
     let size : unsigned_abs (x *ℤ y) ≡ unsigned_abs x * unsigned_abs y = unsigned_abs-mul x y in
@@ -48,11 +48,11 @@ gathers_more xs ys i x y m m' at_x at_y new_x new_y new_products low_x low_y g =
 
 pub gathers_all : (xs ys : List ℤ) (n : ℕ) (m : Moments) → drop n xs ≡ [] → drop n ys ≡ [] → Gathers xs ys n m → AreSums xs ys m
 gathers_all xs ys n m end_x end_y g =
-    let left_x : m.x +ℤ total (drop n xs) ≡ total xs = g.x_left in
-    let left_y : m.y +ℤ total (drop n ys) ≡ total ys = g.y_left in
+    let left_x : m.x +ℤ signed_sum (drop n xs) ≡ signed_sum xs = g.x_left in
+    let left_y : m.y +ℤ signed_sum (drop n ys) ≡ signed_sum ys = g.y_left in
     let left_p : m.products +ℤ products (drop n xs) (drop n ys) ≡ products xs ys = g.products_left in
-    let none_x = ap total end_x in
-    let none_y = ap total end_y in
+    let none_x = ap signed_sum end_x in
+    let none_y = ap signed_sum end_y in
     let none_p = ap (λ (l : List ℤ). products l (drop n ys)) end_x in
     record {
       x_is = omega (arith, ints, left_x, none_x);
@@ -102,12 +102,12 @@ cost_at (x ∷ a) (suc i) d all inside = cost_at a i d (and_parts (nat_le x cost
 -- from sums over places to the sum over pairs of places
 pub spread_is : (xs ys : List ℤ) (m : Moments) → length ys ≡ length xs → AreSums xs ys m → pos (length xs) *ℤ m.products -ℤ m.x *ℤ m.y ≡ over_pairs xs ys
 spread_is xs ys m same sums =
-    let x : m.x ≡ total xs = sums.x_is in
-    let y : m.y ≡ total ys = sums.y_is in
+    let x : m.x ≡ signed_sum xs = sums.x_is in
+    let y : m.y ≡ signed_sum ys = sums.y_is in
     let p : m.products ≡ products xs ys = sums.products_are in
     ap (λ (z : ℤ). pos (length xs) *ℤ z -ℤ m.x *ℤ m.y) p
     ∙ ap (λ (z : ℤ). pos (length xs) *ℤ products xs ys -ℤ z *ℤ m.y) x
-    ∙ ap (λ (z : ℤ). pos (length xs) *ℤ products xs ys -ℤ total xs *ℤ z) y
+    ∙ ap (λ (z : ℤ). pos (length xs) *ℤ products xs ys -ℤ signed_sum xs *ℤ z) y
     ∙ sym (pairs_are xs ys same)
 
 pub length-differences : (a b : List ℕ) → length b ≡ length a → length (differences a b) ≡ length a

@@ -4,7 +4,7 @@ use Rattle.std.proofs.lemmas.Int.{ints}
 use Rattle.std.proofs.Math.IntN.{*ℤ_comm, suc_ℤ-*ℤ}
 use borrow.Author.Differences.{up, down, sum_is_lem}
 use Rattle.crn_pair.specs.Inner.Places.{products}
-use Rattle.crn_pair.specs.Sums.{total, against, over_pairs}
+use Rattle.crn_pair.specs.Sums.{signed_sum, against, over_pairs}
 
 sum_left : (a b c : ℤ) → (a +ℤ b) *ℤ c ≡ a *ℤ c +ℤ b *ℤ c
 sum_left a b c =
@@ -29,22 +29,22 @@ one_more : (n : ℕ) (z : ℤ) → pos (suc n) *ℤ z ≡ pos n *ℤ z +ℤ z
 one_more n z = suc_ℤ-*ℤ (pos n) z
 
 pub against_is : (x y : ℤ) (xs ys : List ℤ) → length ys ≡ length xs
-    → against x y xs ys ≡ pos (length xs) *ℤ (x *ℤ y) -ℤ x *ℤ total ys -ℤ y *ℤ total xs +ℤ products xs ys
+    → against x y xs ys ≡ pos (length xs) *ℤ (x *ℤ y) -ℤ x *ℤ signed_sum ys -ℤ y *ℤ signed_sum xs +ℤ products xs ys
 against_is x y [] [] e = omega (arith, ints)
 against_is x y [] (v ∷ ys) e = absurd (omega arith)
 against_is x y (u ∷ xs) [] e = absurd (omega arith)
 against_is x y (u ∷ xs) (v ∷ ys) e =
     let h = against_is x y xs ys (omega (arith, e)) in
     let n = one_more (length xs) (x *ℤ y) in
-    let a = sum_right x v (total ys) in
-    let b = sum_right y u (total xs) in
+    let a = sum_right x v (signed_sum ys) in
+    let b = sum_right y u (signed_sum xs) in
     let c = difference_left x u (y -ℤ v) in
     let d = difference_right x y v in
     let f = difference_right u y v in
     let g = *ℤ_comm u y in
     omega (arith, ints, h, n, a, b, c, d, f, g)
 
-pub pairs_are : (xs ys : List ℤ) → length ys ≡ length xs → over_pairs xs ys ≡ pos (length xs) *ℤ products xs ys -ℤ total xs *ℤ total ys
+pub pairs_are : (xs ys : List ℤ) → length ys ≡ length xs → over_pairs xs ys ≡ pos (length xs) *ℤ products xs ys -ℤ signed_sum xs *ℤ signed_sum ys
 pairs_are [] [] e = omega (arith, ints)
 pairs_are [] (y ∷ ys) e = absurd (omega arith)
 pairs_are (x ∷ xs) [] e = absurd (omega arith)
@@ -54,8 +54,8 @@ pairs_are (x ∷ xs) (y ∷ ys) e =
     let k = pairs_are xs ys same in
     let n = one_more (length xs) ((x *ℤ y) +ℤ products xs ys) in
     let m = sum_right (pos (length xs)) (x *ℤ y) (products xs ys) in
-    let a = sum_left x (total xs) (y +ℤ total ys) in
-    let b = sum_right x y (total ys) in
-    let c = sum_right (total xs) y (total ys) in
-    let d = *ℤ_comm (total xs) y in
+    let a = sum_left x (signed_sum xs) (y +ℤ signed_sum ys) in
+    let b = sum_right x y (signed_sum ys) in
+    let c = sum_right (signed_sum xs) y (signed_sum ys) in
+    let d = *ℤ_comm (signed_sum xs) y in
     omega (arith, ints, h, k, n, m, a, b, c, d)

@@ -1,7 +1,7 @@
 -- What a pair keeps of the costs that it was made of.
 use Rattle.std.specs.Prelude.{◌≡◌, ℕ, ℤ, ◌*◌, ◌-◌, List, length}
 use Rattle.crn_pair.specs.declared.pair.Pair.{Pair}
-use Rattle.crn_pair.specs.Sums.{signed, differences, total, over_pairs}
+use Rattle.crn_pair.specs.Sums.{signed, differences, signed_sum, over_pairs}
 
 -- how many replications a pair compares
 abbrev pub replications_of : Pair → ℕ
@@ -22,7 +22,7 @@ products_of p = p.products
 -- the pair of the costs a and b
 pub record IsPairOf (a b : List ℕ) (p : Pair) : Type 0 where
   pub replications_are : replications_of p ≡ length a
-  pub difference_is : difference_of p ≡ total (differences a b)
+  pub difference_is : difference_of p ≡ signed_sum (differences a b)
   pub squares_are : squares_of p ≡ over_pairs (differences a b) (differences a b)
   pub products_are : products_of p ≡ over_pairs (signed a) (signed b)
 

@@ -5,8 +5,8 @@ use Rattle.crn_pair.specs.declared.fault.PairFault.TheVariants.{Lengths, Empty, 
 use Rattle.crn_pair.specs.Limits.{are_costs}
 
 -- the fault of the least number that two lists of costs have
-abbrev pub least_fault : List ℕ → List ℕ → Option PairFault
-least_fault a b =
+abbrev pub least_costs_fault : List ℕ → List ℕ → Option PairFault
+least_costs_fault a b =
     if not (nat_eq (length a) (length b)) then Some Lengths
     else if nat_eq (length a) 0 then Some Empty
     else if not (nat_le (length a) 256) then Some TooMany
@@ -14,8 +14,8 @@ least_fault a b =
     else None
 
 -- the number by which a fault is told
-abbrev pub number_of : PairFault → ℕ
-number_of Lengths = 1
-number_of Empty = 2
-number_of TooMany = 3
-number_of Entry = 4
+abbrev pub costs_fault_number : PairFault → ℕ
+costs_fault_number Lengths = 1
+costs_fault_number Empty = 2
+costs_fault_number TooMany = 3
+costs_fault_number Entry = 4

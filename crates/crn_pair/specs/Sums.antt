@@ -13,9 +13,9 @@ differences (x ∷ a) [] = []
 differences (x ∷ a) (y ∷ b) = (pos x -ℤ pos y) ∷ differences a b
 
 -- the sum of a list
-abbrev pub total : List ℤ → ℤ
-total [] = pos 0
-total (x ∷ xs) = x +ℤ total xs
+abbrev pub signed_sum : List ℤ → ℤ
+signed_sum [] = pos 0
+signed_sum (x ∷ xs) = x +ℤ signed_sum xs
 
 -- one replication, with the values x and y, against each of those with the values xs and ys: the sum
 -- of (x - x_j) (y - y_j)

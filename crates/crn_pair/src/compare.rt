@@ -28,7 +28,7 @@ fn are_costs(costs: &[u64]) -> bool
 
 // The fault of the least number.
 pub(crate) fn least_fault(a: &[u64], b: &[u64]) -> Option<PairFault>
-    ensures { result ≡ spec.least_fault a.now b.now }
+    ensures { result ≡ spec.least_costs_fault a.now b.now }
 {
     if a.len() != b.len() {
         Some(PairFault::Lengths)

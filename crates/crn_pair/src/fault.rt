@@ -1,5 +1,5 @@
 ghost use Rattle.std.specs.Prelude.{◌≡◌};
-ghost use Rattle.crn_pair.specs.Refused.{number_of};
+ghost use Rattle.crn_pair.specs.Refused.{costs_fault_number};
 
 use std::error::Error;
 use std::fmt;
@@ -21,7 +21,7 @@ pub enum PairFault {
 impl PairFault {
     /// The number of the fault: 1 for the lengths, 2 for empty lists, 3 for too many entries, 4 for an entry.
     pub fn number(&self) -> u8
-        ensures { result ≡ number_of self.now }
+        ensures { result ≡ costs_fault_number self.now }
     {
         *self as u8
     }

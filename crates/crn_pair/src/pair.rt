@@ -39,8 +39,8 @@ impl Pair {
     /// - `Entry`: an entry is over 230,000,000,000,000.
     pub fn of(a: &[u64], b: &[u64]) -> Result<Pair, PairFault>
         ensures made { IfOk result (λ p. spec.IsPairOf a.now b.now p) }
-        ensures fits { IfOk result (λ _. refused.least_fault a.now b.now ≡ None) }
-        ensures refused { IfErr result (λ fault. refused.least_fault a.now b.now ≡ Some fault) }
+        ensures fits { IfOk result (λ _. refused.least_costs_fault a.now b.now ≡ None) }
+        ensures refused { IfErr result (λ fault. refused.least_costs_fault a.now b.now ≡ Some fault) }
     {
         match least_fault(a, b) {
             Some(fault) => Err(fault),
@@ -49,7 +49,7 @@ impl Pair {
     }
 
     fn made(a: &[u64], b: &[u64]) -> Pair
-        requires { refused.least_fault a.now b.now ≡ None }
+        requires { refused.least_costs_fault a.now b.now ≡ None }
         ensures { spec.IsPairOf a.now b.now result }
     {
         let sums = sums_of(a, b);

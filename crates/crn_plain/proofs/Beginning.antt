@@ -4,11 +4,11 @@ use Rattle.crn_stock.specs.declared.rules.Policy.{Policy}
 use Rattle.crn_stock.specs.Parts.{Parts}
 use Rattle.crn_stock.specs.Models.{ModelParts}
 use Rattle.crn_stock.specs.Draws.{At, IsOf, IsBetween, next_block}
-use Rattle.crn_plain.specs.Runs.{StandsAt}
+use Rattle.crn_plain.specs.Runs.{StandsBefore}
 
 -- before block 0, whatever the policy
 abbrev pub Begun : ModelParts → List ℕ → ℕ → Parts → Type 0
-Begun m key i v = StandsAt m 0 v × ((p : Policy) → At m p key 0 v)
+Begun m key i v = StandsBefore m 0 v × ((p : Policy) → At m p key 0 v)
 
 abbrev Started : List ℕ → Parts → ModelParts → Type 0
 Started key v m = IsOf m v × ((p : Policy) → At m p key 0 v)

@@ -5,11 +5,11 @@ use Rattle.crn_stock.specs.declared.rules.Policy.{Policy}
 use Rattle.crn_stock.specs.Parts.{Parts}
 use Rattle.crn_stock.specs.Scenarios.{ScenarioParts}
 use Rattle.crn_stock.specs.Draws.{At, OnwardAt, next_block}
-use Rattle.crn_plain.specs.Runs.{StandsAt}
+use Rattle.crn_plain.specs.Runs.{StandsBefore}
 
 -- v is the state that policy i's state of `start` at block `from` becomes at block `upto`
 abbrev pub Ran : ScenarioParts → List Parts → ℕ → ℕ → ℕ → Parts → Type 0
-Ran s start from upto i v = StandsAt s.model upto v
+Ran s start from upto i v = StandsBefore s.model upto v
     × ((p : Policy) (w : Parts) → slice_get s.policies i ≡ Some p → slice_get start i ≡ Some w
     → (At s.model p s.key from w → At s.model p s.key upto v) × OnwardAt s.model p s.key w upto v)
 
@@ -17,7 +17,7 @@ pub same_of : {A : Type 0} (o : Option A) (a b : A) → o ≡ Some a → o ≡ S
 same_of o a b e f = cc
 
 pub ran : (s : ScenarioParts) (start : List Parts) (from upto i : ℕ) (p : Policy) (w v : Parts) → slice_get s.policies i ≡ Some p → slice_get start i ≡ Some w → next_block w ≡ from
-    → StandsAt s.model upto v → (At s.model p s.key (next_block w) w → At s.model p s.key upto v) → OnwardAt s.model p s.key w upto v → Ran s start from upto i v
+    → StandsBefore s.model upto v → (At s.model p s.key (next_block w) w → At s.model p s.key upto v) → OnwardAt s.model p s.key w upto v → Ran s start from upto i v
 ran s start from upto i p w v is_policy is_state next stands at onward = (
   stands,
   λ q u eq eu.

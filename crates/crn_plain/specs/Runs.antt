@@ -9,7 +9,7 @@ use Rattle.crn_stock.specs.Draws.{Draws, At, OnwardAt, IsOf, IsBetween, next_blo
 use Rattle.crn_stock.specs.declared.rules.Policy.{Policy}
 
 -- a state of the model that stands before block n
-pub record StandsAt (m : ModelParts) (n : ℕ) (v : Parts) : Type 0 where
+pub record StandsBefore (m : ModelParts) (n : ℕ) (v : Parts) : Type 0 where
   pub of_model : IsOf m v
   pub between : IsBetween v
   pub next : next_block v ≡ n
@@ -17,7 +17,7 @@ pub record StandsAt (m : ModelParts) (n : ℕ) (v : Parts) : Type 0 where
 -- one state for each policy and no more, each before block n
 pub record IsCheckpointOf (s : ScenarioParts) (n : ℕ) (states : List Parts) : Type 0 where
   pub count : length states ≡ length s.policies
-  pub stand : (i : ℕ) (v : Parts) → slice_get states i ≡ Some v → StandsAt s.model n v
+  pub stand : (i : ℕ) (v : Parts) → slice_get states i ≡ Some v → StandsBefore s.model n v
 
 -- each policy's state is the one after the blocks below n
 abbrev pub EachAt : ScenarioParts → ℕ → List Parts → Type 0

@@ -1,7 +1,7 @@
 ghost use Rattle.std.specs.Prelude.{◌≡◌, ◌≤◌, IfOk};
 ghost use Rattle.crn_stock.specs.Models.{IsPolicy, total};
 ghost use Rattle.crn_stock.specs.Draws.{At, OnwardAt, next_block};
-ghost use Rattle.crn_plain.specs.Runs.{IsCheckpointOf, StandsAt, EachAt, EachOnward};
+ghost use Rattle.crn_plain.specs.Runs.{IsCheckpointOf, StandsBefore, EachAt, EachOnward};
 
 use crate::checkpoint::Checkpoint;
 use crn_cipher::block;
@@ -46,10 +46,10 @@ fn run_policy_plain(
     upto: u64,
 ) -> Result<State, AllocError>
     requires policy { IsPolicy policy.now }
-    requires stands { StandsAt scenario.now.model (next_block from.now) from.now }
+    requires stands { StandsBefore scenario.now.model (next_block from.now) from.now }
     requires from { next_block from.now ≤ upto }
     requires below { upto ≤ total scenario.now.model }
-    ensures stands { IfOk result (λ s. StandsAt scenario.now.model upto s) }
+    ensures stands { IfOk result (λ s. StandsBefore scenario.now.model upto s) }
     ensures at { IfOk result (λ s. At scenario.now.model policy.now scenario.now.key (next_block from.now) from.now
         → At scenario.now.model policy.now scenario.now.key upto s) }
     ensures onward { IfOk result (λ s. OnwardAt scenario.now.model policy.now scenario.now.key from.now upto s) }

@@ -6,7 +6,7 @@ use Rattle.std.proofs.lemmas.List.{length-set}
 use Rattle.crn_proto.specs.declared.spec.RingSpec.{RingSpec}
 use Rattle.crn_cipher.specs.Blocks.{block_word}
 use Rattle.crn_proto.specs.Ring.{left_mark, place, bit, IsRing, Producer, Reader, LoadGate, StoreWord, Publish, Finish, ProducerMay, producer_word, producer_after, storing, PassesGates}
-use Rattle.crn_proto.specs.Lawful.{WordsLaw, ProducerLaw, ReaderLaw, ReaderHere, StandsAt}
+use Rattle.crn_proto.specs.Lawful.{WordsLaw, ProducerLaw, ReaderLaw, ReaderHere, WordStands}
 use Rattle.crn_proto.proofs.Places.{place_above, place_not_first, same_place, places_apart}
 
 -- new is words with v at i
@@ -71,7 +71,7 @@ module _ (spec : RingSpec) (ring : IsRing spec) (words : List ℕ) (p : Producer
       first_same : get_or new 0 0 ≡ get_or words 0 0
       first_same = ch.others 0 (λ e. place_not_first spec (storing p) (p.stored % BLOCK_WORDS) (sym e))
 
-      store_stands : (j r : ℕ) → j < p.stored + 1 → r < spec.readers → get_or new (1 + r) 0 ≢ left_mark → StandsAt spec new p.published j
+      store_stands : (j r : ℕ) → j < p.stored + 1 → r < spec.readers → get_or new (1 + r) 0 ≢ left_mark → WordStands spec new p.published j
       store_stands j r l h ne =
           let was : get_or words (1 + r) 0 ≢ left_mark = λ e. ne (cursor_same r h ∙ e) in
           elim (cases_lt j p.stored) [
@@ -156,7 +156,7 @@ module _ (spec : RingSpec) (ring : IsRing spec) (words : List ℕ) (p : Producer
             | inr newer ↦
                 let block : p.published + (BLOCK_WORDS * (n - p.published) + i) / BLOCK_WORDS ≡ n = omega arith in
                 let word : (BLOCK_WORDS * (n - p.published) + i) % BLOCK_WORDS ≡ i = omega arith in
-                let stands : StandsAt spec words p.published (BLOCK_WORDS * (n - p.published) + i) = own.stored_stand (BLOCK_WORDS * (n - p.published) + i) r (omega arith) h was in
+                let stands : WordStands spec words p.published (BLOCK_WORDS * (n - p.published) + i) = own.stored_stand (BLOCK_WORDS * (n - p.published) + i) r (omega arith) h was in
                 (rw (block, word) at stands)
           ]
 

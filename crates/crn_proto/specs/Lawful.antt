@@ -17,8 +17,8 @@ pub record WordsLaw (spec : RingSpec) (words : List ℕ) : Type 0 where
       ⊎ ((slice_index words (1 + r) ≤ slice_index words 0 / 2) × (slice_index words 0 / 2 ≤ slice_index words (1 + r) + spec.size))
 
 -- word j of those from block n on stands in its place
-abbrev pub StandsAt : RingSpec → List ℕ → ℕ → ℕ → Type 0
-StandsAt spec words n j = slice_index words (place spec (n + j / BLOCK_WORDS) (j % BLOCK_WORDS)) ≡ block_word spec.id.key (n + j / BLOCK_WORDS) (j % BLOCK_WORDS)
+abbrev pub WordStands : RingSpec → List ℕ → ℕ → ℕ → Type 0
+WordStands spec words n j = slice_index words (place spec (n + j / BLOCK_WORDS) (j % BLOCK_WORDS)) ≡ block_word spec.id.key (n + j / BLOCK_WORDS) (j % BLOCK_WORDS)
 
 -- the producer's part
 pub record ProducerLaw (spec : RingSpec) (words : List ℕ) (p : Producer) : Type 0 where
@@ -31,7 +31,7 @@ pub record ProducerLaw (spec : RingSpec) (words : List ℕ) (p : Producer) : Typ
   pub stored_in_total : (j : ℕ) → j < p.stored → p.published + j / BLOCK_WORDS < spec.id.total
   pub stored_passed : (j : ℕ) → j < p.stored → PassesGates spec p (p.published + j / BLOCK_WORDS)
   -- the stored words stand, as long as some reader has not left
-  pub stored_stand : (j r : ℕ) → j < p.stored → r < spec.readers → slice_index words (1 + r) ≢ left_mark → StandsAt spec words p.published j
+  pub stored_stand : (j r : ℕ) → j < p.stored → r < spec.readers → slice_index words (1 + r) ≢ left_mark → WordStands spec words p.published j
   pub none_stored : p.ended ≡ true → p.stored ≡ 0
 
 -- a reader that has not left

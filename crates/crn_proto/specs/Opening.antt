@@ -25,8 +25,8 @@ pub record CanOpen (spec : RingSpec) : Type 0 where
   pub stream : IsStream spec.id
 
 -- the number by which a fault is told
-abbrev pub number_of : RingFault → ℕ
-number_of Size = 1
-number_of Readers = 2
-number_of Stream = 3
-number_of Memory = 90
+abbrev pub open_fault_number : RingFault → ℕ
+open_fault_number Size = 1
+open_fault_number Readers = 2
+open_fault_number Stream = 3
+open_fault_number Memory = 90

@@ -27,28 +27,28 @@ abbrev pub reader_at : Ring → ℕ → Reader
 reader_at s r = slice_index_or s.readers r (open_reader s.spec)
 
 -- the word that a move loads or stores
-abbrev pub word_of : Ring → Move → ℕ
-word_of s (ByProducer m) = producer_word s.spec s.producer m
-word_of s (ByReader r m) = reader_word s.spec r (reader_at s r) m
+abbrev pub word_of_move : Ring → Move → ℕ
+word_of_move s (ByProducer m) = producer_word s.spec s.producer m
+word_of_move s (ByReader r m) = reader_word s.spec r (reader_at s r) m
 
 -- The move is a step of the actor: one block at a time.
-abbrev pub Makes : Actor → Move → Type 0
-Makes who (ByProducer (LoadGate r)) = who ≡ ProducerActs
-Makes who (ByProducer StoreWord) = who ≡ ProducerActs
-Makes who (ByProducer (Publish c)) = (who ≡ ProducerActs) × (c ≡ 1)
-Makes who (ByProducer Finish) = (who ≡ ProducerActs) ⊎ (who ≡ FinishActs)
-Makes who (ByReader r LoadCursor) = who ≡ ReaderActs r
-Makes who (ByReader r LoadWord) = who ≡ ReaderActs r
-Makes who (ByReader r (Take c)) = (who ≡ ReaderActs r) × (c ≡ 1)
-Makes who (ByReader r Leave) = who ≡ LeaveActs r
+abbrev pub IsMoveOf : Actor → Move → Type 0
+IsMoveOf who (ByProducer (LoadGate r)) = who ≡ ProducerActs
+IsMoveOf who (ByProducer StoreWord) = who ≡ ProducerActs
+IsMoveOf who (ByProducer (Publish c)) = (who ≡ ProducerActs) × (c ≡ 1)
+IsMoveOf who (ByProducer Finish) = (who ≡ ProducerActs) ⊎ (who ≡ FinishActs)
+IsMoveOf who (ByReader r LoadCursor) = who ≡ ReaderActs r
+IsMoveOf who (ByReader r LoadWord) = who ≡ ReaderActs r
+IsMoveOf who (ByReader r (Take c)) = (who ≡ ReaderActs r) × (c ≡ 1)
+IsMoveOf who (ByReader r Leave) = who ≡ LeaveActs r
 
 -- The actor's answer is that of the moves made, of which there is one, or none where the answer is None:
 -- the move's kind, its word, and what was loaded from that word or stored there.
 abbrev pub IsAnswer : Actor → Ring → List Move → Option Answer → Ring → Type 0
 IsAnswer who old made None new = (made ≡ []) × (new ≡ old)
 IsAnswer who old made (Some answer) new =
-    (move : Move) × (made ≡ move ∷ []) × Makes who move × Step old move new
-    × (answer ≡ record { kind = kind_of move; word = word_of old move; value = slice_index new.words (word_of old move) })
+    (move : Move) × (made ≡ move ∷ []) × IsMoveOf who move × Step old move new
+    × (answer ≡ record { kind = kind_of move; word = word_of_move old move; value = slice_index new.words (word_of_move old move) })
 
 -- The actors' answers are those of the moves, which lead from old to new.
 abbrev pub Traces : List Actor → Ring → List Move → List (Option Answer) → Ring → Type 0

@@ -1,5 +1,5 @@
 ghost use Rattle.std.specs.Prelude.{◌≡◌};
-ghost use Rattle.crn_proto.specs.Opening.{number_of};
+ghost use Rattle.crn_proto.specs.Opening.{open_fault_number};
 
 use std::alloc::AllocError;
 
@@ -19,7 +19,7 @@ pub enum RingFault {
 impl RingFault {
     /// The fault's number: 1 for the size, 2 for the readers, 3 for the stream, 90 for want of memory.
     pub fn number(self) -> u8
-        ensures { result ≡ number_of self }
+        ensures { result ≡ open_fault_number self }
     {
         match self {
             RingFault::Size => 1,

@@ -34,8 +34,8 @@ producer_part p = p.seat.me.0.producer
 abbrev pub reader_part : Reader → ReaderPart
 reader_part r = r.seat.me.0.reader
 
-abbrev pub number_of : Reader → ℕ
-number_of r = r.number
+abbrev pub reader_number : Reader → ℕ
+reader_number r = r.number
 
 -- the ring that the producer, or a reader, was opened with
 abbrev pub producer_spec : Producer → RingSpec
@@ -65,7 +65,7 @@ HasLeft ring r x = IsAt ring x.seat × (x.seat.me.0.number ≡ r)
 
 -- Reader x is number r of this ring, as it is at open.
 abbrev pub IsFresh : Ring → ℕ → Reader → Type 0
-IsFresh ring r x = IsReaderOf ring x × (number_of x ≡ r) × (reader_part x ≡ open_reader (spec_of ring))
+IsFresh ring r x = IsReaderOf ring x × (reader_number x ≡ r) × (reader_part x ≡ open_reader (spec_of ring))
 
 abbrev pub AllFresh : Ring → List Reader → Type 0
 AllFresh ring xs = (r : ℕ) (x : Reader) → slice_get xs r ≡ Some x → IsFresh ring r x
@@ -79,11 +79,11 @@ pub record IsOpened (spec : RingSpec) (ring : Ring) (p : Producer) (readers : Li
   pub readers_open : AllFresh ring readers
 
 -- The least fault that holds.
-abbrev pub Refuses : RingSpec → RingFault → Type 0
-Refuses spec Size = ¬ (IsRingSize spec.size)
-Refuses spec Readers = IsRingSize spec.size × ¬ (IsReaderCount spec.readers)
-Refuses spec Stream = IsRingSize spec.size × IsReaderCount spec.readers × ¬ (IsStream spec.id)
-Refuses spec Memory = IsRingSize spec.size × IsReaderCount spec.readers × IsStream spec.id
+abbrev pub RefusesRing : RingSpec → RingFault → Type 0
+RefusesRing spec Size = ¬ (IsRingSize spec.size)
+RefusesRing spec Readers = IsRingSize spec.size × ¬ (IsReaderCount spec.readers)
+RefusesRing spec Stream = IsRingSize spec.size × IsReaderCount spec.readers × ¬ (IsStream spec.id)
+RefusesRing spec Memory = IsRingSize spec.size × IsReaderCount spec.readers × IsStream spec.id
 
 -- The first `count` of these are the ring's blocks from n on.
 abbrev pub FollowOn : RingSpec → ℕ → ℕ → List Block → Type 0

@@ -3,7 +3,7 @@ ghost use Rattle.std.specs.Prelude.{◌≡◌, ◌+◌, ◌≤◌, ◌<◌, ◌*
 ghost use Rattle.crn_proto.specs.Ring.{open_words, word_count};
 ghost use Rattle.crn_proto.specs.Opening.{CanOpen};
 ghost use Rattle.crn_ring.specs.Holds.{opened};
-ghost use Rattle.crn_ring.specs.Calls.{IsOpened, AllFresh, Refuses};
+ghost use Rattle.crn_ring.specs.Calls.{IsOpened, AllFresh, RefusesRing};
 
 use crate::plays::CutsReader;
 use crate::producer_end::Producer;
@@ -56,7 +56,7 @@ impl Ring {
     /// below `first`; [`RingFault::Memory`] where a request for memory was refused. On a refusal nothing is kept. It is
     /// the only call of this crate that takes memory.
     pub fn open(alloc: Global, spec: RingSpec) -> Result<(Ring, Producer, Vec<Reader>), RingFault>
-        ensures refused { IfErr result (λ f. Refuses spec f) }
+        ensures refused { IfErr result (λ f. RefusesRing spec f) }
         ensures opened { IfOk result (λ r. IsOpened spec r.0 r.1 r.2.items) }
         ensures valid { IfOk result (λ r. CanOpen spec) }
     {

@@ -31,12 +31,12 @@ pub struct LeftReader {
 }
 
 impl Reader {
-    ghost use Rattle.crn_ring.specs.Calls.{number_of, reader_part, reader_spec};
+    ghost use Rattle.crn_ring.specs.Calls.{reader_number, reader_part, reader_spec};
 
     /// Its number, from 0 on and below the ring's number of readers.
     #[inline(always)]
     pub fn number(&self) -> u32
-        ensures part { result ≡ number_of self.now }
+        ensures part { result ≡ reader_number self.now }
         ensures within { result < (reader_spec self.now).readers }
     {
         self.number

@@ -5,7 +5,7 @@ ghost use Rattle.crn_proto.specs.Ring.{place, reading};
 ghost use Rattle.crn_proto.specs.Chains.{ReaderReaches};
 ghost use Rattle.crn_ring.specs.Holds.{HasReader};
 ghost use Rattle.crn_ring.specs.Inner.Plays.{read_many};
-ghost use Rattle.crn_ring.specs.Calls.{AfterBatch, AfterTake, FollowOn, IsAt, HasLeft, IsReaderOf, left_part, number_of, reader_part, spec_of};
+ghost use Rattle.crn_ring.specs.Calls.{AfterBatch, AfterTake, FollowOn, IsAt, HasLeft, IsReaderOf, left_part, reader_number, reader_part, spec_of};
 
 use crate::answers::{Batch, Take};
 use crate::reader_end::{LeftReader, Reader};
@@ -63,7 +63,7 @@ impl Reader {
     pub fn try_take(&mut self, ring: &Ring) -> Take
         requires ring { IsReaderOf ring.now self.old }
         requires running { (reader_part self.old).seen_end ≡ false }
-        ensures ring { IsReaderOf ring.now self.new × (number_of self.new ≡ number_of self.old) }
+        ensures ring { IsReaderOf ring.now self.new × (reader_number self.new ≡ reader_number self.old) }
         ensures moves { ReaderReaches (reader_part self.old) (BLOCK_WORDS + 2) (reader_part self.new) }
         ensures steps { (reader_part self.new).steps ≤ (reader_part self.old).steps + BLOCK_WORDS + 2 }
         ensures answer { AfterTake (spec_of ring.now) (reader_part self.old) (reader_part self.new) result }
@@ -97,7 +97,7 @@ impl Reader {
         requires ring { IsReaderOf ring.now self.old }
         requires running { (reader_part self.old).seen_end ≡ false }
         requires places { 0 < length out.old }
-        ensures ring { IsReaderOf ring.now self.new × (number_of self.new ≡ number_of self.old) }
+        ensures ring { IsReaderOf ring.now self.new × (reader_number self.new ≡ reader_number self.old) }
         ensures moves { ReaderReaches (reader_part self.old) (BLOCK_WORDS * ((reader_part self.new).taken - (reader_part self.old).taken) + 2) (reader_part self.new) }
         ensures steps { (reader_part self.new).steps ≤ (reader_part self.old).steps + BLOCK_WORDS * ((reader_part self.new).taken - (reader_part self.old).taken) + 2 }
         ensures answer { AfterBatch (spec_of ring.now) (reader_part self.old) (reader_part self.new) out.old out.new result }
@@ -130,7 +130,7 @@ impl Reader {
     /// As [`leave`](Reader::leave), and hands on what shows contracts that the reader has left.
     pub fn into_left(self, ring: &Ring) -> LeftReader
         requires { IsReaderOf ring.now self }
-        ensures left { HasLeft ring.now (number_of self) result }
+        ensures left { HasLeft ring.now (reader_number self) result }
         ensures moves { ReaderReaches (reader_part self) 1 (left_part result) }
     {
         let Reader {

@@ -19,13 +19,13 @@ pub struct Sheet {
 impl std::marker::Model for Sheet {
     ghost use Rattle.std.specs.Prelude.{ℕ, List, ◌++◌};
     ghost use Rattle.csv.specs.Writing.{writer_under, writer_pending};
-    ghost use Rattle.crn_rows.specs.Inner.Plain.{IsReady};
+    ghost use Rattle.crn_rows.specs.Inner.Plain.{IsBetweenRows};
 
     ghost Value = { List ℕ };
 
     ghost view = { λ s. (writer_under s.writer).items ++ writer_pending s.writer };
 
-    ghost invariant = { λ s. IsReady s.writer };
+    ghost invariant = { λ s. IsBetweenRows s.writer };
 }
 
 impl Sheet {

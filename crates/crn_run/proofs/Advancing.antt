@@ -8,13 +8,13 @@ use Rattle.crn_stock.specs.Parts.{Parts}
 use Rattle.crn_stock.specs.Models.{ModelParts}
 use Rattle.crn_stock.specs.Scenarios.{ScenarioParts}
 use Rattle.crn_stock.specs.Draws.{At, OnwardAt, next_block}
-use Rattle.crn_plain.specs.Runs.{StandsAt}
+use Rattle.crn_plain.specs.Runs.{StandsBefore}
 use Rattle.crn_run.specs.Ends.{IsRun}
 use Rattle.crn_run.specs.Inner.Ends.{Advances, FollowFrom}
 use Rattle.crn_plain.proofs.Running.{same_of}
 
 -- no block
-pub advances_none : (m : ModelParts) (p : Policy) (key : List ℕ) (v : Parts) → StandsAt m (next_block v) v → Advances m p key v v
+pub advances_none : (m : ModelParts) (p : Policy) (key : List ℕ) (v : Parts) → StandsBefore m (next_block v) v → Advances m p key v v
 advances_none m p key v stands = record { stands = stands; at = λ h. h; onward = λ q h. h }
 
 -- one part of the blocks and then another
@@ -25,7 +25,7 @@ advances_then m p key u v w a b = record { stands = b.stands; at = λ h. b.at (a
 pub advanced : (s : ScenarioParts) (k : ℕ) (p : Policy) (v w : Parts) (n : ℕ) → slice_get s.policies k ≡ Some p → ((m : ModelParts) (q : Policy) (key : List ℕ) → OnwardAt m q key v (next_block v) v)
     → Advances s.model p s.key v w → next_block w ≡ n → IsRun s k v n w
 advanced s k p v w n is_policy itself advances there = record {
-  stands = subst (λ (i : ℕ). StandsAt s.model i w) there advances.stands;
+  stands = subst (λ (i : ℕ). StandsBefore s.model i w) there advances.stands;
   at = λ q eq h.
       let same : p ≡ q = same_of (slice_get s.policies k) p q is_policy eq in
       let before : At s.model p s.key (next_block v) v = subst (λ (a : Policy). At s.model a s.key (next_block v) v) (sym same) h in

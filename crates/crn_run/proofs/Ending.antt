@@ -10,11 +10,11 @@ use Rattle.crn_stock.specs.Draws.{At, OnwardAt}
 use Rattle.crn_proto.specs.declared.spec.RingSpec.{RingSpec}
 use Rattle.crn_ring.specs.declared.ring.Ring.{Ring}
 use Rattle.crn_ring.specs.declared.reader_end.Reader.{Reader}
-use Rattle.crn_ring.specs.Calls.{IsFresh, number_of, reader_part, spec_of}
+use Rattle.crn_ring.specs.Calls.{IsFresh, reader_number, reader_part, spec_of}
 use Rattle.crn_run.specs.declared.fault.RunFault.{RunFault}
 use Rattle.crn_run.specs.declared.run.Finished.{Finished}
 use Rattle.crn_run.specs.declared.jobs.Job.{Job}
-use Rattle.crn_plain.specs.Runs.{IsCheckpointOf, StandsAt, EachAt, EachOnward}
+use Rattle.crn_plain.specs.Runs.{IsCheckpointOf, StandsBefore, EachAt, EachOnward}
 use Rattle.crn_run.specs.declared.worker.PolicyEnd.{PolicyEnd}
 use Rattle.crn_run.specs.declared.worker.PolicyEnd.TheVariants.{Reached, Short, Held}
 use Rattle.crn_run.specs.Ends.{EndsAs, HasReadAll, IsRun, is_held}
@@ -32,19 +32,19 @@ pub record JobFrom (s : ScenarioParts) (ring : Ring) (start : List Parts) (i : �
 
 -- a fresh reader's job
 pub job_from : (s : ScenarioParts) (ring : Ring) (start : List Parts) (from i r : ℕ) (j : Job) → IsCheckpointOf s from start → (spec_of ring).id.first ≡ from → IsFresh ring r j.reader
-    → j.policy ≡ number_of j.reader → i + (r + 1) ≡ length s.policies → slice_get start j.policy ≡ Some j.state → JobFrom s ring start i j
+    → j.policy ≡ reader_number j.reader → i + (r + 1) ≡ length s.policies → slice_get start j.policy ≡ Some j.state → JobFrom s ring start i j
 job_from s ring start from i r j checkpoint first fresh number place is_state =
-    let number_is : number_of j.reader ≡ r = fresh.1 in
+    let number_is : reader_number j.reader ≡ r = fresh.1 in
     let taken : (reader_part j.reader).taken ≡ from = ap (λ (q : ReaderPart). q.taken) fresh.2 ∙ first in
     let running : (reader_part j.reader).seen_end ≡ false = ap (λ (q : ReaderPart). q.seen_end) fresh.2 in
-    let stands : StandsAt s.model from j.state = checkpoint.stand j.policy j.state is_state in
+    let stands : StandsBefore s.model from j.state = checkpoint.stand j.policy j.state is_state in
     record {
       ready = record {
         policy = omega (arith, number, number_is, place);
         reader = fresh.0;
         number = sym number;
         running = running;
-        stands = subst (λ (n : ℕ). StandsAt s.model n j.state) (sym taken) stands;
+        stands = subst (λ (n : ℕ). StandsBefore s.model n j.state) (sym taken) stands;
       };
       policy = omega (arith, number, number_is, place);
       state = is_state;

@@ -7,7 +7,7 @@ use Rattle.crn_proto.specs.declared.spec.RingSpec.{RingSpec}
 use Rattle.crn_proto.specs.declared.fault.RingFault.{RingFault}
 use Rattle.crn_proto.specs.declared.fault.RingFault.TheVariants.{Size, Readers, Stream, Memory}
 use Rattle.crn_proto.specs.Opening.{IsRingSize, IsReaderCount, IsStream}
-use Rattle.crn_ring.specs.Calls.{Refuses}
+use Rattle.crn_ring.specs.Calls.{RefusesRing}
 
 power : (e : ℕ) → e ≤ 10 → IsRingSize (2 ^ e)
 unfolding lib.Count.ones
@@ -25,7 +25,7 @@ power (suc (suc (suc (suc (suc (suc (suc (suc (suc (suc zero)))))))))) high = (r
 power (suc (suc (suc (suc (suc (suc (suc (suc (suc (suc (suc e))))))))))) high = absurd (omega arith)
 
 -- the sizes of a scenario's ring are those that a ring may have
-pub ring_size : (n : ℕ) → stock.IsRingSize n → IsRingSize n
+pub ring_size : (n : ℕ) → stock.IsScenarioRingSize n → IsRingSize n
 ring_size n h = subst IsRingSize (sym h.is) (power h.exponent h.high)
 
 -- all blocks of a model
@@ -34,14 +34,14 @@ few_blocks m h =
     let each : blocks_per_replication m.periods ≤ 256 = omega (arith, h.periods_high) in
     omega (arith, mul-le-mul_left m.replications each, h.replications_high)
 
-pub only_memory : (spec : RingSpec) (f : RingFault) → IsRingSize spec.size → IsReaderCount spec.readers → IsStream spec.id → Refuses spec f → f ≡ Memory
+pub only_memory : (spec : RingSpec) (f : RingFault) → IsRingSize spec.size → IsReaderCount spec.readers → IsStream spec.id → RefusesRing spec f → f ≡ Memory
 only_memory spec Size size readers stream r = absurd (r size)
 only_memory spec Readers size readers stream r = absurd (r.1 readers)
 only_memory spec Stream size readers stream r = absurd (r.2 stream)
 only_memory spec Memory size readers stream r = refl
 
 -- so none of the other faults is answered for a ring of the scenario
-pub never_refused : (spec : RingSpec) (f : RingFault) (m : ModelParts) → stock.IsRingSize spec.size → 1 ≤ spec.readers → spec.readers ≤ 16 → IsModel m → spec.id.first ≤ spec.id.total → spec.id.total ≤ total m
-    → Refuses spec f → f ≡ Memory
+pub never_refused : (spec : RingSpec) (f : RingFault) (m : ModelParts) → stock.IsScenarioRingSize spec.size → 1 ≤ spec.readers → spec.readers ≤ 16 → IsModel m → spec.id.first ≤ spec.id.total → spec.id.total ≤ total m
+    → RefusesRing spec f → f ≡ Memory
 never_refused spec f m size some few ranges order below r =
     only_memory spec f (ring_size spec.size size) (some, few) (order, omega (arith, below, few_blocks m ranges)) r

@@ -6,21 +6,21 @@ use Rattle.crn_stock.specs.Draws.{At, OnwardAt, next_block}
 use Rattle.crn_stock.specs.declared.rules.Policy.{Policy}
 use Rattle.crn_ring.specs.declared.ring.Ring.{Ring}
 use Rattle.crn_ring.specs.declared.reader_end.Reader.{Reader}
-use Rattle.crn_ring.specs.Calls.{IsReaderOf, number_of, reader_part, spec_of}
-use Rattle.crn_plain.specs.Runs.{StandsAt}
+use Rattle.crn_ring.specs.Calls.{IsReaderOf, reader_number, reader_part, spec_of}
+use Rattle.crn_plain.specs.Runs.{StandsBefore}
 use Rattle.crn_run.specs.declared.worker.PolicyEnd.{PolicyEnd}
 use Rattle.crn_run.specs.declared.worker.PolicyEnd.TheVariants.{Reached, Short, Held}
 
 -- w stands before block n, and is what policy number k's state v becomes by the blocks from its next one to n - 1
 pub record IsRun (s : ScenarioParts) (k : ℕ) (v : Parts) (n : ℕ) (w : Parts) : Type 0 where
-  pub stands : StandsAt s.model n w
+  pub stands : StandsBefore s.model n w
   pub at : (p : Policy) → slice_get s.policies k ≡ Some p → At s.model p s.key (next_block v) v → At s.model p s.key n w
   pub onward : (p : Policy) → slice_get s.policies k ≡ Some p → OnwardAt s.model p s.key v n w
 
 -- x is reader number r of the ring; it has taken the blocks below n, and has seen the end there
 pub record HasReadAll (ring : Ring) (r n : ℕ) (x : Reader) : Type 0 where
   pub of_ring : IsReaderOf ring x
-  pub number : number_of x ≡ r
+  pub number : reader_number x ≡ r
   pub ended : (reader_part x).seen_end ≡ true
   pub taken : (reader_part x).taken ≡ n
 

@@ -1,7 +1,7 @@
 //! The runs of all policies that are still to start.
 ghost use Rattle.std.specs.Prelude.{◌≡◌, ◌<◌, ◌≤◌, false, length, IfOk, IfErr};
 ghost use Rattle.crn_stock.specs.Models.{total};
-ghost use Rattle.crn_ring.specs.Calls.{AllFresh, IsOpened, number_of, spec_of};
+ghost use Rattle.crn_ring.specs.Calls.{AllFresh, IsOpened, reader_number, spec_of};
 ghost use Rattle.crn_plain.specs.Runs.{IsCheckpointOf};
 ghost use Rattle.crn_run.specs.Ends.{EndsAs, is_held};
 ghost use Rattle.crn_run.specs.Jobs.{ring_spec};

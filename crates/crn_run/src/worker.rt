@@ -3,8 +3,8 @@ ghost use Rattle.std.specs.Prelude.{◌≡◌, ℕ, ◌+◌, ◌<◌, ◌≤◌,
 ghost use Rattle.crn_cipher.specs.declared.stream.Block.{Block};
 ghost use Rattle.crn_stock.specs.Models.{IsPolicy, total};
 ghost use Rattle.crn_stock.specs.Draws.{next_block};
-ghost use Rattle.crn_ring.specs.Calls.{HasLeft, IsReaderOf, number_of, reader_part, spec_of};
-ghost use Rattle.crn_plain.specs.Runs.{StandsAt};
+ghost use Rattle.crn_ring.specs.Calls.{HasLeft, IsReaderOf, reader_number, reader_part, spec_of};
+ghost use Rattle.crn_plain.specs.Runs.{StandsBefore};
 ghost use Rattle.crn_run.specs.declared.worker.PolicyEnd.TheVariants.{Held};
 ghost use Rattle.crn_run.specs.Ends.{EndsAs, is_held};
 ghost use Rattle.crn_run.specs.Inner.Ends.{Advances, FollowFrom};
@@ -61,10 +61,10 @@ pub fn run_policy<R: Wait, G: Gate>(
 ) -> PolicyEnd
     requires policy { policy < length scenario.now.policies }
     requires reader { IsReaderOf ring.now reader × ((reader_part reader).seen_end ≡ false) }
-    requires stands { StandsAt scenario.now.model (reader_part reader).taken state }
+    requires stands { StandsBefore scenario.now.model (reader_part reader).taken state }
     requires ring { ((spec_of ring.now).id.key ≡ scenario.now.key) × ((spec_of ring.now).id.total ≤ total scenario.now.model) }
     requires gate { G.refused gate.old ≡ false }
-    ensures end { EndsAs scenario.now policy state ring.now (number_of reader) result }
+    ensures end { EndsAs scenario.now policy state ring.now (reader_number reader) result }
     ensures held { G.refused gate.new ≡ is_held result }
 {
     match run_until_held(rt, ring, reader, scenario, policy, state, gate) {
@@ -92,14 +92,14 @@ fn run_until_held<R: Wait, G: Gate>(
 ) -> Result<PolicyEnd, HeldRun>
     requires policy { policy < length scenario.now.policies }
     requires reader { IsReaderOf ring.now reader × ((reader_part reader).seen_end ≡ false) }
-    requires stands { StandsAt scenario.now.model (reader_part reader).taken state }
+    requires stands { StandsBefore scenario.now.model (reader_part reader).taken state }
     requires ring { ((spec_of ring.now).id.key ≡ scenario.now.key) × ((spec_of ring.now).id.total ≤ total scenario.now.model) }
     requires gate { G.refused gate.old ≡ false }
-    ensures end { IfOk result (λ end. EndsAs scenario.now policy state ring.now (number_of reader) end) }
+    ensures end { IfOk result (λ end. EndsAs scenario.now policy state ring.now (reader_number reader) end) }
     ensures not_held { IfOk result (λ end. is_held end ≡ false) }
     ensures passed { OnOk result (G.refused gate.new ≡ false) }
-    ensures held { IfErr result (λ h. EndsAs scenario.now policy state ring.now (number_of reader) (Held h.state)) }
-    ensures left { IfErr result (λ h. HasLeft ring.now (number_of reader) h.left) }
+    ensures held { IfErr result (λ h. EndsAs scenario.now policy state ring.now (reader_number reader) (Held h.state)) }
+    ensures left { IfErr result (λ h. HasLeft ring.now (reader_number reader) h.left) }
     ensures refused { OnErr result (G.refused gate.new ≡ true) }
 {
     let rules = &scenario.policies()[policy as usize];
@@ -143,7 +143,7 @@ fn apply_all<G: Gate>(
     gate: &mut G,
 ) -> bool
     requires rules { IsPolicy rules.now }
-    requires stands { StandsAt scenario.now.model (next_block state.old) state.old }
+    requires stands { StandsBefore scenario.now.model (next_block state.old) state.old }
     requires blocks { (count ≤ length blocks.now) × FollowFrom scenario.now.key (next_block state.old) count blocks.now }
     requires below { next_block state.old + count ≤ total scenario.now.model }
     requires gate { G.refused gate.old ≡ false }
@@ -173,7 +173,7 @@ fn apply(
 )
     requires permit { (permit.policy ≡ policy) × (permit.block ≡ block.now.number) }
     requires rules { IsPolicy rules.now }
-    requires stands { StandsAt scenario.now.model (next_block state.old) state.old }
+    requires stands { StandsBefore scenario.now.model (next_block state.old) state.old }
     requires next { (block.now.number ≡ next_block state.old) × (block.now.key ≡ scenario.now.key) }
     requires below { block.now.number < total scenario.now.model }
     ensures advances { Advances scenario.now.model rules.now scenario.now.key state.old state.new }

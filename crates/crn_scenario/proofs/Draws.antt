@@ -7,7 +7,7 @@ use Rattle.std.proofs.lemmas.List.Elements.{All-cons, All-nil}
 use Rattle.std.proofs.lemmas.List.Sums.{sum_by-cons}
 use Rattle.std.specs.Prelude.{int_lt, is_some}
 use Rattle.toml.specs.Data.{Items, no_items, item, Members, get_member, as_integer}
-use Rattle.crn_draw.specs.Faults.{least_fault, rises}
+use Rattle.crn_draw.specs.Faults.{least_weights_fault, rises}
 use Rattle.crn_scenario.specs.Tree.{array_at, count_items, are_integers, integers_of, kept}
 use Rattle.crn_scenario.specs.Fields.{is_within, are_within}
 use Rattle.crn_scenario.specs.Fields as fields
@@ -112,7 +112,7 @@ order_kept o vs e h = passed (rise_above None (integers_of vs)) (subst (λ (x : 
 pub total_kept : (o : Option Items) (ws : Items) → o ≡ Some ws → have_other_total o ≡ false → is_within (pos 1) (pos 65536) (Some (total_of (integers_of ws))) ≡ true
 total_kept o ws e h = passed (is_within (pos 1) (pos 65536) (Some (total_of (integers_of ws)))) (subst (λ (x : Option Items). have_other_total x ≡ false) e h)
 
-none_of : (vs ws : List ℕ) → (length vs == 0) ≡ false → length vs ≡ length ws → rises vs ≡ true → 1 ≤ sum ws → sum ws ≤ 65536 → least_fault vs ws ≡ None
+none_of : (vs ws : List ℕ) → (length vs == 0) ≡ false → length vs ≡ length ws → rises vs ≡ true → 1 ≤ sum ws → sum ws ≤ 65536 → least_weights_fault vs ws ≡ None
 none_of vs ws some same rise low high =
     let e : nat_eq (length vs) 0 ≡ false = some in
     let f : nat_eq (length vs) (length ws) ≡ true = grind (arith, nat_tests) in
@@ -128,7 +128,7 @@ values_kept low high t h = list_kept low high (get_member (codes "values") t) (k
 pub weights_kept : (low high : ℕ) (t : Members) → Kept (fields.draws low high) t → IsList 0 65536 (array_at (codes "weights") t)
 weights_kept low high t h = list_kept 0 65536 (get_member (codes "weights") t) (kept_at (fields.draws low high) t 1 nowhere h (lit< tt))
 
-fault_free : (low high : ℕ) (vs ws : Items) → are_integers vs ≡ true → are_integers ws ≡ true → (count_items vs == 0) ≡ false → count_items vs ≡ count_items ws → are_within (pos low) (pos high) (integers_of vs) ≡ true → are_within (pos 0) (pos 65536) (integers_of ws) ≡ true → rise_above None (integers_of vs) ≡ true → is_within (pos 1) (pos 65536) (Some (total_of (integers_of ws))) ≡ true → least_fault (map nat_abs (integers_of vs)) (map nat_abs (integers_of ws)) ≡ None
+fault_free : (low high : ℕ) (vs ws : Items) → are_integers vs ≡ true → are_integers ws ≡ true → (count_items vs == 0) ≡ false → count_items vs ≡ count_items ws → are_within (pos low) (pos high) (integers_of vs) ≡ true → are_within (pos 0) (pos 65536) (integers_of ws) ≡ true → rise_above None (integers_of vs) ≡ true → is_within (pos 1) (pos 65536) (Some (total_of (integers_of ws))) ≡ true → least_weights_fault (map nat_abs (integers_of vs)) (map nat_abs (integers_of ws)) ≡ None
 fault_free low high vs ws iv iw some same wv ww order total =
     let n = length-map (integers_of vs) in
     let m = length-map (integers_of ws) in
@@ -154,7 +154,7 @@ draws low high t le h lengths order total =
     record {
       values = subst (λ (o : Option Items). are_within (pos 0) (pos 65536) (integers_in o) ≡ true) (sym v.is) (widened low high (integers_of v.items) le v.within);
       weights = subst (λ (o : Option Items). are_within (pos 0) (pos 65536) (integers_in o) ≡ true) (sym w.is) w.within;
-      no_fault = subst (λ (o : Option Items). least_fault (list_at o) (list_at (array_at (codes "weights") t)) ≡ None) (sym v.is) (subst (λ (o : Option Items). least_fault (list_at (Some v.items)) (list_at o) ≡ None) (sym w.is) free);
+      no_fault = subst (λ (o : Option Items). least_weights_fault (list_at o) (list_at (array_at (codes "weights") t)) ≡ None) (sym v.is) (subst (λ (o : Option Items). least_weights_fault (list_at (Some v.items)) (list_at o) ≡ None) (sym w.is) free);
     }
 
 pub values_high : (low high : ℕ) (t : Members) → Kept (fields.draws low high) t → All (λ v. v ≤ high) (naturals_in (codes "values") (Some t))

@@ -91,12 +91,12 @@ words_stand o h =
       ranges = and_true (count_items ds == 4) (list_all is_hex_word (texts_of ds)) (equal (count_items ds) 4 long) (subst (λ (ts : List (List ℕ)). list_all is_hex_word ts ≡ true) (sym (their_texts h.words)) all);
     })
 
-numbers_stand : (low high : ℕ) (ns : List ℕ) (o : Option Data) → o ≡ Some (numbers ns) → 1 ≤ length ns → AreWithin low high ns → KeptAt (fields.numbers low high) o
+numbers_stand : (low high : ℕ) (ns : List ℕ) (o : Option Data) → o ≡ Some (numbers ns) → 1 ≤ length ns → AreWithin low high ns → KeptAt (fields.numbers_within low high) o
 numbers_stand low high ns o e some inside =
     let ds = items_of (map (λ n. integer (pos n)) ns) in
     let long : count_items ds ≡ length ns = count-items_of (λ (n : ℕ). integer (pos n)) ns in
     let range : are_within (pos low) (pos high) (integers_of ds) ≡ true = subst (λ (zs : List ℤ). are_within (pos low) (pos high) zs ≡ true) (sym (their_numbers ns)) ((all_within low high ns).1 inside) in
-    subst (λ (x : Option Data). KeptAt (fields.numbers low high) x) (sym e)
+    subst (λ (x : Option Data). KeptAt (fields.numbers_within low high) x) (sym e)
     (record {
       present = refl;
       kinds = are_numbers ns;
@@ -226,7 +226,7 @@ names_differ (t ∷ ts) each h =
 -- ---- each fault
 
 -- the keys of all versions, and then more
-top_stands : (ms : Members) (z : ℤ) (more : List Entry) → IsSound ms → get_member (codes "version") ms ≡ Some (integer z) → Stand more ms → Stand (keys_of 1 fields.top ++ more) ms
+top_stands : (ms : Members) (z : ℤ) (more : List Entry) → IsSound ms → get_member (codes "version") ms ≡ Some (integer z) → Stand more ms → Stand (keys_of 1 fields.top_table ++ more) ms
 unfolding keys_of
 top_stands ms z more h version rest = (
   integer_stands z _ version,
@@ -265,14 +265,14 @@ record HasVersion (ms : Members) : Type 0 where
   number : ℕ
   is : integer_at (codes "version") ms ≡ Some (pos number)
   one : IsVersion (integer_at (codes "version") ms)
-  top : (r : Rule) → keeps r (keys_of number fields.top) ms ≡ true
+  top : (r : Rule) → keeps r (keys_of number fields.top_table) ms ≡ true
   returns : (r : Rule) → keeps_in r fields.returns (table_at (codes "returns") ms) ≡ true
   drawn : AreDrawable (table_at (codes "returns") ms)
 
 -- a key of version 2 is none of version 1
 absent : (ms : Members) → IsFirst ms → get_member (codes "returns") ms ≡ None
 unfolding keys_of
-absent ms h = none (get_member (codes "returns") ms) (λ found. false≢true ((key_decides (keys_of 1 fields.top) (codes "returns")).1 (h.keys (codes "returns") found)))
+absent ms h = none (get_member (codes "returns") ms) (λ found. false≢true ((key_decides (keys_of 1 fields.top_table) (codes "returns")).1 (h.keys (codes "returns") found)))
   where
     none : (o : Option Data) → ¬ (o ≢ None) → o ≡ None
     none None f = refl
@@ -287,7 +287,7 @@ of_first ms h v =
       number = 1;
       is = is;
       one = inl is;
-      top = λ r. keeps_all r (keys_of 1 fields.top) ms v.keys (top_stands ms (pos 1) [] h v.version tt);
+      top = λ r. keeps_all r (keys_of 1 fields.top_table) ms v.keys (top_stands ms (pos 1) [] h v.version tt);
       returns = λ r. subst (λ (o : Option Members). keeps_in r fields.returns o ≡ true) (sym none) refl;
       drawn = subst AreDrawable (sym none) (record { lengths = refl; order = refl; total = refl });
     }
@@ -300,7 +300,7 @@ of_second ms h v =
       number = 2;
       is = is;
       one = inr is;
-      top = λ r. keeps_all r (keys_of 2 fields.top) ms v.keys (top_stands ms (pos 2) (fields.entry_since 2 (codes "returns") kind.Table ∷ []) h v.version (table_stands _ _ v.returns.are, tt));
+      top = λ r. keeps_all r (keys_of 2 fields.top_table) ms v.keys (top_stands ms (pos 2) (fields.entry_since 2 (codes "returns") kind.Table ∷ []) h v.version (table_stands _ _ v.returns.are, tt));
       returns = λ r. keeps_inner r fields.returns v.returns.draws (get_member (codes "returns") ms) v.returns.are v.returns.keys (draws_stand 0 10000 _ v.returns);
       drawn = drawable 0 10000 _ v.returns;
     }
@@ -340,7 +340,7 @@ keep : (r : Rule) (ms : Members) → IsSound ms → all_keep r ms ≡ true
 unfolding all_keep
 keep r ms h =
     let v = has_version ms h in
-    let top : keeps r (keys_of (version_of ms) fields.top) ms ≡ true = subst (λ (n : ℕ). keeps r (keys_of n fields.top) ms ≡ true) (sym (version_is ms v.number v.is)) (v.top r) in
+    let top : keeps r (keys_of (version_of ms) fields.top_table) ms ≡ true = subst (λ (n : ℕ). keeps r (keys_of n fields.top_table) ms ≡ true) (sym (version_is ms v.number v.is)) (v.top r) in
     let policies : list_all (keeps r fields.policy) (policies_at ms) ≡ true = subst (λ (ts : List Members). list_all (keeps r fields.policy) ts ≡ true) (sym (policies_are ms h)) (policies_keep r h.policy.policies h.policy.each) in
     and_true _ _
     (and_true _ _ top (inner r ms h))

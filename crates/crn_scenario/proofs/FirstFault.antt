@@ -8,7 +8,7 @@ use Rattle.crn_scenario.specs.Faults.{holds_at, faults, IsLeast, HasNone}
 use Rattle.crn_scenario.specs.Inner.Faults.{first_true}
 use Rattle.crn_scenario.specs.declared.scenario_fault.ScenarioFault.{ScenarioFault}
 use Rattle.crn_scenario.specs.declared.scenario_fault.ScenarioFault.TheVariants as fault
-use Rattle.crn_scenario.specs.Reading.{number_of, IsDocument, Refuses}
+use Rattle.crn_scenario.specs.Reading.{scenario_fault_number, IsDocument, RefusesScenario}
 
 abbrev AreAbove : ℕ → List (ℕ × Bool) → Type 0
 AreAbove n [] = ⊤
@@ -54,7 +54,7 @@ least ms k e = record {
 }
 
 -- and it is what the document is refused for
-pub refused : (f : ScenarioFault) (bytes : List ℕ) (ms : Members) → IsDocument bytes ms → first_true (faults ms) ≡ Some (number_of f) → Refuses f bytes
+pub refused : (f : ScenarioFault) (bytes : List ℕ) (ms : Members) → IsDocument bytes ms → first_true (faults ms) ≡ Some (scenario_fault_number f) → RefusesScenario f bytes
 refused fault.NoDocument bytes ms d e = absurd (false≢true (first_at 1 (faults ms) e))
 refused fault.Version bytes ms d e = record { tree = ms; document = d; least = least ms 2 e }
 refused fault.UnknownKey bytes ms d e = record { tree = ms; document = d; least = least ms 3 e }

@@ -7,7 +7,7 @@ use Rattle.std.specs.Prelude.{int_le, nat_le, option_and_then}
 use Rattle.std.specs.List.{list_all}
 use Rattle.toml.specs.Data.{Data, string, integer, float, boolean, datetime, array, table, Items, Members, get_member, as_integer, as_str, as_array, as_table}
 use Rattle.crn_scenario.specs.Tree.{integer_at, natural, table_at, count_items, are_integers, are_tables, integers_of}
-use Rattle.crn_scenario.specs.Fields.{Entry, entry, keys_of, number, numbers, keeps, keeps_at, keeps_at_all, is_within, are_within}
+use Rattle.crn_scenario.specs.Fields.{Entry, entry, keys_of, number, numbers_within, keeps, keeps_at, keeps_at_all, is_within, are_within}
 use Rattle.crn_scenario.specs.Fields as fields
 use Rattle.crn_scenario.specs.declared.fields.Kind.{Kind}
 use Rattle.crn_scenario.specs.declared.fields.Kind.TheVariants as kind
@@ -74,7 +74,7 @@ old ms (inr e) = subst AreOld (sym (version_is ms 2 e)) second
 -- ---- the tables
 
 pub record AllKeep (r : Rule) (ms : Members) : Type 0 where
-  pub top : keeps r (keys_of (version_of ms) fields.top) ms ≡ true
+  pub top : keeps r (keys_of (version_of ms) fields.top_table) ms ≡ true
   pub costs : keeps_in r fields.costs (table_at (codes "costs") ms) ≡ true
   pub demand : keeps_in r fields.demand (table_at (codes "demand") ms) ≡ true
   pub lead : keeps_in r fields.lead (table_at (codes "lead") ms) ≡ true
@@ -175,11 +175,11 @@ one_held r version (e ∷ es) ms (suc i) h lt since = one_held r version es ms i
     rest true f fs k = (and_parts _ _ k).1
     rest false f fs k = k
 
-pub held_at : (ms : Members) (i : ℕ) → HasNone ms → i < length fields.top → nat_le (slice_index_or fields.top i nowhere).since (version_of ms) ≡ true → KeptAt (slice_index_or fields.top i nowhere).kind (get_member (slice_index_or fields.top i nowhere).name ms)
+pub held_at : (ms : Members) (i : ℕ) → HasNone ms → i < length fields.top_table → nat_le (slice_index_or fields.top_table i nowhere).since (version_of ms) ≡ true → KeptAt (slice_index_or fields.top_table i nowhere).kind (get_member (slice_index_or fields.top_table i nowhere).name ms)
 held_at ms i h lt since = record {
-  present = one_held rule.Present (version_of ms) fields.top ms i (present ms h).top lt since;
-  kinds = one_held rule.Kinds (version_of ms) fields.top ms i (kinds ms h).top lt since;
-  ranges = one_held rule.Ranges (version_of ms) fields.top ms i (ranges ms h).top lt since;
+  present = one_held rule.Present (version_of ms) fields.top_table ms i (present ms h).top lt since;
+  kinds = one_held rule.Kinds (version_of ms) fields.top_table ms i (kinds ms h).top lt since;
+  ranges = one_held rule.Ranges (version_of ms) fields.top_table ms i (ranges ms h).top lt since;
 }
 
 has_first : (ms : Members) → IsVersion (integer_at (codes "version") ms) → nat_le 1 (version_of ms) ≡ true
@@ -187,7 +187,7 @@ has_first ms (inl e) = subst (λ (n : ℕ). nat_le 1 n ≡ true) (sym (version_i
 has_first ms (inr e) = subst (λ (n : ℕ). nat_le 1 n ≡ true) (sym (version_is ms 2 e)) refl
 
 -- a key of all versions
-pub top_at : (ms : Members) (i : ℕ) → HasNone ms → i < length fields.top → (slice_index_or fields.top i nowhere).since ≡ 1 → KeptAt (slice_index_or fields.top i nowhere).kind (get_member (slice_index_or fields.top i nowhere).name ms)
+pub top_at : (ms : Members) (i : ℕ) → HasNone ms → i < length fields.top_table → (slice_index_or fields.top_table i nowhere).since ≡ 1 → KeptAt (slice_index_or fields.top_table i nowhere).kind (get_member (slice_index_or fields.top_table i nowhere).name ms)
 top_at ms i h lt e = held_at ms i h lt (subst (λ (n : ℕ). nat_le n (version_of ms) ≡ true) (sym e) (has_first ms (version ms h)))
 
 -- ---- what stands at a key
@@ -234,7 +234,7 @@ pub record IsList (low high : ℕ) (o : Option Items) : Type 0 where
   pub some : (count_items items == 0) ≡ false
   pub within : are_within (pos low) (pos high) (integers_of items) ≡ true
 
-pub list_kept : (low high : ℕ) (o : Option Data) → KeptAt (numbers low high) o → IsList low high (option_and_then as_array o)
+pub list_kept : (low high : ℕ) (o : Option Data) → KeptAt (numbers_within low high) o → IsList low high (option_and_then as_array o)
 list_kept low high None h = absurd (false≢true h.present)
 list_kept low high (Some (string s)) h = absurd (false≢true h.kinds)
 list_kept low high (Some (integer z)) h = absurd (false≢true h.kinds)

@@ -12,7 +12,7 @@ use Rattle.std.specs.Str.{bytes_eq}
 use Rattle.toml.specs.Data.{Items, no_items, item, Members, get_member, as_table}
 use Rattle.crn_stock.specs.declared.rules.Policy.{Policy}
 use Rattle.crn_stock.specs.Models.{IsPolicy, ModelParts}
-use Rattle.crn_stock.specs.Scenarios.{AreForScenario, IsRingSize, ScenarioParts, is_name}
+use Rattle.crn_stock.specs.Scenarios.{AreForScenario, IsScenarioRingSize, ScenarioParts, is_name}
 use Rattle.crn_scenario.specs.Tree.{integer_at, natural, text_at, array_at, tables_of, count_items, are_tables, kept}
 use Rattle.crn_scenario.specs.Fields.{Entry, entry, keeps, keeps_at_all, is_within}
 use Rattle.crn_scenario.specs.Fields as fields
@@ -147,18 +147,18 @@ is_same n (pos m) h =
     ap pos e
 is_same n (negsuc m) h = absurd (false≢true h)
 
-size_at : (e n : ℕ) → n ≡ 2 ^ e → e ≤ 10 → IsRingSize n
+size_at : (e n : ℕ) → n ≡ 2 ^ e → e ≤ 10 → IsScenarioRingSize n
 size_at e n is le = record { exponent = e; high = le; is = is }
 
 -- the sizes from 2 to the power e on, with as many exponents
-ring_one : (n e : ℕ) (z : ℤ) → n ≡ 2 ^ e → e ≤ 10 → is_within (pos n) (pos n) (Some z) ≡ true → IsRingSize (nat_abs z)
-ring_one n e z is le h = subst (λ (x : ℤ). IsRingSize (nat_abs x)) (sym (is_same n z h)) (size_at e n is le)
+ring_one : (n e : ℕ) (z : ℤ) → n ≡ 2 ^ e → e ≤ 10 → is_within (pos n) (pos n) (Some z) ≡ true → IsScenarioRingSize (nat_abs z)
+ring_one n e z is le h = subst (λ (x : ℤ). IsScenarioRingSize (nat_abs x)) (sym (is_same n z h)) (size_at e n is le)
 
 either : (a b : Bool) {P : Type 0} → (a || b) ≡ true → (a ≡ true → P) → (b ≡ true → P) → P
 either true b h f g = f refl
 either false b h f g = g h
 
-pub ring_is : (z : ℤ) → is_ring_size z ≡ true → IsRingSize (nat_abs z)
+pub ring_is : (z : ℤ) → is_ring_size z ≡ true → IsScenarioRingSize (nat_abs z)
 unfolding is_ring_size
 ring_is z h =
     either _ _ h (ring_one 1 0 z refl (lit≤ tt)) (λ h.
@@ -173,10 +173,10 @@ ring_is z h =
     either _ _ h (ring_one 512 9 z refl (lit≤ tt)) (λ h.
     either _ _ h (ring_one 1024 10 z refl (lit≤ tt)) (λ h. absurd (false≢true h))))))))))))
 
-ring_fits : (o : Option ℤ) → IsInteger o → is_other_ring o ≡ false → IsRingSize (natural o)
+ring_fits : (o : Option ℤ) → IsInteger o → is_other_ring o ≡ false → IsScenarioRingSize (natural o)
 ring_fits o i h =
     let k : is_ring_size i.value ≡ true = passed (is_ring_size i.value) (subst (λ (x : Option ℤ). is_other_ring x ≡ false) i.is h) in
-    subst (λ (x : Option ℤ). IsRingSize (natural x)) (sym i.is) (ring_is i.value k)
+    subst (λ (x : Option ℤ). IsScenarioRingSize (natural x)) (sym i.is) (ring_is i.value k)
 
 -- ---- a scenario's policies
 

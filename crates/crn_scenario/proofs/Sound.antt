@@ -12,7 +12,7 @@ use Rattle.crn_scenario.specs.Tree.{integer_at, natural, table_at}
 use Rattle.crn_scenario.specs.Fields.{Entry, entry, number}
 use Rattle.crn_scenario.specs.Fields as fields
 use Rattle.crn_scenario.specs.Faults.{HasNone, drawn, has_other_lengths, has_values_out_of_order, has_weights_out_of_range, has_other_lengths_in, has_other_order_in, has_other_total_in}
-use Rattle.crn_scenario.specs.Reading.{integer, naturals_in, costs_of, weighted_of, returns_of, model_of}
+use Rattle.crn_scenario.specs.Reading.{integer, naturals_in, cost_rates_of, weighted_of, returns_of, model_of}
 use Rattle.crn_scenario.specs.Inner.Reading.{AreDraws, MayBeDraws}
 use Rattle.crn_scenario.proofs.Bools.{neither}
 use Rattle.crn_scenario.proofs.Kept.{nowhere, Kept, kept_at, top_at, IsNumber, number_kept, costs_kept, demand_kept, lead_kept, returns_kept, one}
@@ -92,7 +92,7 @@ replications ms h = taken 1 256 (integer_at (codes "replications") ms) (number_k
 initial : (ms : Members) → HasNone ms → IsTaken 0 1000000 (natural (integer_at (codes "initial") ms)) (integer (integer_at (codes "initial") ms))
 initial ms h = taken 0 1000000 (integer_at (codes "initial") ms) (number_kept 0 1000000 (get_member (codes "initial") ms) (top_at ms 4 h (lit< tt) refl))
 
-costs_in : (t : Members) → Kept fields.costs t → AreCosts (costs_of (Some t))
+costs_in : (t : Members) → Kept fields.costs t → AreCosts (cost_rates_of (Some t))
 costs_in t k = record {
   setup = (taken 0 100000000 _ (number_kept 0 100000000 (get_member (codes "setup") t) (kept_at fields.costs t 0 nowhere k (lit< tt)))).high_is;
   unit = (taken 0 10000 _ (number_kept 0 10000 (get_member (codes "unit") t) (kept_at fields.costs t 1 nowhere k (lit< tt)))).high_is;
@@ -100,10 +100,10 @@ costs_in t k = record {
   backlog = (taken 0 10000 _ (number_kept 0 10000 (get_member (codes "backlog") t) (kept_at fields.costs t 3 nowhere k (lit< tt)))).high_is;
 }
 
-pub costs_fit : (ms : Members) → HasNone ms → AreCosts (costs_of (table_at (codes "costs") ms))
+pub costs_fit : (ms : Members) → HasNone ms → AreCosts (cost_rates_of (table_at (codes "costs") ms))
 costs_fit ms h =
     let t = costs_kept ms h in
-    subst (λ (o : Option Members). AreCosts (costs_of o)) (sym t.is) (costs_in t.members t.kept)
+    subst (λ (o : Option Members). AreCosts (cost_rates_of o)) (sym t.is) (costs_in t.members t.kept)
 
 pub from_low : (low high n : ℕ) (z : ℤ) → IsTaken low high n z → pos 0 ≤ℤ z
 from_low low high n z h = let e : z ≡ pos n = h.signed in omega (arith, ints)
@@ -133,5 +133,5 @@ abbrev pub parts : ℕ → ℕ → ℤ → Costs → Weighted → Weighted → O
 parts p r i c d l g = record { periods = p; replications = r; initial = i; costs = c; demand = d; lead = l; returns = g }
 
 -- a model with the parts that the tree says
-pub same_model : (ms : Members) (p r : ℕ) (i : ℤ) (c : Costs) (d l : Weighted) (g : Option Weighted) → p ≡ natural (integer_at (codes "periods") ms) → r ≡ natural (integer_at (codes "replications") ms) → i ≡ integer (integer_at (codes "initial") ms) → c ≡ costs_of (table_at (codes "costs") ms) → d ≡ weighted_of (table_at (codes "demand") ms) → l ≡ weighted_of (table_at (codes "lead") ms) → g ≡ returns_of (table_at (codes "returns") ms) → parts p r i c d l g ≡ model_of ms
+pub same_model : (ms : Members) (p r : ℕ) (i : ℤ) (c : Costs) (d l : Weighted) (g : Option Weighted) → p ≡ natural (integer_at (codes "periods") ms) → r ≡ natural (integer_at (codes "replications") ms) → i ≡ integer (integer_at (codes "initial") ms) → c ≡ cost_rates_of (table_at (codes "costs") ms) → d ≡ weighted_of (table_at (codes "demand") ms) → l ≡ weighted_of (table_at (codes "lead") ms) → g ≡ returns_of (table_at (codes "returns") ms) → parts p r i c d l g ≡ model_of ms
 same_model ms p r i c d l g e f h k m n o = cc

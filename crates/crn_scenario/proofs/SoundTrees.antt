@@ -9,7 +9,7 @@ use Rattle.std.proofs.lemmas.List.Sums.{AllPass-from_list_all}
 use Rattle.std.specs.Prelude.{option_and_then, int_le}
 use Rattle.std.specs.List.{list_all}
 use Rattle.toml.specs.Data.{Data, string, integer, float, boolean, datetime, array, table, Items, Members, get_member, as_integer, as_str, as_array, as_table}
-use Rattle.crn_stock.specs.Scenarios.{IsRingSize, is_name}
+use Rattle.crn_stock.specs.Scenarios.{IsScenarioRingSize, is_name}
 use Rattle.crn_scenario.specs.Hex.{is_hex_word}
 use Rattle.crn_scenario.specs.Tree.{integer_at, array_at, table_at, integers_of, texts_of, tables_of, count_items}
 use Rattle.crn_scenario.specs.Fields.{Entry, keys_of, number, keeps, are_within}
@@ -97,7 +97,7 @@ words_at (Some (array ds)) k =
       each = λ i d lt. (word _).0 (AllPass-from_list_all is_hex_word (texts_of ds) parts.1 i d lt);
     }
 
-size_at : (z : ℤ) (n : ℕ) → z ≡ pos n → IsRingSize (nat_abs z) → (o : Option Data) → o ≡ Some (integer z) → IsSize o
+size_at : (z : ℤ) (n : ℕ) → z ≡ pos n → IsScenarioRingSize (nat_abs z) → (o : Option Data) → o ≡ Some (integer z) → IsSize o
 size_at z n e s o is = record { exponent = s.exponent; high = s.high; is = is ∙ ap (λ (w : ℤ). Some (integer w)) (e ∙ ap (λ (m : ℕ). pos m) (sym (ap nat_abs e) ∙ s.is)) }
 
 -- a size is not below zero
@@ -263,8 +263,8 @@ policy_tables ms h =
 -- ---- the document
 
 -- the keys of the document's version, and no others
-no_other_key : (ms : Members) (n : ℕ) → HasNone ms → integer_at (codes "version") ms ≡ Some (pos n) → HasNoOther (names_of (keys_of n fields.top)) ms
-no_other_key ms n h e = no_other (keys_of n fields.top) ms (subst (λ (v : ℕ). keeps rule.Known (keys_of v fields.top) ms ≡ true) (version_is ms n e) (known ms h).top)
+no_other_key : (ms : Members) (n : ℕ) → HasNone ms → integer_at (codes "version") ms ≡ Some (pos n) → HasNoOther (names_of (keys_of n fields.top_table)) ms
+no_other_key ms n h e = no_other (keys_of n fields.top_table) ms (subst (λ (v : ℕ). keeps rule.Known (keys_of v fields.top_table) ms ≡ true) (version_is ms n e) (known ms h).top)
 
 first : (ms : Members) → HasNone ms → integer_at (codes "version") ms ≡ Some (pos 1) → IsFirst ms
 unfolding keys_of

@@ -42,7 +42,7 @@ inner_keep r version ms =
 -- whether each of the tables that are looked at keeps a rule, with the keys that the tree's version has
 unfoldable pub all_keep : Rule → Members → Bool
 all_keep r ms =
-    keeps r (keys_of (version_of ms) fields.top) ms
+    keeps r (keys_of (version_of ms) fields.top_table) ms
     && inner_keep r (version_of ms) ms
     && list_all (keeps r (keys_of (version_of ms) fields.policy)) (policies_at ms)
 
@@ -146,13 +146,13 @@ has_low_above_high ms = not (list_all has_levels_in_order (policies_at ms))
 
 -- ---- fault 11: a policy's name has not the form of one, or stands twice
 
-abbrev pub name_of : Data → Option (List ℕ)
-name_of d = option_and_then (text_at (codes "name")) (as_table d)
+abbrev pub policy_name_of : Data → Option (List ℕ)
+policy_name_of d = option_and_then (text_at (codes "name")) (as_table d)
 
 -- the names that stand among the policies
 abbrev pub names_in : Items → List (List ℕ)
 names_in no_items = []
-names_in (item d ds) = kept (name_of d) (names_in ds)
+names_in (item d ds) = kept (policy_name_of d) (names_in ds)
 
 abbrev pub names_at : Option Items → List (List ℕ)
 names_at None = []

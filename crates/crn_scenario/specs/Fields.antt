@@ -32,11 +32,11 @@ keys_of version es = filter (λ e. nat_le e.since version) es
 abbrev pub number : ℕ → ℕ → Kind
 number low high = kind.Number (pos low) (pos high)
 
-abbrev pub numbers : ℕ → ℕ → Kind
-numbers low high = kind.Numbers (pos low) (pos high)
+abbrev pub numbers_within : ℕ → ℕ → Kind
+numbers_within low high = kind.Numbers (pos low) (pos high)
 
-abbrev pub top : List Entry
-top =
+abbrev pub top_table : List Entry
+top_table =
     entry (codes "version") kind.Integer
     ∷ entry (codes "key") kind.Words
     ∷ entry (codes "periods") (number 1 1024)
@@ -60,7 +60,7 @@ costs =
 
 -- values from low to high, with their weights
 abbrev pub draws : ℕ → ℕ → List Entry
-draws low high = entry (codes "values") (numbers low high) ∷ entry (codes "weights") (numbers 0 65536) ∷ []
+draws low high = entry (codes "values") (numbers_within low high) ∷ entry (codes "weights") (numbers_within 0 65536) ∷ []
 
 abbrev pub demand : List Entry
 demand = draws 0 10000
@@ -86,14 +86,14 @@ is_array_of test None = false
 is_array_of test (Some ds) = test ds
 
 -- whether a value is of a kind
-abbrev pub is_of : Kind → Data → Bool
-is_of kind.Integer d = is_some (as_integer d)
-is_of (kind.Number low high) d = is_some (as_integer d)
-is_of (kind.Numbers low high) d = is_array_of are_integers (as_array d)
-is_of kind.Text d = is_some (as_str d)
-is_of kind.Words d = is_array_of are_texts (as_array d)
-is_of kind.Table d = is_some (as_table d)
-is_of kind.Tables d = is_array_of are_tables (as_array d)
+abbrev pub is_of_kind : Kind → Data → Bool
+is_of_kind kind.Integer d = is_some (as_integer d)
+is_of_kind (kind.Number low high) d = is_some (as_integer d)
+is_of_kind (kind.Numbers low high) d = is_array_of are_integers (as_array d)
+is_of_kind kind.Text d = is_some (as_str d)
+is_of_kind kind.Words d = is_array_of are_texts (as_array d)
+is_of_kind kind.Table d = is_some (as_table d)
+is_of_kind kind.Tables d = is_array_of are_tables (as_array d)
 
 -- ranges, which no value of another kind breaks
 abbrev pub is_within : ℤ → ℤ → Option ℤ → Bool
@@ -129,7 +129,7 @@ abbrev pub keeps_at : Rule → Kind → Option Data → Bool
 keeps_at rule.Known k o = true
 keeps_at rule.Present k o = is_some o
 keeps_at rule.Kinds k None = true
-keeps_at rule.Kinds k (Some d) = is_of k d
+keeps_at rule.Kinds k (Some d) = is_of_kind k d
 keeps_at rule.Ranges k None = true
 keeps_at rule.Ranges k (Some d) = is_in_range k d
 

@@ -40,8 +40,8 @@ natural_in key o = natural (option_and_then (integer_at key) o)
 abbrev pub naturals_in : List ℕ → Option Members → List ℕ
 naturals_in key o = map nat_abs (integers_in (option_and_then (array_at key) o))
 
-abbrev pub costs_of : Option Members → Costs
-costs_of o = record {
+abbrev pub cost_rates_of : Option Members → Costs
+cost_rates_of o = record {
   setup = natural_in (codes "setup") o;
   unit = natural_in (codes "unit") o;
   holding = natural_in (codes "holding") o;
@@ -61,7 +61,7 @@ model_of ms = record {
   periods = natural (integer_at (codes "periods") ms);
   replications = natural (integer_at (codes "replications") ms);
   initial = integer (integer_at (codes "initial") ms);
-  costs = costs_of (table_at (codes "costs") ms);
+  costs = cost_rates_of (table_at (codes "costs") ms);
   demand = weighted_of (table_at (codes "demand") ms);
   lead = weighted_of (table_at (codes "lead") ms);
   returns = returns_of (table_at (codes "returns") ms);
@@ -93,21 +93,21 @@ scenario_of ms = record {
 -- ---- texts
 
 -- the number of a fault
-abbrev pub number_of : ScenarioFault → ℕ
-number_of fault.NoDocument = 1
-number_of fault.Version = 2
-number_of fault.UnknownKey = 3
-number_of fault.MissingKey = 4
-number_of fault.Kind = 5
-number_of fault.Range = 6
-number_of fault.Lengths = 7
-number_of fault.Order = 8
-number_of fault.WeightSum = 9
-number_of fault.Levels = 10
-number_of fault.Name = 11
-number_of fault.RingSize = 12
-number_of fault.PolicyCount = 13
-number_of fault.Memory = 90
+abbrev pub scenario_fault_number : ScenarioFault → ℕ
+scenario_fault_number fault.NoDocument = 1
+scenario_fault_number fault.Version = 2
+scenario_fault_number fault.UnknownKey = 3
+scenario_fault_number fault.MissingKey = 4
+scenario_fault_number fault.Kind = 5
+scenario_fault_number fault.Range = 6
+scenario_fault_number fault.Lengths = 7
+scenario_fault_number fault.Order = 8
+scenario_fault_number fault.WeightSum = 9
+scenario_fault_number fault.Levels = 10
+scenario_fault_number fault.Name = 11
+scenario_fault_number fault.RingSize = 12
+scenario_fault_number fault.PolicyCount = 13
+scenario_fault_number fault.Memory = 90
 
 -- the tree of a text
 pub record IsDocument (bytes : List ℕ) (ms : Members) : Type 0 where
@@ -132,7 +132,7 @@ pub record HasLeast (bytes : List ℕ) (k : ℕ) : Type 0 where
   pub least : IsLeast tree k
 
 -- what a refusal says of the bytes: want of memory says nothing
-abbrev pub Refuses : ScenarioFault → List ℕ → Type 0
-Refuses fault.NoDocument bytes = IsNoDocument bytes
-Refuses fault.Memory bytes = ⊤
-Refuses f bytes = HasLeast bytes (number_of f)
+abbrev pub RefusesScenario : ScenarioFault → List ℕ → Type 0
+RefusesScenario fault.NoDocument bytes = IsNoDocument bytes
+RefusesScenario fault.Memory bytes = ⊤
+RefusesScenario f bytes = HasLeast bytes (scenario_fault_number f)

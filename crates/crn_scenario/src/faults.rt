@@ -9,7 +9,7 @@ ghost use Rattle.crn_scenario.specs.Fields as tables;
 ghost use Rattle.crn_scenario.specs.Inner.Fields.{entry_of};
 ghost use Rattle.crn_scenario.specs.Faults as spec;
 ghost use Rattle.crn_scenario.specs.Inner.Faults as inner;
-ghost use Rattle.crn_scenario.specs.Reading.{number_of};
+ghost use Rattle.crn_scenario.specs.Reading.{scenario_fault_number};
 
 use crate::fields::{
     COSTS, DEMAND, Field, LEAD, NEWEST_VERSION, POLICY, RETURNS, Rule, TOP, is_within, keeps,
@@ -56,7 +56,7 @@ fn policies_keep(rule: Rule, version: u64, policies: &Array) -> bool
 
 // One table each: the lists of their keys are long, and the proof of all of them goes by these names.
 fn top_keeps(rule: Rule, version: u64, table: &Table) -> bool
-    ensures { result ≡ tables.keeps rule (tables.keys_of version tables.top) (table_view table.now) }
+    ensures { result ≡ tables.keeps rule (tables.keys_of version tables.top_table) (table_view table.now) }
 {
     keeps(rule, version, &TOP, table)
 }
@@ -309,7 +309,7 @@ fn names_of<'a>(alloc: Global, policies: &'a Array) -> Result<Vec<&'a str>, Allo
 }
 
 fn name_of<'a>(item: &'a Value) -> Option<&'a str>
-    ensures { option_copied result ≡ spec.name_of (view item.now) }
+    ensures { option_copied result ≡ spec.policy_name_of (view item.now) }
 {
     match item.as_table() {
         Some(policy) => text_at(policy, "name"),
@@ -395,7 +395,7 @@ fn has_other_policy_count(table: &Table) -> bool
 
 /// The fault with the least number that holds of a tree, if one does. `AllocError` where a growth was refused.
 pub fn first_fault(alloc: Global, table: &Table) -> Result<Option<ScenarioFault>, AllocError>
-    ensures { IfOk result (λ o. option_map number_of o ≡ inner.first_true (spec.faults (table_view table.now))) }
+    ensures { IfOk result (λ o. option_map scenario_fault_number o ≡ inner.first_true (spec.faults (table_view table.now))) }
 {
     if has_other_version(table) {
         return Ok(Some(ScenarioFault::Version));

@@ -224,7 +224,7 @@ pub const POLICY: [Field; 3] = [
 
 // Whether a value is of a kind. An empty list is of every kind of list.
 fn is_of(kind: Kind, value: &Value) -> bool
-    ensures { result ≡ spec.is_of kind (view value.now) }
+    ensures { result ≡ spec.is_of_kind kind (view value.now) }
 {
     match kind {
         Kind::Integer | Kind::Number { .. } => value.is_integer(),

@@ -39,7 +39,7 @@ use std::alloc::Global;
 /// rule. `Memory` where a growth was refused. Nothing is kept.
 pub fn read_scenario(alloc: Global, bytes: &[u8]) -> Result<Scenario, ScenarioFault>
     ensures reads { IfOk result (λ s. spec.Reads bytes.now s) }
-    ensures refuses { IfErr result (λ f. spec.Refuses f bytes.now) }
+    ensures refuses { IfErr result (λ f. spec.RefusesScenario f bytes.now) }
 {
     let table = match toml::table_from_slice(alloc, bytes) {
         Ok(table) => table,

@@ -2,7 +2,7 @@
 
 ghost use Rattle.std.specs.Prelude.{◌≡◌, map, nat_abs, pos, true, None, option_map, option_copied, option_and_then, codes, IfOk};
 ghost use Rattle.toml.specs.View.{view, table_view, array_view};
-ghost use Rattle.crn_draw.specs.Faults.{least_fault};
+ghost use Rattle.crn_draw.specs.Faults.{least_weights_fault};
 ghost use Rattle.crn_scenario.specs.Tree.{array_at, tables_of, integers_of};
 ghost use Rattle.crn_scenario.specs.Fields.{are_within};
 ghost use Rattle.crn_scenario.specs.Faults.{HasNone, policies_at};
@@ -28,7 +28,7 @@ fn natural_in(table: Option<&Table>, key: &str) -> u64
 }
 
 fn costs_of(table: Option<&Table>) -> Costs
-    ensures { result ≡ spec.costs_of (option_map (λ t. table_view t.now) table.entry) }
+    ensures { result ≡ spec.cost_rates_of (option_map (λ t. table_view t.now) table.entry) }
 {
     Costs {
         setup: natural_in(table, "setup"),

@@ -48,7 +48,7 @@ pub enum ScenarioFault {
 impl ScenarioFault {
     /// The number of the fault: 1 to 13 for a text that is refused, 90 for want of memory.
     pub fn number(&self) -> u8
-        ensures { result ≡ spec.number_of self.now }
+        ensures { result ≡ spec.scenario_fault_number self.now }
     {
         match self {
             ScenarioFault::NoDocument => 1,

@@ -8,10 +8,10 @@ use Rattle.crn_stock.specs.declared.drawn.Drawn.{Drawn}
 use Rattle.crn_stock.specs.declared.drawn.DrawSource.{DrawSource}
 use Rattle.crn_stock.specs.declared.period.Inventory.{Inventory}
 use Rattle.crn_stock.specs.Parts.{Parts, stock_limit, rotated}
-use Rattle.crn_stock.specs.Inner.Parts.{IsInRange}
+use Rattle.crn_stock.specs.Inner.Parts.{HasNumbersInRange}
 use Rattle.crn_stock.specs.Stock.{Draw, Rules, order_quantity, cost_of}
 use Rattle.crn_stock.specs.Inner.Steps.{next_due, after_period, after_draw, after_last_period}
-use Rattle.crn_stock.specs.Inner.Flows.{IsInventory, HasRun, with_inventory, draw_in, nth_draw, after_periods, after_draws}
+use Rattle.crn_stock.specs.Inner.Flows.{IsInventory, HasRunPeriods, with_inventory, draw_in, nth_draw, after_periods, after_draws}
 use Rattle.crn_stock.proofs.Ranges.{limit_more, advanced_is, stepped_on}
 
 -- one period more: a arrived, z were ordered, g returned and d demanded, at the cost k
@@ -44,7 +44,7 @@ inventory_moved p d v t x x' ring ring' z a k e ez ea es er ek run =
     ap (λ (n : ℕ). record v { period = t + 1; stock = x'.stock; due = rotated ring' ((t + 1) % 32); running = n }) run
     ∙ advanced_is p d (with_inventory v t x ring) z a k x'.stock x.position ring ring' refl e ez ea es er ek
 
-pub has_run_none : (p : Rules) (ds : DrawSource) (t : ℕ) (x : Inventory) (ring : List ℕ) → HasRun p ds t 0 x x ring ring
+pub has_run_none : (p : Rules) (ds : DrawSource) (t : ℕ) (x : Inventory) (ring : List ℕ) → HasRunPeriods p ds t 0 x x ring ring
 has_run_none p ds t x ring =
     let same : t ≡ t + 0 = omega arith in record {
       kept = λ b none i. subst (λ (n : ℕ). IsInventory b n x ring) same i;
@@ -53,10 +53,10 @@ has_run_none p ds t x ring =
     }
 
 -- one more at period u, which is k periods on
-pub has_run_more : (p : Rules) (ds : DrawSource) (t k u : ℕ) (x y z : Inventory) (ring ring' ring'' : List ℕ) (d : Drawn) → HasRun p ds t k x y ring ring' → u ≡ t + k → draw_in d ≡ nth_draw ds k
+pub has_run_more : (p : Rules) (ds : DrawSource) (t k u : ℕ) (x y z : Inventory) (ring ring' ring'' : List ℕ) (d : Drawn) → HasRunPeriods p ds t k x y ring ring' → u ≡ t + k → draw_in d ≡ nth_draw ds k
     → ((b : Bool) → (b ≡ false → d.returned ≡ 0) → IsInventory b u y ring' → IsInventory b (u + 1) z ring'')
     → ((v : Parts) → with_inventory v (u + 1) z ring'' ≡ after_period p (draw_in d) (with_inventory v u y ring'))
-    → HasRun p ds t (k + 1) x z ring ring''
+    → HasRunPeriods p ds t (k + 1) x z ring ring''
 has_run_more p ds t k u x y z ring ring' ring'' d s at is kept moved =
     let time : u + 1 ≡ t + (k + 1) = omega (arith, at) in
     let suc-k : suc k ≡ k + 1 = omega arith in
@@ -78,7 +78,7 @@ has_run_more p ds t k u x y z ring ring' ring'' d s at is kept moved =
 -- ---- a state's ranges, as a state keeps them and as its periods do
 
 pub inventory_in : (periods reps : ℕ) (initial : ℤ) (has_returns : Bool) (done t : ℕ) (stock position : ℤ) (running : ℕ) (ring : List ℕ)
-    → IsInRange periods reps initial has_returns done t stock position running → position ≡ stock +ℤ pos (sum ring) → length ring ≡ 32
+    → HasNumbersInRange periods reps initial has_returns done t stock position running → position ≡ stock +ℤ pos (sum ring) → length ring ≡ 32
     → IsInventory has_returns t (record { stock = stock; position = position; running = running }) ring
 inventory_in periods reps initial has_returns done t stock position running ring i e len = record {
   length_is = len;
@@ -90,8 +90,8 @@ inventory_in periods reps initial has_returns done t stock position running ring
 }
 
 pub range_of : (periods reps : ℕ) (initial : ℤ) (has_returns : Bool) (done t t' : ℕ) (stock position : ℤ) (running : ℕ) (x : Inventory) (ring : List ℕ)
-    → IsInRange periods reps initial has_returns done t stock position running → t' < periods → IsInventory has_returns t' x ring
-    → IsInRange periods reps initial has_returns done t' x.stock x.position x.running
+    → HasNumbersInRange periods reps initial has_returns done t stock position running → t' < periods → IsInventory has_returns t' x ring
+    → HasNumbersInRange periods reps initial has_returns done t' x.stock x.position x.running
 range_of periods reps initial has_returns done t t' stock position running x ring i lt s =
     let X = x.stock in
     let Y = x.position in

@@ -17,8 +17,8 @@ abbrev pub block_of : ModelParts → ℕ → ℕ → ℕ
 block_of m r p = r * blocks_per_replication m.periods + p / STREAM_WORDS
 
 -- the period's word of a stream of that block
-abbrev pub word_of : ModelParts → List ℕ → ℕ → ℕ → Stream → ℕ
-word_of m key r p s = slice_index (StreamWords key (block_of m r p) s) (p % STREAM_WORDS)
+abbrev pub period_word : ModelParts → List ℕ → ℕ → ℕ → Stream → ℕ
+period_word m key r p s = slice_index (StreamWords key (block_of m r p) s) (p % STREAM_WORDS)
 
 -- the items that are returned by a word: none where customers return nothing
 abbrev pub returned_by : Option Weighted → ℕ → ℕ
@@ -28,9 +28,9 @@ returned_by (Some weights) word = Pick weights word
 -- its demand, lead time and returned items, each by the word of its stream
 unfoldable pub draw_at : ModelParts → List ℕ → ℕ → ℕ → Draw
 draw_at m key r p = record {
-  demand = Pick m.demand (word_of m key r p Demand);
-  lead = Pick m.lead (word_of m key r p Lead);
-  returned = returned_by m.returns (word_of m key r p Returns);
+  demand = Pick m.demand (period_word m key r p Demand);
+  lead = Pick m.lead (period_word m key r p Lead);
+  returned = returned_by m.returns (period_word m key r p Returns);
 }
 
 -- the lists f 0 to f (n - 1), one after another

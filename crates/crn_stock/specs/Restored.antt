@@ -31,6 +31,6 @@ pub record CanRestore (m : ModelParts) (n : ℕ) (stock : ℤ) (due : List ℕ) 
   pub ranges : AreInRange (restored m n stock due running costs)
 
 -- the number by which a fault is told
-abbrev pub number_of : RestoreFault → ℕ
-number_of Range = 1
-number_of Memory = 90
+abbrev pub restore_fault_number : RestoreFault → ℕ
+restore_fault_number Range = 1
+restore_fault_number Memory = 90

@@ -4,7 +4,7 @@ use Rattle.std.proofs.lemmas.Bool.{le-leb}
 use Rattle.std.proofs.lemmas.Bool.Decides.{nat_tests}
 use Rattle.crn_stock.specs.Parts.{period_cost_limit}
 use Rattle.crn_pair.specs.Limits.{cost_limit, are_costs}
-use Rattle.crn_pair.specs.Refused.{least_fault}
+use Rattle.crn_pair.specs.Refused.{least_costs_fault}
 
 costs_fit : (a : List ℕ) → All (λ k. k ≤ 1024 * period_cost_limit) a → are_costs a ≡ true
 costs_fit [] h = refl
@@ -13,7 +13,7 @@ costs_fit (x ∷ a) h =
     rw (le-leb x cost_limit (omega (arith, here)), costs_fit a (λ k d inside. h (suc k) d (omega (arith, inside))))
 
 pub no_fault : (a b : List ℕ) → length b ≡ length a → 1 ≤ length a → length a ≤ 256
-    → All (λ k. k ≤ 1024 * period_cost_limit) a → All (λ k. k ≤ 1024 * period_cost_limit) b → least_fault a b ≡ None
+    → All (λ k. k ≤ 1024 * period_cost_limit) a → All (λ k. k ≤ 1024 * period_cost_limit) b → least_costs_fault a b ≡ None
 no_fault a b same some few low_a low_b =
     let fit_a = costs_fit a low_a in
     let fit_b = costs_fit b low_b in

@@ -3,7 +3,7 @@ use Rattle.std.proofs.Common.{◌≡◌, ℕ, ◌<◌, List, [], ◌∷◌, leng
 use Rattle.std.proofs.lemmas.Option.{slice_get_read, slice_get-map}
 use Rattle.crn_stock.specs.Parts.{Parts}
 use Rattle.crn_stock.specs.Models.{ModelParts, total}
-use Rattle.crn_plain.specs.Runs.{StandsAt}
+use Rattle.crn_plain.specs.Runs.{StandsBefore}
 use Rattle.crn_text.specs.declared.figures.Figures.{Figures}
 use Rattle.crn_text.specs.Rows.{IsFigures}
 
@@ -30,5 +30,5 @@ figures_at m m' vs i v base f same inside is base_is h a e =
     subst (λ (c : List ℕ). IsFigures m a c f) (sym (first_costs vs base (omega (arith, inside)) base_is)) costs
 
 pub stands_at : (m m' : ModelParts) (vs : List Parts) (i : ℕ) (v : Parts) → m' ≡ m → i < length vs → v ≡ get_or vs i v
-    → ((k : ℕ) (w : Parts) → slice_get vs k ≡ Some w → StandsAt m (total m) w) → StandsAt m' (total m') v
-stands_at m m' vs i v same inside is stand = subst (λ (n : ModelParts). StandsAt n (total n) v) (sym same) (stand i v (slice_get_read vs (length vs) i v refl inside is))
+    → ((k : ℕ) (w : Parts) → slice_get vs k ≡ Some w → StandsBefore m (total m) w) → StandsBefore m' (total m') v
+stands_at m m' vs i v same inside is stand = subst (λ (n : ModelParts). StandsBefore n (total n) v) (sym same) (stand i v (slice_get_read vs (length vs) i v refl inside is))

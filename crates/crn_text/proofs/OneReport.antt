@@ -8,7 +8,7 @@ use Rattle.crn_stock.specs.Models.{ModelParts}
 use Rattle.crn_stock.specs.Scenarios.{ScenarioParts}
 use Rattle.crn_stock.specs.declared.rules.Policy.{Policy}
 use Rattle.crn_rows.specs.Rows.{row_text}
-use Rattle.crn_text.specs.Report.{fraction_text, estimate_text, fields, header, rows_text, IsReportText}
+use Rattle.crn_text.specs.Report.{fraction_text, estimate_text, fields, header, policy_rows_text, IsReportText}
 use Rattle.crn_text.specs.Rows.{IsFigures}
 use Rattle.crn_text.specs.declared.figures.Figures.{Figures}
 
@@ -38,7 +38,7 @@ one_row one m a b p f g some_periods some_replications of_f of_g =
     one_quotient one (pos (sum a)) (m.periods * m.replications) f.per_period g.per_period (some_product m.periods m.replications some_periods some_replications) of_f.per_period_is of_g.per_period_is in
     let diff_total : f.diff_total ≡ g.diff_total = of_f.diff_total_is ∙ sym of_g.diff_total_is in
     let diff_mean : fraction_text f.diff_mean ≡ fraction_text g.diff_mean =
-    one_quotient one (pairs.total (differences a b)) m.replications f.diff_mean g.diff_mean some_replications of_f.diff_mean_is of_g.diff_mean_is in
+    one_quotient one (pairs.signed_sum (differences a b)) m.replications f.diff_mean g.diff_mean some_replications of_f.diff_mean_is of_g.diff_mean_is in
     let diff_var : estimate_text f.diff_var ≡ estimate_text g.diff_var = one_estimate one (over_pairs (differences a b) (differences a b)) (variance_parts m.replications) f.diff_var g.diff_var of_f.diff_var_is of_g.diff_var_is in
     let cov : estimate_text f.cov ≡ estimate_text g.cov = one_estimate one (over_pairs (signed a) (signed b)) (covariance_parts m.replications) f.cov g.cov of_f.cov_is of_g.cov_is in
     ap row_text (cc)
@@ -47,7 +47,7 @@ abbrev EachOf : ModelParts → List ℕ → List (List ℕ) → List Figures →
 EachOf m b costs fs = (i : ℕ) (f : Figures) → slice_get fs i ≡ Some f → (a : List ℕ) → slice_get costs i ≡ Some a → IsFigures m a b f
 
 one_text : OneFraction → (m : ModelParts) (b : List ℕ) (ps : List Policy) (costs : List (List ℕ)) (fs gs : List Figures) → 1 ≤ m.periods → 1 ≤ m.replications
-    → length fs ≡ length costs → length gs ≡ length costs → EachOf m b costs fs → EachOf m b costs gs → rows_text ps fs ≡ rows_text ps gs
+    → length fs ≡ length costs → length gs ≡ length costs → EachOf m b costs fs → EachOf m b costs gs → policy_rows_text ps fs ≡ policy_rows_text ps gs
 one_text one m b [] costs fs gs hp hr count_f count_g of_f of_g = refl
 one_text one m b (p ∷ ps) costs [] [] hp hr count_f count_g of_f of_g = refl
 one_text one m b (p ∷ ps) costs [] (g ∷ gs) hp hr count_f count_g of_f of_g = absurd (omega arith)
@@ -55,13 +55,13 @@ one_text one m b (p ∷ ps) costs (f ∷ fs) [] hp hr count_f count_g of_f of_g 
 one_text one m b (p ∷ ps) [] (f ∷ fs) (g ∷ gs) hp hr count_f count_g of_f of_g = absurd (omega arith)
 one_text one m b (p ∷ ps) (a ∷ costs) (f ∷ fs) (g ∷ gs) hp hr count_f count_g of_f of_g =
     let here : row_text (fields p f) ≡ row_text (fields p g) = one_row one m a b p f g hp hr (of_f 0 f refl a refl) (of_g 0 g refl a refl) in
-    let rest : rows_text ps fs ≡ rows_text ps gs =
+    let rest : policy_rows_text ps fs ≡ policy_rows_text ps gs =
     one_text one m b ps costs fs gs hp hr (omega arith) (omega arith) (λ i h e c d. of_f (suc i) h e c d) (λ i h e c d. of_g (suc i) h e c d) in
     cc
 
 pub one_report : OneFraction → (s : ScenarioParts) (costs : List (List ℕ)) (text other : List ℕ) → 1 ≤ s.model.periods → 1 ≤ s.model.replications
     → IsReportText s costs text → IsReportText s costs other → text ≡ other
 one_report one s costs text other hp hr is other_is =
-    let rows : rows_text s.policies is.figures ≡ rows_text s.policies other_is.figures =
+    let rows : policy_rows_text s.policies is.figures ≡ policy_rows_text s.policies other_is.figures =
     one_text one s.model (slice_index_or costs 0 []) s.policies costs is.figures other_is.figures hp hr is.are.count other_is.are.count is.are.each other_is.are.each in
     is.text_is ∙ ap (λ (rest : List ℕ). row_text header ++ rest) rows ∙ sym other_is.text_is

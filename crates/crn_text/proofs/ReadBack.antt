@@ -7,7 +7,7 @@ use Rattle.std.proofs.lemmas.Fmt.{decimal_by_steps_wide}
 use Rattle.std.specs.List.{list_all}
 use Rattle.crn_proto.specs.declared.schedule.Actor.{Actor}
 use Rattle.crn_proto.specs.declared.schedule.Actor.TheVariants.{Producer, Finish, Reader, Leave}
-use Rattle.crn_text.specs.Schedule.{actor_text, actor_lines, is_below, are_below, IsTextOf, IsScheduleOf, HasNoSchedule}
+use Rattle.crn_text.specs.Schedule.{actor_text, actor_lines, is_below, are_below, IsTextOfActors, IsScheduleOf, HasNoSchedule}
 use Rattle.crn_text.specs.Inner.Schedule.{is_in_line, IsCut}
 
 -- ---- no actor has a line feed in it
@@ -64,7 +64,7 @@ pub record FirstOf (actors : List Actor) (line after : List ℕ) : Type 0 where
   pub is : actors ≡ who ∷ others
   pub number : is_below (2 ^ 32) who ≡ true
   pub line_is : line ≡ actor_text who
-  pub rest : IsTextOf others after
+  pub rest : IsTextOfActors others after
 
 no_line : (w : Actor) (ys : List ℕ) → 10 ∷ [] ≡ actor_text w ++ 10 ∷ ys → ⊥
 no_line Producer ys e = absurd cc
@@ -77,7 +77,7 @@ no_bytes [] ys e = absurd cc
 no_bytes (c ∷ a) ys e = absurd cc
 
 -- no bytes are the text of no actors alone
-pub none_left : (ws : List Actor) → IsTextOf ws [] → ws ≡ []
+pub none_left : (ws : List Actor) → IsTextOfActors ws [] → ws ≡ []
 none_left [] h = refl
 none_left (w ∷ ws) h = elim h.text [
   | inl e ↦ absurd (no_bytes (actor_text w) (actor_lines ws) e)
@@ -94,7 +94,7 @@ end_of_text : (xs : List ℕ) → xs ++ 10 ∷ [] ≡ [] → ⊥
 end_of_text [] e = absurd cc
 end_of_text (x ∷ xs) e = absurd cc
 
-pub first_of : (ws : List Actor) (text line after : List ℕ) → IsCut text line after → 0 < length text → IsTextOf ws text → FirstOf ws line after
+pub first_of : (ws : List Actor) (text line after : List ℕ) → IsCut text line after → 0 < length text → IsTextOfActors ws text → FirstOf ws line after
 first_of [] text line after cut some h = elim h.text [
   | inl e ↦ absurd (some_bytes text some e)
   | inr e ↦ absurd (end_of_text text e)
@@ -119,7 +119,7 @@ first_of (w ∷ ws) text line after cut some h =
       ]
     ]
 
-pub with_first : (who : Actor) (ws : List Actor) (text line after : List ℕ) → IsCut text line after → is_below (2 ^ 32) who ≡ true → line ≡ actor_text who → IsTextOf ws after → IsTextOf (who ∷ ws) text
+pub with_first : (who : Actor) (ws : List Actor) (text line after : List ℕ) → IsCut text line after → is_below (2 ^ 32) who ≡ true → line ≡ actor_text who → IsTextOfActors ws after → IsTextOfActors (who ∷ ws) text
 with_first who ws text line after cut number is h =
     let numbers : are_below (2 ^ 32) (who ∷ ws) ≡ true = rw (number, h.numbers) refl in
     elim cut.whole [
@@ -128,22 +128,22 @@ with_first who ws text line after cut number is h =
         | inr f ↦ record { numbers = numbers; text = inr (ap (λ t. t ++ 10 ∷ []) e ∙ joined line after ∙ (λ i. is i ++ 10 ∷ f i)) }
       ]
       | inr e ↦
-          let none = none_left ws (subst (IsTextOf ws) e.1 h) in
+          let none = none_left ws (subst (IsTextOfActors ws) e.1 h) in
           record { numbers = numbers; text = inr (ap (λ t. t ++ 10 ∷ []) e.0 ∙ (λ i. is i ++ 10 ∷ actor_lines (sym none i))) }
     ]
 
 -- ---- how far a text is read: what was found, then the actors of the rest
 
 pub record IsReadSoFar (text : List ℕ) (found : List Actor) (rest : List ℕ) : Type 0 where
-  pub says : (ws : List Actor) → IsTextOf ws rest → IsTextOf (found ++ ws) text
-  pub only : (all : List Actor) → IsTextOf all text → (ws : List Actor) × (all ≡ found ++ ws) × IsTextOf ws rest
+  pub says : (ws : List Actor) → IsTextOfActors ws rest → IsTextOfActors (found ++ ws) text
+  pub only : (all : List Actor) → IsTextOfActors all text → (ws : List Actor) × (all ≡ found ++ ws) × IsTextOfActors ws rest
 
 pub begun : (text : List ℕ) → IsReadSoFar text [] text
 begun text = record { says = λ ws h. h; only = λ all h. (all, refl, h) }
 
 next_only : (text : List ℕ) (found : List Actor) (rest line after : List ℕ) (who : Actor) → IsReadSoFar text found rest → IsCut rest line after → 0 < length rest
     → ((w : Actor) → is_below (2 ^ 32) w ≡ true → line ≡ actor_text w → w ≡ who)
-    → (all : List Actor) → IsTextOf all text → (ws : List Actor) × (all ≡ (found ++ who ∷ []) ++ ws) × IsTextOf ws after
+    → (all : List Actor) → IsTextOfActors all text → (ws : List Actor) × (all ≡ (found ++ who ∷ []) ++ ws) × IsTextOfActors ws after
 next_only text found rest line after who so_far cut some every all h =
     let (ws, is, more) = so_far.only all h in
     let first = first_of ws rest line after cut some more in
@@ -154,7 +154,7 @@ pub one_more : (text : List ℕ) (found : List Actor) (rest line after : List �
     → is_below (2 ^ 32) who ≡ true → line ≡ actor_text who → ((w : Actor) → is_below (2 ^ 32) w ≡ true → line ≡ actor_text w → w ≡ who)
     → IsReadSoFar text (found ++ who ∷ []) after
 one_more text found rest line after who so_far cut some number is every = record {
-  says = λ ws h. subst (λ (vs : List Actor). IsTextOf vs text) (sym (append_assoc found (who ∷ []) ws)) (so_far.says (who ∷ ws) (with_first who ws rest line after cut number is h));
+  says = λ ws h. subst (λ (vs : List Actor). IsTextOfActors vs text) (sym (append_assoc found (who ∷ []) ws)) (so_far.says (who ∷ ws) (with_first who ws rest line after cut number is h));
   only = next_only text found rest line after who so_far cut some every;
 }
 
@@ -166,12 +166,12 @@ no_schedule text found rest line after so_far cut some none all h =
     let first = first_of ws rest line after cut some more in
     none first.who first.number first.line_is
 
-no_text : IsTextOf [] []
+no_text : IsTextOfActors [] []
 no_text = record { numbers = refl; text = inl refl }
 
 pub all_read : (text : List ℕ) (found : List Actor) → IsReadSoFar text found [] → IsScheduleOf text found
 all_read text found so_far = record {
-  is_text = subst (λ (vs : List Actor). IsTextOf vs text) (append-nil found) (so_far.says [] no_text);
+  is_text = subst (λ (vs : List Actor). IsTextOfActors vs text) (append-nil found) (so_far.says [] no_text);
   no_other = λ others h.
       let (ws, is, more) = so_far.only others h in
       is ∙ ap (λ (vs : List Actor). found ++ vs) (none_left ws more) ∙ append-nil found;

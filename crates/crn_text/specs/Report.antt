@@ -31,16 +31,16 @@ fields p f =
     ∷ signed_decimal f.diff_total ∷ fraction_text f.diff_mean ∷ estimate_text f.diff_var ∷ estimate_text f.cov ∷ []
 
 -- a row for each policy
-abbrev pub rows_text : List Policy → List Figures → List ℕ
-rows_text [] fs = []
-rows_text (p ∷ ps) [] = []
-rows_text (p ∷ ps) (f ∷ fs) = row_text (fields p f) ++ rows_text ps fs
+abbrev pub policy_rows_text : List Policy → List Figures → List ℕ
+policy_rows_text [] fs = []
+policy_rows_text (p ∷ ps) [] = []
+policy_rows_text (p ∷ ps) (f ∷ fs) = row_text (fields p f) ++ policy_rows_text ps fs
 
 -- the text is the report of a scenario, where a list has the costs of each policy
 pub record IsReportText (s : ScenarioParts) (costs : List (List ℕ)) (text : List ℕ) : Type 0 where
   pub figures : List Figures
   pub are : AreFigures s.model costs figures
-  pub text_is : text ≡ row_text header ++ rows_text s.policies figures
+  pub text_is : text ≡ row_text header ++ policy_rows_text s.policies figures
 
 -- the report of a scenario: that of the costs that its policies have after all its blocks
 abbrev pub IsReportOf : ScenarioParts → List ℕ → Type 0

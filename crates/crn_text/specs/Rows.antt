@@ -10,8 +10,8 @@ use Rattle.crn_text.specs.declared.figures.Figures.{Figures}
 pub record IsFigures (m : ModelParts) (a b : List ℕ) (f : Figures) : Type 0 where
   pub total_is : f.total ≡ sum a
   pub per_period_is : IsQuotient (pos (sum a)) (m.periods * m.replications) f.per_period
-  pub diff_total_is : f.diff_total ≡ pairs.total (differences a b)
-  pub diff_mean_is : IsQuotient (pairs.total (differences a b)) m.replications f.diff_mean
+  pub diff_total_is : f.diff_total ≡ pairs.signed_sum (differences a b)
+  pub diff_mean_is : IsQuotient (pairs.signed_sum (differences a b)) m.replications f.diff_mean
   pub diff_var_is : IsQuotientIfAny (over_pairs (differences a b) (differences a b)) (variance_parts m.replications) f.diff_var
   pub cov_is : IsQuotientIfAny (over_pairs (signed a) (signed b)) (covariance_parts m.replications) f.cov
 

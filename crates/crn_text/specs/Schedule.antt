@@ -29,18 +29,18 @@ abbrev pub are_below : ℕ → List Actor → Bool
 are_below bound actors = list_all (is_below bound) actors
 
 -- the bytes are a text of the actors: their lines, of which the last may lack its line feed
-pub record IsTextOf (actors : List Actor) (bytes : List ℕ) : Type 0 where
+pub record IsTextOfActors (actors : List Actor) (bytes : List ℕ) : Type 0 where
   pub numbers : are_below (2 ^ 32) actors ≡ true
   pub text : (bytes ≡ actor_lines actors) ⊎ (bytes ++ 10 ∷ [] ≡ actor_lines actors)
 
 -- the schedule of the bytes: they are a text of these actors and of no others
 pub record IsScheduleOf (bytes : List ℕ) (actors : List Actor) : Type 0 where
-  pub is_text : IsTextOf actors bytes
-  pub no_other : (others : List Actor) → IsTextOf others bytes → others ≡ actors
+  pub is_text : IsTextOfActors actors bytes
+  pub no_other : (others : List Actor) → IsTextOfActors others bytes → others ≡ actors
 
 -- the bytes are a text of no actors
 abbrev pub HasNoSchedule : List ℕ → Type 0
-HasNoSchedule bytes = (actors : List Actor) → ¬ IsTextOf actors bytes
+HasNoSchedule bytes = (actors : List Actor) → ¬ IsTextOfActors actors bytes
 
 -- the bytes are the text of a schedule with a reader that is not below the number of readers
 pub record HasUnknownReader (readers : ℕ) (bytes : List ℕ) : Type 0 where
@@ -55,7 +55,7 @@ RefusesSchedule readers fault.Reader bytes = HasUnknownReader readers bytes
 RefusesSchedule readers fault.Memory bytes = ⊤
 
 -- the number by which a fault is told
-abbrev pub number_of : ScheduleFault → ℕ
-number_of fault.Line = 1
-number_of fault.Reader = 2
-number_of fault.Memory = 90
+abbrev pub schedule_fault_number : ScheduleFault → ℕ
+schedule_fault_number fault.Line = 1
+schedule_fault_number fault.Reader = 2
+schedule_fault_number fault.Memory = 90

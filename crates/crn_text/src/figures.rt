@@ -3,7 +3,7 @@
 ghost use Rattle.std.specs.Prelude.{◌≡◌, ◌+◌, ◌*◌, ◌≤◌, ◌<◌, ◌^◌, All, IfOk, ℕ, List, length, map, sum, Some, slice_get};
 ghost use Rattle.crn_stock.specs.Parts.{Parts, period_cost_limit};
 ghost use Rattle.crn_stock.specs.Models.{total};
-ghost use Rattle.crn_plain.specs.Runs.{StandsAt};
+ghost use Rattle.crn_plain.specs.Runs.{StandsBefore};
 ghost use Rattle.crn_pair.specs.Pairs.{IsPairOf};
 ghost use Rattle.crn_text.specs.Rows.{IsFigures, AreFigures};
 
@@ -26,7 +26,7 @@ pub(crate) struct Figures {
 
 // The costs by replication of a policy whose run has come to its end.
 fn costs_at_end<'a>(model: &Model, state: &'a State) -> &'a [u64]
-    requires { StandsAt model.now (total model.now) state.now }
+    requires { StandsBefore model.now (total model.now) state.now }
     ensures value { result.now ≡ state.now.costs }
     ensures count { length result.now ≡ model.now.replications }
     ensures high { All (λ k. k ≤ 1024 * period_cost_limit) result.now }
@@ -66,8 +66,8 @@ fn pair_of(costs: &[u64], base: &[u64]) -> Pair
 }
 
 fn figures_of(model: &Model, state: &State, base: &State) -> Figures
-    requires state { StandsAt model.now (total model.now) state.now }
-    requires base { StandsAt model.now (total model.now) base.now }
+    requires state { StandsBefore model.now (total model.now) state.now }
+    requires base { StandsBefore model.now (total model.now) base.now }
     ensures { IsFigures model.now state.now.costs base.now.costs result }
 {
     let periods = u64::from(model.periods()) * u64::from(model.replications());
@@ -90,7 +90,7 @@ pub(crate) fn all_figures(
     scenario: &Scenario,
     states: &[State],
 ) -> Result<Vec<Figures>, AllocError>
-    requires stand { (i : ℕ) (v : Parts) → slice_get states.now i ≡ Some v → StandsAt scenario.now.model (total scenario.now.model) v }
+    requires stand { (i : ℕ) (v : Parts) → slice_get states.now i ≡ Some v → StandsBefore scenario.now.model (total scenario.now.model) v }
     ensures { IfOk result (λ f. AreFigures scenario.now.model (map (λ v. v.costs) states.now) f.items) }
 {
     let mut figures = Vec::with_capacity(alloc, states.len())?;

@@ -3,7 +3,7 @@ ghost use Rattle.crn_stock.specs.Models.{total};
 ghost use Rattle.crn_stock.specs.Scenarios.{is_name};
 ghost use Rattle.crn_plain.specs.Runs.{IsCheckpointOf};
 ghost use Rattle.crn_rows.specs.Rows.{row_text};
-ghost use Rattle.crn_text.specs.Report.{header, rows_text, fields, IsReportText};
+ghost use Rattle.crn_text.specs.Report.{header, policy_rows_text, fields, IsReportText};
 
 use crate::field_texts::{figure_texts, level_texts};
 use crate::figures::{Figures, all_figures};
@@ -64,7 +64,7 @@ fn with_policy_rows(
 ) -> Result<Sheet, AllocError>
     requires names { All (λ p. is_name p.name ≡ true) policies.now }
     requires count { length figures.now ≡ length policies.now }
-    ensures { IfOk result (λ after. after ≡ sheet ++ rows_text policies.now figures.now) }
+    ensures { IfOk result (λ after. after ≡ sheet ++ policy_rows_text policies.now figures.now) }
 {
     let mut sheet = sheet;
     for i in 0..policies.len() {

@@ -4,8 +4,8 @@ use Rattle.crn_draw.specs.Spread.{Weighted}
 use Rattle.crn_stock.specs.Models.{ModelParts}
 use Rattle.crn_checkpoint.specs.declared.models.Sizes.{Sizes}
 
-abbrev pub parts_of : Sizes → Weighted → Weighted → Option Weighted → ModelParts
-parts_of z demand lead returns = record {
+abbrev pub model_parts_of : Sizes → Weighted → Weighted → Option Weighted → ModelParts
+model_parts_of z demand lead returns = record {
   periods = z.periods;
   replications = z.replications;
   initial = z.initial;

@@ -5,7 +5,7 @@ use Rattle.crn_draw.specs.declared.guide.Guide.{Guide}
 use Rattle.crn_draw.specs.declared.guide.TheConstants.{SEVERAL}
 use Rattle.crn_draw.specs.declared.runs.Run.{Run}
 use Rattle.crn_draw.specs.Spread.{place_of}
-use Rattle.crn_draw.specs.Inner.Runs.{IsBracket, StandsAt}
+use Rattle.crn_draw.specs.Inner.Runs.{IsBracket, StandsAtPlace}
 
 -- the places of the first and of the last word whose ten leading bits are those of a number
 abbrev pub first_place : ℕ → ℕ → ℕ
@@ -16,7 +16,7 @@ last_place bits total = place_of (bits * 2 ^ 54 + (2 ^ 54 - 1)) total
 
 -- an entry that is not the mark stands at each place from `low` to `high`
 abbrev pub IsEntry : List Run → ℕ → ℕ → ℕ → Type 0
-IsEntry runs low high entry = entry ≢ SEVERAL → (place : ℕ) → low ≤ place → place ≤ high → StandsAt runs place entry
+IsEntry runs low high entry = entry ≢ SEVERAL → (place : ℕ) → low ≤ place → place ≤ high → StandsAtPlace runs place entry
 
 -- what stands past the end of the brackets
 abbrev pub no_bracket : Bracket

@@ -22,7 +22,7 @@ abbrev pub StartsRise : List Run → Type 0
 StartsRise runs = (i j : ℕ) → i ≤ j → j < length runs → start_at runs i ≤ start_at runs j
 
 -- the value stands at a place: its run begins there or before, and the next run after
-pub record StandsAt (runs : List Run) (place value : ℕ) : Type 0 where
+pub record StandsAtPlace (runs : List Run) (place value : ℕ) : Type 0 where
   pub index : ℕ
   pub inside : index < length runs
   pub begun : start_at runs index ≤ place

@@ -1,7 +1,7 @@
 -- Sums over the replications themselves, from which the code works out the sums over their pairs.
 use Rattle.std.specs.Prelude.{◌≡◌, ℕ, ◌*◌, ◌≤◌, ℤ, pos, ◌+ℤ◌, ◌*ℤ◌, List, [], ◌∷◌, unsigned_abs}
 use Rattle.crn_pair.specs.Limits.{cost_limit}
-use Rattle.crn_pair.specs.Sums.{total}
+use Rattle.crn_pair.specs.Sums.{signed_sum}
 use Rattle.crn_pair.specs.declared.moments.Moments.{Moments}
 
 -- the sum of the products of two lists place by place
@@ -12,8 +12,8 @@ products (x ∷ xs) (y ∷ ys) = (x *ℤ y) +ℤ products xs ys
 
 -- the sums of two lists
 pub record AreSums (xs ys : List ℤ) (m : Moments) : Type 0 where
-  pub x_is : m.x ≡ total xs
-  pub y_is : m.y ≡ total ys
+  pub x_is : m.x ≡ signed_sum xs
+  pub y_is : m.y ≡ signed_sum ys
   pub products_are : m.products ≡ products xs ys
 
 -- sums over n places of values up to the limit are no higher than this

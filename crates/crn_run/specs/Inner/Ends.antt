@@ -5,7 +5,7 @@ use Rattle.crn_stock.specs.Parts.{Parts}
 use Rattle.crn_stock.specs.Models.{ModelParts}
 use Rattle.crn_stock.specs.Draws.{At, OnwardAt, next_block}
 use Rattle.crn_stock.specs.declared.rules.Policy.{Policy}
-use Rattle.crn_plain.specs.Runs.{StandsAt}
+use Rattle.crn_plain.specs.Runs.{StandsBefore}
 use Rattle.crn_run.specs.declared.worker.PolicyEnd.{PolicyEnd}
 use Rattle.crn_run.specs.declared.worker.PolicyEnd.TheVariants.{Reached, Short, Held}
 
@@ -19,7 +19,7 @@ is_short (Held w) = false
 
 -- w is what v becomes by the blocks from its next one on: what leads to v by the blocks below leads to w
 pub record Advances (m : ModelParts) (p : Policy) (key : List ℕ) (v w : Parts) : Type 0 where
-  pub stands : StandsAt m (next_block w) w
+  pub stands : StandsBefore m (next_block w) w
   pub at : At m p key (next_block v) v → At m p key (next_block w) w
   pub onward : (q : Parts) → OnwardAt m p key q (next_block v) v → OnwardAt m p key q (next_block w) w
 

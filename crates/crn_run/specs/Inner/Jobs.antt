@@ -6,8 +6,8 @@ use Rattle.crn_stock.specs.Models.{total}
 use Rattle.crn_stock.specs.Scenarios.{ScenarioParts}
 use Rattle.crn_ring.specs.declared.ring.Ring.{Ring}
 use Rattle.crn_ring.specs.declared.reader_end.Reader.{Reader}
-use Rattle.crn_ring.specs.Calls.{IsReaderOf, number_of, reader_part, spec_of}
-use Rattle.crn_plain.specs.Runs.{StandsAt, IsCheckpointOf, EachAt, EachOnward}
+use Rattle.crn_ring.specs.Calls.{IsReaderOf, reader_number, reader_part, spec_of}
+use Rattle.crn_plain.specs.Runs.{StandsBefore, IsCheckpointOf, EachAt, EachOnward}
 use Rattle.crn_run.specs.Ends.{EndsAs, is_held}
 use Rattle.crn_run.specs.declared.jobs.Job.{Job}
 use Rattle.crn_run.specs.declared.worker.PolicyEnd.{PolicyEnd}
@@ -24,9 +24,9 @@ CarriesFor s ring = ((spec_of ring).id.key ≡ s.key) × ((spec_of ring).id.tota
 pub record IsReady (s : ScenarioParts) (ring : Ring) (j : Job) : Type 0 where
   pub policy : j.policy < length s.policies
   pub reader : IsReaderOf ring j.reader
-  pub number : number_of j.reader ≡ j.policy
+  pub number : reader_number j.reader ≡ j.policy
   pub running : (reader_part j.reader).seen_end ≡ false
-  pub stands : StandsAt s.model (reader_part j.reader).taken j.state
+  pub stands : StandsBefore s.model (reader_part j.reader).taken j.state
 
 abbrev pub AllReady : ScenarioParts → Ring → List Job → Type 0
 AllReady s ring jobs = (i : ℕ) (j : Job) → slice_get jobs i ≡ Some j → IsReady s ring j

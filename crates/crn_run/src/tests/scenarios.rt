@@ -1,7 +1,7 @@
 // The scenarios of the tests: the zero key and two policies, A and B.
 ghost use Rattle.std.specs.Prelude.{◌≡◌, ◌≤◌, ◌≤ℤ◌, pos, ◌∷◌, [], length, All, IfOk};
 ghost use Rattle.crn_stock.specs.Models.{IsPolicy};
-ghost use Rattle.crn_stock.specs.Scenarios.{IsRingSize};
+ghost use Rattle.crn_stock.specs.Scenarios.{IsScenarioRingSize};
 
 use crn_draw::Weights;
 use crn_stock::{Costs, Model, Name, Policy, Scenario};
@@ -17,7 +17,7 @@ pub(super) enum Slots {
 
 impl Slots {
     fn count(self) -> u64
-        ensures { IsRingSize result }
+        ensures { IsScenarioRingSize result }
     {
         match self {
             Slots::One => 1,

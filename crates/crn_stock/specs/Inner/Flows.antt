@@ -71,7 +71,7 @@ after_draws p f zero v = v
 after_draws p f (suc n) v = after_draw p (f n) (after_draws p f n v)
 
 -- k of some periods have run from period t on, and have brought x and a ring to x' and ring'
-pub record HasRun (p : Rules) (ds : DrawSource) (t k : ℕ) (x x' : Inventory) (ring ring' : List ℕ) : Type 0 where
+pub record HasRunPeriods (p : Rules) (ds : DrawSource) (t k : ℕ) (x x' : Inventory) (ring ring' : List ℕ) : Type 0 where
   pub kept : (has_returns : Bool) → (has_returns ≡ false → NoneReturned ds) → IsInventory has_returns t x ring → IsInventory has_returns (t + k) x' ring'
   pub moved : (v : Parts) → with_inventory v (t + k) x' ring' ≡ after_periods p (nth_draw ds) k (with_inventory v t x ring)
   pub leads : (j : ℕ) → j < k → (1 ≤ (nth_draw ds j).lead) × ((nth_draw ds j).lead ≤ 32)

@@ -3,7 +3,7 @@ use Rattle.std.specs.Prelude.{ℕ, ◌*◌, ◌≤◌, ◌<◌, Bool, ℤ, pos, 
 use Rattle.crn_stock.specs.Parts.{stock_limit}
 
 -- the ranges of a state's numbers: it has t of its periods behind it in the replication under way
-pub record IsInRange (periods replications : ℕ) (initial : ℤ) (has_returns : Bool) (done t : ℕ) (stock position : ℤ) (running : ℕ) : Type 0 where
+pub record HasNumbersInRange (periods replications : ℕ) (initial : ℤ) (has_returns : Bool) (done t : ℕ) (stock position : ℤ) (running : ℕ) : Type 0 where
   pub periods_low : 1 ≤ periods
   pub periods_high : periods ≤ 1024
   pub replications_high : replications ≤ 256

@@ -1,5 +1,5 @@
 use Rattle.std.proofs.Common.{◌∙◌, ◌++◌, ◌∷◌, [], length, refl, sym, arith}
-use Rattle.crn_plain.specs.Runs.{StandsAt}
+use Rattle.crn_plain.specs.Runs.{StandsBefore}
 use Rattle.crn_plain.proofs.Growing.{each-grown}
 use Rattle.crn_checkpoint.proofs.WholeRows.{handed_on}
 use Rattle.crn_checkpoint.proofs.Restoring.{few_costs}
@@ -29,5 +29,5 @@ loop-turn-preserved c =
             added.states ∙ (λ j. inv.2 j ++ state j ∷ []) ∙ sym turn.states_taken,
           );
       count = same_count _ _ _ _ _ _ added.policies added.states so_far.count;
-      stand = each-grown (λ _ v. StandsAt c.args.model.now c.args.next v) c.loop-turn.found.states.items _ c.in_ok-state.state (length c.loop-turn.found.states.items) added.states refl so_far.stand c.in_ok-state.ensures.stands;
+      stand = each-grown (λ _ v. StandsBefore c.args.model.now c.args.next v) c.loop-turn.found.states.items _ c.in_ok-state.state (length c.loop-turn.found.states.items) added.states refl so_far.stand c.in_ok-state.ensures.stands;
     }

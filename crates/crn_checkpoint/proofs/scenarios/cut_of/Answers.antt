@@ -1,7 +1,7 @@
 use Rattle.std.proofs.Common.{rules, ◌∙◌, ap, sym, subst, length}
 use Rattle.crn_stock.specs.Models.{ModelParts}
 use Rattle.crn_stock.specs.Scenarios.{ScenarioParts}
-use Rattle.crn_plain.specs.Runs.{StandsAt}
+use Rattle.crn_plain.specs.Runs.{StandsBefore}
 use Rattle.crn_checkpoint.proofs.WholeRows.{handed_on}
 use Rattle.crn_checkpoint.proofs.Cuts.{is_version, rows_in, next_read, not_over, for_scenario}
 use Rattle.crn_checkpoint.proofs.scenarios.cut_of.Goals as goal
@@ -56,5 +56,5 @@ returns-clause-of c =
     let made = c.new.ensures in
     record {
       count = c.in_ok-policies.ensures.count ∙ sym (ap (λ (x : ScenarioParts). length x.policies) made);
-      stand = λ i v e. subst (λ (m : ModelParts). StandsAt m c.natural_in-next.result v) (sym (ap (λ (x : ScenarioParts). x.model) made)) (c.in_ok-policies.ensures.stand i v e);
+      stand = λ i v e. subst (λ (m : ModelParts). StandsBefore m c.natural_in-next.result v) (sym (ap (λ (x : ScenarioParts). x.model) made)) (c.in_ok-policies.ensures.stand i v e);
     }

@@ -1,7 +1,7 @@
 use Rattle.std.proofs.Common.{rules, ℕ, ◌≡◌, ◌≢◌, ◌<◌, ◌^◌, true, All, AllPairs, List, length, subst}
 use Rattle.crn_stock.specs.declared.rules.Policy.{Policy}
 use Rattle.crn_stock.specs.Models.{ModelParts, IsModel, IsPolicy}
-use Rattle.crn_stock.specs.Scenarios.{AreForScenario, IsRingSize, is_name}
+use Rattle.crn_stock.specs.Scenarios.{AreForScenario, IsScenarioRingSize, is_name}
 use Rattle.crn_checkpoint.specs.Reading.{CanDraw}
 use Rattle.crn_checkpoint.proofs.writing.tell_scenario.Goals as goal
 
@@ -9,7 +9,7 @@ others : (c : goal.After-tell_returns) → AreForScenario c.args.scenario.now.ri
 others c =
     let told = c.policies-policies.ensures in
     record {
-      size = subst IsRingSize c.ring-ring.ensures.value c.ring-ring.ensures.size;
+      size = subst IsScenarioRingSize c.ring-ring.ensures.value c.ring-ring.ensures.size;
       some = rw told.value at told.some;
       few = rw told.value at told.few;
       ranges = subst (λ (ps : List Policy). All IsPolicy ps) told.value told.ranges;

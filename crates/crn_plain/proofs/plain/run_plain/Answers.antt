@@ -1,19 +1,19 @@
 use Rattle.std.proofs.Common.{rules, ◌≡◌, ◌++◌, ◌∷◌, [], ap, length, arith, Some, slice_get, ℕ, subst, sym}
 use Rattle.std.proofs.lemmas.Grind.{common_steps}
-use Rattle.crn_plain.specs.Runs.{StandsAt}
+use Rattle.crn_plain.specs.Runs.{StandsBefore}
 use Rattle.crn_plain.proofs.Growing.{each-grown}
 use Rattle.crn_plain.proofs.Running.{Ran, ran, read_at, read_policy, reached}
 use Rattle.crn_plain.proofs.plain.run_plain.Goals as goal
 
 -- the state that is taken further stands where the checkpoint does
-stands : (c : goal.After-index-policies-i) → StandsAt c.args.scenario.now.model c.args.start.now.next c.index-from.result.now
+stands : (c : goal.After-index-policies-i) → StandsBefore c.args.scenario.now.model c.args.start.now.next c.index-from.result.now
 stands c =
     c.requires.of.stand c.loop-i.i c.index-from.result.now
     (read_at c.args.start.now.states.items c.args.scenario.now.policies c.policies-policies.result.now c.loop-i.i c.index-from.result.now c.requires.of.count c.policies-policies.ensures.value c.loop-i-test.true c.index-from.ensures)
 
 pub run_policy_plain-requires-clause-stands : goal.run_policy_plain-requires-clause-stands
 run_policy_plain-requires-clause-stands c =
-    subst (λ (n : ℕ). StandsAt c.args.scenario.now.model n c.index-from.result.now) (sym (stands c).next) (stands c)
+    subst (λ (n : ℕ). StandsBefore c.args.scenario.now.model n c.index-from.result.now) (sym (stands c).next) (stands c)
 
 pub run_policy_plain-requires-clause-from : goal.run_policy_plain-requires-clause-from
 run_policy_plain-requires-clause-from c = omega (arith, (stands c).next, c.requires.from)

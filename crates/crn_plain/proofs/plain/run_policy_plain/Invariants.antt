@@ -1,10 +1,10 @@
 use Rattle.crn_stock.specs.Draws.{At, OnwardAt, next_block}
-use Rattle.crn_plain.specs.Runs.{StandsAt}
+use Rattle.crn_plain.specs.Runs.{StandsBefore}
 use Rattle.crn_plain.proofs.plain.run_policy_plain.Given as goal
 
 abbrev pub invariant-loop-number : goal.invariant-loop-number
 invariant-loop-number l = record {
-  stands : StandsAt l.scenario.model l.number l.state;
+  stands : StandsBefore l.scenario.model l.number l.state;
   at : At l.scenario.model l.policy l.scenario.key (next_block l.from) l.from → At l.scenario.model l.policy l.scenario.key l.number l.state;
   onward : OnwardAt l.scenario.model l.policy l.scenario.key l.from l.number l.state;
 }

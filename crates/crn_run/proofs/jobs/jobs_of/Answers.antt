@@ -3,7 +3,7 @@ use Rattle.std.proofs.lemmas.Grind.{common_steps}
 use Rattle.std.proofs.lemmas.Option.{slice_get_read}
 use Rattle.crn_stock.specs.Parts.{Parts}
 use Rattle.crn_ring.specs.declared.reader_end.Reader.{Reader}
-use Rattle.crn_ring.specs.Calls.{IsFresh, number_of}
+use Rattle.crn_ring.specs.Calls.{IsFresh, reader_number}
 use Rattle.crn_run.specs.declared.jobs.Job.{Job}
 use Rattle.crn_plain.proofs.Growing.{each-front, each-grown, each-last}
 use Rattle.crn_run.proofs.Ending.{JobFrom, job_from}
@@ -23,7 +23,7 @@ loop-reader-preserved c =
     let fresh : IsFresh ring (length front) x = each-last (IsFresh ring) front c.loop-reader.readers.items x whole c.loop-reader.invariant.fresh in
     let longer : length c.loop-reader.readers.items ≡ length front + 1 = grind (arith, common_steps, whole) in
     let place : length jobs + (length front + 1) ≡ length s.policies = omega (arith, longer, c.loop-reader.invariant.count) in
-    let number : j.policy ≡ number_of x = c.number-policy.ensures.part in
+    let number : j.policy ≡ reader_number x = c.number-policy.ensures.part in
     let inside : j.policy < length start = omega (arith, number, fresh.1, place, c.requires.start.count) in
     let same : c.in_ok-state.state ≡ c.index.result.now = search rules in
     let there : slice_get start j.policy ≡ Some c.index.result.now = slice_get_read start (length start) j.policy c.index.result.now refl inside c.index.ensures in

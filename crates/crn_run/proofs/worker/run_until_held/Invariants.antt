@@ -1,13 +1,13 @@
 use Rattle.std.proofs.Common.{◌≡◌, length, false}
 use Rattle.crn_stock.specs.Draws.{next_block}
-use Rattle.crn_ring.specs.Calls.{IsReaderOf, number_of, reader_part}
+use Rattle.crn_ring.specs.Calls.{IsReaderOf, reader_number, reader_part}
 use Rattle.crn_run.specs.Inner.Ends.{Advances}
 use Rattle.crn_run.proofs.worker.run_until_held.Given as goal
 
 abbrev pub invariant-loop : goal.invariant-loop
 invariant-loop g l = record {
   reader : IsReaderOf l.ring l.reader;
-  number : number_of l.reader ≡ number_of l.initial.reader;
+  number : reader_number l.reader ≡ reader_number l.initial.reader;
   running : (reader_part l.reader).seen_end ≡ false;
   taken : (reader_part l.reader).taken ≡ next_block l.state;
   advances : Advances l.scenario.model l.rules l.scenario.key l.initial.state l.state;
