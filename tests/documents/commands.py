@@ -21,6 +21,8 @@ NEVER_RUN = re.compile(r"\brt\b|\.ci/run|\b(apt|apt-get|pip|pip3|git|sbatch|srun
 NOT_RUN = {
     "(cd crates/crnsim && rt run < ../../examples/two_policies.toml)":
         ("it proves all crates first", "crates/crnsim/out/crnsim < examples/two_policies.toml"),
+    "(cd crates/crnsim && rt try < ../../examples/two_policies.toml)":
+        ("it reads all crates first", "crates/crnsim/out/crnsim < examples/two_policies.toml"),
     ".ci/run": ("it is the gate, of which this is a part", None),
     "apt-get install python3-pandas": ("it changes the machine", None),
     "apt-get install r-base-core": ("it changes the machine", None),

@@ -9,3 +9,6 @@ returns-in_err-text-clause-schedule g c f e =
     let bytes = subst (λ (bytes : List ℕ). RefusesSchedule c.in_ok-machine.machine.spec.readers f bytes) c.as_slice.ensures.value h.1 in
     let readers = ap (λ (m : MachineState). m.spec.readers) c.in_ok-machine.ensures.opened in
     (h.0, record { input = c.in_ok-input.input.items; read = search rules; refused = subst (λ (n : ℕ). RefusesSchedule n f c.in_ok-input.input.items) readers bytes })
+
+pub returns-clause-wrote : goal.returns-clause-wrote
+returns-clause-wrote g c = search rules

@@ -18,3 +18,6 @@ returns-clause-reads c =
       no_fault = no_fault (table_view c.in-Ok.table) (search rules);
       says = c.in_ok-scenario_of-in-None.ensures;
     }
+
+pub returns-in-Err-clause-refuses : goal.returns-in-Err-clause-refuses
+returns-in-Err-clause-refuses c = search rules
