@@ -4,7 +4,8 @@
 That each link leads to a file and a heading; that the map's crates stand on what crates.txt says; that what
 READING.md quotes stands in the files that it names, that it lists what must be believed, and that specs/Inner has what
 no public contract states (believed.py); that the list of wrong bodies names each must-fail edit, once and by a sentence
-of its own; and that the scenario and the report of README are those that the program takes and writes.
+of its own; that public items have docstrings of one form (docstrings.py); and that the scenario and the report of README
+are those that the program takes and writes.
 That the commands of README, of the guide and of the formats can be copied and print what stands there (commands.py),
 and the help's examples too (helps.py); that ranges, rules and statuses are those of the program (ranges.py, rules.py,
 statuses.py), also wherever else they stand (facts.py, sentences.py); and that the figures of tables and of sentences
@@ -21,6 +22,7 @@ import tempfile
 sys.dont_write_bytecode = True
 from believed import believed_tries, inner_tries
 from commands import command_tries
+from docstrings import docstring_tries
 from facts import checkpoint_tries, header_tries, option_tries, toml_tries, usage_tries
 from figures import figure_tries
 from helps import example_tries
@@ -103,8 +105,8 @@ def readme_tries(program):
         yield f"README.md's table: {policy}", f"| {policy} | {low} | {high} | {total} |" in text_of("README.md")
 
 
-PARTS = [link_tries, crate_tries, quote_tries, edit_tries, believed_tries, inner_tries, readme_tries, command_tries,
-         example_tries, header_tries, checkpoint_tries, usage_tries, option_tries, toml_tries, range_tries,
+PARTS = [link_tries, crate_tries, quote_tries, edit_tries, believed_tries, inner_tries, docstring_tries, readme_tries,
+         command_tries, example_tries, header_tries, checkpoint_tries, usage_tries, option_tries, toml_tries, range_tries,
          number_tries, rule_tries, status_tries, figure_tries, reading_tries]
 
 

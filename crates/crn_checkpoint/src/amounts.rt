@@ -83,7 +83,7 @@ fn amounts_of(alloc: Global, model: &Model, next: u64, rows: &[Row]) -> Result<A
     })
 }
 
-// The state of a model before block `next` from its rows, the first of which is its policy's.
+/// The state of a model before block `next` from its rows, the first of which is its policy's.
 pub(crate) fn state_of(
     alloc: Global,
     model: &Model,
@@ -110,7 +110,7 @@ pub(crate) fn state_of(
     }
 }
 
-// The rows after those of a policy and its state.
+/// The rows after those of a policy and its state.
 pub(crate) fn after_policy(rows: &[Row]) -> &[Row]
     ensures { (p : Policy) (v : Parts) (rest : List (List (List ℕ))) → length v.due ≡ 32 → length v.costs < 2 ^ 64 → rows.now ≡ policy_rows p v ++ rest → result.now ≡ rest }
 {

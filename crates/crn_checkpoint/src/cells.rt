@@ -8,7 +8,7 @@ ghost use Rattle.crn_checkpoint.specs.Inner.Cells.{cell};
 use crn_rows::Row;
 use std::alloc::{AllocError, Global};
 
-// The rows after the first `count`.
+/// The rows after the first `count`.
 pub(crate) fn after(rows: &[Row], count: usize) -> &[Row]
     ensures { result.now ≡ drop count rows.now }
 {
@@ -19,7 +19,7 @@ pub(crate) fn after(rows: &[Row], count: usize) -> &[Row]
     }
 }
 
-// The first `count` rows.
+/// The first `count` rows.
 pub(crate) fn front(rows: &[Row], count: usize) -> &[Row]
     ensures { result.now ≡ take count rows.now }
 {
@@ -60,7 +60,7 @@ pub(crate) fn text_in(rows: &[Row], row: usize, place: usize) -> &str
     }
 }
 
-// The numbers that the rows spell at a place.
+/// The numbers that the rows spell at a place.
 pub(crate) fn column(alloc: Global, rows: &[Row], place: usize) -> Result<Vec<u64>, AllocError>
     ensures { (xs : List ℕ) → All (λ x. x < 2 ^ 64) xs → map (λ r. slice_index_or r place []) rows.now ≡ map decimal xs → IfOk result (λ v. v.items ≡ xs) }
 {
@@ -82,7 +82,7 @@ fn narrowed(alloc: Global, numbers: &[u64]) -> Result<Vec<u32>, AllocError>
     Ok(narrow)
 }
 
-// The numbers of 32 bits that the rows spell at a place.
+/// The numbers of 32 bits that the rows spell at a place.
 pub(crate) fn small_column(
     alloc: Global,
     rows: &[Row],

@@ -20,7 +20,7 @@ use crn_rows::Row;
 use crn_stock::{Costs, Model};
 use std::alloc::Global;
 
-// The sizes, the initial stock and the cost rates of a model, whatever they are.
+/// The sizes, the initial stock and the cost rates of a model, whatever they are.
 #[derive(Clone, Copy)]
 pub(crate) struct Sizes {
     periods: u64,
@@ -149,7 +149,7 @@ fn sizes_of(rows: &[Row]) -> Sizes
     }
 }
 
-// The model that the rows of a checkpoint say, if it is within its ranges.
+/// The model that the rows of a checkpoint say, if it is within its ranges.
 pub(crate) fn model_of(alloc: Global, version: Version, rows: &[Row]) -> Result<Model, Unread>
     ensures tells { IfOk result (λ m. CanTell version m) }
     ensures model { (s : ScenarioParts) (next : ℕ) (states : List Parts) → AreRowsOf version s next states rows.now → MatchResult result (λ m. m ≡ s.model) (λ f. f ≡ Unread.Memory) }

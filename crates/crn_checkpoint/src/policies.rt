@@ -16,7 +16,7 @@ use crn_rows::Row;
 use crn_stock::{Model, Name, Policy, State};
 use std::alloc::{AllocError, Global};
 
-// Policies, and a state of each.
+/// Policies, and a state of each.
 #[derive(Drop)]
 pub(crate) struct Policies {
     pub(crate) policies: Vec<Policy>,
@@ -46,7 +46,7 @@ fn policy_of(alloc: Global, rows: &[Row]) -> Result<Policy, AllocError>
     })
 }
 
-// The first `count` policies of the rows, each with its state before block `next`.
+/// The first `count` policies of the rows, each with its state before block `next`.
 pub(crate) fn policies_of(
     alloc: Global,
     model: &Model,

@@ -107,7 +107,7 @@ fn with_policy_rows(sheet: Sheet, policy: &Policy, state: &State) -> Result<Shee
     with_cost_rows(sheet, state.costs())
 }
 
-// The sheet with the rows of each policy and its state.
+/// The sheet with the rows of each policy and its state.
 pub(crate) fn with_all_policy_rows(
     sheet: Sheet,
     policies: &[Policy],

@@ -15,7 +15,7 @@ use crn_rows::read_rows;
 use crn_stock::Scenario;
 use std::alloc::Global;
 
-// The checkpoint that a text spells, in whatever version and whatever its scenario, which gets this ring.
+/// The checkpoint that a text spells, in whatever version and whatever its scenario, which gets this ring.
 pub(crate) fn read_cut(alloc: Global, ring: u64, bytes: &[u8]) -> Result<Cut, Unread>
     requires { IsScenarioRingSize ring }
     ensures is_text { IfOk result (λ c. IsTextIn c.version c.scenario c.checkpoint.next c.checkpoint.states.items bytes.now) }

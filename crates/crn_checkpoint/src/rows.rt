@@ -9,7 +9,7 @@ use crn_rows::Sheet;
 use itoa::Buffer;
 use std::alloc::AllocError;
 
-// The sheet with a row of four numbers under a name.
+/// The sheet with a row of four numbers under a name.
 #[tactic(auto, using(crate::proofs::PlainRows::numbers_plain))]
 pub(crate) fn with_numbers_row(
     sheet: Sheet,
@@ -35,7 +35,7 @@ pub(crate) fn with_numbers_row(
     ])
 }
 
-// The sheet with a row of two numbers under a name.
+/// The sheet with a row of two numbers under a name.
 #[tactic(auto, using(crate::proofs::PlainRows::pair_plain))]
 pub(crate) fn with_pair_row(
     sheet: Sheet,
@@ -57,7 +57,7 @@ pub(crate) fn with_pair_row(
     ])
 }
 
-// The sheet with the row that ends a checkpoint.
+/// The sheet with the row that ends a checkpoint.
 pub(crate) fn with_end_row(sheet: Sheet) -> Result<Sheet, AllocError>
     ensures { IfOk result (λ after. after ≡ sheet ++ row_text spec.end_row) }
 {

@@ -158,7 +158,7 @@ fn with_list_rows(sheet: Sheet, model: &Model) -> Result<Sheet, AllocError>
     with_returned_rows(sheet, model)
 }
 
-// The sheet with all rows of a scenario before block `next`.
+/// The sheet with all rows of a scenario before block `next`.
 pub(crate) fn with_scenario_rows(
     sheet: Sheet,
     version: Version,

@@ -26,7 +26,7 @@ use std::alloc::Global;
 // The most policies of a scenario.
 const POLICY_LIMIT: usize = 16;
 
-// A checkpoint and its scenario, and the version of their text.
+/// A checkpoint and its scenario, and the version of their text.
 #[derive(Drop)]
 pub(crate) struct Cut {
     pub(crate) version: Version,
@@ -145,7 +145,7 @@ fn same_policies(a: &[Policy], b: &[Policy]) -> bool
     true
 }
 
-// Whether two scenarios differ in their rings at most.
+/// Whether two scenarios differ in their rings at most.
 pub(crate) fn same_but_ring(a: &Scenario, b: &Scenario) -> bool
     ensures { IsTrue result ↔ IsSameButRing a.now b.now }
 {
@@ -174,7 +174,7 @@ fn policies_in(
     policies_of(alloc, model, next, policy_rows(version, rows), count)
 }
 
-// The checkpoint that the rows say, and its scenario with this ring, if all of it is within its ranges.
+/// The checkpoint that the rows say, and its scenario with this ring, if all of it is within its ranges.
 pub(crate) fn cut_of(alloc: Global, ring: u64, rows: &[Row]) -> Result<Cut, Unread>
     requires { IsScenarioRingSize ring }
     ensures reads { (v : Version) (s : ScenarioParts) (next : ℕ) (states : List Parts) → AreRowsOf v s next states rows.now

@@ -1,6 +1,6 @@
 use std::alloc::AllocError;
 
-// Why nothing was read: the rows are not those of a checkpoint, or a growth was refused.
+/// Why nothing was read: the rows are not those of a checkpoint, or a growth was refused.
 #[derive(Clone, Copy, Debug, PartialEq, Eq)]
 pub(crate) enum Unread {
     NoCheckpoint,

@@ -1,7 +1,7 @@
 ghost use Rattle.std.specs.Prelude.{◌≡◌};
 ghost use Rattle.crn_checkpoint.specs.CheckpointText.{version_number};
 
-// The versions of a checkpoint's text. The first knows no returns, and is written to be compared with alone.
+/// The versions of a checkpoint's text. The first knows no returns, and is written to be compared with alone.
 #[derive(Clone, Copy, Debug, PartialEq, Eq)]
 pub(crate) enum Version {
     First,

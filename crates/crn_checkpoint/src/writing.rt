@@ -57,7 +57,7 @@ fn tell_states(states: &[State])
     }
 }
 
-// The text of a checkpoint of a scenario in a version that knows all that the scenario has.
+/// The text of a checkpoint of a scenario in a version that knows all that the scenario has.
 pub(crate) fn write_in(
     alloc: Global,
     version: Version,
@@ -78,9 +78,13 @@ pub(crate) fn write_in(
     sheet.into_text()
 }
 
-/// The text of a checkpoint of a scenario, in version 2: rows of five fields, as CSV. First come the scenario's own, but
-/// for the size of its ring; then, for each policy in order, its levels, the amounts of its state, each amount that is due
-/// with its period, and the cost of each replication that is done; at last a row that ends the text.
+/// The text of a checkpoint of a scenario, in version 2: rows of five fields, as CSV. First come the scenario's own,
+/// but for the size of its ring; then, for each policy in order, its levels, the amounts of its state, each amount that
+/// is due with its period, and the cost of each replication that is done; at last a row that ends the text.
+///
+/// # Asks
+///
+/// The checkpoint is one of the scenario.
 ///
 /// # Errors
 ///

@@ -72,8 +72,11 @@ impl Block {
         }
     }
 
-    /// Word `i` of the block, stream after stream in the order of [`STREAMS`](crate::STREAMS). Condition: `i` is
-    /// below [`BLOCK_WORDS`]. Takes no memory.
+    /// Word `i` of the block, stream after stream in the order of [`STREAMS`](crate::STREAMS). Takes no memory.
+    ///
+    /// # Asks
+    ///
+    /// `i` is below [`BLOCK_WORDS`].
     #[inline(always)]
     #[tactic(auto, using(crate::proofs::Blocks::word_of_demand, crate::proofs::Blocks::word_of_lead, crate::proofs::Blocks::word_of_returns))]
     pub fn word(&self, i: usize) -> u64
@@ -90,8 +93,12 @@ impl Block {
         }
     }
 
-    /// The block `number` of the stream of `key`, from its words in order as they were stored somewhere. It computes
-    /// no word. Condition: they are that block's words. Takes no memory.
+    /// The block `number` of the stream of `key`, from its words in order as they were stored somewhere. It computes no
+    /// word. Takes no memory.
+    ///
+    /// # Asks
+    ///
+    /// The words are those of that block.
     #[inline(always)]
     pub fn from_words(key: [u64; 4], number: u64, words: [u64; BLOCK_WORDS]) -> Block
         requires { words ≡ BlockWords key number }

@@ -27,8 +27,8 @@ struct Bracket {
     last: u16,
 }
 
-// What the words with the same leading bits draw, at the index that these bits are. The brackets stand apart, so that
-// the entries, which are read for each word, take little room.
+/// What the words with the same leading bits draw, at the index that these bits are. The brackets stand apart, so that
+/// the entries, which are read for each word, take little room.
 #[derive(Drop)]
 pub struct Guide {
     // The value that all these words draw, or `SEVERAL`.
@@ -49,7 +49,16 @@ fn entry_of(runs: &[Run], first: usize, last: usize) -> u32
     }
 }
 
-// The entry and the bracket of each number of leading bits, found in one walk over the runs of `total` places.
+/// The entry and the bracket of each number of leading bits, found in one walk over the runs of `total` places.
+///
+/// # Asks
+///
+/// There are 1 to 65,536 runs, the first of which begins at 0 and each other one after the one before; `total` is at
+/// most 65,536.
+///
+/// # Errors
+///
+/// `AllocError` where a growth was refused.
 pub fn guide_of(alloc: Global, runs: &[Run], total: u64) -> Result<Guide, AllocError>
     requires some { 0 < length runs.now }
     requires few { length runs.now ≤ 65536 }
@@ -74,7 +83,11 @@ pub fn guide_of(alloc: Global, runs: &[Run], total: u64) -> Result<Guide, AllocE
     Ok(Guide { entries, brackets })
 }
 
-// The value at the place of a word.
+/// The value at the place of a word. Takes no memory.
+///
+/// # Asks
+///
+/// The guide is that of these runs, which begin one after another, and of `total` places, at most 65,536.
 #[inline(always)]
 pub fn draw(runs: &[Run], guide: &Guide, total: u64, word: u64) -> u32
     requires rising { StartsRise runs.now }

@@ -6,14 +6,18 @@ ghost use Rattle.crn_draw.specs.Inner.Runs.{runs_from, start_at, IsBracket, Stan
 
 use std::alloc::{AllocError, Global};
 
-// A value, and the place at which its run begins: the sum of the weights before it.
+/// A value, and the place at which its run begins: the sum of the weights before it.
 #[derive(Clone, Copy)]
 pub struct Run {
     pub start: u32,
     pub value: u32,
 }
 
-// The place of a word among `total` places.
+/// The place of a word among `total` places. Takes no memory.
+///
+/// # Asks
+///
+/// `total` is at most 65,536.
 #[inline(always)]
 pub fn place_at(word: u64, total: u64) -> u32
     requires { total ≤ 65536 }
@@ -22,7 +26,15 @@ pub fn place_at(word: u64, total: u64) -> u32
     ((u128::from(word) * u128::from(total)) >> 64) as u32
 }
 
-// The runs of the values. A value with the weight 0 has none.
+/// The runs of the values. A value with the weight 0 has none.
+///
+/// # Asks
+///
+/// There are as many weights as values, and their sum is at most 65,536.
+///
+/// # Errors
+///
+/// `AllocError` where a growth was refused.
 pub fn runs_of(alloc: Global, values: &[u32], weights: &[u32]) -> Result<Vec<Run>, AllocError>
     requires same_length { length values.now ≡ length weights.now }
     requires total { sum weights.now ≤ 65536 }
@@ -40,7 +52,11 @@ pub fn runs_of(alloc: Global, values: &[u32], weights: &[u32]) -> Result<Vec<Run
     Ok(runs)
 }
 
-// The index of the last run that begins at `place` or before, sought onward from the run at `from`.
+/// The index of the last run that begins at `place` or before, sought onward from the run at `from`. Takes no memory.
+///
+/// # Asks
+///
+/// The run at `from` is there and begins at `place` or before; the runs begin one after another.
 pub fn index_of(runs: &[Run], from: usize, place: u32) -> usize
     requires inside { from < length runs.now }
     requires begun { start_at runs.now from ≤ place }
@@ -55,7 +71,11 @@ pub fn index_of(runs: &[Run], from: usize, place: u32) -> usize
     index
 }
 
-// The value at `place`, which lies in one of the runs from `first` to `last`: a search by halves.
+/// The value at `place`: a search by halves. Takes no memory.
+///
+/// # Asks
+///
+/// The place lies in one of the runs from `first` to `last`; the runs begin one after another.
 #[inline(never)]
 pub fn value_at(runs: &[Run], first: u16, last: u16, place: u32) -> u32
     requires bracket { IsBracket runs.now place place first last }

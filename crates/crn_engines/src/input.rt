@@ -10,7 +10,7 @@ pub const INPUT_LIMIT: usize = 1_048_576;
 
 const CHUNK: usize = 4_096;
 
-// Why an input was not read.
+/// Why an input was not read.
 #[derive(Clone, Copy, Debug, PartialEq, Eq)]
 pub(crate) enum InputFault {
     Failed,
@@ -36,7 +36,7 @@ fn read_some<R: Read>(reader: &mut R, input: &mut Vec<u8>) -> Result<bool, Input
     }
 }
 
-// Reads to the end. Each turn reads once, so at most `INPUT_LIMIT + 1` reads succeed.
+/// Reads to the end. Each turn reads once, so at most `INPUT_LIMIT + 1` reads succeed.
 pub(crate) fn read_input<R: Read>(alloc: Global, reader: &mut R) -> Result<Vec<u8>, InputFault>
     ensures all { IfOk result (λ input. ReadAll (R.remaining reader.old) (R.remaining reader.new) input.items) }
     ensures long { IfErr result (λ e. e ≡ InputFault.TooLong → ReadTooMuch (R.remaining reader.old) (R.remaining reader.new)) }

@@ -24,6 +24,7 @@ use std::thread::Threads;
 /// [`resume`](crate::resume) goes on from there.
 ///
 /// # Errors
+///
 /// - `Reading` where a read fails, for whatever cause, or where the input is over 1,048,576 bytes.
 /// - `Scenario` where the input is no scenario, with the least of its faults.
 /// - `CommandLine` where the scenario has fewer than `n` blocks in all. Then nothing is run.

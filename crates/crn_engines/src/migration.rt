@@ -18,6 +18,7 @@ use std::io::{Read, Write};
 /// writes the report that [`simulate`](crate::simulate) writes.
 ///
 /// # Errors
+///
 /// - `Reading` where a read fails, for whatever cause, or where the input is over 1,048,576 bytes.
 /// - `Migration` where the input is no checkpoint, or one of version 2 already, with the least of its faults.
 /// - `Memory` where a growth was refused.

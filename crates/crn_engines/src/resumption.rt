@@ -28,6 +28,7 @@ use std::thread::Threads;
 /// the report that [`simulate`](crate::simulate) writes. From one with altered amounts it goes on as they say.
 ///
 /// # Errors
+///
 /// - `Reading` where a read fails, for whatever cause, or where an input is over 1,048,576 bytes.
 /// - `Scenario` where the input is no scenario, with the least of its faults. Then the checkpoint is not read.
 /// - `Checkpoint` where the other text is no checkpoint, that of another scenario or one of version 1, with the least of

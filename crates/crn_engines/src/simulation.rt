@@ -20,6 +20,7 @@ use std::thread::Threads;
 /// Nothing is written before the whole report stands.
 ///
 /// # Errors
+///
 /// - `Reading` where a read fails, for whatever cause, or where the input is over 1,048,576 bytes.
 /// - `Scenario` where the input is no scenario, with the least of its faults.
 /// - `Thread` where a thread was refused. `Gate` is never answered, as the gates are open ones.

@@ -25,7 +25,7 @@ use std::thread::Threads;
 // The most policies of a scenario.
 const POLICY_LIMIT: usize = 16;
 
-// Reads an input to its end.
+/// Reads an input to its end.
 pub(crate) fn input_from<R: Read>(alloc: Global, reader: &mut R) -> Result<Vec<u8>, Fault>
     ensures all { IfOk result (λ input. ReadAll (R.remaining reader.old) (R.remaining reader.new) input.items) }
     ensures faults { IfErr result (λ e. is_of_input e ≡ true) }
@@ -47,7 +47,7 @@ fn input_fault(fault: InputFault) -> Fault
     }
 }
 
-// Reads an input to its end and judges it as a scenario.
+/// Reads an input to its end and judges it as a scenario.
 pub(crate) fn scenario_from<R: Read>(alloc: Global, reader: &mut R) -> Result<Scenario, Fault>
     ensures reads { IfOk result (λ s. ReadScenario (R.remaining reader.old) (R.remaining reader.new) s) }
     ensures scenario { (f : ScenarioFault) → result ≡ Err (Fault.Scenario f) → (f ≢ ScenarioFault.Memory) × ReadRefused f (R.remaining reader.old) (R.remaining reader.new) }
@@ -72,7 +72,7 @@ fn scenario_fault(fault: ScenarioFault) -> Fault
     }
 }
 
-// Runs all policies from a checkpoint up to a block, each on a thread of its own.
+/// Runs all policies from a checkpoint up to a block, each on a thread of its own.
 pub(crate) fn run_to<H: Threads + Wait + Sync>(
     rt: &H,
     alloc: Global,
@@ -95,7 +95,7 @@ pub(crate) fn run_to<H: Threads + Wait + Sync>(
     Ok(finished.checkpoint)
 }
 
-// Runs all policies over the blocks that are left, and makes the report.
+/// Runs all policies over the blocks that are left, and makes the report.
 pub(crate) fn run_and_report<H: Threads + Wait + Sync>(
     rt: &H,
     alloc: Global,

@@ -15,7 +15,7 @@ fn of_words(a: u64, b: u64) -> u64
     x
 }
 
-// The same of a large number: after one remainder all numbers are words.
+/// The same of a large number: after one remainder all numbers are words.
 pub(crate) fn greatest_common_divisor(a: u128, b: u64) -> u64
     requires { 1 ≤ b }
     ensures { IsGcd a b result }

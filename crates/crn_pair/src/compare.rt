@@ -26,7 +26,7 @@ fn are_costs(costs: &[u64]) -> bool
     true
 }
 
-// The fault of the least number.
+/// The fault of the least number.
 pub(crate) fn least_fault(a: &[u64], b: &[u64]) -> Option<PairFault>
     ensures { result ≡ spec.least_costs_fault a.now b.now }
 {
@@ -43,7 +43,7 @@ pub(crate) fn least_fault(a: &[u64], b: &[u64]) -> Option<PairFault>
     }
 }
 
-// The sums of the differences with themselves, and of the costs.
+/// The sums of the differences with themselves, and of the costs.
 #[derive(Clone, Copy)]
 pub(crate) struct Sums {
     pub(crate) differences: Moments,

@@ -17,7 +17,11 @@ pub struct Fraction {
 }
 
 impl Fraction {
-    /// The fraction `num / den` in lowest terms, for every `num` and each `den` from 1 on. Takes no memory.
+    /// The fraction `num / den` in lowest terms, for every `num`. Takes no memory.
+    ///
+    /// # Asks
+    ///
+    /// `den` is 1 or more.
     pub fn new(num: i128, den: u64) -> Fraction
         requires { 1 ≤ den }
         ensures { (result.num *ℤ pos den) ≡ (num *ℤ pos result.den) }

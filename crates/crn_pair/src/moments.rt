@@ -3,7 +3,7 @@
 ghost use Rattle.std.specs.Prelude.{◌≡◌, ◌≤◌, ◌<◌, ◌+ℤ◌, ◌-ℤ◌, ◌*ℤ◌, pos, unsigned_abs};
 ghost use Rattle.crn_pair.specs.Limits.{cost_limit};
 
-// The sums of the values of two lists, and of their products place by place.
+/// The sums of the values of two lists, and of their products place by place.
 #[derive(Clone, Copy)]
 pub(crate) struct Moments {
     pub(crate) x: i128,
@@ -14,7 +14,7 @@ pub(crate) struct Moments {
 impl Moments {
     ghost use Rattle.crn_pair.specs.Inner.Places.{AreWithin};
 
-    // The sums over no place.
+    /// The sums over no place.
     pub(crate) fn none() -> Moments
         ensures x { result.x ≡ pos 0 }
         ensures y { result.y ≡ pos 0 }
@@ -27,7 +27,7 @@ impl Moments {
         }
     }
 
-    // The sums with one more place.
+    /// The sums with one more place.
     pub(crate) fn with(self, x: i128, y: i128) -> Moments
         requires x { unsigned_abs x ≤ cost_limit }
         requires y { unsigned_abs y ≤ cost_limit }
@@ -43,7 +43,7 @@ impl Moments {
         }
     }
 
-    // The sum over the pairs of `count` places.
+    /// The sum over the pairs of `count` places.
     pub(crate) fn over_pairs(self, count: u64) -> i128
         requires few { count ≤ 256 }
         requires within { AreWithin 256 self }

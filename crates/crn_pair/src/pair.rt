@@ -28,11 +28,12 @@ impl Pair {
     ghost use Rattle.crn_pair.specs.Pairs as spec;
     ghost use Rattle.crn_pair.specs.Refused as refused;
 
-    /// Compares the costs `a` of a policy with the costs `b` of another one, which have an entry for
-    /// each replication. Takes no memory.
+    /// Compares the costs `a` of a policy with the costs `b` of another one, which have an entry for each replication.
+    /// Takes no memory.
     ///
     /// # Errors
-    /// The first of these faults that holds is answered:
+    ///
+    /// The first of these faults that holds:
     /// - `Lengths`: the lists have different lengths;
     /// - `Empty`: they are empty;
     /// - `TooMany`: they have more than 256 entries;

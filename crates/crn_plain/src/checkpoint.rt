@@ -17,6 +17,7 @@ impl Checkpoint {
     /// The beginning of a run: block 0 comes next, and no policy has run a period.
     ///
     /// # Errors
+    ///
     /// `AllocError` where a growth was refused.
     pub fn start(alloc: Global, scenario: &Scenario) -> Result<Checkpoint, AllocError>
         ensures next { IfOk result (λ c. c.next ≡ 0) }

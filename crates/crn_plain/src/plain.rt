@@ -8,10 +8,15 @@ use crn_cipher::block;
 use crn_stock::{Policy, Scenario, State};
 use std::alloc::{AllocError, Global};
 
-/// Runs all policies from `start` up to block `upto` on the calling thread, each on the blocks of the
-/// scenario's key. `start` stays as it is.
+/// Runs all policies from `start` up to block `upto` on the calling thread, each on the blocks of the scenario's key.
+/// `start` stays as it is.
+///
+/// # Asks
+///
+/// `start` is a checkpoint of the scenario, and `upto` is from `start.next` to the scenario's total.
 ///
 /// # Errors
+///
 /// `AllocError` where a growth was refused.
 pub fn run_plain(
     alloc: Global,

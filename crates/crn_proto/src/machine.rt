@@ -84,10 +84,12 @@ fn opening_words(alloc: Global, spec: &RingSpec) -> Result<Vec<u64>, AllocError>
 }
 
 impl Machine {
-    /// The ring before any step: nothing is published or taken. Its memory is that of the words and the readers, and
-    /// no step takes any more.
+    /// The ring before any step: nothing is published or taken. Its memory is that of the words and the readers, and no
+    /// step takes any more.
     ///
-    /// The first of these faults that holds is answered, and then nothing is kept:
+    /// # Errors
+    ///
+    /// The first of these faults that holds, and then nothing is kept:
     /// - `Size`: the size is no power of two from 1 to 1,024;
     /// - `Readers`: the number of readers is not from 1 to 16;
     /// - `Stream`: the total is over 65,536, or the first block is over the total;
@@ -332,16 +334,19 @@ impl Machine {
         }
     }
 
-    /// The next step of an actor, or None where it has none, and then nothing changes. Condition: a reader's number
-    /// is below `readers`. Takes no memory.
+    /// The next step of an actor, or None where it has none, and then nothing changes. Takes no memory.
     ///
-    /// - The producer has no step after the end mark. At the stream's total it stores the end mark. Else it loads
-    ///   each reader's cursor, from the first again where one shows that the slot is still needed, stores the words of
-    ///   the next block and publishes it.
+    /// - The producer has no step after the end mark. At the stream's total it stores the end mark. Else it loads each
+    ///   reader's cursor, from the first again where one shows that the slot is still needed, stores the words of the
+    ///   next block and publishes it.
     /// - `Finish` stores the end mark, between two blocks and before any cursor is loaded for the next.
-    /// - A reader loads the ring cursor until it shows a block that it has not taken, reads that block's words from
-    ///   its slot and takes it. It has no step once it has left or has seen the end mark.
+    /// - A reader loads the ring cursor until it shows a block that it has not taken, reads that block's words from its
+    ///   slot and takes it. It has no step once it has left or has seen the end mark.
     /// - `Leave` stores [`LEFT`] where the reader stands between two blocks or has seen the end mark, and has not left.
+    ///
+    /// # Asks
+    ///
+    /// A reader's number is below the ring's `readers`.
     pub fn step(&mut self, who: Actor) -> Option<Step>
         requires { IsActor self.old.spec who }
         ensures state { self.new ≡ (machine_steps self.old who).0 }
@@ -358,8 +363,14 @@ impl Machine {
 }
 
 /// The machine's next steps by the actors of a schedule in turn: for each actor its step, or None where it has none.
-/// Condition: reader numbers are below the machine's `readers`. The room for all answers is asked for first, so
-/// after an error, which is want of memory, the machine is as before.
+///
+/// # Asks
+///
+/// Reader numbers are below the machine's `readers`.
+///
+/// # Errors
+///
+/// `AllocError` where a growth was refused. The room for all answers is asked for first, so the machine is as before.
 pub fn replay(
     alloc: Global,
     machine: &mut Machine,

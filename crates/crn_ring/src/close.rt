@@ -9,11 +9,13 @@ use crate::ring::Ring;
 
 impl Ring {
     /// Ends the ring, gives its memory back, and answers its cursors: the number of blocks that are published and
-    /// whether the end is marked, as the producer knows them, and each reader's count, or
-    /// [`LEFT`](crn_proto::LEFT) where it has left. A count is at most what is published, and not below what the
-    /// producer last loaded of it.
+    /// whether the end is marked, as the producer knows them, and each reader's count, or [`LEFT`](crn_proto::LEFT)
+    /// where it has left. A count is at most what is published, and not below what the producer last loaded of it.
+    /// Takes no memory and waits for nobody.
     ///
-    /// Asks that this is the ring's producer. Takes no memory and waits for nobody.
+    /// # Asks
+    ///
+    /// This is the ring's producer.
     pub fn close(self, producer: Producer) -> Closing
         requires { IsProducerOf self producer }
         ensures { Closes (spec_of self) (producer_part producer) result }

@@ -49,12 +49,15 @@ impl Ring {
     }
 
     /// A ring with nothing in it, its producer, and its readers in order of their numbers. They stand before block
-    /// `spec.id.first`.
+    /// `spec.id.first`. It is the only call of this crate that takes memory.
     ///
-    /// Refuses, the least first: [`RingFault::Size`] where the size is no power of two from 1 to 1,024;
-    /// [`RingFault::Readers`] where the readers are not 1 to 16; [`RingFault::Stream`] where the total is over 65,536 or
-    /// below `first`; [`RingFault::Memory`] where a request for memory was refused. On a refusal nothing is kept. It is
-    /// the only call of this crate that takes memory.
+    /// # Errors
+    ///
+    /// The first of these faults that holds, and then nothing is kept:
+    /// - [`RingFault::Size`]: the size is no power of two from 1 to 1,024;
+    /// - [`RingFault::Readers`]: the readers are not 1 to 16;
+    /// - [`RingFault::Stream`]: the total is over 65,536 or below `first`;
+    /// - [`RingFault::Memory`]: a request for memory was refused.
     pub fn open(alloc: Global, spec: RingSpec) -> Result<(Ring, Producer, Vec<Reader>), RingFault>
         ensures refused { IfErr result (λ f. RefusesRing spec f) }
         ensures opened { IfOk result (λ r. IsOpened spec r.0 r.1 r.2.items) }

@@ -127,12 +127,16 @@ impl Producer {
 
     /// Publishes the next block where every reader that has not left has room for it.
     ///
-    /// Answers [`Publish::Done`], or [`Publish::Full`] with the first reader by number that this call has found
-    /// without room; then nothing is stored. The readers' cursors are not loaded where what was loaded before leaves
-    /// room. Takes no memory, waits for nobody, and makes at most `readers + BLOCK_WORDS + 1` loads and stores.
+    /// Answers [`Publish::Done`], or [`Publish::Full`] with the first reader by number that this call has found without
+    /// room; then nothing is stored. The readers' cursors are not loaded where what was loaded before leaves room.
+    /// Takes no memory, waits for nobody, and makes at most `readers + BLOCK_WORDS + 1` loads and stores.
     ///
-    /// Asks that this is the ring's producer, that the end is not marked, and that the block is the next one, of the
-    /// ring's key and below its total. Source: Thompson, Farley, Barker, Gee and Stewart, "Disruptor", LMAX, 2011.
+    /// Source: Thompson, Farley, Barker, Gee and Stewart, "Disruptor", LMAX, 2011.
+    ///
+    /// # Asks
+    ///
+    /// This is the ring's producer, the end is not marked, and the block is the next one, of the ring's key and below
+    /// its total.
     pub fn try_publish(&mut self, ring: &Ring, block: &Block) -> Publish
         requires ring { IsProducerOf ring.now self.old }
         requires running { (producer_part self.old).ended ≡ false }
@@ -155,16 +159,18 @@ impl Producer {
         }
     }
 
-    /// Publishes as many of the next blocks as every reader that has not left has room for, all by one store of
-    /// the ring cursor.
+    /// Publishes as many of the next blocks as every reader that has not left has room for, all by one store of the
+    /// ring cursor.
     ///
     /// Answers [`PublishMany::Done`] with their number, which is less than that of the blocks only where a cursor that
     /// this call has loaded leaves room for no more, or [`PublishMany::Full`] as
-    /// [`try_publish`](Producer::try_publish). Takes no memory, waits for nobody, and makes at most
-    /// `readers + BLOCK_WORDS * count + 1` loads and stores.
+    /// [`try_publish`](Producer::try_publish). Takes no memory, waits for nobody, and makes at most `readers +
+    /// BLOCK_WORDS * count + 1` loads and stores.
     ///
-    /// Asks that this is the ring's producer, that the end is not marked, and that the blocks, one at least, are the
-    /// next ones in order, of the ring's key and below its total.
+    /// # Asks
+    ///
+    /// This is the ring's producer, the end is not marked, and the blocks, one at least, are the next ones in order, of
+    /// the ring's key and below its total.
     pub fn publish_batch(&mut self, ring: &Ring, blocks: &[Block]) -> PublishMany
         requires ring { IsProducerOf ring.now self.old }
         requires running { (producer_part self.old).ended ≡ false }
@@ -187,9 +193,11 @@ impl Producer {
         }
     }
 
-    /// Marks the end, at whatever count, by one store. No block follows it.
+    /// Marks the end, at whatever count, by one store. No block follows it. Takes no memory and waits for nobody.
     ///
-    /// Asks that this is the ring's producer, and that the end is not marked. Takes no memory and waits for nobody.
+    /// # Asks
+    ///
+    /// This is the ring's producer, and the end is not marked.
     pub fn finish(&mut self, ring: &Ring)
         requires ring { IsProducerOf ring.now self.old }
         requires running { (producer_part self.old).ended ≡ false }

@@ -55,11 +55,14 @@ impl Reader {
     /// Takes the next block where there is one.
     ///
     /// Answers [`Take::Got`]; or [`Take::Empty`] where this call's own load of the ring cursor has shown neither a
-    /// block more nor the end, and [`Take::Ended`] where it has shown the end and no block more. Takes no memory,
-    /// waits for nobody, and makes at most `BLOCK_WORDS + 2` loads and stores.
+    /// block more nor the end, and [`Take::Ended`] where it has shown the end and no block more. Takes no memory, waits
+    /// for nobody, and makes at most `BLOCK_WORDS + 2` loads and stores.
     ///
-    /// Asks that this is a reader of the ring, and that it has not seen the end. Source: Thompson, Farley, Barker, Gee
-    /// and Stewart, "Disruptor", LMAX, 2011.
+    /// Source: Thompson, Farley, Barker, Gee and Stewart, "Disruptor", LMAX, 2011.
+    ///
+    /// # Asks
+    ///
+    /// This is a reader of the ring, and it has not seen the end.
     pub fn try_take(&mut self, ring: &Ring) -> Take
         requires ring { IsReaderOf ring.now self.old }
         requires running { (reader_part self.old).seen_end ≡ false }
@@ -85,14 +88,16 @@ impl Reader {
         Take::Got(Block::from_words(ring.spec.id.key, number, words))
     }
 
-    /// Takes as many of the next blocks as are there and as `out` has places for, into its front, and frees their
-    /// slots by one store. The rest of `out` stays.
+    /// Takes as many of the next blocks as are there and as `out` has places for, into its front, and frees their slots
+    /// by one store. The rest of `out` stays.
     ///
     /// Answers [`Batch::Got`] with their number; or [`Batch::Empty`] or [`Batch::Ended`], as
     /// [`try_take`](Reader::try_take), with `out` unchanged. Takes no memory, waits for nobody, and makes at most
     /// `BLOCK_WORDS * count + 2` loads and stores.
     ///
-    /// Asks that this is a reader of the ring, that it has not seen the end, and that `out` has a place.
+    /// # Asks
+    ///
+    /// This is a reader of the ring, it has not seen the end, and `out` has a place.
     pub fn take_batch(&mut self, ring: &Ring, out: &mut [Block]) -> Batch
         requires ring { IsReaderOf ring.now self.old }
         requires running { (reader_part self.old).seen_end ≡ false }
@@ -120,7 +125,11 @@ impl Reader {
     }
 
     /// Gives up reading, by one store, after which the producer waits for this reader no more. Takes no memory and
-    /// waits for nobody. Asks that this is a reader of the ring.
+    /// waits for nobody.
+    ///
+    /// # Asks
+    ///
+    /// This is a reader of the ring.
     pub fn leave(self, ring: &Ring)
         requires { IsReaderOf ring.now self }
     {
@@ -128,6 +137,10 @@ impl Reader {
     }
 
     /// As [`leave`](Reader::leave), and hands on what shows contracts that the reader has left.
+    ///
+    /// # Asks
+    ///
+    /// This is a reader of the ring.
     pub fn into_left(self, ring: &Ring) -> LeftReader
         requires { IsReaderOf ring.now self }
         ensures left { HasLeft ring.now (reader_number self) result }

@@ -16,7 +16,7 @@ use crn_cipher::BLOCK_WORDS;
 use crn_proto::LEFT;
 
 impl Ring {
-    // Where the words of block n begin. The size is a power of two, so that the slot is told by a mask.
+    /// Where the words of block n begin. The size is a power of two, so that the slot is told by a mask.
     #[inline(always)]
     pub(crate) fn base(&self, n: u64) -> usize
         ensures same { result ≡ place self.now.spec n 0 }
@@ -25,7 +25,7 @@ impl Ring {
         (1 + self.spec.readers as u64 + BLOCK_WORDS as u64 * (n & (self.spec.size - 1))) as usize
     }
 
-    // The producer loads the cursor of reader r.
+    /// The producer loads the cursor of reader r.
     #[inline(always)]
     pub(crate) fn load_gate(&self, seat: &mut Place, r: u32) -> u64
         requires own { IsAt self.now seat.old × HasProducer seat.old.me.0 }
@@ -39,7 +39,7 @@ impl Ring {
         self.table.shared.load::<LoadsGate>(seat, 1 + r as usize)
     }
 
-    // The producer stores word i of block n, whose words begin at `base`.
+    /// The producer stores word i of block n, whose words begin at `base`.
     #[inline(always)]
     pub(crate) fn store_word(&self, seat: &mut Place, base: usize, n: u64, i: usize, word: u64)
         requires own { IsAt self.now seat.old × HasProducer seat.old.me.0 }
@@ -55,7 +55,7 @@ impl Ring {
         self.table.shared.store::<StoresWord>(seat, base + i, word);
     }
 
-    // The producer publishes the `count` blocks that it has stored, up to n.
+    /// The producer publishes the `count` blocks that it has stored, up to n.
     #[inline(always)]
     pub(crate) fn publish_upto(&self, seat: &mut Place, n: u64, count: usize)
         requires own { IsAt self.now seat.old × HasProducer seat.old.me.0 }
@@ -68,7 +68,7 @@ impl Ring {
         self.table.shared.store::<Publishes>(seat, 0, 2 * n);
     }
 
-    // The producer marks the end, at n.
+    /// The producer marks the end, at n.
     #[inline(always)]
     pub(crate) fn store_end(&self, seat: &mut Place, n: u64)
         requires own { IsAt self.now seat.old × HasProducer seat.old.me.0 }
@@ -81,7 +81,7 @@ impl Ring {
         self.table.shared.store::<StoresEnd>(seat, 0, 2 * n + 1);
     }
 
-    // A reader loads the ring cursor.
+    /// A reader loads the ring cursor.
     #[inline(always)]
     pub(crate) fn load_cursor(&self, seat: &mut Place) -> u64
         requires own { IsAt self.now seat.old × HasReader seat.old.me.0 }
@@ -94,7 +94,7 @@ impl Ring {
         self.table.shared.load::<LoadsCursor>(seat, 0)
     }
 
-    // A reader loads word i of block n, whose words begin at `base`.
+    /// A reader loads word i of block n, whose words begin at `base`.
     #[inline(always)]
     pub(crate) fn load_word(&self, seat: &mut Place, base: usize, n: u64, i: usize) -> u64
         requires own { IsAt self.now seat.old × HasReader seat.old.me.0 }
@@ -108,7 +108,7 @@ impl Ring {
         self.table.shared.load::<LoadsWord>(seat, base + i)
     }
 
-    // Reader r takes the `count` blocks that it has read, up to n.
+    /// Reader r takes the `count` blocks that it has read, up to n.
     #[inline(always)]
     pub(crate) fn store_taken(&self, seat: &mut Place, r: u32, n: u64, count: usize)
         requires own { IsAt self.now seat.old × HasReader seat.old.me.0 }
@@ -123,7 +123,7 @@ impl Ring {
             .store::<StoresTaken>(seat, 1 + r as usize, n);
     }
 
-    // Reader r leaves.
+    /// Reader r leaves.
     #[inline(always)]
     pub(crate) fn store_left(&self, seat: &mut Place, r: u32)
         requires own { IsAt self.now seat.old × HasReader seat.old.me.0 }

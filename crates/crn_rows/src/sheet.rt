@@ -38,7 +38,11 @@ impl Sheet {
         }
     }
 
-    /// The text with one row more, of two or more fields, each of whose bytes is from 45 to 127.
+    /// The text with one row more.
+    ///
+    /// # Asks
+    ///
+    /// The row has two or more fields, each of whose bytes is from 45 to 127.
     ///
     /// # Errors
     ///

@@ -9,12 +9,15 @@ use crn_cipher::{Block, block};
 use crn_ring::{Producer, PublishMany, Ring};
 use std::sync::Wait;
 
-/// Publishes all blocks of the ring's stream that are not published, by batches of 16 at most, and then the end.
-/// Where the ring is full it tries again. Takes no memory.
+/// Publishes all blocks of the ring's stream that are not published, by batches of 16 at most, and then the end. Where
+/// the ring is full it tries again. It returns only if each reader takes its blocks or leaves. Takes no memory.
 ///
-/// Asks that this is the ring's producer, and that the end is not marked. It returns only if each reader takes its
-/// blocks or leaves. Source: Thompson, Farley, Barker, Gee and Stewart, "Disruptor: High performance alternative to
-/// bounded queues for exchanging data between concurrent threads", LMAX, 2011.
+/// Source: Thompson, Farley, Barker, Gee and Stewart, "Disruptor: High performance alternative to bounded queues for
+/// exchanging data between concurrent threads", LMAX, 2011.
+///
+/// # Asks
+///
+/// This is the ring's producer, and the end is not marked.
 pub fn feed<R: Wait>(rt: &R, ring: &Ring, producer: &mut Producer)
     requires of { IsProducerOf ring.now producer.old }
     requires running { (producer_part producer.old).ended ≡ false }

@@ -26,7 +26,7 @@ pub(crate) struct Job {
 }
 
 impl Job {
-    // Runs the policy on the thread that calls it.
+    /// Runs the policy on the thread that calls it.
     pub(crate) fn run<R: Wait, G: Gate>(
         self,
         rt: &R,
@@ -49,7 +49,7 @@ impl Job {
     }
 }
 
-// A ring of the scenario for the blocks from `first` to `upto - 1`, with a reader for each policy.
+/// A ring of the scenario for the blocks from `first` to `upto - 1`, with a reader for each policy.
 pub(crate) fn open_ring(
     alloc: Global,
     scenario: &Scenario,
@@ -78,7 +78,7 @@ pub(crate) fn open_ring(
     }
 }
 
-// A job for each policy, from a copy of its state in `start`. They stand as on a stack: the first policy's is the last.
+/// A job for each policy, from a copy of its state in `start`. They stand as on a stack: the first policy's is the last.
 pub(crate) fn jobs_of(
     alloc: Global,
     ring: &Ring,

@@ -35,15 +35,22 @@ pub struct Finished {
 /// scenario's ring. `start` stays as it is. What it comes to is what [`run_plain`](crate::run_plain) comes to.
 ///
 /// Before each block the policy's gate is asked, by the policy's number and the block's. All memory of its own is asked
-/// for before the first thread starts, and every thread that was started is joined.
+/// for before the first thread starts, and every thread that was started is joined. It returns only if every policy's
+/// run does.
 ///
-/// Asks that `start` is a checkpoint of the scenario, that `upto` is from `start.next` to the scenario's total, and that
-/// there is one gate for each policy, none of which has answered false. It returns only if every policy's run does.
+/// # Asks
+///
+/// `start` is a checkpoint of the scenario, `upto` is from `start.next` to the scenario's total, and there is one gate
+/// for each policy, none of which has answered false.
 ///
 /// # Errors
-/// The least that holds: [`RunFault::Thread`] where a thread was refused, and the ring was ended with nothing published;
-/// [`RunFault::Gate`] where a gate answered false, and so never where no gate can; [`RunFault::Memory`] where a request for memory was refused. A gate
-/// that was asked keeps what it stored.
+///
+/// The least that holds:
+/// - [`RunFault::Thread`]: a thread was refused, and the ring was ended with nothing published;
+/// - [`RunFault::Gate`]: a gate answered false, and so never where no gate can;
+/// - [`RunFault::Memory`]: a request for memory was refused.
+///
+/// A gate that was asked keeps what it stored.
 pub fn run_all<R: Threads + Wait + Sync, G: Gate + Send>(
     rt: &R,
     alloc: Global,

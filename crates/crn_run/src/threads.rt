@@ -130,8 +130,8 @@ fn run_in_scope<'s, 'e: 's, 'g: 's, R: Threads + Wait + Sync, G: Gate + Send>(
     Ok(ends)
 }
 
-// Runs each job on a thread of its own, under the gate of its policy, and feeds the ring on the thread that calls it.
-// The jobs stand as on a stack; so do their ends. `ends` has the room for them.
+/// Runs each job on a thread of its own, under the gate of its policy, and feeds the ring on the thread that calls it.
+/// The jobs stand as on a stack; so do their ends. `ends` has the room for them.
 pub(crate) fn run_jobs<'r, R: Threads + Wait + Sync, G: Gate + Send>(
     rt: &'r R,
     ring: &'r Ring,

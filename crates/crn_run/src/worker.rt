@@ -41,15 +41,18 @@ pub enum PolicyEnd {
     Held(State),
 }
 
-/// Takes the ring's blocks by batches of 16 at most, and applies each to the state of policy number `policy`, up to
-/// the end of the ring. Before each block the gate is asked, and where it answers false the state stands before that
-/// block, also where later ones were taken. Where the ring is empty it tries again. But for what the gate does it takes
-/// no memory.
+/// Takes the ring's blocks by batches of 16 at most, and applies each to the state of policy number `policy`, up to the
+/// end of the ring. Before each block the gate is asked, and where it answers false the state stands before that block,
+/// also where later ones were taken. Where the ring is empty it tries again. It returns only if the end is marked or
+/// the gate answers false. But for what the gate does it takes no memory.
 ///
-/// Asks that the scenario has the policy; that the reader is one of the ring's, has not seen the end, and has taken the
-/// blocks below the state's next one; that the state is of the scenario's model and stands between two blocks; that the
-/// ring has the scenario's key and a total of at most the scenario's; and that the gate has not answered false. It
-/// returns only if the end is marked or the gate answers false.
+/// # Asks
+///
+/// - The scenario has the policy.
+/// - The reader is one of the ring's, has not seen the end, and has taken the blocks below the state's next one.
+/// - The state is of the scenario's model and stands between two blocks.
+/// - The ring has the scenario's key and a total of at most the scenario's.
+/// - The gate has not answered false.
 pub fn run_policy<R: Wait, G: Gate>(
     rt: &R,
     ring: &Ring,

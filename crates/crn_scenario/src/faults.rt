@@ -393,7 +393,11 @@ fn has_other_policy_count(table: &Table) -> bool
     }
 }
 
-/// The fault with the least number that holds of a tree, if one does. `AllocError` where a growth was refused.
+/// The fault with the least number that holds of a tree, if one does.
+///
+/// # Errors
+///
+/// `AllocError` where a growth was refused.
 pub fn first_fault(alloc: Global, table: &Table) -> Result<Option<ScenarioFault>, AllocError>
     ensures { IfOk result (λ o. option_map scenario_fault_number o ≡ inner.first_true (spec.faults (table_view table.now))) }
 {

@@ -168,7 +168,15 @@ fn model_of(alloc: Global, table: &Table) -> Result<Model, AllocError>
     ))
 }
 
-/// The scenario of a tree that has no fault.
+/// The scenario of a tree.
+///
+/// # Asks
+///
+/// The tree has no fault.
+///
+/// # Errors
+///
+/// `AllocError` where a growth was refused.
 pub fn scenario_of(alloc: Global, table: &Table) -> Result<Scenario, AllocError>
     requires { HasNone (table_view table.now) }
     ensures { IfOk result (λ s. s ≡ spec.scenario_of (table_view table.now)) }

@@ -59,7 +59,7 @@ fn estimate_text(alloc: Global, estimate: Option<Fraction>) -> Result<Vec<u8>, A
     }
 }
 
-// The texts of a policy's two levels.
+/// The texts of a policy's two levels.
 #[derive(Drop)]
 pub(crate) struct LevelTexts {
     pub(crate) low: Vec<u8>,
@@ -77,7 +77,7 @@ pub(crate) fn level_texts(alloc: Global, policy: &Policy) -> Result<LevelTexts, 
     Ok(LevelTexts { low, high })
 }
 
-// The texts of a policy's figures.
+/// The texts of a policy's figures.
 #[derive(Drop)]
 pub(crate) struct FigureTexts {
     pub(crate) total: Vec<u8>,

@@ -11,7 +11,7 @@ use crn_pair::{Fraction, Pair};
 use crn_stock::{Model, Scenario, State};
 use std::alloc::{AllocError, Global};
 
-// What a row says of a policy beside the first one.
+/// What a row says of a policy beside the first one.
 #[derive(Clone, Copy)]
 pub(crate) struct Figures {
     // Over all replications.
@@ -84,7 +84,7 @@ fn figures_of(model: &Model, state: &State, base: &State) -> Figures
     }
 }
 
-// The figures of all policies, whose costs are those of their states.
+/// The figures of all policies, whose costs are those of their states.
 pub(crate) fn all_figures(
     alloc: Global,
     scenario: &Scenario,

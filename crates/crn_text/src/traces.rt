@@ -121,13 +121,15 @@ fn put_readers(text: &mut Vec<u8>, machine: &Machine) -> Result<(), AllocError>
     Ok(())
 }
 
-/// The trace of a schedule, which lets the machine take its steps and uses it up: a line for each actor, with the
-/// kind of its step, the number of the word, and the value that is loaded or stored in 16 hexadecimal digits, or with
-/// three dashes where the actor has no step. Then a line says how many blocks are published and whether the end mark is
+/// The trace of a schedule, which lets the machine take its steps and uses it up: a line for each actor, with the kind
+/// of its step, the number of the word, and the value that is loaded or stored in 16 hexadecimal digits, or with three
+/// dashes where the actor has no step. Then a line says how many blocks are published and whether the end mark is
 /// stored, and a line for each reader how many it has taken, whether it has left, and whether it has seen the end mark,
 /// where 1 is for yes.
 ///
-/// Condition: the machine is as [`Machine::open`] gave it, and reader numbers are below its `readers`.
+/// # Asks
+///
+/// The machine is as [`Machine::open`] gave it, and reader numbers are below its `readers`.
 ///
 /// # Errors
 ///

@@ -34,7 +34,11 @@ impl Machine {
     }
 
     /// The number of the next block that reader `r` takes, or would have taken next where it has left: at most the
-    /// stream's total. Condition: `r` is below `readers`.
+    /// stream's total.
+    ///
+    /// # Asks
+    ///
+    /// `r` is below `readers`.
     #[inline(always)]
     pub fn taken(&self, r: u32) -> u64
         requires { r < self.now.spec.readers }
@@ -44,7 +48,11 @@ impl Machine {
         self.takers[r as usize].taken
     }
 
-    /// Whether reader `r` has left. Condition: `r` is below `readers`.
+    /// Whether reader `r` has left.
+    ///
+    /// # Asks
+    ///
+    /// `r` is below `readers`.
     #[inline(always)]
     pub fn left(&self, r: u32) -> bool
         requires { r < self.now.spec.readers }
@@ -53,7 +61,11 @@ impl Machine {
         self.takers[r as usize].left
     }
 
-    /// Whether reader `r` has seen the end mark, with all blocks taken. Condition: `r` is below `readers`.
+    /// Whether reader `r` has seen the end mark, with all blocks taken.
+    ///
+    /// # Asks
+    ///
+    /// `r` is below `readers`.
     #[inline(always)]
     pub fn reader_ended(&self, r: u32) -> bool
         requires { r < self.now.spec.readers }
@@ -65,7 +77,10 @@ impl Machine {
     /// Word `i` of the ring. Word 0 is the ring cursor: twice the number of the next block, and one more after the end
     /// mark. Words 1 to `readers` are the readers' cursors: a count, or [`LEFT`](crate::LEFT). Then come the slots,
     /// with [`BLOCK_WORDS`](crn_cipher::BLOCK_WORDS) words each; block `n` stands in slot `n` mod `size`.
-    /// Condition: `i` is below the number of words.
+    ///
+    /// # Asks
+    ///
+    /// `i` is below the number of words, `1 + readers + BLOCK_WORDS * size`.
     #[inline(always)]
     pub fn word(&self, i: u64) -> u64
         requires { i < word_count self.now.spec }

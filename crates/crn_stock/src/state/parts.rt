@@ -16,8 +16,12 @@ impl State {
         done + u64::from(self.period.div_ceil(STREAM_WORDS))
     }
 
-    /// The amount that arrives `k` periods after the next one, of the orders placed so far: at 0 in the next
-    /// period itself. `k` is at most 31. An amount due after the replication's end never arrives.
+    /// The amount that arrives `k` periods after the next one, of the orders placed so far: at 0 in the next period
+    /// itself. An amount due after the replication's end never arrives.
+    ///
+    /// # Asks
+    ///
+    /// `k` is at most 31.
     pub fn due(&self, k: usize) -> u64
         requires { k < 32 }
         ensures { result ≡ slice_index self.now.due k }
