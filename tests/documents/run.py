@@ -69,12 +69,21 @@ def quote_tries(_):
             yield f"docs/READING.md quotes {wanted}", len(texts) == len(files) > 0 and any(wanted in it for it in texts)
 
 
+def heads_of(text, name):
+    """From the names of a file's functions of a name to their bodies: what they take, ask and promise."""
+    return re.findall(rf"\bfn {name}\b(.*?)(?:^ *\{{|\{{$)", text, re.MULTILINE | re.DOTALL)
+
+
 def refuses(crate, refusal):
-    """Whether a crate has the function that a line of the list names, and with it the clause of that name."""
-    name, clause = re.match(r"`(?:\w+::)*(\w+)`: (?:`([\w-]+)`)?", refusal).groups()
-    files = glob.glob(f"crates/{crate}/src/**/*.rt", root_dir=TOP, recursive=True)
-    texts = [text for text in map(text_of, files) if re.search(rf"\bfn {name}\b", text)]
-    return any(not clause or re.search(rf"\bensures {clause} {{", text) for text in texts)
+    """Whether a crate has the function that a line of the list names, with the clause of that name: in its module's file, or
+    anywhere where a type stands between, whose functions may stand in several files."""
+    path, clause = re.match(r"`([\w:]+)`: (?:`([\w-]+)`)?", refusal).groups()
+    *within, name = path.split("::")
+    place = within[0] if len(within) == 1 else "*"
+    files = [it for where in (f"**/{place}.rt", f"**/{place}/**/*.rt")
+             for it in glob.glob(f"crates/{crate}/src/{where}", root_dir=TOP, recursive=True)]
+    heads = [head for it in files for head in heads_of(text_of(it), name)]
+    return any(not clause or re.search(rf"\bensures {clause} \{{", head) for head in heads)
 
 
 def edit_tries(_):

@@ -20,9 +20,10 @@ const ANY_RING: u64 = 1;
 ///
 /// # Errors
 ///
-/// The least that holds: `NoCheckpoint` exactly where the text is that of no checkpoint, of version 1 or 2, with all
-/// amounts within their ranges, `NewVersion` exactly where it is that of a checkpoint in version 2; `Memory` where a
-/// growth was refused.
+/// `Memory` where a growth was refused, which says nothing of the text. Else the one that holds:
+/// - `NoCheckpoint`, exactly where the text is that of no checkpoint, of version 1 or 2, with all amounts within their
+///   ranges;
+/// - `NewVersion`, exactly where it is that of a checkpoint in version 2.
 pub fn migrate_checkpoint(alloc: Global, bytes: &[u8]) -> Result<Vec<u8>, MigrateFault>
     ensures migrated { IfOk result (λ text. IsMigrated bytes.now text.items) }
     ensures old { (s : ScenarioParts) (next : ℕ) (states : List Parts) → IsOldTextOf s next states bytes.now

@@ -42,9 +42,11 @@ pub(crate) fn read_cut(alloc: Global, ring: u64, bytes: &[u8]) -> Result<Cut, Un
 ///
 /// # Errors
 ///
-/// The least that holds: `NoCheckpoint` exactly where the text is that of no checkpoint, of version 1 or 2, with all
-/// amounts within their ranges, `OtherScenario` exactly where it is that of another scenario's, `OldVersion` exactly
-/// where it is that of this scenario's in version 1; `Memory` where a growth was refused.
+/// `Memory` where a growth was refused, which says nothing of the text. Else the one that holds:
+/// - `NoCheckpoint`, exactly where the text is that of no checkpoint, of version 1 or 2, with all amounts within their
+///   ranges;
+/// - `OtherScenario`, exactly where it is that of another scenario's;
+/// - `OldVersion`, exactly where it is that of this scenario's in version 1.
 pub fn read_checkpoint(
     alloc: Global,
     scenario: &Scenario,

@@ -87,7 +87,7 @@ producer_steps m =
     else if nat_lt m.stored BLOCK_WORDS then stores_word m
     else publishes m
 
--- the end mark, only where no cursor is loaded and no word stored for a next block
+-- the end mark, only where no cursor has let the next block in and no word of it is stored
 unfoldable pub finish_steps : MachineState → Outcome
 finish_steps m = if m.ended || (not (m.passed == 0)) || (not (m.stored == 0)) then (m, None) else ends m
 

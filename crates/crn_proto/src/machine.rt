@@ -339,7 +339,8 @@ impl Machine {
     /// - The producer has no step after the end mark. At the stream's total it stores the end mark. Else it loads each
     ///   reader's cursor, from the first again where one shows that the slot is still needed, stores the words of the
     ///   next block and publishes it.
-    /// - `Finish` stores the end mark, between two blocks and before any cursor is loaded for the next.
+    /// - `Finish` stores the end mark where the producer has begun no block, or begins one anew: its next step would load
+    ///   reader 0's cursor, or store the end mark.
     /// - A reader loads the ring cursor until it shows a block that it has not taken, reads that block's words from its
     ///   slot and takes it. It has no step once it has left or has seen the end mark.
     /// - `Leave` stores [`LEFT`] where the reader stands between two blocks or has seen the end mark, and has not left.

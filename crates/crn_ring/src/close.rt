@@ -8,9 +8,10 @@ use crate::producer_end::Producer;
 use crate::ring::Ring;
 
 impl Ring {
-    /// Ends the ring, gives its memory back, and answers its cursors: the number of blocks that are published and
-    /// whether the end is marked, as the producer knows them, and each reader's count, or [`LEFT`](crn_proto::LEFT)
-    /// where it has left. A count is at most what is published, and not below what the producer last loaded of it.
+    /// Ends the ring, gives its memory back, and answers its cursors: the number of the block that would be published
+    /// next and whether the end is marked, as the producer knows them, and for each reader its count, or
+    /// [`LEFT`](crn_proto::LEFT) where it has left. Contracts learn of a reader's cursor that it is
+    /// [`LEFT`](crn_proto::LEFT), or at most the first of these and not below what the producer last loaded of it.
     /// Takes no memory and waits for nobody.
     ///
     /// # Asks

@@ -46,7 +46,8 @@ impl Sheet {
     ///
     /// # Errors
     ///
-    /// `AllocError` where a growth was refused: then the text is lost.
+    /// `AllocError` where a growth was refused, or where the row has not as many fields as the first one: then the text
+    /// is lost.
     pub fn with_row(self, fields: &[&[u8]]) -> Result<Sheet, AllocError>
         requires { is_row (map (λ f. f.now) fields.now) ≡ true }
         ensures { IfOk result (λ sheet. sheet ≡ self ++ row_text (map (λ f. f.now) fields.now)) }

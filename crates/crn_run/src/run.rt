@@ -50,7 +50,8 @@ pub struct Finished {
 /// - [`RunFault::Gate`]: a gate answered false, and so never where no gate can;
 /// - [`RunFault::Memory`]: a request for memory was refused.
 ///
-/// A gate that was asked keeps what it stored.
+/// Of these, contracts learn only that `Gate` comes where some gate of this type can answer false. A gate that was asked
+/// keeps what it stored.
 pub fn run_all<R: Threads + Wait + Sync, G: Gate + Send>(
     rt: &R,
     alloc: Global,

@@ -21,7 +21,7 @@ fn are_name_bytes(bytes: &[u8]) -> bool
     true
 }
 
-/// Whether a text has the form of a policy's name: 1 to 16 of letters, digits, `_` and `-`.
+/// Whether a text has the form of a policy's name: 1 to 16 of `A-Z a-z 0-9 _ -`.
 pub fn is_name(text: &str) -> bool
     ensures { result ≡ spec.is_name text.now }
 {

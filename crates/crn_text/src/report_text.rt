@@ -83,7 +83,8 @@ fn with_policy_rows(
 ///
 /// # Asks
 ///
-/// The checkpoint is one of the scenario at its last block: all of its blocks have run.
+/// The states are those of the scenario's policies, one for each, with all blocks run. The checkpoint's `next` is not
+/// looked at.
 ///
 /// # Errors
 ///

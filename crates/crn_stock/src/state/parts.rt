@@ -63,7 +63,7 @@ impl State {
     }
 
     /// The stock at the end of the last period, in items, below 0 where there is backlog; the initial stock
-    /// where no period of the replication has run. It is -10,240,000 to 1,000,000, and with returns to 11,240,000.
+    /// where no period of the replication has run. It is -10,230,000 to 1,000,000, and with returns to 11,230,000.
     pub fn stock(&self) -> i64
         ensures { result ≡ self.now.stock }
     {
