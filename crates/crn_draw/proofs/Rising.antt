@@ -1,8 +1,8 @@
 -- Numbers that rise strictly, read from the front.
-use Rattle.std.proofs.Common.{◌≡◌, ℕ, zero, suc, ◌+◌, ◌<◌, ◌≤◌, Bool, true, ◌&&◌, List, [], ◌∷◌, AllPairs, None, length, sum, slice_index_or, refl, arith, nat_le, nat_lt}
+use Rattle.std.proofs.Common.{◌≡◌, ℕ, zero, suc, ◌+◌, ◌<◌, ◌≤◌, Bool, true, ◌&&◌, List, [], ◌∷◌, AllPairs, None, length, sum, slice_index_or, refl, sym, ◌∙◌, arith, nat_le, nat_lt}
 use Rattle.std.proofs.lemmas.Bool.{and_parts}
 use Rattle.std.proofs.lemmas.Bool.Decides.{nat_tests}
-use Rattle.crn_draw.specs.Faults.{rises, least_weights_fault}
+use Rattle.crn_draw.specs.Faults.{rises, least_weights_fault, AreWeighted}
 
 -- whether the numbers rise strictly, and the first is at least `least`
 abbrev pub rises_from : ℕ → List ℕ → Bool
@@ -47,3 +47,27 @@ pairs-rise least (x ∷ xs) up (suc i) (suc j) d lt inside =
 pub no_fault : (values weights : List ℕ) → 0 < length values → length values ≡ length weights → rises values ≡ true → 0 < sum weights → sum weights ≤ 65536
     → least_weights_fault values weights ≡ None
 no_fault values weights some same rising low high = rw rising (grind (arith, nat_tests, some, same, low, high))
+
+-- ---- values and weights without a fault, in other words
+
+-- numbers of which each is less than all later ones rise
+rises_of : (xs : List ℕ) → AllPairs (λ x y. x < y) xs → rises xs ≡ true
+rises_of [] h = refl
+rises_of (x ∷ []) h = refl
+rises_of (x ∷ y ∷ ys) h =
+    let first : x < y = h 0 1 0 (omega arith) (omega arith) in
+    let here : nat_lt x y ≡ true = grind (arith, nat_tests, first) in
+    rw (here, rises_of (y ∷ ys) (λ i j d lt inside. h (suc i) (suc j) d (omega (arith, lt)) (omega (arith, inside))))
+
+pub from_weighted : (values weights : List ℕ) → AreWeighted values weights → least_weights_fault values weights ≡ None
+from_weighted values weights h = no_fault values weights (omega (arith, h.some)) (sym h.each) (rises_of values h.rising) (omega (arith, h.low)) h.high
+
+pub are_weighted : (values weights : List ℕ) → least_weights_fault values weights ≡ None → AreWeighted values weights
+are_weighted values weights e =
+    let up : rises values ≡ true = grind (arith, nat_tests, e) in record {
+      some = grind (arith, nat_tests, e);
+      each = grind (arith, nat_tests, e);
+      rising = pairs-rise 0 values (rises_zero values ∙ up);
+      low = grind (arith, nat_tests, e);
+      high = grind (arith, nat_tests, e);
+    }

@@ -1,3 +1,4 @@
+mod Comparable
 mod Estimates
 mod Gathering
 mod LowestTerms

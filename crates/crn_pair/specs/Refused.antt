@@ -1,8 +1,8 @@
 -- What is refused of two lists of costs, and the numbers of the faults.
-use Rattle.std.specs.Prelude.{ℕ, List, ◌&&◌, not, if◌then◌else◌, Option, Some, None, length, nat_eq, nat_le}
+use Rattle.std.specs.Prelude.{◌≡◌, ℕ, ◌≤◌, List, All, ◌&&◌, not, if◌then◌else◌, Option, Some, None, length, nat_eq, nat_le}
 use Rattle.crn_pair.specs.declared.fault.PairFault.{PairFault}
 use Rattle.crn_pair.specs.declared.fault.PairFault.TheVariants.{Lengths, Empty, TooMany, Entry}
-use Rattle.crn_pair.specs.Limits.{are_costs}
+use Rattle.crn_pair.specs.Limits.{are_costs, cost_limit}
 
 -- the fault of the least number that two lists of costs have
 abbrev pub least_costs_fault : List ℕ → List ℕ → Option PairFault
@@ -12,6 +12,14 @@ least_costs_fault a b =
     else if not (nat_le (length a) 256) then Some TooMany
     else if not (are_costs a && are_costs b) then Some Entry
     else None
+
+-- costs that can be compared, replication by replication. `laws::without_fault` says that they are those that have no fault
+pub record AreComparable (a b : List ℕ) : Type 0 where
+  pub each : length a ≡ length b
+  pub some : 1 ≤ length a
+  pub few : length a ≤ 256
+  pub first : All (λ k. k ≤ cost_limit) a
+  pub second : All (λ k. k ≤ cost_limit) b
 
 -- the number by which a fault is told
 abbrev pub costs_fault_number : PairFault → ℕ

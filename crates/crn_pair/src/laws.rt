@@ -1,7 +1,8 @@
 //! Laws of the definitions that contracts cite. They compute nothing.
 
-ghost use Rattle.std.specs.Prelude.{◌≡◌, ℕ, ℤ, ◌≤◌};
+ghost use Rattle.std.specs.Prelude.{◌≡◌, ◌↔◌, ℕ, ℤ, ◌≤◌, List, None};
 ghost use Rattle.crn_pair.specs.Sums.{IsQuotient};
+ghost use Rattle.crn_pair.specs.Refused.{least_costs_fault, AreComparable};
 ghost use Rattle.crn_pair.specs.declared.fraction.Fraction.{Fraction};
 
 /// A quotient has just one fraction: two that are num / den have the same terms. So a contract that says
@@ -10,4 +11,10 @@ ghost use Rattle.crn_pair.specs.declared.fraction.Fraction.{Fraction};
 pub fn one_fraction()
     ensures num { (num : ℤ) (den : ℕ) (f g : Fraction) → 1 ≤ den → IsQuotient num den f → IsQuotient num den g → f.num ≡ g.num }
     ensures den { (num : ℤ) (den : ℕ) (f g : Fraction) → 1 ≤ den → IsQuotient num den f → IsQuotient num den g → f.den ≡ g.den }
+{}
+
+/// Two lists of costs have no fault exactly where they can be compared: they are equally long, of 1 to 256 entries, and
+/// no entry is over 230,000,000,000,000.
+pub fn without_fault()
+    ensures { (a b : List ℕ) → least_costs_fault a b ≡ None ↔ AreComparable a b }
 {}

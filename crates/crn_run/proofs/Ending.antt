@@ -1,8 +1,9 @@
 -- The runs of all policies, as stacks: of their jobs, and of their ends.
-use Rattle.std.proofs.Common.{◌≡◌, ℕ, zero, suc, refl, ◌+◌, ◌<◌, List, [], ◌∷◌, ◌++◌, length, Some, slice_get, get_or, Result, Ok, Err, IfOk, OnOk, true, false, subst, sym, ap, ◌∙◌, arith, length-append}
+use Rattle.std.proofs.Common.{◌≡◌, Bool, ℕ, zero, suc, refl, ◌+◌, ◌<◌, List, [], ◌∷◌, ◌++◌, length, Some, slice_get, get_or, Result, Ok, Err, IfOk, OnOk, true, false, subst, sym, ap, ◌∙◌, arith, length-append}
 use Rattle.std.proofs.lemmas.Bool.{false≢true}
 use Rattle.std.specs.List.{list_any}
-use Rattle.std.proofs.lemmas.Option.{slice_get_within, slice_get-get_or}
+use Rattle.std.proofs.lemmas.Option.{slice_get_within, slice_get-get_or, get_or_from_slice_get}
+use Rattle.std.proofs.lemmas.List.Folds.{list_any_at}
 use Rattle.crn_stock.specs.Parts.{Parts}
 use Rattle.crn_stock.specs.Scenarios.{ScenarioParts}
 use Rattle.crn_proto.specs.declared.actor_parts.ReaderPart.{ReaderPart}
@@ -20,7 +21,7 @@ use Rattle.crn_run.specs.declared.worker.PolicyEnd.TheVariants.{Reached, Short, 
 use Rattle.crn_run.specs.Ends.{EndsAs, HasReadAll, IsRun, is_held}
 use Rattle.crn_run.specs.Inner.Ends.{is_short}
 use Rattle.crn_run.specs.Jobs.{ring_spec}
-use Rattle.crn_run.specs.Inner.Jobs.{IsReady, AllReached, has_reached, AreEnds, AreJobs, Gathers, HasRun}
+use Rattle.crn_run.specs.Inner.Jobs.{IsReady, AreEnds, AreJobs, Gathers, HasRun}
 use Rattle.crn_plain.proofs.Growing.{HoldsOfEach, each-grown, slice_get_front, slice_get_last}
 use Rattle.crn_plain.proofs.Running.{same_of}
 
@@ -174,15 +175,9 @@ each_onward s start states upto each k p v w is_policy begins is =
 
 -- ---- how the runs have ended, all together
 
--- ends of which none is short and none is held have all reached the ring's total
-pub none_else : (ends : List PolicyEnd) → list_any is_short ends ≡ false → list_any is_held ends ≡ false → AllReached ends
-none_else [] short held i e h = cc
-none_else (Reached w x ∷ ends) short held zero e h = let same : Reached w x ≡ e = cc in subst (λ (z : PolicyEnd). has_reached z ≡ true) same refl
-none_else (Short n w x ∷ ends) short held zero e h = absurd (false≢true (sym short))
-none_else (Held w ∷ ends) short held zero e h = absurd (false≢true (sym held))
-none_else (Reached w x ∷ ends) short held (suc i) e h = none_else ends short held i e h
-none_else (Short n w x ∷ ends) short held (suc i) e h = absurd (false≢true (sym short))
-none_else (Held w ∷ ends) short held (suc i) e h = absurd (false≢true (sym held))
+-- what holds of one end holds of some
+pub some_end : (test : PolicyEnd → Bool) (ends : List PolicyEnd) (i : ℕ) (e : PolicyEnd) → slice_get ends i ≡ Some e → test e ≡ true → list_any test ends ≡ true
+some_end test ends i e is holds = list_any_at test ends i e (slice_get_within ends i e is) (ap test (get_or_from_slice_get ends i e e is) ∙ holds)
 
 -- one end more
 pub held_or_last : (ends : List PolicyEnd) (last : PolicyEnd) (P : Type 0) → (list_any is_held ends ≡ true → P) → (is_held last ≡ true → P) → list_any is_held (ends ++ last ∷ []) ≡ true → P

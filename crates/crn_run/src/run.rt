@@ -1,14 +1,14 @@
 //! The run of all policies, each on a thread of its own.
-ghost use Rattle.std.specs.Prelude.{◌≡◌, ◌≢◌, ℕ, ◌≤◌, true, false, length, All, List, IfOk, IfErr, OnOk, vec_len, vec_capacity, []};
+ghost use Rattle.std.specs.Prelude.{◌≡◌, ◌≢◌, ℕ, ◌≤◌, true, false, length, All, List, IfOk, IfErr, vec_len, vec_capacity, []};
 ghost use Rattle.crn_stock.specs.Parts.{Parts};
 ghost use Rattle.crn_stock.specs.Models.{total};
 ghost use Rattle.crn_plain.specs.Runs.{IsCheckpointOf, EachAt, EachOnward};
 ghost use Rattle.crn_ring.specs.Calls.{spec_of};
 ghost use Rattle.crn_run.specs.Jobs.{AreReaders, HasRefused, ring_spec};
-ghost use Rattle.crn_run.specs.Inner.Jobs.{AllReached, AllReady, AreJobs, CarriesFor, Gathers, HasRun};
+ghost use Rattle.crn_run.specs.Inner.Jobs.{AllReady, AreJobs, CarriesFor, Gathers, HasRun};
 ghost use Rattle.std.specs.List.{list_any};
-ghost use Rattle.crn_run.specs.Ends as spec;
-ghost use Rattle.crn_run.specs.Inner.Ends as inner;
+ghost use Rattle.crn_run.specs.Ends.{is_held};
+ghost use Rattle.crn_run.specs.Inner.Ends.{is_short};
 
 use crate::fault::RunFault;
 use crate::gate::Gate;
@@ -101,72 +101,26 @@ fn run_prepared<R: Threads + Wait + Sync, G: Gate + Send>(
         readers,
     } = prepared;
     let ends = run_jobs(rt, &ring, scenario, producer, jobs, gates, ends)?;
-    all_reached(ends.as_slice())?;
     let next = ring.spec().id.total;
-    let (states, readers) = gather(ends, states, readers);
+    let (states, readers) = gather(ends, states, readers)?;
     Ok(Finished {
         checkpoint: Checkpoint { next, states },
         readers,
     })
 }
 
-fn is_short(end: &PolicyEnd) -> bool
-    ensures { result ≡ inner.is_short end.now }
-{
-    matches!(
-        end,
-        PolicyEnd::Short {
-            published: _,
-            state: _,
-            reader: _
-        }
-    )
-}
-
-fn is_held(end: &PolicyEnd) -> bool
-    ensures { result ≡ spec.is_held end.now }
-{
-    matches!(end, PolicyEnd::Held(_))
-}
-
-fn any_short(ends: &[PolicyEnd]) -> bool
-    ensures { result ≡ list_any inner.is_short ends.now }
-{
-    ends.iter().any(is_short)
-}
-
-fn any_held(ends: &[PolicyEnd]) -> bool
-    ensures { result ≡ list_any spec.is_held ends.now }
-{
-    ends.iter().any(is_held)
-}
-
-// Refuses ends of which one is short, or else one was held.
-fn all_reached(ends: &[PolicyEnd]) -> Result<(), RunFault>
-    ensures all { OnOk result (AllReached ends.now) }
-    ensures thread { IfErr result (λ e. e ≡ RunFault.Thread → list_any inner.is_short ends.now ≡ true) }
-    ensures gate { IfErr result (λ e. e ≡ RunFault.Gate → list_any spec.is_held ends.now ≡ true) }
-    ensures refused { IfErr result (λ e. e ≢ RunFault.Memory) }
-{
-    if any_short(ends) {
-        Err(RunFault::Thread)
-    } else if any_held(ends) {
-        Err(RunFault::Gate)
-    } else {
-        Ok(())
-    }
-}
-
-// The states and the readers of ends that all reached the ring's total, those of the last end first.
+// The states and the readers of the ends, those of the last end first, where all of them reached the ring's total.
 fn gather(
     mut ends: Vec<PolicyEnd>,
     mut states: Vec<State>,
     mut readers: Vec<Reader>,
-) -> (Vec<State>, Vec<Reader>)
-    requires all { AllReached ends.items }
+) -> Result<(Vec<State>, Vec<Reader>), RunFault>
     requires states { (states.items ≡ []) × (vec_len ends ≤ vec_capacity states) }
     requires readers { (readers.items ≡ []) × (vec_len ends ≤ vec_capacity readers) }
-    ensures { Gathers ends.items result.0.items result.1.items }
+    ensures all { IfOk result (λ lists. Gathers ends.items lists.0.items lists.1.items) }
+    ensures thread { IfErr result (λ e. e ≡ RunFault.Thread → list_any is_short ends.items ≡ true) }
+    ensures gate { IfErr result (λ e. e ≡ RunFault.Gate → list_any is_held ends.items ≡ true) }
+    ensures refused { IfErr result (λ e. e ≢ RunFault.Memory) }
 {
     while let Some(end) = ends.pop() {
         match end {
@@ -178,9 +132,9 @@ fn gather(
                 published: _,
                 state: _,
                 reader: _,
-            } => unreachable!(),
-            PolicyEnd::Held(_) => unreachable!(),
+            } => return Err(RunFault::Thread),
+            PolicyEnd::Held(_) => return Err(RunFault::Gate),
         }
     }
-    (states, readers)
+    Ok((states, readers))
 }

@@ -63,12 +63,9 @@ fn start_from<'s, 'e: 's, 'g: 's, R: Threads + Wait + Sync, G: Gate + Send>(
     ensures refused { OnErr result ((producer_part producer.new).published ≡ (producer_part producer.old).published) }
     ensures joined { OnErr result (vec_len ends.new + vec_len jobs.new + 1 ≡ vec_len jobs.old) }
 {
-    let Some(job) = jobs.pop() else {
+    let (Some(job), Some(gate)) = (jobs.pop(), gates.next()) else {
         feed(rt, ring, producer);
         return Ok(());
-    };
-    let Some(gate) = gates.next() else {
-        unreachable!();
     };
     let promise = EndsJob {
         ring: Snapshot::of(ring),
@@ -94,40 +91,6 @@ fn start_from<'s, 'e: 's, 'g: 's, R: Threads + Wait + Sync, G: Gate + Send>(
             others
         }
     }
-}
-
-// As `start_from`, with all that changes its own.
-fn run_in_scope<'s, 'e: 's, 'g: 's, R: Threads + Wait + Sync, G: Gate + Send>(
-    rt: &'e R,
-    scope: &'s Scope<'s, &'e ()>,
-    ring: &'e Ring,
-    scenario: &'e Scenario,
-    mut producer: Producer,
-    mut jobs: Vec<Job>,
-    gates: IterMut<'g, G>,
-    mut ends: Vec<PolicyEnd>,
-) -> Result<Vec<PolicyEnd>, RunFault>
-    requires count { length (iter_mut_rest gates) ≡ vec_len jobs }
-    requires gates { All (λ g. G.refused g ≡ false) (iter_mut_rest gates) }
-    requires producer { IsProducerOf ring.now producer × ((producer_part producer).ended ≡ false) }
-    requires ring { CarriesFor scenario.now ring.now }
-    requires jobs { AllReady scenario.now ring.now jobs.items }
-    requires room { (vec_len ends ≡ 0) × (vec_len jobs ≤ vec_capacity ends) }
-    ensures ends { IfOk result (λ es. AreEnds scenario.now ring.now jobs.items es.items) }
-    ensures held { IfOk result (λ es. HeldByGates G.refused es.items) }
-    ensures thread { IfErr result (λ e. e ≡ RunFault.Thread) }
-{
-    start_from(
-        rt,
-        scope,
-        ring,
-        scenario,
-        &mut producer,
-        &mut jobs,
-        gates,
-        &mut ends,
-    )?;
-    Ok(ends)
 }
 
 /// Runs each job on a thread of its own, under the gate of its policy, and feeds the ring on the thread that calls it.
@@ -165,6 +128,19 @@ pub(crate) fn run_jobs<'r, R: Threads + Wait + Sync, G: Gate + Send>(
             ensures ends { IfOk result (λ es. AreEnds scenario.entry.now ring.entry.now jobs.items es.items) }
             ensures held { IfOk result (λ es. HeldByGates G.refused es.items) }
             ensures thread { IfErr result (λ e. e ≡ RunFault.Thread) }
-        { run_in_scope(rt, scope, ring, scenario, producer, jobs, turns, ends) },
+        {
+            let (mut producer, mut jobs, mut ends) = (producer, jobs, ends);
+            start_from(
+                rt,
+                scope,
+                ring,
+                scenario,
+                &mut producer,
+                &mut jobs,
+                turns,
+                &mut ends,
+            )?;
+            Ok(ends)
+        },
     )
 }

@@ -1,8 +1,9 @@
 -- What the first fault of a tree says: the numbers of the faults rise, so the first that holds is the least.
-use Rattle.std.proofs.Common.{◌≡◌, ℕ, ◌<◌, ◌≤◌, Bool, true, false, List, [], ◌∷◌, Some, None, refl, arith, lit<}
+use Rattle.std.proofs.Common.{◌≡◌, ◌≢◌, ℕ, ◌<◌, ◌≤◌, Bool, true, false, List, [], ◌∷◌, Some, None, refl, subst, sym, arith, lit<}
 use Rattle.std.proofs.lemmas.Bool.{false≢true}
 use Rattle.std.proofs.lemmas.Bool.Decides.{nat_tests}
-use Rattle.std.specs.Prelude.{⊤}
+use Rattle.std.specs.Prelude.{⊤, Result, Ok, Err, IfErr}
+use Rattle.std.specs.Result.{IsErr, IsErrAnd}
 use Rattle.toml.specs.Data.{Members}
 use Rattle.crn_scenario.specs.Faults.{holds_at, faults, IsLeast, HasNone}
 use Rattle.crn_scenario.specs.Inner.Faults.{first_true}
@@ -53,19 +54,24 @@ least ms k e = record {
   none_below = λ j less h. false≢true (cc (first_below 0 k (faults ms) (rising ms) e j less));
 }
 
--- and it is what the document is refused for
-pub refused : (f : ScenarioFault) (bytes : List ℕ) (ms : Members) → IsDocument bytes ms → first_true (faults ms) ≡ Some (scenario_fault_number f) → RefusesScenario f bytes
-refused fault.NoDocument bytes ms d e = absurd (false≢true (first_at 1 (faults ms) e))
-refused fault.Version bytes ms d e = record { tree = ms; document = d; least = least ms 2 e }
-refused fault.UnknownKey bytes ms d e = record { tree = ms; document = d; least = least ms 3 e }
-refused fault.MissingKey bytes ms d e = record { tree = ms; document = d; least = least ms 4 e }
-refused fault.Kind bytes ms d e = record { tree = ms; document = d; least = least ms 5 e }
-refused fault.Range bytes ms d e = record { tree = ms; document = d; least = least ms 6 e }
-refused fault.Lengths bytes ms d e = record { tree = ms; document = d; least = least ms 7 e }
-refused fault.Order bytes ms d e = record { tree = ms; document = d; least = least ms 8 e }
-refused fault.WeightSum bytes ms d e = record { tree = ms; document = d; least = least ms 9 e }
-refused fault.Levels bytes ms d e = record { tree = ms; document = d; least = least ms 10 e }
-refused fault.Name bytes ms d e = record { tree = ms; document = d; least = least ms 11 e }
-refused fault.RingSize bytes ms d e = record { tree = ms; document = d; least = least ms 12 e }
-refused fault.PolicyCount bytes ms d e = record { tree = ms; document = d; least = least ms 13 e }
+-- and it is what the document is refused for, want of memory aside
+pub refused : (f : ScenarioFault) (bytes : List ℕ) (ms : Members) → IsDocument bytes ms → (f ≢ fault.Memory → first_true (faults ms) ≡ Some (scenario_fault_number f)) → RefusesScenario f bytes
+refused fault.NoDocument bytes ms d e = absurd (false≢true (first_at 1 (faults ms) (e (λ q. cc))))
+refused fault.Version bytes ms d e = record { tree = ms; document = d; least = least ms 2 (e (λ q. cc)) }
+refused fault.UnknownKey bytes ms d e = record { tree = ms; document = d; least = least ms 3 (e (λ q. cc)) }
+refused fault.MissingKey bytes ms d e = record { tree = ms; document = d; least = least ms 4 (e (λ q. cc)) }
+refused fault.Kind bytes ms d e = record { tree = ms; document = d; least = least ms 5 (e (λ q. cc)) }
+refused fault.Range bytes ms d e = record { tree = ms; document = d; least = least ms 6 (e (λ q. cc)) }
+refused fault.Lengths bytes ms d e = record { tree = ms; document = d; least = least ms 7 (e (λ q. cc)) }
+refused fault.Order bytes ms d e = record { tree = ms; document = d; least = least ms 8 (e (λ q. cc)) }
+refused fault.WeightSum bytes ms d e = record { tree = ms; document = d; least = least ms 9 (e (λ q. cc)) }
+refused fault.Levels bytes ms d e = record { tree = ms; document = d; least = least ms 10 (e (λ q. cc)) }
+refused fault.Name bytes ms d e = record { tree = ms; document = d; least = least ms 11 (e (λ q. cc)) }
+refused fault.RingSize bytes ms d e = record { tree = ms; document = d; least = least ms 12 (e (λ q. cc)) }
+refused fault.PolicyCount bytes ms d e = record { tree = ms; document = d; least = least ms 13 (e (λ q. cc)) }
 refused fault.Memory bytes ms d e = tt
+
+-- what holds of an error holds of the answer that hands it on
+pub handed_on : {T : Type 0} (r : Result T ScenarioFault) (e : ScenarioFault) (P : ScenarioFault → Type 0) → IsErr r × IsErrAnd r (λ f. f ≡ e) → P e → IfErr r P
+handed_on (Ok x) e P h p = absurd (cc h.0)
+handed_on (Err f) e P h p = subst P (sym h.1) p

@@ -1,6 +1,6 @@
-// The faults of a scenario's tree, each by itself, and the first of them.
+// The faults of a scenario's tree, each by itself, and the least of them.
 
-ghost use Rattle.std.specs.Prelude.{◌≡◌, ◌^◌, pos, ◌+ℤ◌, ◌≤ℤ◌, map, option_map, option_copied, codes, IfOk};
+ghost use Rattle.std.specs.Prelude.{◌≡◌, ◌≢◌, ◌^◌, pos, ◌+ℤ◌, ◌≤ℤ◌, map, option_map, option_copied, codes, false, true, Some, None, IfOk, IfErr, OnOk};
 ghost use Rattle.std.specs.List.{list_all};
 ghost use Rattle.toml.specs.View.{view, table_view, array_view};
 ghost use Rattle.crn_stock.specs.Scenarios.{is_name};
@@ -393,49 +393,33 @@ fn has_other_policy_count(table: &Table) -> bool
     }
 }
 
-/// The fault with the least number that holds of a tree, if one does.
+// Refuses with a fault where it holds.
+fn refuse_where(holds: bool, fault: ScenarioFault) -> Result<(), ScenarioFault>
+    ensures kept { OnOk result (holds ≡ false) }
+    ensures refused { IfErr result (λ f. (holds ≡ true) × (f ≡ fault)) }
+{
+    if holds { Err(fault) } else { Ok(()) }
+}
+
+/// Refuses a tree that has a fault, with the fault of the least number that holds of it.
 ///
 /// # Errors
 ///
-/// `AllocError` where a growth was refused.
-pub fn first_fault(alloc: Global, table: &Table) -> Result<Option<ScenarioFault>, AllocError>
-    ensures { IfOk result (λ o. option_map scenario_fault_number o ≡ inner.first_true (spec.faults (table_view table.now))) }
+/// That fault, or `Memory` where a growth was refused.
+pub fn judge(alloc: Global, table: &Table) -> Result<(), ScenarioFault>
+    ensures sound { OnOk result (inner.first_true (spec.faults (table_view table.now)) ≡ None) }
+    ensures fault { IfErr result (λ f. f ≢ ScenarioFault.Memory → inner.first_true (spec.faults (table_view table.now)) ≡ Some (scenario_fault_number f)) }
 {
-    if has_other_version(table) {
-        return Ok(Some(ScenarioFault::Version));
-    }
-    if has_unknown_key(table) {
-        return Ok(Some(ScenarioFault::UnknownKey));
-    }
-    if lacks_key(table) {
-        return Ok(Some(ScenarioFault::MissingKey));
-    }
-    if has_other_kind(table) {
-        return Ok(Some(ScenarioFault::Kind));
-    }
-    if breaks_range(table) {
-        return Ok(Some(ScenarioFault::Range));
-    }
-    if has_other_lengths(table) {
-        return Ok(Some(ScenarioFault::Lengths));
-    }
-    if has_values_out_of_order(table) {
-        return Ok(Some(ScenarioFault::Order));
-    }
-    if has_weights_out_of_range(table) {
-        return Ok(Some(ScenarioFault::WeightSum));
-    }
-    if has_low_above_high(table) {
-        return Ok(Some(ScenarioFault::Levels));
-    }
-    if has_bad_name(alloc, table)? {
-        return Ok(Some(ScenarioFault::Name));
-    }
-    if has_other_ring(table) {
-        return Ok(Some(ScenarioFault::RingSize));
-    }
-    if has_other_policy_count(table) {
-        return Ok(Some(ScenarioFault::PolicyCount));
-    }
-    Ok(None)
+    refuse_where(has_other_version(table), ScenarioFault::Version)?;
+    refuse_where(has_unknown_key(table), ScenarioFault::UnknownKey)?;
+    refuse_where(lacks_key(table), ScenarioFault::MissingKey)?;
+    refuse_where(has_other_kind(table), ScenarioFault::Kind)?;
+    refuse_where(breaks_range(table), ScenarioFault::Range)?;
+    refuse_where(has_other_lengths(table), ScenarioFault::Lengths)?;
+    refuse_where(has_values_out_of_order(table), ScenarioFault::Order)?;
+    refuse_where(has_weights_out_of_range(table), ScenarioFault::WeightSum)?;
+    refuse_where(has_low_above_high(table), ScenarioFault::Levels)?;
+    refuse_where(has_bad_name(alloc, table)?, ScenarioFault::Name)?;
+    refuse_where(has_other_ring(table), ScenarioFault::RingSize)?;
+    refuse_where(has_other_policy_count(table), ScenarioFault::PolicyCount)
 }

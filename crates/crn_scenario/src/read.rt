@@ -3,7 +3,7 @@
 ghost use Rattle.std.specs.Prelude.{IfOk, IfErr};
 ghost use Rattle.crn_scenario.specs.Reading as spec;
 
-use crate::faults::first_fault;
+use crate::faults::judge;
 use crate::scenario::scenario_of;
 use crate::scenario_fault::ScenarioFault;
 use crn_stock::Scenario;
@@ -50,8 +50,6 @@ pub fn read_scenario(alloc: Global, bytes: &[u8]) -> Result<Scenario, ScenarioFa
             return Err(ScenarioFault::NoDocument);
         }
     };
-    match first_fault(alloc, &table)? {
-        Some(fault) => Err(fault),
-        None => Ok(scenario_of(alloc, &table)?),
-    }
+    judge(alloc, &table)?;
+    Ok(scenario_of(alloc, &table)?)
 }

@@ -7,34 +7,32 @@ ghost use Rattle.crn_text.specs.Report as spec;
 
 use crate::figures::Figures;
 use crn_pair::Fraction;
-use crn_stock::Policy;
 use itoa::Buffer;
 use std::alloc::{AllocError, Global};
 
+/// Puts a number in decimal behind a text.
 pub(crate) fn put_number<I: itoa::Integer>(text: &mut Vec<u8>, number: I) -> Result<(), AllocError>
     ensures { OnOk result (text.new.items ≡ text.old.items ++ I.text number) }
 {
     text.extend_from_slice(Buffer::new().format(number).as_bytes())
 }
 
+/// A number's text, in a buffer of its own.
 #[tactic(auto, using(crn_rows::proofs::Plainness::decimal_plain))]
-fn decimal_text(alloc: Global, number: u64) -> Result<Vec<u8>, AllocError>
-    ensures text { IfOk result (λ text. text.items ≡ decimal number) }
-    ensures plain { IfOk result (λ text. is_plain text.items ≡ true) }
+pub(crate) fn decimal_field<'b>(buffer: &'b mut Buffer, number: u64) -> &'b [u8]
+    ensures text { result.now ≡ decimal number }
+    ensures plain { is_plain result.now ≡ true }
 {
-    let mut text = Vec::new(alloc);
-    put_number(&mut text, number)?;
-    Ok(text)
+    buffer.format(number).as_bytes()
 }
 
+/// The text of a number, perhaps below 0, in a buffer of its own.
 #[tactic(auto, using(crn_rows::proofs::Plainness::signed_plain))]
-fn signed_text(alloc: Global, number: i128) -> Result<Vec<u8>, AllocError>
-    ensures text { IfOk result (λ text. text.items ≡ signed_decimal number) }
-    ensures plain { IfOk result (λ text. is_plain text.items ≡ true) }
+pub(crate) fn signed_field<'b>(buffer: &'b mut Buffer, number: i128) -> &'b [u8]
+    ensures text { result.now ≡ signed_decimal number }
+    ensures plain { is_plain result.now ≡ true }
 {
-    let mut text = Vec::new(alloc);
-    put_number(&mut text, number)?;
-    Ok(text)
+    buffer.format(number).as_bytes()
 }
 
 #[tactic(auto, using(crate::proofs::Ratios::ratio_plain))]
@@ -59,54 +57,29 @@ fn estimate_text(alloc: Global, estimate: Option<Fraction>) -> Result<Vec<u8>, A
     }
 }
 
-/// The texts of a policy's two levels.
+/// The texts of those of a policy's figures that are fractions.
 #[derive(Drop)]
-pub(crate) struct LevelTexts {
-    pub(crate) low: Vec<u8>,
-    pub(crate) high: Vec<u8>,
-}
-
-pub(crate) fn level_texts(alloc: Global, policy: &Policy) -> Result<LevelTexts, AllocError>
-    ensures low { IfOk result (λ t. t.low.items ≡ signed_decimal policy.now.low) }
-    ensures high { IfOk result (λ t. t.high.items ≡ signed_decimal policy.now.high) }
-    ensures low_plain { IfOk result (λ t. is_plain t.low.items ≡ true) }
-    ensures high_plain { IfOk result (λ t. is_plain t.high.items ≡ true) }
-{
-    let low = signed_text(alloc, i128::from(policy.low))?;
-    let high = signed_text(alloc, i128::from(policy.high))?;
-    Ok(LevelTexts { low, high })
-}
-
-/// The texts of a policy's figures.
-#[derive(Drop)]
-pub(crate) struct FigureTexts {
-    pub(crate) total: Vec<u8>,
+pub(crate) struct FractionTexts {
     pub(crate) per_period: Vec<u8>,
-    pub(crate) diff_total: Vec<u8>,
     pub(crate) diff_mean: Vec<u8>,
     pub(crate) diff_var: Vec<u8>,
     pub(crate) cov: Vec<u8>,
 }
 
-pub(crate) fn figure_texts(alloc: Global, figures: &Figures) -> Result<FigureTexts, AllocError>
-    ensures total { IfOk result (λ t. t.total.items ≡ decimal figures.now.total) }
+/// Those texts of the figures.
+pub(crate) fn fraction_texts(alloc: Global, figures: &Figures) -> Result<FractionTexts, AllocError>
     ensures per_period { IfOk result (λ t. t.per_period.items ≡ spec.fraction_text figures.now.per_period) }
-    ensures diff_total { IfOk result (λ t. t.diff_total.items ≡ signed_decimal figures.now.diff_total) }
     ensures diff_mean { IfOk result (λ t. t.diff_mean.items ≡ spec.fraction_text figures.now.diff_mean) }
     ensures diff_var { IfOk result (λ t. t.diff_var.items ≡ spec.estimate_text figures.now.diff_var) }
     ensures cov { IfOk result (λ t. t.cov.items ≡ spec.estimate_text figures.now.cov) }
-    ensures plain { IfOk result (λ t. are_plain (t.total.items ∷ t.per_period.items ∷ t.diff_total.items ∷ t.diff_mean.items ∷ t.diff_var.items ∷ t.cov.items ∷ []) ≡ true) }
+    ensures plain { IfOk result (λ t. are_plain (t.per_period.items ∷ t.diff_mean.items ∷ t.diff_var.items ∷ t.cov.items ∷ []) ≡ true) }
 {
-    let total = decimal_text(alloc, figures.total)?;
     let per_period = fraction_text(alloc, figures.per_period)?;
-    let diff_total = signed_text(alloc, figures.diff_total)?;
     let diff_mean = fraction_text(alloc, figures.diff_mean)?;
     let diff_var = estimate_text(alloc, figures.diff_var)?;
     let cov = estimate_text(alloc, figures.cov)?;
-    Ok(FigureTexts {
-        total,
+    Ok(FractionTexts {
         per_period,
-        diff_total,
         diff_mean,
         diff_var,
         cov,

@@ -3,6 +3,7 @@
 #![tactic(auto)]
 
 mod block_words;
+pub mod decimal;
 mod field_texts;
 mod figures;
 pub mod laws;

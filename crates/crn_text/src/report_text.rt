@@ -5,11 +5,12 @@ ghost use Rattle.crn_plain.specs.Runs.{IsCheckpointOf};
 ghost use Rattle.crn_rows.specs.Rows.{row_text};
 ghost use Rattle.crn_text.specs.Report.{header, policy_rows_text, fields, IsReportText};
 
-use crate::field_texts::{figure_texts, level_texts};
+use crate::field_texts::{decimal_field, fraction_texts, signed_field};
 use crate::figures::{Figures, all_figures};
 use crn_plain::Checkpoint;
 use crn_rows::Sheet;
 use crn_stock::{Policy, Scenario};
+use itoa::Buffer;
 use std::alloc::{AllocError, Global};
 
 // The sheet with the row of the fields' names.
@@ -39,14 +40,15 @@ fn with_policy_row(
     requires { is_name policy.now.name ≡ true }
     ensures { IfOk result (λ after. after ≡ sheet ++ row_text (fields policy.now figures.now)) }
 {
-    let levels = level_texts(alloc, policy)?;
-    let texts = figure_texts(alloc, figures)?;
+    let texts = fraction_texts(alloc, figures)?;
+    let (mut low, mut high) = (Buffer::new(), Buffer::new());
+    let (mut total, mut diff_total) = (Buffer::new(), Buffer::new());
     let name = policy.name.as_str().as_bytes();
-    let low = levels.low.as_slice();
-    let high = levels.high.as_slice();
-    let total = texts.total.as_slice();
+    let low = signed_field(&mut low, i128::from(policy.low));
+    let high = signed_field(&mut high, i128::from(policy.high));
+    let total = decimal_field(&mut total, figures.total);
     let per_period = texts.per_period.as_slice();
-    let diff_total = texts.diff_total.as_slice();
+    let diff_total = signed_field(&mut diff_total, figures.diff_total);
     let diff_mean = texts.diff_mean.as_slice();
     let diff_var = texts.diff_var.as_slice();
     let cov = texts.cov.as_slice();

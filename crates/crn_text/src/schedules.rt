@@ -1,13 +1,13 @@
 // Schedules from their texts.
 
-ghost use Rattle.std.specs.Prelude.{◌≡◌, ◌⊎◌, ℕ, ◌<◌, ◌^◌, ◌↔◌, Some, IfOk, IfErr, IfSome, IsTrue, decimal, true, length};
+ghost use Rattle.std.specs.Prelude.{◌≡◌, ◌⊎◌, ℕ, ◌<◌, ◌^◌, Some, IfOk, IfErr, IfSome, decimal, true, length};
 ghost use Rattle.crn_proto.specs.declared.schedule.Actor.{Actor};
 ghost use Rattle.crn_text.specs.Schedule as spec;
 ghost use Rattle.crn_text.specs.Inner.Schedule.{IsCut};
 
+use crate::decimal::number_of_text;
 use crate::schedule_fault::ScheduleFault;
 use crn_proto::Actor;
-use itoa::Buffer;
 use std::alloc::Global;
 
 // The first line without its line feed, and what follows it.
@@ -23,35 +23,27 @@ fn cut_line<'a>(text: &'a [u8]) -> (&'a [u8], &'a [u8])
     (text, &text[text.len()..])
 }
 
-fn spells(text: &str, number: u32) -> bool
-    ensures { IsTrue result ↔ (text.now ≡ decimal number) }
+// A reader's number, of 32 bits, from its text.
+fn reader_of(text: &str) -> Option<u32>
+    ensures spelt { IfSome result (λ r. text.now ≡ decimal r) }
+    ensures every { (r : ℕ) → r < 2 ^ 32 → text.now ≡ decimal r → result ≡ Some r }
 {
-    Buffer::new().format(number) == text
-}
-
-// A number of 32 bits from its text, in the one spelling that it has.
-fn number_of_text(text: &str) -> Option<u32>
-    ensures spelt { IfSome result (λ n. text.now ≡ decimal n) }
-    ensures every { (n : ℕ) → n < 2 ^ 32 → text.now ≡ decimal n → result ≡ Some n }
-{
-    match text.parse::<u32>() {
-        Ok(number) => {
-            if !spells(text, number) {
-                return None;
-            }
-            Some(number)
-        }
-        Err(_) => None,
+    match number_of_text(text) {
+        Some(number) => match u32::try_from(number) {
+            Ok(reader) => Some(reader),
+            Err(_) => None,
+        },
+        None => None,
     }
 }
 
-// A number of 32 bits from the bytes of its text.
-fn number_of_digits(digits: &[u8]) -> Option<u32>
-    ensures spelt { IfSome result (λ n. digits.now ≡ decimal n) }
-    ensures every { (n : ℕ) → n < 2 ^ 32 → digits.now ≡ decimal n → result ≡ Some n }
+// A reader's number from the bytes of its text.
+fn reader_number(digits: &[u8]) -> Option<u32>
+    ensures spelt { IfSome result (λ r. digits.now ≡ decimal r) }
+    ensures every { (r : ℕ) → r < 2 ^ 32 → digits.now ≡ decimal r → result ≡ Some r }
 {
     match std::str::from_utf8(digits) {
-        Ok(text) => number_of_text(text),
+        Ok(text) => reader_of(text),
         Err(_) => None,
     }
 }
@@ -64,11 +56,11 @@ fn actor_of(line: &[u8]) -> Option<Actor>
     match line {
         [b'p'] => Some(Actor::Producer),
         [b'e'] => Some(Actor::Finish),
-        [b'r', digits @ ..] => match number_of_digits(digits) {
+        [b'r', digits @ ..] => match reader_number(digits) {
             Some(r) => Some(Actor::Reader(r)),
             None => None,
         },
-        [b'l', digits @ ..] => match number_of_digits(digits) {
+        [b'l', digits @ ..] => match reader_number(digits) {
             Some(r) => Some(Actor::Leave(r)),
             None => None,
         },

@@ -1,6 +1,6 @@
 // The words of the command line.
 
-ghost use Rattle.std.specs.Prelude.{◌≡◌, ◌⊎◌, ℕ, ◌<◌, ◌^◌, Some, ◌↔◌, IfErr, IfSome, IsTrue, decimal};
+ghost use Rattle.std.specs.Prelude.{◌≡◌, ◌⊎◌, IfErr};
 ghost use Rattle.crnsim.specs.Inner.CommandLine.{key_word_of};
 
 use crate::help::{
@@ -12,7 +12,7 @@ use clap::error::ErrorKind;
 use clap::{Arg, ArgMatches};
 use crn_engines::Fault;
 use crn_scenario::hex::{is_hex_word, word_of};
-use itoa::Buffer;
+use crn_text::decimal::number_of_text;
 use std::alloc::{AllocError, Global};
 
 /// What the program is asked for.
@@ -216,7 +216,7 @@ fn number_at(words: &ArgMatches<'_>, name: &str) -> Result<u64, Fault>
     ensures { IfErr result (λ e. e ≡ Fault.CommandLine) }
 {
     match words.get_str(name) {
-        Some(text) => match number(text) {
+        Some(text) => match number_of_text(text) {
             Some(number) => Ok(number),
             None => Err(Fault::CommandLine),
         },
@@ -233,26 +233,4 @@ fn key_word(text: &str) -> Option<u64>
     } else {
         None
     }
-}
-
-// A number from its decimal digits, in the one spelling that it has.
-fn number(text: &str) -> Option<u64>
-    ensures spelt { IfSome result (λ n. text.now ≡ decimal n) }
-    ensures every { (n : ℕ) → n < 2 ^ 64 → text.now ≡ decimal n → result ≡ Some n }
-{
-    match text.parse::<u64>() {
-        Ok(n) => {
-            if !spells(text, n) {
-                return None;
-            }
-            Some(n)
-        }
-        Err(_) => None,
-    }
-}
-
-fn spells(text: &str, n: u64) -> bool
-    ensures { IsTrue result ↔ (text.now ≡ decimal n) }
-{
-    Buffer::new().format(n) == text
 }

@@ -11,7 +11,7 @@ use Rattle.crn_plain.specs.Runs.{StandsBefore, IsCheckpointOf, EachAt, EachOnwar
 use Rattle.crn_run.specs.Ends.{EndsAs, is_held}
 use Rattle.crn_run.specs.declared.jobs.Job.{Job}
 use Rattle.crn_run.specs.declared.worker.PolicyEnd.{PolicyEnd}
-use Rattle.crn_run.specs.declared.worker.PolicyEnd.TheVariants.{Reached, Short, Held}
+use Rattle.crn_run.specs.declared.worker.PolicyEnd.TheVariants.{Reached}
 use Rattle.crn_run.specs.Jobs.{AreReaders, HasRefused}
 
 -- ---- what the threads are given, and give back
@@ -42,15 +42,6 @@ pub record AreJobs (s : ScenarioParts) (ring : Ring) (start : List Parts) (jobs 
 pub record AreEnds (s : ScenarioParts) (ring : Ring) (jobs : List Job) (ends : List PolicyEnd) : Type 0 where
   pub count : length ends ≡ length jobs
   pub each : (i : ℕ) (j : Job) (e : PolicyEnd) → slice_get jobs i ≡ Some j → slice_get ends i ≡ Some e → EndsAs s j.policy j.state ring j.policy e
-
--- whether a run has come to the ring's total
-abbrev pub has_reached : PolicyEnd → Bool
-has_reached (Reached w x) = true
-has_reached (Short n w x) = false
-has_reached (Held w) = false
-
-abbrev pub AllReached : List PolicyEnd → Type 0
-AllReached ends = (i : ℕ) (e : PolicyEnd) → slice_get ends i ≡ Some e → has_reached e ≡ true
 
 -- where a policy was held, a gate has answered false
 abbrev pub HeldByGates : {Gate : Type 0} → (Gate → Bool) → List PolicyEnd → Type 0

@@ -1,11 +1,12 @@
-use Rattle.std.proofs.Common.{rules, ◌≡◌, ◌+◌, true, false, length, List, [], ◌∷◌, ◌++◌, Some, slice_get, subst, ap, arith, length-append}
+use Rattle.std.proofs.Common.{rules, ◌≡◌, ◌+◌, length, List, [], ◌∷◌, ◌++◌, Some, slice_get, subst, ap, arith, length-append}
 use Rattle.crn_stock.specs.Parts.{Parts}
 use Rattle.crn_ring.specs.declared.reader_end.Reader.{Reader}
 use Rattle.crn_run.specs.declared.worker.PolicyEnd.{PolicyEnd}
 use Rattle.crn_run.specs.declared.worker.PolicyEnd.TheVariants.{Reached}
-use Rattle.crn_run.specs.Inner.Jobs.{has_reached}
+use Rattle.crn_run.specs.Ends.{is_held}
+use Rattle.crn_run.specs.Inner.Ends.{is_short}
 use Rattle.crn_plain.proofs.Growing.{each-front, each-grown, each-last}
-use Rattle.crn_run.proofs.Ending.{StateFrom, ReaderFrom, state_from, reader_from}
+use Rattle.crn_run.proofs.Ending.{StateFrom, ReaderFrom, some_end, state_from, reader_from}
 use Rattle.crn_run.proofs.run.gather.Goals as goal
 
 pub loop-end-preserved : goal.loop-end-preserved
@@ -37,20 +38,16 @@ loop-end-preserved c =
       reader_room = search rules;
     }
 
-pub unreachable-requires : goal.unreachable-requires
-unreachable-requires c =
+pub returns-in-Short-clause-thread : goal.returns-in-Short-clause-thread
+returns-in-Short-clause-thread c _ =
     let front : List PolicyEnd = c.pop.new.self.items in
     let e : PolicyEnd = c.in-Some.end in
     let last : slice_get c.args.ends.items (length front) ≡ Some e = each-last (λ i d. slice_get c.args.ends.items i ≡ Some d) front c.loop-end.ends.items e c.in-Some.ensures.items c.loop-end.invariant.rest in
-    let reached : has_reached e ≡ true = c.requires.all (length front) e last in
-    let short : has_reached e ≡ false = ap has_reached c.in-Short.is in
-    cc
+    some_end is_short c.args.ends.items (length front) e last (ap is_short c.in-Short.is)
 
-pub unreachable-requires-in-Held : goal.unreachable-requires-in-Held
-unreachable-requires-in-Held c =
+pub returns-in-Held-clause-gate : goal.returns-in-Held-clause-gate
+returns-in-Held-clause-gate c _ =
     let front : List PolicyEnd = c.pop.new.self.items in
     let e : PolicyEnd = c.in-Some.end in
     let last : slice_get c.args.ends.items (length front) ≡ Some e = each-last (λ i d. slice_get c.args.ends.items i ≡ Some d) front c.loop-end.ends.items e c.in-Some.ensures.items c.loop-end.invariant.rest in
-    let reached : has_reached e ≡ true = c.requires.all (length front) e last in
-    let held : has_reached e ≡ false = ap has_reached c.in-Held.is in
-    cc
+    some_end is_held c.args.ends.items (length front) e last (ap is_held c.in-Held.is)

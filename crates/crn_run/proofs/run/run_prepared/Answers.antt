@@ -16,5 +16,5 @@ returns-clause-run g c first upto start opened checkpoint are_jobs =
     let ends : List PolicyEnd = c.in_ok-ends.ends.items in
     let next : c.spec-next.result.id.total ≡ upto = ap (λ (r : RingSpec). r.id.total) (c.spec-next.ensures ∙ opened) in
     let are_ends : AreEnds s ring jobs ends = search rules in
-    let gathers : Gathers ends c.gather-states.result.0.items c.gather-states.result.1.items = c.gather-states.ensures in
-    has_run s ring start first upto c.spec-next.result.id.total jobs ends c.gather-states.result.0.items c.gather-states.result.1.items next opened checkpoint are_jobs are_ends gathers
+    let gathers : Gathers ends c.in_ok-states.states.items c.in_ok-states.readers.items = search rules in
+    has_run s ring start first upto c.spec-next.result.id.total jobs ends c.in_ok-states.states.items c.in_ok-states.readers.items next opened checkpoint are_jobs are_ends gathers

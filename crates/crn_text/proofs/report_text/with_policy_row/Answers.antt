@@ -4,19 +4,16 @@ use Rattle.crn_text.proofs.report_text.with_policy_row.Goals as goal
 
 pub with_row-requires : goal.with_row-requires
 with_row-requires c =
-    let levels = c.in_ok-levels.ensures in
     let name : c.as_bytes-name.result.now ≡ c.args.policy.now.name = search rules in
     rw (
       name,
-      c.as_slice-low.ensures.value,
-      c.as_slice-high.ensures.value,
-      c.as_slice-total.ensures.value,
       c.as_slice-per_period.ensures.value,
-      c.as_slice-diff_total.ensures.value,
       c.as_slice-diff_mean.ensures.value,
       c.as_slice-diff_var.ensures.value,
       c.as_slice-cov.ensures.value,
       name_plain c.args.policy.now.name c.requires,
-      levels.low_plain,
-      levels.high_plain,
+      c.signed_field-low.ensures.plain,
+      c.signed_field-high.ensures.plain,
+      c.decimal_field-total.ensures.plain,
+      c.signed_field-diff_total.ensures.plain,
     ) c.in_ok-texts.ensures.plain

@@ -1,7 +1,7 @@
 use Rattle.std.proofs.Common.{decimal, arith, IsUtf8}
 use Rattle.std.proofs.lemmas.Fmt.{IsAscii-decimal}
 use Rattle.std.proofs.lemmas.Str.{IsUtf8-from_ascii}
-use Rattle.crn_text.proofs.schedules.number_of_digits.Goals as goal
+use Rattle.crn_text.proofs.schedules.reader_number.Goals as goal
 
 pub returns-in-Err-clause-every : goal.returns-in-Err-clause-every
 returns-in-Err-clause-every c = λ n lt e.

@@ -1,0 +1,40 @@
+-- The lists of costs without a fault are those that can be compared.
+use Rattle.std.proofs.Common.{◌≡◌, ℕ, ◌≤◌, true, List, [], ◌∷◌, All, None, length, arith, nat_le, refl}
+use Rattle.std.proofs.lemmas.Bool.{and_parts}
+use Rattle.std.proofs.lemmas.Bool.Decides.{nat_tests}
+use Rattle.std.proofs.lemmas.List.Elements.{All-head, All-tail, All-cons, All-nil}
+use Rattle.crn_pair.specs.Limits.{cost_limit, are_costs}
+use Rattle.crn_pair.specs.Refused.{least_costs_fault, AreComparable}
+
+within : (a : List ℕ) → are_costs a ≡ true → All (λ k. k ≤ cost_limit) a
+within [] h = All-nil (λ k. k ≤ cost_limit)
+within (x ∷ a) h =
+    let parts = and_parts (nat_le x cost_limit) (are_costs a) h in
+    let here : nat_le x cost_limit ≡ true = parts.0 in
+    let low : x ≤ cost_limit = grind (arith, nat_tests, here) in
+    All-cons (λ k. k ≤ cost_limit) x a low (within a parts.1)
+
+from_within : (a : List ℕ) → All (λ k. k ≤ cost_limit) a → are_costs a ≡ true
+from_within [] h = refl
+from_within (x ∷ a) h =
+    let low : x ≤ cost_limit = All-head (λ k. k ≤ cost_limit) x a h in
+    let here : nat_le x cost_limit ≡ true = grind (arith, nat_tests, low) in
+    rw (here, from_within a (All-tail (λ k. k ≤ cost_limit) x a h))
+
+pub from_comparable : (a b : List ℕ) → AreComparable a b → least_costs_fault a b ≡ None
+from_comparable a b h =
+    let each : length a ≡ length b = h.each in
+    let some : 1 ≤ length a = h.some in
+    let few : length a ≤ 256 = h.few in
+    rw (from_within a h.first, from_within b h.second) (grind (arith, nat_tests, each, some, few))
+
+pub are_comparable : (a b : List ℕ) → least_costs_fault a b ≡ None → AreComparable a b
+are_comparable a b e =
+    let first : are_costs a ≡ true = grind (arith, nat_tests, e) in
+    let second : are_costs b ≡ true = grind (arith, nat_tests, e) in record {
+      each = grind (arith, nat_tests, e);
+      some = grind (arith, nat_tests, e);
+      few = grind (arith, nat_tests, e);
+      first = within a first;
+      second = within b second;
+    }
