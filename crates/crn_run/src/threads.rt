@@ -94,7 +94,8 @@ fn start_from<'s, 'e: 's, 'g: 's, R: Threads + Wait + Sync, G: Gate + Send>(
 }
 
 /// Runs each job on a thread of its own, under the gate of its policy, and feeds the ring on the thread that calls it.
-/// The jobs stand as on a stack; so do their ends. `ends` has the room for them.
+/// The jobs stand as on a stack; so do their ends. `ends` has the room for them. Where a thread is refused that is the
+/// answer, and the ring was ended with nothing published.
 pub(crate) fn run_jobs<'r, R: Threads + Wait + Sync, G: Gate + Send>(
     rt: &'r R,
     ring: &'r Ring,

@@ -15,7 +15,7 @@ use Rattle.crn_scenario.specs.declared.fields.Rule.TheVariants as rule
 -- ---- the tables that are looked at: the top, what stands at `costs`, `demand`, `lead` and `returns` where it is a
 -- table, and the tables in the array at `policy`
 
--- the version that the tree names, and 0 where it names none
+-- the version that the tree names, without its sign, and 0 where it names none
 unfoldable pub version_of : Members → ℕ
 version_of ms = natural (integer_at (codes "version") ms)
 

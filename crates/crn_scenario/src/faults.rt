@@ -22,7 +22,7 @@ use std::collections::BTreeSet;
 use toml::value::Array;
 use toml::{Table, Value};
 
-// The version that a document names, and 0 where it names none.
+// The version that a document names, without its sign, and 0 where it names none.
 #[tactic(auto, unfolding(crate::specs::Faults::version_of))]
 fn version_of(table: &Table) -> u64
     ensures { result ≡ spec.version_of (table_view table.now) }

@@ -1,4 +1,4 @@
-// Hexadecimal words.
+//! Hexadecimal words.
 
 ghost use Rattle.std.specs.Prelude.{◌≡◌, ◌<◌, false};
 ghost use Rattle.std.specs.Fmt.{digit_glyph};

@@ -1,4 +1,4 @@
-// The form of names.
+//! The form of names.
 
 ghost use Rattle.std.specs.Prelude.{◌≡◌};
 ghost use Rattle.std.specs.List.{list_all};

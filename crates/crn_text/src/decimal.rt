@@ -1,4 +1,4 @@
-// Numbers from their texts, in the one spelling that each has.
+//! Numbers from their texts, in the one spelling that each has.
 
 ghost use Rattle.std.specs.Prelude.{◌≡◌, ℕ, ◌<◌, ◌^◌, ◌↔◌, Some, IfSome, IsTrue, decimal};
 

@@ -17,7 +17,7 @@ pub(crate) fn put_number<I: itoa::Integer>(text: &mut Vec<u8>, number: I) -> Res
     text.extend_from_slice(Buffer::new().format(number).as_bytes())
 }
 
-/// A number's text, in a buffer of its own.
+/// A number's text, in the buffer that is lent. It calls for no quotes.
 #[tactic(auto, using(crn_rows::proofs::Plainness::decimal_plain))]
 pub(crate) fn decimal_field<'b>(buffer: &'b mut Buffer, number: u64) -> &'b [u8]
     ensures text { result.now ≡ decimal number }
@@ -26,7 +26,7 @@ pub(crate) fn decimal_field<'b>(buffer: &'b mut Buffer, number: u64) -> &'b [u8]
     buffer.format(number).as_bytes()
 }
 
-/// The text of a number, perhaps below 0, in a buffer of its own.
+/// The text of a number, perhaps below 0, in the buffer that is lent. It calls for no quotes.
 #[tactic(auto, using(crn_rows::proofs::Plainness::signed_plain))]
 pub(crate) fn signed_field<'b>(buffer: &'b mut Buffer, number: i128) -> &'b [u8]
     ensures text { result.now ≡ signed_decimal number }

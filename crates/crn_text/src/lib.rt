@@ -1,5 +1,6 @@
 //! The texts of crnsim: checkpoints are written and read by `crn_checkpoint` and scenarios read by `crn_scenario`, which
-//! are handed on here. Reports are written as CSV, and the words of a block and traces as lines; schedules are read.
+//! are handed on here. Reports are written as CSV, and the words of a block and traces as lines; schedules are read, and
+//! numbers in the one decimal spelling that each has.
 #![tactic(auto)]
 
 mod block_words;

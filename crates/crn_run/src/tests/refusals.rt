@@ -1,5 +1,5 @@
-// Refused memory and refused threads. A test alone meets neither: the first comes with an allocator that refuses a
-// request, the second where the address space is limited from outside.
+// Refused memory and refused threads. A test alone meets neither: `tests/hostile` runs these with a library that refuses
+// a request for memory, or the start of a thread.
 use super::runs::{has_come, run_two};
 use super::scenarios::{Slots, steady};
 use crate::{Checkpoint, Finished, RunFault};
