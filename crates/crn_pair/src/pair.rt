@@ -6,8 +6,8 @@ use crate::fault::PairFault;
 use crate::fraction::Fraction;
 
 /// The costs of two policies compared replication by replication. Under common random numbers each
-/// replication has met both policies with the same demands and lead times, so that its two costs
-/// belong together.
+/// replication has met both policies with the same demands, lead times and returned items, so that
+/// its two costs belong together.
 ///
 /// Source: Law, "Simulation Modeling and Analysis", chapters 10 (paired comparison) and 11 (common
 /// random numbers).

@@ -6,8 +6,8 @@ use crn_cipher::Block;
 pub enum Publish {
     /// The block is published.
     Done,
-    /// Nothing is published: reader `reader` has not taken block `taken`, which stands in the slot that the
-    /// block needs. It is the first such reader by number.
+    /// Nothing is published: when this call loaded its cursor, reader `reader` had not taken block `taken`, which stands
+    /// in the slot that the block needs. It is the first found so, by number.
     Full {
         /// The reader's number.
         reader: u32,

@@ -125,7 +125,7 @@ impl Reader {
     }
 
     /// Gives up reading, by one store, after which the producer waits for this reader no more. Takes no memory and
-    /// waits for nobody.
+    /// waits for nobody. Contracts learn nothing of it: [`into_left`](Reader::into_left) tells them.
     ///
     /// # Asks
     ///

@@ -8,7 +8,8 @@ pub trait Gate {
     /// Whether it has answered false.
     ghost refused: { Self → Bool };
 
-    /// Whether block `block` may be applied to the state of policy number `policy`.
+    /// Whether the stream's block number `block` may be applied to the state of policy number `policy`, from 0 on in the
+    /// scenario's order.
     ///
     /// It may wait, on the thread of that policy; the others go on until they need a block that is not published
     /// yet. After it the value says that it has answered false where it said so before or where this answer is false,

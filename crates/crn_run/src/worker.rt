@@ -37,12 +37,13 @@ pub enum PolicyEnd {
         /// The reader, which has seen the end.
         reader: Reader,
     },
-    /// The gate answered false: the state before the block that it was asked for. The reader has left the ring.
+    /// The gate answered false: the state before the block that it was asked for. The reader has left the ring, which no
+    /// contract tells a caller.
     Held(State),
 }
 
-/// Takes the ring's blocks by batches of 16 at most, and applies each to the state of policy number `policy`, up to the
-/// end of the ring. Before each block the gate is asked, and where it answers false the state stands before that block,
+/// Takes the ring's blocks by batches of 16 at most, and applies each to the state of policy number `policy`, from 0 on in
+/// the scenario's order, up to the end of the ring. Before each block the gate is asked, and where it answers false the state stands before that block,
 /// also where later ones were taken. Where the ring is empty it tries again. It returns only if the end is marked or
 /// the gate answers false. But for what the gate does it takes no memory.
 ///
