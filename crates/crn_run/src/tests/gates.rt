@@ -1,7 +1,7 @@
 // Gates that wait for one another, that hold a policy, and that count what they are asked for.
 ghost use Rattle.std.specs.Prelude.{◌≡◌, ◌≤◌, false, length, All, IfOk};
 ghost use Rattle.crn_stock.specs.Models.{total};
-ghost use Rattle.crn_plain.specs.Runs.{IsCheckpointOf};
+ghost use Rattle.crn_sequential.specs.Runs.{IsCheckpointOf};
 
 use super::runs::has_come;
 use super::scenarios::{Slots, base, steady};
