@@ -27,6 +27,3 @@ pub use migrate_fault::MigrateFault;
 pub use migration::migrate_checkpoint;
 pub use reading::read_checkpoint;
 pub use writing::write_checkpoint;
-
-#[cfg(test)]
-mod tests;

@@ -7,6 +7,3 @@ mod words;
 
 pub use fault::CommandLineFault;
 pub use words::{Command, read_words};
-
-#[cfg(test)]
-mod tests;

@@ -21,6 +21,3 @@ pub use replay::replay_run;
 pub use resumption::resume;
 pub use simulation::simulate;
 pub use steps::send;
-
-#[cfg(test)]
-mod tests;

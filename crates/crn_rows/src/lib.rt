@@ -8,6 +8,3 @@ mod sheet;
 pub use reading::read_rows;
 pub use row::Row;
 pub use sheet::Sheet;
-
-#[cfg(test)]
-mod tests;

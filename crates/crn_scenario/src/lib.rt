@@ -11,6 +11,3 @@ mod tree;
 
 pub use read::read_scenario;
 pub use scenario_fault::ScenarioFault;
-
-#[cfg(test)]
-mod tests;

@@ -10,6 +10,3 @@ pub use block_words::words_text;
 pub use schedule_fault::ScheduleFault;
 pub use schedules::read_schedule;
 pub use traces::trace_text;
-
-#[cfg(test)]
-mod tests;

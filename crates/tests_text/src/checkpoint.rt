@@ -2,7 +2,9 @@
 // that are refused and texts with one byte changed are tried from outside, by tests/program/checkpoints.toml and
 // legs.toml.
 
-use super::*;
+use crn_checkpoint::{
+    CheckpointFault, MigrateFault, migrate_checkpoint, read_checkpoint, write_checkpoint,
+};
 use crn_scenario::read_scenario;
 use crn_stock::Scenario;
 use std::alloc::{AllocError, Global};

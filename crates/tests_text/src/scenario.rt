@@ -1,8 +1,8 @@
 // The parts of a scenario that was read, and the numbers of faults. Which texts are read, and why others are not, is
 // tried on the built program: tests/program/scenarios.toml.
 
-use super::*;
 use crn_draw::Weights;
+use crn_scenario::{ScenarioFault, read_scenario};
 use crn_stock::{Model, Policy, Scenario};
 use std::alloc::Global;
 use std::test::Fail;

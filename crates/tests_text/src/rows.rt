@@ -1,6 +1,6 @@
 // Texts of rows, written and read.
 
-use super::*;
+use crn_rows::{Row, Sheet, read_rows};
 use std::alloc::{AllocError, Global};
 use std::test::Fail;
 
@@ -48,19 +48,41 @@ fn read_loosely(rt: HostRuntime) -> Result<(), Fail> {
     Ok(())
 }
 
+// The number of rows of a text, and of its last row the first two fields as natural numbers and the first and third as
+// integers.
+fn numbers_in(alloc: Global, text: &[u8]) -> Result<(usize, [u64; 2], [i64; 2]), AllocError> {
+    let rows = read_rows(alloc, text)?;
+    let (mut naturals, mut integers) = ([1; 2], [1; 2]);
+    for row in rows.iter() {
+        naturals = [row.natural(0), row.natural(1)];
+        integers = [row.integer(0), row.integer(2)];
+    }
+    Ok((rows.len(), naturals, integers))
+}
+
 #[test]
 fn numbers_of_fields(rt: HostRuntime) -> Result<(), Fail> {
-    let text = b"0,18446744073709551615,-9223372036854775807,\xff,word\n";
-    let rows = read_rows(rt.alloc(), text)?;
-    assert_eq!(rt; rows.len(), 1);
-    for row in rows.iter() {
-        assert_eq!(rt; row.natural(0), 0);
-        assert_eq!(rt; row.natural(1), 18_446_744_073_709_551_615);
-        assert_eq!(rt; row.integer(0), 0);
-        assert_eq!(rt; row.integer(2), -9_223_372_036_854_775_807);
-        assert_eq!(rt; row.text(3), "");
-        assert_eq!(rt; row.text(4), "word");
-        assert_eq!(rt; row.text(5), "");
-    }
+    let text = b"0,18446744073709551615,-9223372036854775807\n";
+    let (count, naturals, integers) = numbers_in(rt.alloc(), text)?;
+    assert_eq!(rt; count, 1);
+    assert_eq!(rt; naturals, [0, 18_446_744_073_709_551_615]);
+    assert_eq!(rt; integers, [0, -9_223_372_036_854_775_807]);
+    Ok(())
+}
+
+fn has_texts(row: &Row) -> bool {
+    row.text(0) == "" && row.text(1) == "word" && row.text(2) == ""
+}
+
+// Whether each row of a text has the texts that are expected.
+fn are_texts(alloc: Global, text: &[u8]) -> Result<bool, AllocError> {
+    let rows = read_rows(alloc, text)?;
+    Ok(rows.len() == 1 && rows.iter().all(has_texts))
+}
+
+// A field that is no UTF-8, a word, and a field that the row lacks.
+#[test]
+fn texts_of_fields(rt: HostRuntime) -> Result<(), Fail> {
+    assert!(rt; are_texts(rt.alloc(), b"\xff,word\n")?);
     Ok(())
 }

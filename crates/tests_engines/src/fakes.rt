@@ -1,6 +1,6 @@
 // A reader and a writer that fail at one call, counted from 1.
 
-use crate::Fault;
+use crn_engines::Fault;
 use std::alloc::Global;
 use std::io;
 use std::io::{ErrorKind, Read, Write};

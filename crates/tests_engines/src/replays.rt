@@ -1,7 +1,7 @@
 // Replays, where a read or a write fails.
 
-use super::fakes::{Narrow, Trickle, tells_read};
-use crate::replay_run;
+use crate::fakes::{Narrow, Trickle, tells_read};
+use crn_engines::replay_run;
 use std::alloc::Global;
 use std::test::Fail;
 

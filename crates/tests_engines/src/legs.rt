@@ -1,12 +1,24 @@
 // Runs that are cut at a block and resumed, where a read or a write fails.
 
-use super::TWO_REPLICATIONS;
-use super::fakes::{Narrow, Trickle, tells_read};
-use crate::{leg, resume};
+use crate::fakes::{Narrow, Trickle, tells_read};
+use crn_engines::{leg, resume};
 use std::alloc::Global;
 use std::sync::Wait;
 use std::test::Fail;
 use std::thread::Threads;
+
+// Two replications of two blocks each.
+const TWO_REPLICATIONS: &str = "version = 1
+key = [\"0000000000000000\", \"0000000000000000\", \"0000000000000000\", \"0000000000000000\"]
+periods = 5
+replications = 2
+initial = 10
+ring = 2
+costs = { setup = 7, unit = 2, holding = 1, backlog = 4 }
+demand = { values = [3], weights = [1] }
+lead = { values = [1], weights = [1] }
+policy = [{ name = \"A\", s = 5, S = 10 }, { name = \"B\", s = 4, S = 10 }]
+";
 
 // TWO_REPLICATIONS after its first block.
 pub const CUT: &str = "checkpoint,2,1,5,2

@@ -1,8 +1,8 @@
 // Checkpoints of version 1 that are migrated, where a read or a write fails.
 
-use super::fakes::{Narrow, Trickle, tells_read};
-use super::legs::CUT;
-use crate::migrate;
+use crate::fakes::{Narrow, Trickle, tells_read};
+use crate::legs::CUT;
+use crn_engines::migrate;
 use std::alloc::Global;
 use std::test::Fail;
 

@@ -1,16 +1,11 @@
 // The program's engine on whole texts, with readers and writers that fail, and the lines of faults. What it answers to
 // texts of all kinds is tried from outside, by tests/program.
 
-mod fakes;
-mod legs;
-mod migrations;
-mod replays;
-
-use super::*;
+use crate::fakes::{Narrow, Trickle, tells_read};
 use crn_checkpoint::{CheckpointFault, MigrateFault};
+use crn_engines::{Fault, simulate, write_words};
 use crn_scenario::ScenarioFault;
 use crn_trace::ScheduleFault;
-use fakes::{Narrow, Trickle, tells_read};
 use std::alloc::Global;
 use std::sync::Wait;
 use std::test::Fail;
@@ -37,19 +32,6 @@ A,20,40,222,111/2,0,0/1,-,-
 const WORDS: &str = "demand 09218ebde6c85537 55941f5266d86105 4bd25e16282434dc ee29ec846bd2e40b
 lead ca29e96305009de4 1cc27861f52c604b a1e7adf87d24b5b5 fc2291a0341a674c
 returns 5539277864380943 86dc4496ff6c4bf6 b6a16a294c09b67c 3572aa99bcf71983
-";
-
-// Two replications of two blocks each.
-const TWO_REPLICATIONS: &str = "version = 1
-key = [\"0000000000000000\", \"0000000000000000\", \"0000000000000000\", \"0000000000000000\"]
-periods = 5
-replications = 2
-initial = 10
-ring = 2
-costs = { setup = 7, unit = 2, holding = 1, backlog = 4 }
-demand = { values = [3], weights = [1] }
-lead = { values = [1], weights = [1] }
-policy = [{ name = \"A\", s = 5, S = 10 }, { name = \"B\", s = 4, S = 10 }]
 ";
 
 #[test]

@@ -1,8 +1,8 @@
 // A block's words, a schedule, and the numbers of faults. Reports, and schedules and traces of all sizes, are tried
 // from outside, by tests/program/cases.toml and legs.toml.
 
-use super::*;
 use crn_proto::Actor;
+use crn_trace::{ScheduleFault, read_schedule, words_text};
 use std::test::Fail;
 
 // The words of block 0 of the zero key, by Random123.

@@ -1,0 +1,106 @@
+"""Reads the wrong implementations, crates/NAME/wrong/*.edit and crates/NAME/must-fail/*.edit.
+
+An edit changes lines of a crate's code. Its head says what goes wrong then and which function's proof must fail:
+
+    what: An order is placed at the reorder point, not only below it.
+    refused by: period::order_for
+    file: src/period.rt
+    old: if position < terms.low {
+    new: if position <= terms.low {
+
+Each `old:` text stands exactly once in the file, on one line. Further pairs apply to what the earlier ones made.
+"""
+import collections
+import glob
+import os
+import re
+
+TOP = os.path.dirname(os.path.dirname(os.path.abspath(__file__)))
+FUNCTION = re.compile(r"( *)(?:pub(?:\([^)]*\))? )?(?:(?:const|unsafe|final) )*fn \w")
+
+Edit = collections.namedtuple("Edit", "crate name what refused_by pairs")
+
+
+class BadEdit(Exception):
+    """An edit that cannot be applied."""
+
+
+def crates():
+    """Returns the crates of crates.txt, in its order."""
+    with open(f"{TOP}/crates.txt", encoding="utf-8") as file:
+        return [line.split(":")[0] for line in file if ":" in line and not line.startswith("#")]
+
+
+def edits_of(crate, folder="wrong"):
+    """Reads the edits in a folder of a crate."""
+    return [read_edit(crate, path) for path in sorted(glob.glob(f"{TOP}/crates/{crate}/{folder}/*.edit"))]
+
+
+def read_edit(crate, path):
+    """Reads one edit. Its pairs are of a file, the old text and the new one."""
+    head, pairs, file, old = {}, [], "", ""
+    with open(path, encoding="utf-8") as text:
+        lines = text.read().split("\n")
+    for line in lines:
+        word, _, rest = line.partition(":")
+        rest = rest.removeprefix(" ")
+        if word in ("what", "refused by"):
+            head.setdefault(word, rest.strip())
+        elif word == "file":
+            file = rest.strip()
+        elif word == "old":
+            old = rest
+        elif word == "new":
+            pairs.append((file, old, rest))
+    name = os.path.basename(path).removesuffix(".edit")
+    return Edit(crate, name, head.get("what", ""), head.get("refused by", ""), pairs)
+
+
+def text_of(crate, file):
+    """Reads a file of a crate."""
+    with open(f"{TOP}/crates/{crate}/{file}", encoding="utf-8") as text:
+        return text.read()
+
+
+def changes_of(edit):
+    """Returns the lines that an edit changes, by their file and number, each with its new text."""
+    before, after = {}, {}
+    for file, old, new in edit.pairs:
+        if not file.startswith("src/") or not os.path.isfile(f"{TOP}/crates/{edit.crate}/{file}"):
+            raise BadEdit(f"it changes '{file}', which is no file of src/")
+        if file not in before:
+            before[file] = after[file] = text_of(edit.crate, file)
+        count = after[file].count(old) if old else 0
+        if count != 1:
+            raise BadEdit(f"its text '{old.strip()}' stands {count} times in {file}, and not once")
+        after[file] = after[file].replace(old, new)
+    changes = {}
+    for file, text in after.items():
+        pairs = enumerate(zip(before[file].split("\n"), text.split("\n")))
+        changes |= {(file, number): new for number, (old, new) in pairs if old != new}
+    if not changes:
+        raise BadEdit("it changes nothing")
+    return changes
+
+
+def bodies_of(text):
+    """Returns for each line of a file of code the number of the line where the function begins whose body it stands in,
+    or None outside the bodies. Reads the layout of `rt fmt`."""
+    owners, head, indent, body = [], None, "", None
+    for number, line in enumerate(text.split("\n")):
+        if body is not None and line == indent + "}":
+            head = body = None
+        elif body is None and (found := FUNCTION.match(line)):
+            head, indent = number, found[1]
+        owners.append(body)
+        if body is None and head is not None and re.fullmatch(indent + r"(\S.*)?\{", line):
+            body = head
+    return owners
+
+
+def functions_of(edit, changes):
+    """Returns the functions whose bodies an edit changes, each as its file and first line; None stands for what lies
+    outside them."""
+    bodies = {file: bodies_of(text_of(edit.crate, file)) for file, _ in changes}
+    owners = {(file, bodies[file][number]) for file, number in changes}
+    return {None if number is None else (file, number) for file, number in owners}

@@ -1,0 +1,337 @@
+#!/usr/bin/env python3
+"""Tries wrong implementations, many in one check: tools/rounds.py [CRATE ..].
+
+Each file crates/NAME/wrong/*.edit changes the code of a crate into something wrong, and names the function whose proof
+must fail then (tools/edits.py has the format). An edit of a body changes no contract, so wrong bodies of different
+functions are independent: a round applies many of them to a copy of the crate and checks it once. Each edit is judged
+by the function that it names. It passes only if a goal of that function is open; it fails if the function is proved,
+if its proof file only names something that the edit took away, if only a function that it calls is refused, or if the
+check gives no verdict on it. An edit that another one hides is tried again in a later round, at last alone.
+
+    --names A,B      only the edits with these names
+    --must-fail      also the edits of must-fail/, which `rt ci` tries one by one
+    --alone          each edit in a check of its own, which shows what it costs
+    --goals          prints for each edit the goal that is open
+    --list           prints the edits as a table and tries none
+    --proved         no control first: `rt ci` has just proved the same files
+    --lanes N        runs N checks at a time; by default as many as processors and memory allow
+    --limit SECONDS  stops a check that takes longer (default 1200)
+    --prover PATH    runs this program instead of the kit's rattle
+
+With no crate: all of them. The libraries below a crate must stand built in crates/NAME/out/rlib, as `rt check` and
+`rt ci` leave them. The control checks each crate without an edit: it must prove every function that an edit names. A
+check asks for the functions that its edits name and what they call, over what the crate's checks have kept.
+
+Prints a line for each check and each failure. Seconds are of processor time. The last line is `N passed, M failed`,
+counted in edits.
+"""
+import argparse
+import collections
+import concurrent.futures
+import importlib.util
+import os
+import re
+import shutil
+import subprocess
+import sys
+import tempfile
+import threading
+import time
+
+# Compiled text is not to stand in the repository.
+sys.dont_write_bytecode = True
+from edits import TOP, BadEdit, changes_of, crates, edits_of, functions_of, text_of
+
+MEMORY_OF_A_CHECK = 3_000_000_000
+# What a check says of a function, or of another item.
+LINE = re.compile(r"(?:fn|impl|struct|enum|trait|type|const|static) (\S+): (.*)")
+PROVED = re.compile(r"proved|no holes")
+BELOW = re.compile(r"no proof: it calls")
+UNDECIDED = re.compile(r"could not tell")
+# An error in a file of a function's proof, and how it begins if the file only names what the edit took away.
+ERROR = re.compile(r"(?:note: )?(?:\./)?proofs/(\S+)/[^/\s]+\.antt:\d+:\d+: error: (.*)")
+STALE = re.compile(r"has no field|is not in scope|has no `|was not admitted")
+# The last line of a check that came to its end.
+ENDED = re.compile(r"only=\d+ proved=\d+|logic=(not-)?proved")
+
+Try = collections.namedtuple("Try", "edit changes places")
+Ran = collections.namedtuple("Ran", "lines verdicts errors fault seconds")
+# What becomes of an edit in a round: "" if it passed, why it failed, or HIDDEN.
+HIDDEN = object()
+
+
+def load_kit():
+    """Loads the kit's module that knows the crates of a repository. It stands beside the command rt."""
+    path = f"{os.path.dirname(os.path.realpath(shutil.which('rt')))}/rtlib.py"
+    spec = importlib.util.spec_from_file_location("rtlib", path)
+    sys.modules["rtlib"] = kit = importlib.util.module_from_spec(spec)
+    spec.loader.exec_module(kit)
+    return kit
+
+
+def link(one, other):
+    """Copies kept work by links: a check replaces such a file and changes none."""
+
+    def copy(source, target):
+        try:
+            os.link(source, target)
+        except OSError:
+            shutil.copy2(source, target)
+
+    shutil.copytree(one, other, copy_function=copy)
+
+
+class Prover:
+    """Checks copies of one crate, over kept work that all checks of the crate share."""
+
+    def __init__(self, kit, name, room, options):
+        self.name, self.folder, self.kept = name, f"{TOP}/crates/{name}", f"{room}/{name}"
+        crate = kit.Crate(self.folder, TOP, {})
+        for below in crate.below():
+            if not os.path.isfile(f"{below.rlib}/format"):
+                sys.exit(f"tools/rounds.py: {name} needs the library {below.name}, which is not built: "
+                         f"run `rt check` in crates/{name} first")
+        self.words = [options.prover or kit.RATTLE, "check", *crate.words(["--jobs", "1"], keeps=False)]
+        self.parts, self.limit = [it for it in kit.PARTS if os.path.isdir(f"{self.folder}/{it}")], options.limit
+        if os.path.isdir(f"{self.folder}/out/incremental"):
+            link(f"{self.folder}/out/incremental", self.kept)
+
+    def check(self, tries, functions):
+        """Checks a copy of the crate with these edits, and asks for these functions."""
+        with tempfile.TemporaryDirectory(prefix="round-") as room:
+            for part in self.parts:
+                shutil.copytree(f"{self.folder}/{part}", f"{room}/{part}")
+            for file, text in self.texts(tries).items():
+                with open(f"{room}/{file}", "w", encoding="utf-8") as written:
+                    written.write(text)
+            only = [word for name in functions for word in ("--only", name)]
+            return self.run([*self.words, "--incremental", self.kept, *only], room)
+
+    def texts(self, tries):
+        """The files that the edits change, as they are then."""
+        lines = {}
+        for each in tries:
+            for (file, number), new in each.changes.items():
+                lines.setdefault(file, text_of(self.name, file).split("\n"))[number] = new
+        return {file: "\n".join(text) for file, text in lines.items()}
+
+    def run(self, words, room):
+        """Runs a check: its lines, what it says of each function, the errors in proof files, what was wrong with the
+        check itself, and the seconds that it took."""
+        with open(f"{room}/said", "w+", encoding="utf-8", errors="replace") as said:
+            process = subprocess.Popen(words, cwd=room, stdin=subprocess.DEVNULL, stdout=said, stderr=subprocess.STDOUT)
+            timer = threading.Timer(self.limit, process.kill)
+            timer.start()
+            _, status, used = os.wait4(process.pid, 0)
+            timer.cancel()
+            process.returncode = os.waitstatus_to_exitcode(status)
+            said.seek(0)
+            lines = said.read().rstrip("\n").split("\n")
+        return Ran(lines, *read(lines), fault_of(lines, process.returncode), used.ru_utime + used.ru_stime)
+
+
+def read(lines):
+    """What a check says of each item, and the errors of each function's proof files."""
+    verdicts, errors = {}, collections.defaultdict(list)
+    for line in lines:
+        if found := LINE.fullmatch(line):
+            verdicts[found[1].partition("::")[2]] = found[2]
+        elif found := ERROR.match(line):
+            errors[found[1].replace("/", "::").replace("+", "")].append(found[2])
+    return verdicts, errors
+
+
+def fault_of(lines, status):
+    """What is wrong with a check that gave no verdict, or "". One that refused something ends with 1."""
+    if status < 0:
+        return f"its check was killed by signal {-status}"
+    if status in (0, 1) and ENDED.match(lines[-1]):
+        return ""
+    first = next((line for line in lines if "error" in line), lines[-1])
+    return f"its check ended with status {status} and no verdict: {first[:200]}"
+
+
+def goal_of(ran, function):
+    """The first goal of a function's own that is open, or None."""
+    told = [error for error in ran.errors[function] if not STALE.search(error)]
+    if told:
+        return told[0]
+    verdict = ran.verdicts[function]
+    return verdict if "did not prove" in verdict else None
+
+
+def judged(each, ran, is_alone):
+    """What becomes of an edit in a round."""
+    function = each.edit.refused_by
+    verdict = ran.verdicts.get(function)
+    if ran.fault:
+        return ran.fault if is_alone else HIDDEN
+    if verdict is None:
+        return f"its check names no function {function}" if is_alone else HIDDEN
+    if PROVED.match(verdict):
+        return f"it is not refused: {function} is still proved"
+    if goal_of(ran, function):
+        return ""
+    if not is_alone:
+        return HIDDEN
+    if BELOW.match(verdict):
+        return f"{function} is not refused by itself: {verdict[:200]}"
+    if UNDECIDED.match(verdict):
+        return f"the prover could not tell of {function}"
+    if ran.errors[function]:
+        return f"{function} is refused only because its proof file names what the edit took away: {ran.errors[function][0][:200]}"
+    return f"{function} has no open goal of its own: {verdict[:200]}"
+
+
+def tries_of(crate, options):
+    """The edits of a crate that are to be tried, and those that cannot be, with the reason."""
+    edits = edits_of(crate) + (edits_of(crate, "must-fail") if options.must_fail else [])
+    tries, failed = [], []
+    for edit in edits:
+        if options.names and edit.name not in options.names:
+            continue
+        try:
+            if not edit.what or not edit.refused_by:
+                raise BadEdit("it lacks a head line, 'what:' or 'refused by:'")
+            changes = changes_of(edit)
+            tries.append(Try(edit, changes, functions_of(edit, changes)))
+        except BadEdit as fault:
+            failed.append((edit.name, str(fault)))
+    return tries, failed
+
+
+def packed(left, is_alone):
+    """The next round: as many edits as there are with functions of their own. What changes more than bodies is alone."""
+    chosen, places, named = [], set(), set()
+    for each in left:
+        is_wide = None in each.places
+        if chosen and (is_alone or is_wide) or places & each.places or each.edit.refused_by in named:
+            continue
+        chosen.append(each)
+        if is_alone or is_wide:
+            break
+        places |= each.places
+        named.add(each.edit.refused_by)
+    return chosen
+
+
+class Rounds:
+    """All rounds of one crate."""
+
+    def __init__(self, prover, options):
+        self.prover, self.options, self.passed, self.failed = prover, options, 0, []
+
+    def control(self, tries):
+        """Checks the crate as it stands; the functions that must be proved and are not."""
+        functions = sorted({it.edit.refused_by for it in tries})
+        ran = self.prover.check([], functions)
+        lost = [it for it in functions if not PROVED.match(ran.verdicts.get(it, ""))]
+        self.tell(f"control, {len(functions)} functions", ran, f", {len(lost)} not proved" if lost else "")
+        return {it: ran.fault or f"{it} is not proved without the edit, or there is no such function" for it in lost}
+
+    def run(self, tries):
+        """Tries all edits."""
+        lost = {} if self.options.proved else self.control(tries)
+        for each in [it for it in tries if it.edit.refused_by in lost]:
+            self.fail(each, lost[each.edit.refused_by])
+        left, hidden = [it for it in tries if it.edit.refused_by not in lost], []
+        while left or hidden:
+            is_last = not left
+            left, hidden = (hidden, []) if is_last else (left, hidden)
+            chosen = packed(left, is_last or self.options.alone)
+            left = [it for it in left if it not in chosen]
+            hidden += self.round(chosen)
+
+    def round(self, chosen):
+        """Tries some edits in one check; those that others hid."""
+        ran, hidden = self.prover.check(chosen, sorted({it.edit.refused_by for it in chosen})), []
+        for each in chosen:
+            outcome = judged(each, ran, len(chosen) == 1)
+            if outcome is HIDDEN:
+                hidden.append(each)
+            elif outcome:
+                self.fail(each, outcome)
+            else:
+                self.passed += 1
+                if self.options.goals:
+                    print(f"{self.prover.name}/{each.edit.name}: {goal_of(ran, each.edit.refused_by)[:300]}", flush=True)
+        self.tell(f"{len(chosen)} edits", ran, f", again: {' '.join(it.edit.name for it in hidden)}" if hidden else "")
+        return hidden
+
+    def fail(self, each, why):
+        """Notes and prints a failure."""
+        self.failed.append(each)
+        print(f"FAILED {self.prover.name}/{each.edit.name}: {why}", flush=True)
+
+    def tell(self, what, ran, more):
+        """Prints the line of a check."""
+        print(f"{self.prover.name}: {what}, {ran.seconds:.0f} s{more}", flush=True)
+
+
+def free_memory():
+    """The bytes of memory that are free."""
+    with open("/proc/meminfo", encoding="ascii") as file:
+        return next(int(line.split()[1]) * 1024 for line in file if line.startswith("MemAvailable:"))
+
+
+def try_all(names, options):
+    """Tries the edits of these crates, those with most edits first; how many passed and failed."""
+    kit, passed, failed, jobs = load_kit(), 0, 0, []
+    lanes = options.lanes or max(1, min(len(os.sched_getaffinity(0)), free_memory() // MEMORY_OF_A_CHECK))
+    with tempfile.TemporaryDirectory(prefix="rounds-") as room:
+        for name in names:
+            tries, bad = tries_of(name, options)
+            for edit, why in bad:
+                print(f"FAILED {name}/{edit}: {why}")
+            failed += len(bad)
+            if tries:
+                jobs.append((Rounds(Prover(kit, name, room, options), options), tries))
+        jobs.sort(key=lambda it: -len(it[1]) * len(it[0].prover.words))
+        with concurrent.futures.ThreadPoolExecutor(lanes) as pool:
+            for future in [pool.submit(rounds.run, tries) for rounds, tries in jobs]:
+                future.result()
+    return passed + sum(it.passed for it, _ in jobs), failed + sum(len(it.failed) for it, _ in jobs)
+
+
+def table(names):
+    """Prints the edits of these crates."""
+    print("| Crate | File | What goes wrong | Refused by |\n|---|---|---|---|")
+    for edit in [it for name in names for folder in ("must-fail", "wrong") for it in edits_of(name, folder)]:
+        print(f"| `{edit.crate}` | `{edit.name}` | {edit.what} | `{edit.refused_by}` |")
+
+
+def options_of(words):
+    """Reads the words of the command line."""
+    parser = argparse.ArgumentParser(usage=__doc__)
+    parser.add_argument("crates", nargs="*")
+    parser.add_argument("--names", type=lambda it: it.split(","))
+    parser.add_argument("--lanes", type=int)
+    parser.add_argument("--limit", type=float, default=1200)
+    parser.add_argument("--prover")
+    for flag in ("--must-fail", "--alone", "--goals", "--list", "--proved"):
+        parser.add_argument(flag, action="store_true")
+    return parser.parse_args(words)
+
+
+def main(words):
+    """Tries the edits; the exit status."""
+    options = options_of(words)
+    names = options.crates or crates()
+    if lacking := [it for it in names if it not in crates()]:
+        print(f"tools/rounds.py: crates.txt lists no crate {lacking[0]}")
+        return 2
+    if options.list:
+        table(names)
+        return 0
+    began = time.monotonic()
+    passed, failed = try_all(names, options)
+    if not passed and not failed:
+        print("FAILED there is no edit to try")
+        failed = 1
+    print(f"rounds: {time.monotonic() - began:.0f} s of wall time")
+    print(f"{passed} passed, {failed} failed")
+    return 1 if failed else 0
+
+
+if __name__ == "__main__":
+    sys.exit(main(sys.argv[1:]))
