@@ -2,7 +2,6 @@
 """Says where the time of the gate goes.
 
     tools/measure.py checks [CRATE ..]    each crate, each crate's tests and the twenty slowest functions, from nothing
-    tools/measure.py edits [CRATE ..]     each must-fail edit, with the function and the clause that refuse it
     tools/measure.py runs                 what .ci/run does after its proofs, on the program that stands built
 
 With no crate: all of them. It works on a copy of the repository with one job at a time; seconds are of processor time,
@@ -86,47 +85,6 @@ def checks(names, copy):
         print(f"{seconds:6.1f} {function}")
 
 
-def changes_of(edit):
-    """The file that an edit changes, and its pairs of old and new text."""
-    with open(edit, encoding="utf-8") as file:
-        lines = file.read().splitlines()
-    told = [line.split(": ", 1) if ": " in line else [line.rstrip(":"), ""] for line in lines if line]
-    pairs = zip([text for word, text in told if word == "old"], [text for word, text in told if word == "new"])
-    return next(text for word, text in told if word == "file"), list(pairs)
-
-
-def refusal(lines):
-    """The first function that is not proved, and what of it: a clause, or a step of its proof."""
-    function = next((it[1] for line in lines if (it := re.match(r"fn (\S+): (?!proved)", line))), "-")
-    told = r"(?:note: )?\S+:\d+:\d+: (?!note: ).*?`(?!search|grind)([a-z][\w.-]*)`"
-    part = next((it[1] for line in lines if (it := re.match(told, line))), "-")
-    return function, part
-
-
-def edits(names, copy):
-    """The time of each edit, tried on a copy of the crate over the work that its check kept."""
-    whole = 0
-    for name in crates(names):
-        folder = f"{copy}/crates/{name}"
-        _, _, _, status = check(folder)
-        kept = sorted(os.listdir(f"{folder}/must-fail")) if name in names and status == 0 else []
-        for edit in filter(lambda it: it.endswith(".edit"), kept):
-            path, pairs = changes_of(f"{folder}/must-fail/{edit}")
-            with open(f"{folder}/{path}", encoding="utf-8") as file:
-                before = after = file.read()
-            for old, new in pairs:
-                after = after.replace(old, new)
-            with open(f"{folder}/{path}", "w", encoding="utf-8") as file:
-                file.write(after)
-            lines, _, spent, status = check(folder)
-            with open(f"{folder}/{path}", "w", encoding="utf-8") as file:
-                file.write(before)
-            whole += spent
-            function, part = refusal(lines) if status else ("NOT REFUSED", "-")
-            print(f"{spent:6.1f} {name}/{edit.removesuffix('.edit')} | {function} | {part}", flush=True)
-    print(f"{whole:6.0f} all")
-
-
 def runs(copy):
     """The wall time of what the gate does once all is proved."""
     program = f"{TOP}/crates/crnsim/out/crnsim"
@@ -145,8 +103,6 @@ def main(words):
         subprocess.run(["git", "init", "-q", copy], check=True)
         if words[:1] == ["checks"]:
             checks(words[1:] or crates(), copy)
-        elif words[:1] == ["edits"]:
-            edits(words[1:] or crates(), copy)
         elif words == ["runs"]:
             runs(copy)
         else:

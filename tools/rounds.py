@@ -51,6 +51,8 @@ UNDECIDED = re.compile(r"could not tell")
 # An error in a file of a function's proof, and how it begins if the file only names what the edit took away.
 ERROR = re.compile(r"(?:note: )?(?:\./)?proofs/(\S+)/[^/\s]+\.antt:\d+:\d+: error: (.*)")
 STALE = re.compile(r"has no field|is not in scope|has no `|was not admitted")
+# What a check says where it is asked for a function that is not there.
+UNKNOWN = re.compile(r"has no function `([^`]+)`")
 # The last line of a check that came to its end.
 ENDED = re.compile(r"only=\d+ proved=\d+|logic=(not-)?proved")
 
@@ -222,12 +224,19 @@ class Rounds:
         self.prover, self.options, self.passed, self.failed = prover, options, 0, []
 
     def control(self, tries):
-        """Checks the crate as it stands; the functions that must be proved and are not."""
-        functions = sorted({it.edit.refused_by for it in tries})
-        ran = self.prover.check([], functions)
-        lost = [it for it in functions if not PROVED.match(ran.verdicts.get(it, ""))]
+        """Checks the crate as it stands; why edits cannot be tried, by the function that they name."""
+        functions, lost = sorted({it.edit.refused_by for it in tries}), {}
+        while functions:
+            ran = self.prover.check([], functions)
+            unknown = UNKNOWN.search(ran.fault)
+            if not unknown or unknown[1] not in functions:
+                break
+            lost[unknown[1]] = f"there is no function {unknown[1]}"
+            functions.remove(unknown[1])
+        open_ones = [it for it in functions if not PROVED.match(ran.verdicts.get(it, ""))]
+        lost |= {it: ran.fault or f"{it} is not proved without the edit" for it in open_ones}
         self.tell(f"control, {len(functions)} functions", ran, f", {len(lost)} not proved" if lost else "")
-        return {it: ran.fault or f"{it} is not proved without the edit, or there is no such function" for it in lost}
+        return lost
 
     def run(self, tries):
         """Tries all edits."""

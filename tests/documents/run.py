@@ -3,8 +3,8 @@
 
 That each link leads to a file and a heading; that the map's crates stand on what crates.txt says; that what
 READING.md quotes stands in the files that it names, that it lists what must be believed, and that specs/Inner has what
-no public contract states (believed.py); that the list of wrong bodies names each must-fail edit, once and by a sentence
-of its own; that public items have docstrings of one form (docstrings.py); and that the scenario and the report of README
+no public contract states (believed.py); that each wrong implementation says what goes wrong, in a sentence of its own,
+and which function refuses it; that public items have docstrings of one form (docstrings.py); and that the scenario and the report of README
 are those that the program takes and writes.
 That the commands of README, of the guide and of the formats can be copied and print what stands there (commands.py),
 and the help's examples too (helps.py); that ranges, rules and statuses are those of the program (ranges.py, rules.py,
@@ -20,9 +20,11 @@ import tempfile
 
 # Compiled text is not to stand in the repository.
 sys.dont_write_bytecode = True
+sys.path.append(os.path.join(os.path.dirname(os.path.abspath(__file__)), "..", "..", "tools"))
 from believed import believed_tries, inner_tries
 from commands import command_tries
 from docstrings import docstring_tries
+from edits import crates, edits_of
 from facts import checkpoint_tries, header_tries, option_tries, toml_tries, usage_tries
 from figures import figure_tries
 from helps import example_tries
@@ -69,38 +71,20 @@ def quote_tries(_):
             yield f"docs/READING.md quotes {wanted}", len(texts) == len(files) > 0 and any(wanted in it for it in texts)
 
 
-def heads_of(text, name):
-    """From the names of a file's functions of a name to their bodies: what they take, ask and promise."""
-    return re.findall(rf"\bfn {name}\b(.*?)(?:^ *\{{|\{{$)", text, re.MULTILINE | re.DOTALL)
-
-
-def refuses(crate, refusal):
-    """Whether a crate has the function that a line of the list names, with the clause of that name: in its module's file, or
-    anywhere where a type stands between, whose functions may stand in several files."""
-    path, clause = re.match(r"`([\w:]+)`: (?:`([\w-]+)`)?", refusal).groups()
-    *within, name = path.split("::")
-    place = within[0] if len(within) == 1 else "*"
-    files = [it for where in (f"**/{place}.rt", f"**/{place}/**/*.rt")
-             for it in glob.glob(f"crates/{crate}/src/{where}", root_dir=TOP, recursive=True)]
-    heads = [head for it in files for head in heads_of(text_of(it), name)]
-    return any(not clause or re.search(rf"\bensures {clause} \{{", head) for head in heads)
-
-
 def edit_tries(_):
-    """The list of wrong bodies has each edit once, no two say the same, and what refuses them is there."""
-    crate, listed, sentences = None, [], []
-    for line in text_of("docs/WRONG_BODIES.md").splitlines():
-        crate = line[3:].strip("`") if line.startswith("## ") else crate
-        row = re.match(r"\| `(\w+)` \| ([^|]+) \| ([^|]+) \| (`[^|]+) \|$", line)
-        if row:
-            listed.append(f"{crate}/{row[1]}")
-            sentences.append(row[2])
-            yield f"docs/WRONG_BODIES.md: {crate}/{row[1]} is refused by {row[4]}", bool(refuses(crate, row[4]))
-    files = glob.glob("crates/*/must-fail/*.edit", root_dir=TOP)
-    edits = [f"{it.split('/')[1]}/{os.path.basename(it).removesuffix('.edit')}" for it in files]
-    for name in sorted(set(listed + edits)):
-        yield f"docs/WRONG_BODIES.md: {name}", listed.count(name) == 1 and name in edits
-    yield "docs/WRONG_BODIES.md says of no two edits the same", len(set(sentences)) == len(sentences)
+    """Each wrong implementation says what goes wrong and which function refuses it, no two say the same, and pages name
+    only those that there are."""
+    edits = [it for crate in crates() for folder in ("must-fail", "wrong") for it in edits_of(crate, folder)]
+    sentences = [it.what for it in edits]
+    for it in edits:
+        yield f"crates/{it.crate}: {it.name} says what goes wrong", sentences.count(it.what) == 1 and it.what.endswith(".")
+        yield f"crates/{it.crate}: {it.name} names a function", bool(it.refused_by)
+    names = {it.name for it in edits}
+    for page in ("CONTRIBUTING.md", "docs/CHANGING.md"):
+        for row in re.findall(r"`(?:wrong|must-fail)/`[^|\n]*\|([^|\n]*)", text_of(page)):
+            for name in re.findall(r"`([a-z0-9]+_[a-z0-9_]+)`", row):
+                known = name in names or os.path.isdir(f"{TOP}/crates/{name}")
+                yield f"{page}: {name}", known or "there is no such wrong implementation"
 
 
 def readme_tries(program):

@@ -15,6 +15,7 @@ pub struct Trickle<'a> {
 }
 
 impl<'a> Trickle<'a> {
+    /// Gives the bytes of `left`, `step` of them at each call but the one that fails.
     pub fn new(left: &'a [u8], step: usize, fails_at: u64) -> Trickle<'a> {
         Trickle {
             left,
@@ -56,6 +57,7 @@ pub struct Narrow {
 }
 
 impl Narrow {
+    /// Fails at one call, or takes no byte there.
     pub fn new(alloc: Global, fails_at: u64, takes_none: bool) -> Narrow {
         Narrow {
             taken: Vec::new(alloc),

@@ -20,7 +20,7 @@ lead = { values = [1], weights = [1] }
 policy = [{ name = \"A\", s = 5, S = 10 }, { name = \"B\", s = 4, S = 10 }]
 ";
 
-// TWO_REPLICATIONS after its first block.
+/// The checkpoint of TWO_REPLICATIONS after its first block.
 pub const CUT: &str = "checkpoint,2,1,5,2
 key,0000000000000000,0000000000000000,0000000000000000,0000000000000000
 costs,7,2,1,4
