@@ -1,5 +1,4 @@
 pub mod Lengths
-pub mod PlainFields
 pub mod PlainRows
 pub mod WrittenRows
 mod Places

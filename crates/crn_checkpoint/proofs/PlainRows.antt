@@ -13,9 +13,10 @@ use Rattle.crn_stock.specs.declared.rules.Policy.{Policy}
 use Rattle.crn_stock.specs.declared.rules.Costs.{Costs}
 use Rattle.crn_stock.specs.Parts.{Parts, AreInRange, stock_limit, period_cost_limit}
 use Rattle.crn_stock.specs.Models.{ModelParts, IsModel, IsPolicy, AreCosts, blocks_per_replication, returned_values, total}
-use Rattle.crn_stock.specs.Scenarios.{ScenarioParts, is_name}
-use Rattle.crn_scenario.specs.Hex.{hex_word}
-use Rattle.crn_plain.specs.Runs.{IsCheckpointOf, StandsBefore}
+use Rattle.crn_stock.specs.Scenarios.{ScenarioParts}
+use Rattle.crn_spelling.specs.Names.{is_name}
+use Rattle.crn_spelling.specs.Hex.{hex_word}
+use Rattle.crn_sequential.specs.Runs.{IsCheckpointOf, StandsBefore}
 use Rattle.crn_rows.specs.Plain.{is_plain, is_row, are_rows}
 use Rattle.crn_rows.proofs.Plainness.{signed_plain}
 use Rattle.crn_checkpoint.specs.CheckpointText.{numbers_row, pair_row, dash, head_row, key_row, costs_row, sizes_row, count_rows, weight_rows, drawn_rows, returned_rows, list_rows, policy_row, due_rows, cost_rows, state_row, policy_rows, all_policy_rows, end_row, checkpoint_rows}
@@ -25,7 +26,7 @@ use Rattle.crn_checkpoint.specs.declared.version.Version.TheVariants.{First, Sec
 use Rattle.crn_checkpoint.proofs.Lengths.{length_due, each_below, all_below, total_high, sum_of}
 use Rattle.crn_checkpoint.proofs.ListRows.{demands_few, leads_few, returned_few}
 use Rattle.crn_checkpoint.proofs.WholeRows.{limit_high}
-use Rattle.crn_checkpoint.proofs.PlainFields.{number_plain, mag_low, level_plain, word_plain, name_plain}
+use Rattle.crn_rows.proofs.PlainFields.{number_plain, mag_low, level_plain, word_plain, name_plain}
 
 -- ---- single rows
 

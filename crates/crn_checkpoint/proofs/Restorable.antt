@@ -7,7 +7,7 @@ use Rattle.crn_stock.specs.Parts.{Parts, AreInRange}
 use Rattle.crn_stock.specs.Models.{ModelParts, IsModel, has_returns, blocks_per_replication, total}
 use Rattle.crn_stock.specs.Restored.{restored, first_period}
 use Rattle.crn_stock.specs.Scenarios.{ScenarioParts}
-use Rattle.crn_plain.specs.Runs.{StandsBefore}
+use Rattle.crn_sequential.specs.Runs.{StandsBefore}
 use Rattle.crn_checkpoint.specs.Reading.{IsInRange}
 use Rattle.crn_checkpoint.specs.Inner.Amounts.{IsRestorable, ArePoliciesOf}
 

@@ -5,7 +5,7 @@ use Rattle.std.proofs.lemmas.List.{length-append}
 use Rattle.crn_stock.specs.declared.rules.Policy.{Policy}
 use Rattle.crn_stock.specs.Parts.{Parts}
 use Rattle.crn_stock.specs.Models.{ModelParts, IsPolicy}
-use Rattle.crn_stock.specs.Scenarios.{is_name}
+use Rattle.crn_spelling.specs.Names.{is_name}
 use Rattle.crn_checkpoint.specs.CheckpointText.{policy_rows, all_policy_rows}
 use Rattle.crn_checkpoint.specs.Inner.Amounts.{IsRestorable, ArePoliciesOf}
 

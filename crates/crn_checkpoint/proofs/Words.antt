@@ -10,10 +10,10 @@ use Rattle.std.specs.Char.{digit_value}
 use Rattle.std.proofs.Common.{get_or, nat_le, nat_lt}
 use Rattle.std.proofs.lemmas.Str.Ascii.{IsAscii-from_all}
 use Rattle.crn_rows.specs.Plain.{is_plain, is_plain_byte}
-use Rattle.crn_checkpoint.proofs.PlainFields.{word_plain}
+use Rattle.crn_rows.proofs.PlainFields.{word_plain}
 use Rattle.std.specs.Fmt.{digit_glyph}
 use Rattle.std.specs.Str.Parse.{digits_value}
-use Rattle.crn_scenario.specs.Hex.{hex_digits, hex_word, is_hex_digit, are_hex_digits, is_hex_word, word_of}
+use Rattle.crn_spelling.specs.Hex.{hex_digits, hex_word, is_hex_digit, are_hex_digits, is_hex_word, word_of}
 
 glyph_value : (d : ℕ) → d < 16 → digit_value (digit_glyph false d) ≡ d
 glyph_value d h = grind (arith, nat_tests)

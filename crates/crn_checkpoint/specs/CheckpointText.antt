@@ -9,7 +9,7 @@ use Rattle.crn_stock.specs.Parts.{Parts}
 use Rattle.crn_stock.specs.Models.{ModelParts, returned_values}
 use Rattle.crn_stock.specs.Scenarios.{ScenarioParts}
 use Rattle.crn_rows.specs.Rows.{rows_text}
-use Rattle.crn_scenario.specs.Hex.{hex_word}
+use Rattle.crn_spelling.specs.Hex.{hex_word}
 use Rattle.crn_checkpoint.specs.declared.version.Version.{Version}
 use Rattle.crn_checkpoint.specs.declared.version.Version.TheVariants as version
 

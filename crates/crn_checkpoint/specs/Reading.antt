@@ -5,7 +5,7 @@ use Rattle.crn_draw.specs.Faults.{least_weights_fault}
 use Rattle.crn_stock.specs.Parts.{Parts, AreInRange}
 use Rattle.crn_stock.specs.Models.{ModelParts, IsModel, total}
 use Rattle.crn_stock.specs.Scenarios.{ScenarioParts, AreForScenario}
-use Rattle.crn_plain.specs.Runs.{IsCheckpointOf, EachAt}
+use Rattle.crn_sequential.specs.Runs.{IsCheckpointOf, EachAt}
 use Rattle.crn_checkpoint.specs.CheckpointText.{checkpoint_text}
 use Rattle.crn_checkpoint.specs.declared.version.Version.{Version}
 use Rattle.crn_checkpoint.specs.declared.version.Version.TheVariants as version

@@ -3,7 +3,7 @@
 ghost use Rattle.std.specs.Prelude.{◌≡◌, ◌∷◌, ◌++◌, ◌+◌, ℕ, List, ◌<◌, ◌^◌, All, IfOk, MatchResult, length};
 ghost use Rattle.crn_stock.specs.Restored.{first_period};
 ghost use Rattle.crn_stock.specs.Parts.{Parts};
-ghost use Rattle.crn_plain.specs.Runs.{StandsBefore};
+ghost use Rattle.crn_sequential.specs.Runs.{StandsBefore};
 ghost use Rattle.crn_checkpoint.specs.CheckpointText.{due_rows, policy_rows};
 ghost use Rattle.crn_checkpoint.specs.Inner.Amounts.{IsRestorable, AreOf};
 ghost use Rattle.crn_stock.specs.declared.rules.Policy.{Policy};

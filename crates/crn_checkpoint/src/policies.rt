@@ -2,9 +2,9 @@
 
 ghost use Rattle.std.specs.Prelude.{◌≡◌, ◌∷◌, ◌++◌, ℕ, List, [], ◌≤◌, All, IfOk, OnOk, MatchResult, Some, length, slice_get, true};
 ghost use Rattle.crn_stock.specs.Models.{IsPolicy};
-ghost use Rattle.crn_stock.specs.Scenarios.{is_name};
+ghost use Rattle.crn_spelling.specs.Names.{is_name};
 ghost use Rattle.crn_stock.specs.Parts.{Parts};
-ghost use Rattle.crn_plain.specs.Runs.{StandsBefore};
+ghost use Rattle.crn_sequential.specs.Runs.{StandsBefore};
 ghost use Rattle.crn_checkpoint.specs.CheckpointText.{policy_row, all_policy_rows};
 ghost use Rattle.crn_checkpoint.specs.Inner.Amounts.{ArePoliciesOf};
 ghost use Rattle.crn_stock.specs.declared.rules.Policy.{Policy};

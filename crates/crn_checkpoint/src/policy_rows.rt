@@ -2,7 +2,7 @@
 
 ghost use Rattle.std.specs.Prelude.{◌≡◌, [], ◌∷◌, ◌++◌, All, IfOk, length, true};
 ghost use Rattle.crn_stock.specs.Models.{IsPolicy};
-ghost use Rattle.crn_stock.specs.Scenarios.{is_name};
+ghost use Rattle.crn_spelling.specs.Names.{is_name};
 ghost use Rattle.crn_rows.specs.Rows.{row_text, rows_text};
 ghost use Rattle.crn_checkpoint.specs.CheckpointText as spec;
 

@@ -10,8 +10,8 @@ use crate::scenarios::{Cut, cut_of, same_but_ring};
 use crate::unread::Unread;
 use crate::version::Version;
 use crate::writing::write_in;
-use crn_plain::Checkpoint;
 use crn_rows::read_rows;
+use crn_sequential::Checkpoint;
 use crn_stock::Scenario;
 use std::alloc::Global;
 

@@ -10,7 +10,7 @@ use crate::rows::{with_numbers_row, with_pair_row};
 use crate::version::Version;
 use crn_draw::Weights;
 use crn_rows::Sheet;
-use crn_scenario::hex::hex_word;
+use crn_spelling::hex::hex_word;
 use crn_stock::{Costs, Model, Scenario};
 use itoa::Buffer;
 use std::alloc::AllocError;

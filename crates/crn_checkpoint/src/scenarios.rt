@@ -4,8 +4,9 @@ ghost use Rattle.std.specs.Prelude.{◌≡◌, ◌≢◌, ◌↔◌, ◌≤◌, 
 ghost use Rattle.std.specs.List.{AllPairs};
 ghost use Rattle.crn_stock.specs.Parts.{Parts};
 ghost use Rattle.crn_stock.specs.Models.{IsPolicy, total};
-ghost use Rattle.crn_stock.specs.Scenarios.{ScenarioParts, AreForScenario, IsScenarioRingSize, is_name};
-ghost use Rattle.crn_plain.specs.Runs.{IsCheckpointOf, StandsBefore};
+ghost use Rattle.crn_stock.specs.Scenarios.{ScenarioParts, AreForScenario, IsScenarioRingSize};
+ghost use Rattle.crn_spelling.specs.Names.{is_name};
+ghost use Rattle.crn_sequential.specs.Runs.{IsCheckpointOf, StandsBefore};
 ghost use Rattle.crn_checkpoint.specs.Inner.Cells.{AreRowsOf};
 ghost use Rattle.crn_checkpoint.specs.Reading.{IsSameButRing, CanTell};
 
@@ -16,10 +17,10 @@ use crate::policies::{Policies, policies_of};
 use crate::unread::Unread;
 use crate::version::Version;
 use crn_draw::Weights;
-use crn_plain::Checkpoint;
 use crn_rows::Row;
-use crn_scenario::hex::word_of;
-use crn_scenario::names::is_name;
+use crn_sequential::Checkpoint;
+use crn_spelling::hex::word_of;
+use crn_spelling::names::is_name;
 use crn_stock::{Model, Policy, Scenario};
 use std::alloc::Global;
 

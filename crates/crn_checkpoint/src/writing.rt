@@ -3,7 +3,7 @@
 ghost use Rattle.std.specs.Prelude.{◌≡◌, ◌^◌, ◌<◌, ◌≤◌, All, IfOk};
 ghost use Rattle.crn_stock.specs.Models.{total};
 ghost use Rattle.crn_stock.specs.Parts.{AreInRange};
-ghost use Rattle.crn_plain.specs.Runs.{IsCheckpointOf};
+ghost use Rattle.crn_sequential.specs.Runs.{IsCheckpointOf};
 ghost use Rattle.crn_checkpoint.specs.CheckpointText as spec;
 ghost use Rattle.crn_checkpoint.specs.Reading.{CanDraw, CanTell, IsScenario, IsTextIn, IsTextOf};
 
@@ -11,8 +11,8 @@ use crate::policy_rows::with_all_policy_rows;
 use crate::rows::with_end_row;
 use crate::scenario_rows::with_scenario_rows;
 use crate::version::Version;
-use crn_plain::Checkpoint;
 use crn_rows::Sheet;
+use crn_sequential::Checkpoint;
 use crn_stock::{Model, Scenario, State};
 use std::alloc::{AllocError, Global};
 

@@ -5,7 +5,7 @@ use Rattle.crn_stock.specs.Parts.{Parts}
 use Rattle.crn_stock.specs.Models.{ModelParts}
 use Rattle.crn_stock.specs.Scenarios.{ScenarioParts}
 use Rattle.crn_stock.specs.Draws.{At}
-use Rattle.crn_plain.specs.Runs.{EachAt}
+use Rattle.crn_sequential.specs.Runs.{EachAt}
 use Rattle.crn_checkpoint.specs.Reading.{IsAnyTextOf, IsSameButRing, IsLegOf}
 use Rattle.crn_scenario.specs.Reading.{Reads, scenario_of}
 

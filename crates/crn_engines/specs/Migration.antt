@@ -6,7 +6,7 @@ use Rattle.crn_stock.specs.Scenarios.{ScenarioParts}
 use Rattle.crn_checkpoint.specs.Reading.{IsSameButRing, IsLegOf, IsOldLegOf}
 use Rattle.crn_checkpoint.specs.Migration.{IsMigrated, RefusesMigration}
 use Rattle.crn_checkpoint.specs.declared.migrate_fault.MigrateFault.{MigrateFault}
-use Rattle.crn_text.specs.Report.{IsReportOf}
+use Rattle.crn_report.specs.Report.{IsReportOf}
 use Rattle.crn_engines.specs.Bytes.{AppendsFront, ReadAll}
 use Rattle.crn_engines.specs.Resumption.{ReportsLegs}
 

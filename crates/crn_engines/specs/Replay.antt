@@ -4,9 +4,9 @@ use Rattle.std.specs.Prelude.{◌≡◌, ℕ, true, List, [], ◌∷◌, Option}
 use Rattle.std.specs.Io.KnownBytes.{Appends}
 use Rattle.crn_proto.specs.declared.spec.RingSpec.{RingSpec}
 use Rattle.crn_proto.specs.declared.schedule.Actor.{Actor}
-use Rattle.crn_text.specs.declared.schedule_fault.ScheduleFault.{ScheduleFault}
-use Rattle.crn_text.specs.Schedule.{IsScheduleOf, are_below, RefusesSchedule}
-use Rattle.crn_text.specs.Trace.{trace_text}
+use Rattle.crn_trace.specs.declared.schedule_fault.ScheduleFault.{ScheduleFault}
+use Rattle.crn_trace.specs.Schedule.{IsScheduleOf, are_below, RefusesSchedule}
+use Rattle.crn_trace.specs.Trace.{trace_text}
 use Rattle.crn_engines.specs.Bytes.{AppendsFront, ReadAll}
 
 -- the ring that is replayed: the blocks 0 to total - 1 of the zero key

@@ -6,11 +6,11 @@ use Rattle.std.specs.Io.KnownBytes.{Appends}
 use Rattle.crn_stock.specs.Models.{total}
 use Rattle.crn_stock.specs.Parts.{Parts}
 use Rattle.crn_stock.specs.Scenarios.{ScenarioParts}
-use Rattle.crn_plain.specs.Runs.{EachOnward}
+use Rattle.crn_sequential.specs.Runs.{EachOnward}
 use Rattle.crn_checkpoint.specs.Reading.{IsTextOf, IsSameButRing, IsLegOf, RefusesCheckpoint}
 use Rattle.crn_checkpoint.specs.declared.checkpoint_fault.CheckpointFault.{CheckpointFault}
 use Rattle.crn_scenario.specs.Reading.{Reads}
-use Rattle.crn_text.specs.Report.{IsReportText, IsReportOf}
+use Rattle.crn_report.specs.Report.{IsReportText, IsReportOf}
 use Rattle.crn_engines.specs.Bytes.{AppendsFront, ReadAll}
 use Rattle.crn_engines.specs.Inputs.{ReadScenario}
 

@@ -4,7 +4,7 @@ use Rattle.std.specs.Prelude.{ℕ, List, Option}
 use Rattle.std.specs.Io.KnownBytes.{Appends}
 use Rattle.crn_stock.specs.Scenarios.{ScenarioParts}
 use Rattle.crn_scenario.specs.Reading.{Reads}
-use Rattle.crn_text.specs.Report.{IsReportOf}
+use Rattle.crn_report.specs.Report.{IsReportOf}
 use Rattle.crn_engines.specs.Bytes.{AppendsFront, ReadAll}
 
 -- the text is the report of the scenario that the input is a text of

@@ -1,12 +1,12 @@
 ghost use Rattle.std.specs.Prelude.{◌≡◌, ◌≢◌, true, IfErr, OnOk};
 ghost use Rattle.std.specs.Io.KnownBytes.{Appends, Keeps};
-ghost use Rattle.crn_text.specs.BlockWords.{words_text};
+ghost use Rattle.crn_trace.specs.BlockWords.{words_text};
 ghost use Rattle.crn_engines.specs.Bytes.{AppendsFront};
 ghost use Rattle.crn_engines.specs.Statuses.{is_of_words};
 
 use crate::fault::Fault;
 use crate::steps::send;
-use crn_text::words_text;
+use crn_trace::words_text;
 use std::alloc::Global;
 use std::io::Write;
 

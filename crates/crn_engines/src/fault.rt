@@ -1,8 +1,10 @@
 ghost use Rattle.std.specs.Prelude.{◌≡◌};
 ghost use Rattle.crn_engines.specs.Statuses.{status_of};
 
+use crn_checkpoint::{CheckpointFault, MigrateFault};
 use crn_run::RunFault;
-use crn_text::{CheckpointFault, MigrateFault, ScenarioFault, ScheduleFault};
+use crn_scenario::ScenarioFault;
+use crn_trace::ScheduleFault;
 use std::alloc::AllocError;
 use thiserror::Error;
 

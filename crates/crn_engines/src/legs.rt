@@ -2,7 +2,7 @@ ghost use Rattle.std.specs.Prelude.{◌≡◌, ◌≢◌, ◌⊎◌, ◌↔◌, 
 ghost use Rattle.std.specs.Io.KnownBytes.{Keeps};
 ghost use Rattle.crn_scenario.specs.declared.scenario_fault.ScenarioFault.{ScenarioFault};
 ghost use Rattle.crn_stock.specs.Models.{total};
-ghost use Rattle.crn_plain.specs.Runs.{IsCheckpointOf, EachAt};
+ghost use Rattle.crn_sequential.specs.Runs.{IsCheckpointOf, EachAt};
 ghost use Rattle.crn_checkpoint.specs.Reading.{IsLegOf};
 ghost use Rattle.crn_engines.specs.Statuses.{is_of_leg, is_of_run};
 ghost use Rattle.crn_engines.specs.Inputs.{ReadRefused};
@@ -10,9 +10,9 @@ ghost use Rattle.crn_engines.specs.Legs.{WroteLeg, WroteLegFront, HasFewer, HasE
 
 use crate::fault::Fault;
 use crate::steps::{run_to, scenario_from, send};
+use crn_checkpoint::write_checkpoint;
 use crn_run::Checkpoint;
 use crn_stock::Scenario;
-use crn_text::write_checkpoint;
 use std::alloc::Global;
 use std::io::{Read, Write};
 use std::sync::Wait;

@@ -7,7 +7,7 @@ ghost use Rattle.crn_engines.specs.Migration.{MigratesLegs, WroteMigrated, Wrote
 
 use crate::fault::Fault;
 use crate::steps::{input_from, send};
-use crn_text::{MigrateFault, migrate_checkpoint};
+use crn_checkpoint::{MigrateFault, migrate_checkpoint};
 use std::alloc::Global;
 use std::io::{Read, Write};
 

@@ -1,8 +1,8 @@
 ghost use Rattle.std.specs.Prelude.{◌≡◌, ◌≢◌, ◌↔◌, ◌⊎◌, true, IfOk, IfErr, OnOk, IsErrOf};
 ghost use Rattle.std.specs.Io.KnownBytes.{Keeps};
 ghost use Rattle.crn_proto.specs.Machine.{open_machine};
-ghost use Rattle.crn_text.specs.declared.schedule_fault.ScheduleFault.{ScheduleFault};
-ghost use Rattle.crn_text.specs.Schedule.{RefusesSchedule};
+ghost use Rattle.crn_trace.specs.declared.schedule_fault.ScheduleFault.{ScheduleFault};
+ghost use Rattle.crn_trace.specs.Schedule.{RefusesSchedule};
 ghost use Rattle.crn_engines.specs.Statuses.{is_of_schedule, is_of_replay};
 ghost use Rattle.crn_proto.specs.Opening.{CanOpen};
 ghost use Rattle.crn_engines.specs.Replay.{replayed, IsTraceFor, WroteTrace, WroteTraceFront, ReadRefusedSchedule};
@@ -11,7 +11,7 @@ use crate::fault::Fault;
 use crate::steps::{input_from, send};
 use crn_cipher::StreamId;
 use crn_proto::{Machine, RingFault, RingSpec};
-use crn_text::{ScheduleFault, read_schedule, trace_text};
+use crn_trace::{ScheduleFault, read_schedule, trace_text};
 use std::alloc::Global;
 use std::io::{Read, Write};
 

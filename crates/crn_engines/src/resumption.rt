@@ -12,9 +12,9 @@ ghost use Rattle.crn_engines.specs.Resumption.{IsResumedReport, ReportsLegs, Wro
 
 use crate::fault::Fault;
 use crate::steps::{input_from, run_and_report, scenario_from, send};
+use crn_checkpoint::{CheckpointFault, read_checkpoint};
 use crn_run::Checkpoint;
 use crn_stock::Scenario;
-use crn_text::{CheckpointFault, read_checkpoint};
 use std::alloc::Global;
 use std::io::{Read, Write};
 use std::sync::Wait;

@@ -1,7 +1,7 @@
 ghost use Rattle.std.specs.Prelude.{◌≡◌, ◌≢◌, true, IfOk, IfErr, OnOk};
 ghost use Rattle.std.specs.Io.KnownBytes.{Keeps};
 ghost use Rattle.crn_scenario.specs.declared.scenario_fault.ScenarioFault.{ScenarioFault};
-ghost use Rattle.crn_text.specs.Report.{IsReportOf};
+ghost use Rattle.crn_report.specs.Report.{IsReportOf};
 ghost use Rattle.crn_engines.specs.Statuses.{is_of_run, is_of_simulation};
 ghost use Rattle.crn_engines.specs.Inputs.{ReadRefused};
 ghost use Rattle.crn_engines.specs.Simulation.{WroteReport, WroteFront};

@@ -4,8 +4,8 @@ ghost use Rattle.std.specs.Prelude.{◌≡◌, ◌≤◌, ◌≢◌, ◌↔◌, 
 ghost use Rattle.std.specs.Io.KnownBytes.{Appends};
 ghost use Rattle.crn_scenario.specs.declared.scenario_fault.ScenarioFault.{ScenarioFault};
 ghost use Rattle.crn_stock.specs.Models.{total};
-ghost use Rattle.crn_plain.specs.Runs.{IsCheckpointOf, EachAt, EachOnward};
-ghost use Rattle.crn_text.specs.Report.{IsReportOf};
+ghost use Rattle.crn_sequential.specs.Runs.{IsCheckpointOf, EachAt, EachOnward};
+ghost use Rattle.crn_report.specs.Report.{IsReportOf};
 ghost use Rattle.crn_engines.specs.Bytes.{AppendsFront, ReadAll};
 ghost use Rattle.crn_engines.specs.Inputs.{ReadScenario, ReadRefused};
 ghost use Rattle.crn_engines.specs.Resumption.{IsReportOnward};
@@ -14,9 +14,10 @@ ghost use Rattle.crn_engines.specs.Statuses.{is_of_input, is_of_run, is_of_scena
 use crate::fault::Fault;
 use crate::input::{InputFault, read_input};
 use crate::output::write_text;
+use crn_report::report;
 use crn_run::{Checkpoint, OpenGate, run_all};
+use crn_scenario::{ScenarioFault, read_scenario};
 use crn_stock::Scenario;
-use crn_text::{ScenarioFault, read_scenario, report};
 use std::alloc::Global;
 use std::io::{Read, Write};
 use std::sync::Wait;

@@ -7,7 +7,9 @@ mod migrations;
 mod replays;
 
 use super::*;
-use crn_text::{CheckpointFault, MigrateFault, ScenarioFault, ScheduleFault};
+use crn_checkpoint::{CheckpointFault, MigrateFault};
+use crn_scenario::ScenarioFault;
+use crn_trace::ScheduleFault;
 use fakes::{Narrow, Trickle, tells_read};
 use std::alloc::Global;
 use std::sync::Wait;

@@ -1,3 +1,4 @@
 pub mod Plainness
+pub mod PlainFields
 pub mod Reread
 pub mod Fields

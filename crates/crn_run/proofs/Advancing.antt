@@ -8,10 +8,10 @@ use Rattle.crn_stock.specs.Parts.{Parts}
 use Rattle.crn_stock.specs.Models.{ModelParts}
 use Rattle.crn_stock.specs.Scenarios.{ScenarioParts}
 use Rattle.crn_stock.specs.Draws.{At, OnwardAt, next_block}
-use Rattle.crn_plain.specs.Runs.{StandsBefore}
+use Rattle.crn_sequential.specs.Runs.{StandsBefore}
 use Rattle.crn_run.specs.Ends.{IsRun}
 use Rattle.crn_run.specs.Inner.Ends.{Advances, FollowFrom}
-use Rattle.crn_plain.proofs.Running.{same_of}
+use Rattle.crn_sequential.proofs.Running.{same_of}
 
 -- no block
 pub advances_none : (m : ModelParts) (p : Policy) (key : List ℕ) (v : Parts) → StandsBefore m (next_block v) v → Advances m p key v v

@@ -15,15 +15,15 @@ use Rattle.crn_ring.specs.Calls.{IsFresh, reader_number, reader_part, spec_of}
 use Rattle.crn_run.specs.declared.fault.RunFault.{RunFault}
 use Rattle.crn_run.specs.declared.run.Finished.{Finished}
 use Rattle.crn_run.specs.declared.jobs.Job.{Job}
-use Rattle.crn_plain.specs.Runs.{IsCheckpointOf, StandsBefore, EachAt, EachOnward}
+use Rattle.crn_sequential.specs.Runs.{IsCheckpointOf, StandsBefore, EachAt, EachOnward}
 use Rattle.crn_run.specs.declared.worker.PolicyEnd.{PolicyEnd}
 use Rattle.crn_run.specs.declared.worker.PolicyEnd.TheVariants.{Reached, Short, Held}
 use Rattle.crn_run.specs.Ends.{EndsAs, HasReadAll, IsRun, is_held}
 use Rattle.crn_run.specs.Inner.Ends.{is_short}
 use Rattle.crn_run.specs.Jobs.{ring_spec}
 use Rattle.crn_run.specs.Inner.Jobs.{IsReady, AreEnds, AreJobs, Gathers, HasRun}
-use Rattle.crn_plain.proofs.Growing.{HoldsOfEach, each-grown, slice_get_front, slice_get_last}
-use Rattle.crn_plain.proofs.Running.{same_of}
+use Rattle.crn_sequential.proofs.Growing.{HoldsOfEach, each-grown, slice_get_front, slice_get_last}
+use Rattle.crn_sequential.proofs.Running.{same_of}
 
 -- the job at place i of a stack for all policies, the first policy's on top
 pub record JobFrom (s : ScenarioParts) (ring : Ring) (start : List Parts) (i : ℕ) (j : Job) : Type 0 where

@@ -2,7 +2,7 @@
 ghost use Rattle.std.specs.Prelude.{◌≡◌, ◌<◌, ◌≤◌, false, length, IfOk, IfErr};
 ghost use Rattle.crn_stock.specs.Models.{total};
 ghost use Rattle.crn_ring.specs.Calls.{AllFresh, IsOpened, reader_number, spec_of};
-ghost use Rattle.crn_plain.specs.Runs.{IsCheckpointOf};
+ghost use Rattle.crn_sequential.specs.Runs.{IsCheckpointOf};
 ghost use Rattle.crn_run.specs.Ends.{EndsAs, is_held};
 ghost use Rattle.crn_run.specs.Jobs.{ring_spec};
 ghost use Rattle.crn_run.specs.Inner.Jobs.{AreJobs, CarriesFor, IsReady};
@@ -10,7 +10,7 @@ ghost use Rattle.crn_run.specs.Inner.Jobs.{AreJobs, CarriesFor, IsReady};
 use crate::gate::Gate;
 use crate::worker::{PolicyEnd, run_policy};
 use crn_cipher::StreamId;
-use crn_plain::Checkpoint;
+use crn_sequential::Checkpoint;
 use crn_proto::{RingFault, RingSpec};
 use crn_ring::{Producer, Reader, Ring};
 use crn_stock::{Scenario, State};

@@ -11,7 +11,7 @@ mod threads;
 mod waiting;
 mod worker;
 
-pub use crn_plain::{Checkpoint, run_plain};
+pub use crn_sequential::{Checkpoint, run_plain};
 pub use fault::RunFault;
 pub use feeding::feed;
 pub use gate::{Gate, OpenGate};

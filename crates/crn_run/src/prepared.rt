@@ -2,13 +2,13 @@
 ghost use Rattle.std.specs.Prelude.{◌≡◌, ◌≤◌, false, [], IfOk, vec_len, vec_capacity};
 ghost use Rattle.crn_stock.specs.Models.{total};
 ghost use Rattle.crn_ring.specs.Calls.{IsProducerOf, producer_part, spec_of};
-ghost use Rattle.crn_plain.specs.Runs.{IsCheckpointOf};
+ghost use Rattle.crn_sequential.specs.Runs.{IsCheckpointOf};
 ghost use Rattle.crn_run.specs.Jobs.{ring_spec};
 ghost use Rattle.crn_run.specs.Inner.Jobs.{AreJobs};
 
 use crate::jobs::{Job, jobs_of, open_ring};
 use crate::worker::PolicyEnd;
-use crn_plain::Checkpoint;
+use crn_sequential::Checkpoint;
 use crn_ring::{Producer, Reader, Ring};
 use crn_stock::{Scenario, State};
 use std::alloc::{AllocError, Global};

@@ -2,7 +2,7 @@
 ghost use Rattle.std.specs.Prelude.{◌≡◌, ◌≢◌, ℕ, ◌≤◌, true, false, length, All, List, IfOk, IfErr, vec_len, vec_capacity, []};
 ghost use Rattle.crn_stock.specs.Parts.{Parts};
 ghost use Rattle.crn_stock.specs.Models.{total};
-ghost use Rattle.crn_plain.specs.Runs.{IsCheckpointOf, EachAt, EachOnward};
+ghost use Rattle.crn_sequential.specs.Runs.{IsCheckpointOf, EachAt, EachOnward};
 ghost use Rattle.crn_ring.specs.Calls.{spec_of};
 ghost use Rattle.crn_run.specs.Jobs.{AreReaders, HasRefused, ring_spec};
 ghost use Rattle.crn_run.specs.Inner.Jobs.{AllReady, AreJobs, CarriesFor, Gathers, HasRun};
@@ -15,7 +15,7 @@ use crate::gate::Gate;
 use crate::prepared::{Prepared, prepare};
 use crate::threads::run_jobs;
 use crate::worker::PolicyEnd;
-use crn_plain::Checkpoint;
+use crn_sequential::Checkpoint;
 use crn_ring::Reader;
 use crn_stock::{Scenario, State};
 use std::alloc::Global;

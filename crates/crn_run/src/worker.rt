@@ -4,7 +4,7 @@ ghost use Rattle.crn_cipher.specs.declared.stream.Block.{Block};
 ghost use Rattle.crn_stock.specs.Models.{IsPolicy, total};
 ghost use Rattle.crn_stock.specs.Draws.{next_block};
 ghost use Rattle.crn_ring.specs.Calls.{HasLeft, IsReaderOf, reader_number, reader_part, spec_of};
-ghost use Rattle.crn_plain.specs.Runs.{StandsBefore};
+ghost use Rattle.crn_sequential.specs.Runs.{StandsBefore};
 ghost use Rattle.crn_run.specs.declared.worker.PolicyEnd.TheVariants.{Held};
 ghost use Rattle.crn_run.specs.Ends.{EndsAs, is_held};
 ghost use Rattle.crn_run.specs.Inner.Ends.{Advances, FollowFrom};

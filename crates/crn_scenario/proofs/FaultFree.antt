@@ -9,8 +9,8 @@ use Rattle.std.proofs.lemmas.List.Sums.{list_all-from_AllPass}
 use Rattle.std.specs.Prelude.{⊤, option_and_then, int_le}
 use Rattle.std.specs.List.{list_all}
 use Rattle.toml.specs.Data.{Data, string, integer, table, Items, Members, get_member, as_integer, as_str, as_array, as_table}
-use Rattle.crn_stock.specs.Scenarios.{is_name}
-use Rattle.crn_scenario.specs.Hex.{is_hex_word}
+use Rattle.crn_spelling.specs.Names.{is_name}
+use Rattle.crn_spelling.specs.Hex.{is_hex_word}
 use Rattle.crn_scenario.specs.Tree.{integer_at, text_at, array_at, table_at, count_items, integers_of, texts_of}
 use Rattle.crn_scenario.specs.Fields.{Entry, keys_of, number, keeps, keeps_at, keeps_at_all, is_within, is_list_within, are_four_words, are_within}
 use Rattle.crn_scenario.specs.Fields as fields

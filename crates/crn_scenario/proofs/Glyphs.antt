@@ -5,8 +5,8 @@ use Rattle.std.proofs.lemmas.Bool.Decides.{nat_tests, Decides-like, Decides-and,
 use Rattle.std.proofs.lemmas.List.Elements.{Contains-append_left, Contains-append_right, Contains-append_cases}
 use Rattle.std.specs.Prelude.{Decides}
 use Rattle.std.specs.List.{list_all}
-use Rattle.crn_stock.specs.Scenarios.{is_name_byte, is_name}
-use Rattle.crn_scenario.specs.Hex.{is_hex_digit, is_hex_word}
+use Rattle.crn_spelling.specs.Names.{is_name_byte, is_name}
+use Rattle.crn_spelling.specs.Hex.{is_hex_digit, is_hex_word}
 use Rattle.crn_scenario.specs.Sound.{IsWord, IsName}
 
 -- so many numbers in a row

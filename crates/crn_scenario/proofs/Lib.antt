@@ -1,13 +1,11 @@
 mod Bools
 pub mod FirstFault
 pub mod LaterNames
-pub mod HexWords
 pub mod ItemFacts
 pub mod Kept
 pub mod Draws
 pub mod Sound
 pub mod Policies
-mod HexWritten
 mod Glyphs
 mod KnownKeys
 mod ItemLists

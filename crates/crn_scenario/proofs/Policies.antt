@@ -12,7 +12,8 @@ use Rattle.std.specs.Str.{bytes_eq}
 use Rattle.toml.specs.Data.{Items, no_items, item, Members, get_member, as_table}
 use Rattle.crn_stock.specs.declared.rules.Policy.{Policy}
 use Rattle.crn_stock.specs.Models.{IsPolicy, ModelParts}
-use Rattle.crn_stock.specs.Scenarios.{AreForScenario, IsScenarioRingSize, ScenarioParts, is_name}
+use Rattle.crn_stock.specs.Scenarios.{AreForScenario, IsScenarioRingSize, ScenarioParts}
+use Rattle.crn_spelling.specs.Names.{is_name}
 use Rattle.crn_scenario.specs.Tree.{integer_at, natural, text_at, array_at, tables_of, count_items, are_tables, kept}
 use Rattle.crn_scenario.specs.Fields.{Entry, entry, keeps, keeps_at_all, is_within}
 use Rattle.crn_scenario.specs.Fields as fields

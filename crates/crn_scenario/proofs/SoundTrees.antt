@@ -9,8 +9,9 @@ use Rattle.std.proofs.lemmas.List.Sums.{AllPass-from_list_all}
 use Rattle.std.specs.Prelude.{option_and_then, int_le}
 use Rattle.std.specs.List.{list_all}
 use Rattle.toml.specs.Data.{Data, string, integer, float, boolean, datetime, array, table, Items, Members, get_member, as_integer, as_str, as_array, as_table}
-use Rattle.crn_stock.specs.Scenarios.{IsScenarioRingSize, is_name}
-use Rattle.crn_scenario.specs.Hex.{is_hex_word}
+use Rattle.crn_stock.specs.Scenarios.{IsScenarioRingSize}
+use Rattle.crn_spelling.specs.Names.{is_name}
+use Rattle.crn_spelling.specs.Hex.{is_hex_word}
 use Rattle.crn_scenario.specs.Tree.{integer_at, array_at, table_at, integers_of, texts_of, tables_of, count_items}
 use Rattle.crn_scenario.specs.Fields.{Entry, keys_of, number, keeps, are_within}
 use Rattle.crn_scenario.specs.Fields as fields

@@ -4,7 +4,7 @@ use Rattle.std.specs.Prelude.{◌≡◌, ℕ, ◌<◌, ℤ, pos, ◌+ℤ◌, Lis
 use Rattle.std.specs.List.{list_all, list_any}
 use Rattle.std.specs.Str.{bytes_eq}
 use Rattle.toml.specs.Data.{Data, Items, no_items, item, Members, as_table}
-use Rattle.crn_stock.specs.Scenarios.{is_name}
+use Rattle.crn_spelling.specs.Names.{is_name}
 use Rattle.crn_scenario.specs.Tree.{integer_at, natural, text_at, array_at, table_at, integers_of, tables_of, count_items, kept}
 use Rattle.crn_scenario.specs.Fields.{Entry, keys_of, keeps, is_within}
 use Rattle.crn_scenario.specs.Fields as fields

@@ -3,7 +3,7 @@ use Rattle.std.specs.Prelude.{ℕ, ℤ, pos, List, [], ◌∷◌, Bool, true, fa
 use Rattle.std.specs.List.{list_all, filter}
 use Rattle.std.specs.Str.{bytes_eq}
 use Rattle.toml.specs.Data.{Data, Items, Members, no_members, member, get_member, as_integer, as_str, as_array, as_table}
-use Rattle.crn_scenario.specs.Hex.{is_hex_word}
+use Rattle.crn_spelling.specs.Hex.{is_hex_word}
 use Rattle.crn_scenario.specs.Tree.{integers_of, texts_of, count_items, are_integers, are_texts, are_tables}
 use Rattle.crn_scenario.specs.declared.fields.Kind.{Kind}
 use Rattle.crn_scenario.specs.declared.fields.Kind.TheVariants as kind

@@ -1,4 +1,3 @@
-pub mod Hex
 pub mod Tree
 pub mod Fields
 pub mod Faults

@@ -10,7 +10,7 @@ use Rattle.crn_stock.specs.Models.{ModelParts}
 use Rattle.crn_stock.specs.Scenarios.{ScenarioParts}
 use Rattle.crn_scenario.specs.declared.scenario_fault.ScenarioFault.{ScenarioFault}
 use Rattle.crn_scenario.specs.declared.scenario_fault.ScenarioFault.TheVariants as fault
-use Rattle.crn_scenario.specs.Hex.{word_of}
+use Rattle.crn_spelling.specs.Hex.{word_of}
 use Rattle.crn_scenario.specs.Tree.{integer_at, natural, text_at, array_at, table_at, integers_of}
 use Rattle.crn_scenario.specs.Faults.{policies_at, IsLeast, HasNone}
 

@@ -3,7 +3,7 @@
 ghost use Rattle.std.specs.Prelude.{◌≡◌, ◌≢◌, ◌^◌, pos, ◌+ℤ◌, ◌≤ℤ◌, map, option_map, option_copied, codes, false, true, Some, None, IfOk, IfErr, OnOk};
 ghost use Rattle.std.specs.List.{list_all};
 ghost use Rattle.toml.specs.View.{view, table_view, array_view};
-ghost use Rattle.crn_stock.specs.Scenarios.{is_name};
+ghost use Rattle.crn_spelling.specs.Names.{is_name};
 ghost use Rattle.crn_scenario.specs.Tree.{table_at, integers_of, tables_of};
 ghost use Rattle.crn_scenario.specs.Fields as tables;
 ghost use Rattle.crn_scenario.specs.Inner.Fields.{entry_of};
@@ -14,9 +14,9 @@ ghost use Rattle.crn_scenario.specs.Reading.{scenario_fault_number};
 use crate::fields::{
     COSTS, DEMAND, Field, LEAD, NEWEST_VERSION, POLICY, RETURNS, Rule, TOP, is_within, keeps,
 };
-use crate::names::is_name;
 use crate::scenario_fault::ScenarioFault;
 use crate::tree::{array_at, count_items, integer_at, natural, table_at, text_at};
+use crn_spelling::names::is_name;
 use std::alloc::{AllocError, Global};
 use std::collections::BTreeSet;
 use toml::value::Array;

@@ -2,14 +2,14 @@
 
 ghost use Rattle.std.specs.Prelude.{◌≡◌, map, option_map};
 ghost use Rattle.toml.specs.View.{view, table_view, array_view};
-ghost use Rattle.crn_scenario.specs.Hex.{is_hex_word};
+ghost use Rattle.crn_spelling.specs.Hex.{is_hex_word};
 ghost use Rattle.std.specs.List.{list_all};
 ghost use Rattle.crn_scenario.specs.Tree.{integers_of, texts_of};
 ghost use Rattle.crn_scenario.specs.Fields as spec;
 ghost use Rattle.crn_scenario.specs.Inner.Fields.{entry_of};
 
-use crate::hex;
 use crate::tree::{are_integers, are_tables, are_texts, count_items, member_at};
+use crn_spelling::hex;
 use toml::value::Array;
 use toml::{Table, Value};
 

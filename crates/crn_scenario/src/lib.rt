@@ -3,9 +3,7 @@
 
 mod faults;
 mod fields;
-pub mod hex;
 pub mod laws;
-pub mod names;
 mod read;
 mod scenario;
 mod scenario_fault;

@@ -9,9 +9,9 @@ ghost use Rattle.crn_scenario.specs.Faults.{HasNone, policies_at};
 ghost use Rattle.crn_scenario.specs.Reading as spec;
 ghost use Rattle.crn_scenario.specs.Inner.Reading.{AreDraws, MayBeDraws};
 
-use crate::hex;
 use crate::tree::{array_at, integer_at, member_at, natural, table_at, text_at};
 use crn_draw::{DrawFault, Weights};
+use crn_spelling::hex;
 use crn_stock::{Costs, Model, Name, Policy, Scenario};
 use std::alloc::{AllocError, Global};
 use toml::value::Array;

@@ -1,9 +1,9 @@
 -- What the program reads and writes for a command.
 use Rattle.std.specs.Prelude.{ℕ, Bool, List, Option, string_bytes}
 use Rattle.std.specs.Io.KnownBytes.{Appends, Keeps}
-use Rattle.crn_text.specs.BlockWords.{words_text}
-use Rattle.crnsim.specs.declared.command_line.Command.{Command}
-use Rattle.crnsim.specs.declared.command_line.Command.TheVariants as command
+use Rattle.crn_trace.specs.BlockWords.{words_text}
+use Rattle.crn_command_line.specs.declared.words.Command.{Command}
+use Rattle.crn_command_line.specs.declared.words.Command.TheVariants as command
 use Rattle.crn_engines.specs.declared.fault.Fault.{Fault}
 use Rattle.crn_engines.specs.Bytes.{AppendsFront}
 use Rattle.crn_engines.specs.Simulation.{WroteReport, WroteFront}

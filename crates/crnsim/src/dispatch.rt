@@ -2,7 +2,7 @@ ghost use Rattle.std.specs.Prelude.{◌≡◌, ◌≢◌, true, IfErr, OnOk};
 ghost use Rattle.std.specs.Io.KnownBytes.{Keeps};
 ghost use Rattle.crnsim.specs.Dispatch.{Streams, Answered, AnsweredFront, is_of_command};
 
-use crate::command_line::Command;
+use crn_command_line::Command;
 use crn_engines::{Fault, leg, migrate, replay_run, resume, send, simulate, write_words};
 use std::alloc::Global;
 use std::io::{Read, Write};

@@ -5,9 +5,9 @@
 
 mod command_line;
 mod dispatch;
-mod help;
 
-pub use command_line::{Command, read_words};
+pub use command_line::read_words;
+pub use crn_command_line::Command;
 pub use crn_engines::{Fault, leg, migrate, replay_run, resume, simulate, write_words};
 pub use dispatch::answer_command;
 use std::env;
@@ -86,6 +86,3 @@ fn opened(rt: &HostRuntime, name: &str) -> Result<File, Fault> {
         Err(_) => Err(Fault::Reading),
     }
 }
-
-#[cfg(test)]
-mod tests;

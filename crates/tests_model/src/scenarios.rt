@@ -5,7 +5,7 @@ ghost use Rattle.crn_stock.specs.Models.{IsPolicy, returned_values, total};
 ghost use Rattle.crn_stock.specs.Scenarios.{AreForScenario, IsScenarioRingSize};
 
 use crn_draw::Weights;
-use crn_plain::Checkpoint;
+use crn_sequential::Checkpoint;
 use crn_stock::{Costs, Model, Name, Policy, Scenario};
 use std::alloc::{AllocError, Global};
 

@@ -2,7 +2,7 @@
 use Rattle.std.specs.Prelude.{◌≡◌, ℕ, ℤ, List, All, length, true}
 use Rattle.crn_stock.specs.Parts.{Parts}
 use Rattle.crn_stock.specs.Models.{ModelParts, IsModel, IsPolicy}
-use Rattle.crn_stock.specs.Scenarios.{is_name}
+use Rattle.crn_spelling.specs.Names.{is_name}
 use Rattle.crn_stock.specs.declared.rules.Policy.{Policy}
 use Rattle.crn_stock.specs.Restored.{restored, CanRestore}
 

@@ -5,7 +5,7 @@ use Rattle.crn_stock.specs.Parts.{Parts}
 use Rattle.crn_stock.specs.Models.{ModelParts}
 use Rattle.crn_stock.specs.Draws.{At, OnwardAt, next_block}
 use Rattle.crn_stock.specs.declared.rules.Policy.{Policy}
-use Rattle.crn_plain.specs.Runs.{StandsBefore}
+use Rattle.crn_sequential.specs.Runs.{StandsBefore}
 use Rattle.crn_run.specs.declared.worker.PolicyEnd.{PolicyEnd}
 use Rattle.crn_run.specs.declared.worker.PolicyEnd.TheVariants.{Reached, Short, Held}
 

@@ -7,7 +7,7 @@ use Rattle.crn_stock.specs.Scenarios.{ScenarioParts}
 use Rattle.crn_ring.specs.declared.ring.Ring.{Ring}
 use Rattle.crn_ring.specs.declared.reader_end.Reader.{Reader}
 use Rattle.crn_ring.specs.Calls.{IsReaderOf, reader_number, reader_part, spec_of}
-use Rattle.crn_plain.specs.Runs.{StandsBefore, IsCheckpointOf, EachAt, EachOnward}
+use Rattle.crn_sequential.specs.Runs.{StandsBefore, IsCheckpointOf, EachAt, EachOnward}
 use Rattle.crn_run.specs.Ends.{EndsAs, is_held}
 use Rattle.crn_run.specs.declared.jobs.Job.{Job}
 use Rattle.crn_run.specs.declared.worker.PolicyEnd.{PolicyEnd}

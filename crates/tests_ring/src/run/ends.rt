@@ -3,7 +3,7 @@ ghost use Rattle.std.specs.Prelude.{◌≡◌, ◌≤◌, ◌<◌, ◌∷◌, []
 ghost use Rattle.crn_proto.specs.Ring.{open_reader};
 ghost use Rattle.crn_stock.specs.Models.{total};
 ghost use Rattle.crn_ring.specs.Calls.{AllFresh, IsProducerOf, IsReaderOf, reader_part, spec_of};
-ghost use Rattle.crn_plain.specs.Runs.{StandsBefore};
+ghost use Rattle.crn_sequential.specs.Runs.{StandsBefore};
 
 use super::gates::HoldsAt;
 use super::scenarios::steady;

@@ -1,7 +1,7 @@
 // Gates that wait for each other, that hold a policy, and that count the blocks that they are asked for.
 ghost use Rattle.std.specs.Prelude.{◌≡◌, ◌≤◌, false, length, All, IfOk};
 ghost use Rattle.crn_stock.specs.Models.{total};
-ghost use Rattle.crn_plain.specs.Runs.{IsCheckpointOf};
+ghost use Rattle.crn_sequential.specs.Runs.{IsCheckpointOf};
 
 use super::runs::has_reached;
 use super::scenarios::steady;

@@ -2,7 +2,7 @@
 // allocation or one thread start fail.
 ghost use Rattle.std.specs.Prelude.{◌≡◌, ◌≤◌, length};
 ghost use Rattle.crn_stock.specs.Models.{total};
-ghost use Rattle.crn_plain.specs.Runs.{IsCheckpointOf};
+ghost use Rattle.crn_sequential.specs.Runs.{IsCheckpointOf};
 
 use super::runs::{has_reached, run_two};
 use super::scenarios::steady;

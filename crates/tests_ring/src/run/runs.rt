@@ -1,7 +1,7 @@
 // Runs of all policies under open gates.
 ghost use Rattle.std.specs.Prelude.{◌≡◌, ◌≤◌, length, IfOk};
 ghost use Rattle.crn_stock.specs.Models.{total};
-ghost use Rattle.crn_plain.specs.Runs.{IsCheckpointOf};
+ghost use Rattle.crn_sequential.specs.Runs.{IsCheckpointOf};
 
 use super::scenarios::steady;
 use crn_ring::Reader;

@@ -1,7 +1,7 @@
 use Rattle.std.proofs.Common.{◌≡◌, ◌++◌, ℕ, List, Some, drop, length, take, slice_get}
 use Rattle.crn_stock.specs.declared.rules.Policy.{Policy}
 use Rattle.crn_stock.specs.Parts.{Parts}
-use Rattle.crn_plain.specs.Runs.{StandsBefore}
+use Rattle.crn_sequential.specs.Runs.{StandsBefore}
 use Rattle.crn_checkpoint.specs.CheckpointText.{all_policy_rows}
 use Rattle.crn_checkpoint.specs.Inner.Amounts.{ArePoliciesOf}
 use Rattle.crn_checkpoint.proofs.policies.policies_of.Given as goal

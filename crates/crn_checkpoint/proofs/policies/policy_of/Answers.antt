@@ -4,7 +4,7 @@ use Rattle.crn_rows.proofs.Fields.{back}
 use Rattle.crn_checkpoint.specs.Inner.Cells.{cell}
 use Rattle.crn_checkpoint.proofs.WholeRows.{small_amount, same_policy}
 use Rattle.crn_checkpoint.proofs.Words.{plain_utf8}
-use Rattle.crn_checkpoint.proofs.PlainFields.{name_plain}
+use Rattle.crn_rows.proofs.PlainFields.{name_plain}
 use Rattle.crn_checkpoint.proofs.policies.policy_of.Goals as goal
 
 pub returns : goal.returns

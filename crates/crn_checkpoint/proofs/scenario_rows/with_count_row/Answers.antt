@@ -1,5 +1,5 @@
 use Rattle.std.proofs.Common.{rules, ◌≡◌, ◌<◌, ◌^◌, decimal, refl}
-use Rattle.crn_checkpoint.proofs.PlainFields.{number_plain}
+use Rattle.crn_rows.proofs.PlainFields.{number_plain}
 use Rattle.crn_checkpoint.proofs.scenario_rows.with_count_row.Goals as goal
 
 pub with_row-requires : goal.with_row-requires

@@ -1,7 +1,7 @@
 use Rattle.std.proofs.Common.{rules, ◌∙◌, ap, sym, subst, length}
 use Rattle.crn_stock.specs.Models.{ModelParts}
 use Rattle.crn_stock.specs.Scenarios.{ScenarioParts}
-use Rattle.crn_plain.specs.Runs.{StandsBefore}
+use Rattle.crn_sequential.specs.Runs.{StandsBefore}
 use Rattle.crn_checkpoint.proofs.WholeRows.{handed_on}
 use Rattle.crn_checkpoint.proofs.Cuts.{is_version, rows_in, next_read, not_over, for_scenario}
 use Rattle.crn_checkpoint.proofs.scenarios.cut_of.Goals as goal

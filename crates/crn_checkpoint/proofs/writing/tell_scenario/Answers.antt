@@ -1,7 +1,8 @@
 use Rattle.std.proofs.Common.{rules, ℕ, ◌≡◌, ◌≢◌, ◌<◌, ◌^◌, true, All, AllPairs, List, length, subst}
 use Rattle.crn_stock.specs.declared.rules.Policy.{Policy}
 use Rattle.crn_stock.specs.Models.{ModelParts, IsModel, IsPolicy}
-use Rattle.crn_stock.specs.Scenarios.{AreForScenario, IsScenarioRingSize, is_name}
+use Rattle.crn_stock.specs.Scenarios.{AreForScenario, IsScenarioRingSize}
+use Rattle.crn_spelling.specs.Names.{is_name}
 use Rattle.crn_checkpoint.specs.Reading.{CanDraw}
 use Rattle.crn_checkpoint.proofs.writing.tell_scenario.Goals as goal
 

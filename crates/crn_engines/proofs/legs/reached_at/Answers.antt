@@ -1,6 +1,6 @@
 use Rattle.std.proofs.Common.{ℕ, subst, sym}
 use Rattle.std.proofs.lemmas.Result.{IfOk-weaker}
-use Rattle.crn_plain.specs.Runs.{EachAt}
+use Rattle.crn_sequential.specs.Runs.{EachAt}
 use Rattle.crn_engines.proofs.legs.reached_at.Goals as goal
 
 pub returns-clause-at : goal.returns-clause-at

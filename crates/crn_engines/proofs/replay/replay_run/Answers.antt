@@ -1,6 +1,6 @@
 use Rattle.std.proofs.Common.{ℕ, List, rules, subst, ap}
 use Rattle.crn_proto.specs.Machine.{MachineState}
-use Rattle.crn_text.specs.Schedule.{RefusesSchedule}
+use Rattle.crn_trace.specs.Schedule.{RefusesSchedule}
 use Rattle.crn_engines.proofs.replay.replay_run.Goals as goal
 
 pub returns-in_err-text-clause-schedule : goal.returns-in_err-text-clause-schedule

@@ -1,8 +1,8 @@
 use Rattle.std.proofs.Common.{◌≡◌, ◌∙◌, ℕ, List, ap, map, subst}
 use Rattle.crn_stock.specs.Models.{total}
-use Rattle.crn_plain.specs.Runs.{EachAt, EachOnward, costs_of}
-use Rattle.crn_plain.proofs.Costs.{costs_at_end}
-use Rattle.crn_text.specs.Report.{IsReportText}
+use Rattle.crn_sequential.specs.Runs.{EachAt, EachOnward, costs_of}
+use Rattle.crn_sequential.proofs.Costs.{costs_at_end}
+use Rattle.crn_report.specs.Report.{IsReportText}
 use Rattle.crn_engines.proofs.steps.run_and_report.Goals as goal
 
 pub returns-clause-onward : goal.returns-clause-onward

@@ -5,7 +5,7 @@ use Rattle.crn_stock.specs.Parts.{Parts}
 use Rattle.crn_ring.specs.declared.reader_end.Reader.{Reader}
 use Rattle.crn_ring.specs.Calls.{IsFresh, reader_number}
 use Rattle.crn_run.specs.declared.jobs.Job.{Job}
-use Rattle.crn_plain.proofs.Growing.{each-front, each-grown, each-last}
+use Rattle.crn_sequential.proofs.Growing.{each-front, each-grown, each-last}
 use Rattle.crn_run.proofs.Ending.{JobFrom, job_from}
 use Rattle.crn_run.proofs.jobs.jobs_of.Goals as goal
 

@@ -1,6 +1,6 @@
 use Rattle.std.proofs.Common.{◌≡◌, ◌+◌, length, vec_len}
 use Rattle.crn_ring.specs.Calls.{AllFresh}
-use Rattle.crn_plain.proofs.Growing.{HoldsOfEach}
+use Rattle.crn_sequential.proofs.Growing.{HoldsOfEach}
 use Rattle.crn_run.proofs.Ending.{JobFrom}
 use Rattle.crn_run.proofs.jobs.jobs_of.Given as goal
 

@@ -5,7 +5,7 @@ use Rattle.crn_run.specs.declared.worker.PolicyEnd.{PolicyEnd}
 use Rattle.crn_run.specs.declared.worker.PolicyEnd.TheVariants.{Reached}
 use Rattle.crn_run.specs.Ends.{is_held}
 use Rattle.crn_run.specs.Inner.Ends.{is_short}
-use Rattle.crn_plain.proofs.Growing.{each-front, each-grown, each-last}
+use Rattle.crn_sequential.proofs.Growing.{each-front, each-grown, each-last}
 use Rattle.crn_run.proofs.Ending.{StateFrom, ReaderFrom, some_end, state_from, reader_from}
 use Rattle.crn_run.proofs.run.gather.Goals as goal
 

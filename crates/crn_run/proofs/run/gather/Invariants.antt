@@ -1,6 +1,6 @@
 use Rattle.std.proofs.Common.{◌≡◌, ◌≤◌, ◌+◌, length, vec_len, vec_capacity}
 use Rattle.std.specs.Prelude.{slice_get, Some}
-use Rattle.crn_plain.proofs.Growing.{HoldsOfEach}
+use Rattle.crn_sequential.proofs.Growing.{HoldsOfEach}
 use Rattle.crn_run.proofs.Ending.{StateFrom, ReaderFrom}
 use Rattle.crn_run.proofs.run.gather.Given as goal
 

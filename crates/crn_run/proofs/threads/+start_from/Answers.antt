@@ -5,7 +5,7 @@ use Rattle.crn_run.specs.declared.worker.PolicyEnd.{PolicyEnd}
 use Rattle.crn_run.specs.Ends.{EndsAs, is_held}
 use Rattle.crn_run.specs.Jobs.{HasRefused}
 use Rattle.crn_run.specs.Inner.Jobs.{IsReady}
-use Rattle.crn_plain.proofs.Growing.{all-head, all-tail, each-front, each-last}
+use Rattle.crn_sequential.proofs.Growing.{all-head, all-tail, each-front, each-last}
 use Rattle.crn_run.proofs.Ending.{held_or_last, one_more_end, with_value}
 use Rattle.crn_run.proofs.threads.+start_from.Goals as goal
 

@@ -5,7 +5,7 @@ use Rattle.crn_ring.specs.Calls.{FollowOn, reader_part, spec_of}
 use Rattle.crn_ring.specs.Parts.{Takes, SeesEnd}
 use Rattle.crn_run.specs.Inner.Ends.{Advances}
 use Rattle.crn_run.proofs.Advancing.{advances_then, advanced, follow_from, taken_on}
-use Rattle.crn_plain.proofs.Running.{read_policy}
+use Rattle.crn_sequential.proofs.Running.{read_policy}
 use Rattle.crn_run.proofs.worker.run_until_held.Goals as goal
 
 pub apply_all-requires-clause-blocks : goal.apply_all-requires-clause-blocks

@@ -1,6 +1,6 @@
 use Rattle.std.proofs.Common.{◌≡◌, map, drop}
 use Rattle.std.specs.List.{list_all}
-use Rattle.crn_stock.specs.Scenarios.{is_name}
+use Rattle.crn_spelling.specs.Names.{is_name}
 use Rattle.crn_scenario.proofs.faults.are_names.Given as goal
 
 abbrev pub invariant-loop-name : goal.invariant-loop-name

@@ -1,7 +1,7 @@
 use Rattle.std.proofs.Common.{◌≡◌, drop}
 use Rattle.std.specs.List.{list_all}
 use Rattle.toml.specs.View.{items_view}
-use Rattle.crn_scenario.specs.Hex.{is_hex_word}
+use Rattle.crn_spelling.specs.Hex.{is_hex_word}
 use Rattle.crn_scenario.specs.Tree.{texts_of}
 use Rattle.crn_scenario.proofs.fields.are_words.Given as goal
 

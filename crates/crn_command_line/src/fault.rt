@@ -1,0 +1,16 @@
+use std::alloc::AllocError;
+
+/// Why the words of the command line are refused.
+#[derive(Clone, Copy, Debug, PartialEq, Eq)]
+pub enum CommandLineFault {
+    /// The words are no command, or one of them is misspelt or outside its type.
+    Words,
+    /// An allocation failed. It says nothing about the words.
+    Memory,
+}
+
+impl From<AllocError> for CommandLineFault {
+    fn from(_refused: AllocError) -> CommandLineFault {
+        CommandLineFault::Memory
+    }
+}

@@ -1,0 +1,4 @@
+mod Costs
+mod FiguresOf
+mod OneReport
+mod Ratios

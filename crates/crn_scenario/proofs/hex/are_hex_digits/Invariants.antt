@@ -1,6 +1,0 @@
-use Rattle.std.proofs.Common.{◌≡◌, drop}
-use Rattle.crn_scenario.specs.Hex.{are_hex_digits}
-use Rattle.crn_scenario.proofs.hex.are_hex_digits.Given as goal
-
-abbrev pub invariant-loop-byte : goal.invariant-loop-byte
-invariant-loop-byte l = are_hex_digits (drop l.byte-index l.bytes) ≡ are_hex_digits l.bytes

@@ -1,0 +1,2 @@
+mod HexWords
+mod HexWritten

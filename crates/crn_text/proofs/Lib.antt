@@ -1,5 +1,0 @@
-mod Costs
-mod FiguresOf
-mod OneReport
-mod Ratios
-mod ReadBack

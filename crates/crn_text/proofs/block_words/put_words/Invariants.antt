@@ -1,6 +1,0 @@
-use Rattle.std.proofs.Common.{◌≡◌, ◌++◌, drop}
-use Rattle.crn_text.specs.BlockWords.{spaced}
-use Rattle.crn_text.proofs.block_words.put_words.Given as goal
-
-abbrev pub invariant-loop-word : goal.invariant-loop-word
-invariant-loop-word l = l.text.items ++ spaced (drop l.word-index l.words) ≡ l.initial.text.items ++ spaced l.words

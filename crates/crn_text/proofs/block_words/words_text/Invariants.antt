@@ -1,7 +1,0 @@
-use Rattle.std.proofs.Common.{◌≡◌, ◌++◌, drop}
-use Rattle.crn_text.specs.BlockWords.{stream_lines}
-use Rattle.crn_text.proofs.block_words.words_text.Given as goal
-
-abbrev pub invariant-loop-stream : goal.invariant-loop-stream
-invariant-loop-stream l =
-    l.text.items ++ stream_lines l.block.key l.block.number (drop l.stream-index l.stream-items) ≡ stream_lines l.block.key l.block.number l.stream-items

@@ -1,0 +1,4 @@
+pub mod BlockWords
+pub mod Schedule
+pub mod Trace
+pub mod Inner

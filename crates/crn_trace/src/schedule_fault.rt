@@ -1,0 +1,29 @@
+// Why a text is refused as a schedule.
+
+ghost use Rattle.std.specs.Prelude.{◌≡◌};
+ghost use Rattle.crn_trace.specs.Schedule as spec;
+
+/// Why no schedule was read. A line that is refused comes before a reader that is refused, wherever they stand.
+#[derive(Clone, Copy, Debug, PartialEq, Eq)]
+pub enum ScheduleFault {
+    /// 1: a line is none of `p`, `e`, and `r` or `l` with a number from 0 to 4,294,967,295 in decimal, in the one
+    /// spelling that it has. An empty line is none of them.
+    Line,
+    /// 2: a reader's number is not below the number of readers.
+    Reader,
+    /// 90: a growth was refused. It says nothing of the text.
+    Memory,
+}
+
+impl ScheduleFault {
+    /// The number of the fault: 1 for a line, 2 for a reader, 90 for want of memory.
+    pub fn number(&self) -> u8
+        ensures { result ≡ spec.schedule_fault_number self.now }
+    {
+        match self {
+            ScheduleFault::Line => 1,
+            ScheduleFault::Reader => 2,
+            ScheduleFault::Memory => 90,
+        }
+    }
+}
