@@ -2,6 +2,7 @@
 
 mod vectors;
 
+use crate::scenarios::prints;
 use crn_draw::{DrawFault, Weights};
 use std::alloc::{AllocError, Global};
 use std::test::Fail;
@@ -68,23 +69,38 @@ static EXAMPLES: [Example; 7] = [
     },
 ];
 
+// The first word that draws another item.
+fn first_other(weights: &Weights, draws: &[(u64, u32)]) -> Option<u64> {
+    for (word, item) in draws {
+        if weights.pick(*word) != *item {
+            return Some(*word);
+        }
+    }
+    None
+}
+
+fn first_other_of(alloc: Global, example: &Example) -> Result<Option<u64>, DrawFault> {
+    let weights = Weights::new(alloc, example.values, example.weights)?;
+    Ok(first_other(&weights, example.draws))
+}
+
 #[test]
 fn items_of_examples(rt: HostRuntime) -> Result<(), Fail> {
     for example in &EXAMPLES {
-        let weights = Weights::new(rt.alloc(), example.values, example.weights)?;
-        for (word, item) in example.draws {
-            assert_eq!(rt; weights.pick(*word), *item, "of the word {word}");
-        }
+        let other = first_other_of(rt.alloc(), example)?;
+        assert_eq!(rt; other, None);
     }
     Ok(())
+}
+
+fn has_parts(weights: &Weights, total: u64, values: &[u32], shares: &[u32]) -> bool {
+    weights.total() == total && weights.values() == values && weights.weights() == shares
 }
 
 #[test]
 fn parts(rt: HostRuntime) -> Result<(), Fail> {
     let weights = Weights::new(rt.alloc(), &[1, 2, 5], &[1, 0, 3])?;
-    assert_eq!(rt; weights.total(), 4);
-    assert_eq!(rt; weights.values(), [1, 2, 5].as_slice());
-    assert_eq!(rt; weights.weights(), [1, 0, 3].as_slice());
+    assert!(rt; has_parts(&weights, 4, &[1, 2, 5], &[1, 0, 3]));
     Ok(())
 }
 
@@ -128,7 +144,7 @@ fn numbers_and_lines_of_faults(rt: HostRuntime) -> Result<(), Fail> {
     ];
     for (fault, number, line) in table {
         assert_eq!(rt; fault.number(), number, "{line}");
-        assert_eq!(rt; fault.to_string(rt.alloc())?.as_str(), line);
+        assert!(rt; prints(rt.alloc(), &fault, line)?, "{line}");
     }
     Ok(())
 }
@@ -168,20 +184,33 @@ static SIZES: [(u32, u32, u32); 7] = [
     (100_000, 98_304, 196_605),
 ];
 
+// The number of values and of weights, their sum, and the first, middle and last items.
+fn sizes_and_items(weights: &Weights) -> (usize, usize, u64, [u32; 3]) {
+    (
+        weights.values().len(),
+        weights.weights().len(),
+        weights.total(),
+        [
+            weights.pick(0),
+            weights.pick(1 << 63),
+            weights.pick(u64::MAX),
+        ],
+    )
+}
+
+fn sizes_of_threes(alloc: Global, count: u32) -> Result<(usize, usize, u64, [u32; 3]), Fail> {
+    let weights = threes(alloc, count)?;
+    Ok(sizes_and_items(&weights))
+}
+
 // With enough memory no number of values fails.
 #[test]
 fn lists_of_every_size(rt: HostRuntime) -> Result<(), Fail> {
     for (count, middle, last) in &SIZES {
-        let weights = threes(rt.alloc(), *count)?;
-        assert_eq!(rt; weights.values().len() as u64, u64::from(*count));
-        assert_eq!(rt; weights.weights().len() as u64, u64::from(*count));
-        assert_eq!(rt; weights.total(), u64::from(*count).min(65_536));
-        assert_eq!(rt; weights.pick(0), 0);
-        assert_eq!(rt;
-            (weights.pick(1 << 63), weights.pick(u64::MAX)),
-            (*middle, *last),
-            "of {count} values"
-        );
+        let found = sizes_of_threes(rt.alloc(), *count)?;
+        let length = *count as usize;
+        let total = u64::from(*count).min(65_536);
+        assert_eq!(rt; found, (length, length, total, [0, *middle, *last]));
     }
     Ok(())
 }

@@ -2,6 +2,7 @@
 
 mod vectors;
 
+use crate::scenarios::prints;
 use crn_pair::{Fraction, Pair, PairFault};
 use std::process::Abort;
 use std::test::Fail;
@@ -163,7 +164,7 @@ fn numbers_and_lines_of_faults(rt: HostRuntime) -> Result<(), Fail> {
     ];
     for (fault, number, line) in table {
         assert_eq!(rt; fault.number(), number, "{line}");
-        assert_eq!(rt; fault.to_string(rt.alloc())?.as_str(), line);
+        assert!(rt; prints(rt.alloc(), &fault, line)?, "{line}");
     }
     Ok(())
 }

@@ -8,6 +8,7 @@ use crn_draw::Weights;
 use crn_sequential::Checkpoint;
 use crn_stock::{Costs, Model, Name, Policy, Scenario};
 use std::alloc::{AllocError, Global};
+use std::fmt::Display;
 
 /// Returns draws of these values with these weights.
 ///
@@ -210,4 +211,14 @@ pub fn base(alloc: Global, replications: u32) -> Result<Scenario, AllocError>
 pub fn have_costs(checkpoint: &Checkpoint, a: &[u64], b: &[u64]) -> bool {
     let states = checkpoint.states.as_slice();
     states.len() == 2 && states[0].costs() == a && states[1].costs() == b
+}
+
+/// Returns whether a value is printed as this line.
+///
+/// # Errors
+///
+/// `AllocError` if an allocation fails.
+pub fn prints<T: Display>(alloc: Global, value: &T, line: &str) -> Result<bool, AllocError> {
+    let text = value.to_string(alloc)?;
+    Ok(text.as_str() == line)
 }

@@ -60,143 +60,181 @@ fn filling(alloc: Global) -> Result<Model, AllocError> {
     Ok(Model::new(1_024, 1, 1_000_000, costs, demand, lead, Some(returns)))
 }
 
+// Whether a model has no returned items, for any word.
+fn has_none(model: &Model) -> bool {
+    !model.has_returns()
+        && model.returns().is_none()
+        && model.returned(0) == 0
+        && model.returned(u64::MAX) == 0
+}
+
 #[test]
 fn no_returns(rt: HostRuntime) -> Result<(), Fail> {
     let model = drawn(rt.alloc(), None)?;
-    assert!(rt; !model.has_returns() && model.returns().is_none());
-    assert_eq!(rt; (model.returned(0), model.returned(u64::MAX)), (0, 0));
+    assert!(rt; has_none(&model));
     Ok(())
+}
+
+// The returned items at the last word, if the model has returns.
+fn last_returned(model: &Model) -> Option<u32> {
+    match model.returns() {
+        Some(returns) if model.has_returns() => Some(returns.pick(u64::MAX)),
+        _ => None,
+    }
 }
 
 #[test]
 fn parts_of_returns(rt: HostRuntime) -> Result<(), Fail> {
     let model = with_drawn_returns(rt.alloc())?;
-    assert!(rt; model.has_returns());
-    let picked = model.returns().map(|returns| returns.pick(u64::MAX));
+    let picked = last_returned(&model);
     assert_eq!(rt; picked, Some(5));
     Ok(())
+}
+
+// Words and the items returned at them: 0 in the first four tenths, 5 in the last one.
+static RETURNED: [(u64, u32); 6] = [
+    (0, 0),
+    (7_378_697_629_483_820_646, 0),
+    (7_378_697_629_483_820_647, 1),
+    (16_602_069_666_338_596_454, 2),
+    (16_602_069_666_338_596_455, 5),
+    (u64::MAX, 5),
+];
+
+// The first word at which another number of items is returned.
+fn first_other_word(model: &Model, table: &[(u64, u32)]) -> Option<u64> {
+    for (word, items) in table {
+        if model.returned(*word) != *items {
+            return Some(*word);
+        }
+    }
+    None
 }
 
 #[test]
 fn returned_by_words(rt: HostRuntime) -> Result<(), Fail> {
     let model = with_drawn_returns(rt.alloc())?;
-    // The words at which 0 of the first four tenths ends and 5 of the last tenth begins.
-    let ends = [
-        (0, 0),
-        (7_378_697_629_483_820_646, 0),
-        (7_378_697_629_483_820_647, 1),
-        (16_602_069_666_338_596_454, 2),
-        (16_602_069_666_338_596_455, 5),
-        (u64::MAX, 5),
-    ];
-    for (word, items) in ends {
-        assert_eq!(rt; model.returned(word), items, "at {word}");
-    }
+    let other = first_other_word(&model, &RETURNED);
+    assert_eq!(rt; other, None);
     Ok(())
 }
 
-// The review of period 3 sees a stock of 4, without the item that comes back in that period.
-fn orders_before_returns(alloc: Global, model: &Model) -> Result<bool, AllocError> {
-    let policy = policy(alloc, "A", Levels { low: 5, high: 10 })?;
-    let mut state = State::start(alloc, model)?;
-    let first = [
-        after([3, 1, 1], 8, 8, 8, [0, 0]),
-        after([3, 1, 1], 6, 6, 14, [0, 0]),
-        after([3, 1, 1], 4, 4, 18, [0, 0]),
-        after([3, 1, 1], 2, 8, 39, [6, 0]),
-    ];
-    let second = [
-        after([3, 1, 1], 6, 6, 45, [0, 0]),
-        after([3, 1, 1], 4, 4, 49, [0, 0]),
-        after([3, 1, 1], 2, 8, 70, [6, 0]),
-        after([3, 1, 1], 6, 6, 76, [0, 0]),
-    ];
-    Ok(
-        runs_four(&mut state, model, &policy, first)
-            && runs_four(&mut state, model, &policy, second),
-    )
+// The review of period 3 sees a stock of 4, without the item that is returned in that period.
+static ORDER_BEFORE_RETURNS: [Expected; 8] = [
+    ([3, 1, 1], 8, 8, 8, [0, 0]),
+    ([3, 1, 1], 6, 6, 14, [0, 0]),
+    ([3, 1, 1], 4, 4, 18, [0, 0]),
+    ([3, 1, 1], 2, 8, 39, [6, 0]),
+    ([3, 1, 1], 6, 6, 45, [0, 0]),
+    ([3, 1, 1], 4, 4, 49, [0, 0]),
+    ([3, 1, 1], 2, 8, 70, [6, 0]),
+    ([3, 1, 1], 6, 6, 76, [0, 0]),
+];
+
+fn orders_before_returns(alloc: Global) -> Result<bool, AllocError> {
+    let model = one_a_period(alloc, 9, 1)?;
+    let levels = Levels { low: 5, high: 10 };
+    begins(alloc, &model, levels, &ORDER_BEFORE_RETURNS)
 }
 
 #[test]
 fn order_before_returns(rt: HostRuntime) -> Result<(), Fail> {
-    let model = one_a_period(rt.alloc(), 9, 1)?;
-    assert!(rt; orders_before_returns(rt.alloc(), &model)?);
+    assert!(rt; orders_before_returns(rt.alloc())?);
     Ok(())
+}
+
+const A: Levels = Levels { low: 8, high: 16 };
+
+const B: Levels = Levels { low: 3, high: 20 };
+
+fn both_copy(alloc: Global, model: &Model) -> Result<bool, AllocError> {
+    Ok(
+        copies(alloc, model, A, (6, 37, 0), &[152, 152, 146])?
+            && copies(alloc, model, B, (6, 37, 0), &[163, 66, 164])?,
+    )
+}
+
+fn drawn_copies(alloc: Global) -> Result<bool, AllocError> {
+    let model = with_drawn_returns(alloc)?;
+    both_copy(alloc, &model)
 }
 
 #[test]
 fn copied_with_drawn_returns(rt: HostRuntime) -> Result<(), Fail> {
-    let model = with_drawn_returns(rt.alloc())?;
-    let a = Levels { low: 8, high: 16 };
-    assert!(rt; copies(rt.alloc(), &model, a, (6, 37, 0), &[152, 152, 146])?);
-    let b = Levels { low: 3, high: 20 };
-    assert!(rt; copies(rt.alloc(), &model, b, (6, 37, 0), &[163, 66, 164])?);
+    assert!(rt; drawn_copies(rt.alloc())?);
     Ok(())
+}
+
+fn both_resume(alloc: Global, model: &Model) -> Result<bool, AllocError> {
+    Ok(
+        resumes(alloc, model, A, (6, 37, 0), &[152, 152, 146])?
+            && resumes(alloc, model, B, (6, 37, 0), &[163, 66, 164])?,
+    )
+}
+
+fn drawn_resumes(alloc: Global) -> Result<bool, AllocError> {
+    let model = with_drawn_returns(alloc)?;
+    both_resume(alloc, &model)
 }
 
 #[test]
 fn restored_with_drawn_returns(rt: HostRuntime) -> Result<(), Fail> {
-    let model = with_drawn_returns(rt.alloc())?;
-    let a = Levels { low: 8, high: 16 };
-    assert!(rt; resumes(rt.alloc(), &model, a, (6, 37, 0), &[152, 152, 146])?);
-    let b = Levels { low: 3, high: 20 };
-    assert!(rt; resumes(rt.alloc(), &model, b, (6, 37, 0), &[163, 66, 164])?);
+    assert!(rt; drawn_resumes(rt.alloc())?);
     Ok(())
 }
 
-// The limit is wider wherever there are returns, though nothing ever comes back.
+// The limit is wider for a model with returns, even if no item is ever returned.
+static WIDER: [Amounts; 7] = [
+    (1, 1_040_000, 0, 0, &[]),
+    (1, 1_039_990, 10, 0, &[]),
+    (1, -40_000, 1_080_000, 0, &[]),
+    (1, -40_000, 30_000, 800_000_000_000, &[]),
+    (2, 10, 0, 0, &[45]),
+    (3, 1_040_000, 0, 39, &[1_000_000_000_000]),
+    (4, 10, 0, 0, &[45, 45]),
+];
+
 #[test]
 fn ends_of_wider_ranges(rt: HostRuntime) -> Result<(), Fail> {
     let model = returning(rt.alloc(), 0)?;
-    let kept = [
-        given(1, 1_040_000, 0, 0, &[]),
-        given(1, 1_039_990, 10, 0, &[]),
-        given(1, -40_000, 1_080_000, 0, &[]),
-        given(1, -40_000, 30_000, 800_000_000_000, &[]),
-        given(2, 10, 0, 0, &[45]),
-        given(3, 1_040_000, 0, 39, &[1_000_000_000_000]),
-        given(4, 10, 0, 0, &[45, 45]),
-    ];
-    for amounts in kept {
-        assert_eq!(rt; refusal(rt.alloc(), &model, amounts), None);
-    }
+    let other = first_other(rt.alloc(), &model, &WIDER, None);
+    assert_eq!(rt; other, None);
     Ok(())
 }
+
+static PAST_WIDER: [Amounts; 10] = [
+    (1, 1_040_001, 0, 0, &[]),
+    (1, 1_039_990, 11, 0, &[]),
+    (1, -40_000, 1_080_001, 0, &[]),
+    (1, -40_001, 30_001, 0, &[]),
+    (1, -40_000, 29_999, 0, &[]),
+    (1, 4, 0, 800_000_000_001, &[]),
+    (2, 11, 0, 0, &[45]),
+    (2, 10, 1, 0, &[45]),
+    (3, 1_040_001, 0, 39, &[45]),
+    (4, 1_000_000, 0, 0, &[45, 45]),
+];
 
 #[test]
 fn past_wider_ranges(rt: HostRuntime) -> Result<(), Fail> {
     let model = returning(rt.alloc(), 1)?;
-    let broken = [
-        given(1, 1_040_001, 0, 0, &[]),
-        given(1, 1_039_990, 11, 0, &[]),
-        given(1, -40_000, 1_080_001, 0, &[]),
-        given(1, -40_001, 30_001, 0, &[]),
-        given(1, -40_000, 29_999, 0, &[]),
-        given(1, 4, 0, 800_000_000_001, &[]),
-        given(2, 11, 0, 0, &[45]),
-        given(2, 10, 1, 0, &[45]),
-        given(3, 1_040_001, 0, 39, &[45]),
-        given(4, 1_000_000, 0, 0, &[45, 45]),
-    ];
-    for amounts in broken {
-        assert_eq!(rt;
-            refusal(rt.alloc(), &model, amounts),
-            Some(RestoreFault::Range)
-        );
-    }
+    let range = Some(RestoreFault::Range);
+    let other = first_other(rt.alloc(), &model, &PAST_WIDER, range);
+    assert_eq!(rt; other, None);
     Ok(())
 }
 
-// 1,020 periods have run: the limit is 10,200,000 higher.
+// After 1,020 periods the limit is 10,200,000 higher.
+fn last_limit(alloc: Global) -> Result<[Option<RestoreFault>; 2], AllocError> {
+    let model = filling(alloc)?;
+    let most = refusal(alloc, &model, (255, 11_200_000, 0, 0, &[]));
+    let more = refusal(alloc, &model, (255, 11_200_001, 0, 0, &[]));
+    Ok([most, more])
+}
+
 #[test]
 fn limit_at_the_last_block(rt: HostRuntime) -> Result<(), Fail> {
-    let model = filling(rt.alloc())?;
-    let most = given(255, 11_200_000, 0, 0, &[]);
-    assert_eq!(rt; refusal(rt.alloc(), &model, most), None);
-    let more = given(255, 11_200_001, 0, 0, &[]);
-    assert_eq!(rt;
-        refusal(rt.alloc(), &model, more),
-        Some(RestoreFault::Range)
-    );
+    let refusals = last_limit(rt.alloc())?;
+    assert_eq!(rt; refusals, [None, Some(RestoreFault::Range)]);
     Ok(())
 }

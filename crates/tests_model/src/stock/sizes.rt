@@ -1,5 +1,7 @@
 // Each call that allocates, at the ends of its ranges and between: with enough memory none fails.
 
+ghost use Rattle.crn_stock.specs.Models.{IsPolicy};
+
 use super::*;
 use std::process::Abort;
 
@@ -66,12 +68,28 @@ fn run_alike(alloc: Global, model: &Model, sizes: Sizes, cost: u64) -> Result<bo
     end_alike(alloc, model, &never, sizes.initial, costs)
 }
 
+// Whether a model of these sizes has so many blocks, and the same is true of it.
+fn is_run(
+    rt: &impl Abort,
+    alloc: Global,
+    sizes: Sizes,
+    total: u64,
+    cost: u64,
+) -> Result<bool, AllocError> {
+    let model = model_of(rt, alloc, sizes)?;
+    if model.total() != total {
+        return Ok(false);
+    }
+    run_alike(alloc, &model, sizes, cost)
+}
+
 #[test]
 fn runs_of_every_size(rt: HostRuntime) -> Result<(), Fail> {
     for (sizes, total, cost) in &RUNS {
-        let model = model_of(&rt, rt.alloc(), *sizes)?;
-        assert_eq!(rt; model.total(), *total);
-        assert!(rt; run_alike(rt.alloc(), &model, *sizes, *cost)?);
+        assert!(rt;
+            is_run(&rt, rt.alloc(), *sizes, *total, *cost)?,
+            "{total} blocks"
+        );
     }
     Ok(())
 }
@@ -167,13 +185,25 @@ fn is_restored(
     }
 }
 
+// The same in a model of the sizes.
+fn is_restored_in_its_model(
+    rt: &impl Abort,
+    alloc: Global,
+    stand: &Stand,
+) -> Result<bool, AllocError> {
+    let model = model_of(rt, alloc, stand.sizes)?;
+    let costs = [200_000_000_000; 256];
+    match costs.get(..stand.costs) {
+        Some(costs) => is_restored(alloc, &model, stand, costs),
+        None => Ok(false),
+    }
+}
+
 #[test]
 fn restored_and_copied_at_every_size(rt: HostRuntime) -> Result<(), Fail> {
     for stand in &STANDS {
-        let model = model_of(&rt, rt.alloc(), stand.sizes)?;
-        let costs = &[200_000_000_000; 256][..stand.costs];
         assert!(rt;
-            is_restored(rt.alloc(), &model, stand, costs)?,
+            is_restored_in_its_model(&rt, rt.alloc(), stand)?,
             "at block {}",
             stand.next_block
         );
