@@ -1,23 +1,18 @@
-"""Refuses the requests of calls that no command makes alone: tests of the crates, as the gate has built them.
+"""Refuses the requests of calls that no command makes alone: tests of the ring, as the gate has built them.
 
-A test of crn_ring opens a ring: whatever is refused, it is answered as want of memory. A test of crn_run runs two
-policies twice from one start: where a request or a thread of the first run is refused, the start is as before, and the
-second run is right.
+One test opens a ring: if an allocation fails, opening it returns a memory fault. Another runs two policies twice from
+one start: if an allocation or a thread start of the first run fails, the start is as before, and the second run is right.
 """
 import os
 
 from commands import SKIPPED, TOP, Command, Shown, unlike
 from refusals import MOST, counted, library, wrong_counts
 
-RING = ("crn_ring", "tests::rows::a_refused_request_is_answered")
-RUN = ("crn_run", "tests::refusals::a_refusal_leaves_the_start")
-# The test of crn_run starts two threads in each of its two runs.
+PROGRAM = f"{TOP}/crates/tests_ring/out/tests_ring_tests"
+OPENING = "ring::rows::a_refused_request_is_answered"
+RUN = "run::refusals::a_refusal_leaves_the_start"
+# Each of the two runs starts two threads.
 STARTS = 4
-
-
-def program_of(crate):
-    """The program of a crate's tests, where the gate has built it."""
-    return f"{TOP}/crates/{crate}/out/{crate}_tests"
 
 
 def is_good(shown):
@@ -26,13 +21,12 @@ def is_good(shown):
 
 
 def is_begun_in_vain(shown):
-    """Whether the test itself got no memory, before it came to what it tries."""
+    """Whether an allocation of the test itself failed, before it made the call that it is about."""
     return shown.status == 101 and shown.errors.startswith(b"error: AllocError\n")
 
 
 def memory_tries(program, test, before, room):
-    """Refuses each request of a test in turn, until it meets no refusal. Once it has got to what it tries it comes out
-    well."""
+    """Refuses each request of a test in turn, until it meets no refusal. Once the test has made its call, it passes."""
     command, has_begun = Command(test, [test]), False
     for number in range(1, MOST):
         shown, counts = counted(program, command, before, room, memory=str(number))
@@ -51,13 +45,11 @@ def thread_tries(program, test, before, room):
 
 
 def tries(_program, room):
-    """All refusals; skipped where the tests are not built, or the library can't be."""
+    """All refusals; skipped if the tests are not built, or if the library can't be."""
     before = library(room)
-    for crate, test in (RING, RUN):
-        program = program_of(crate)
-        if before is None or not os.path.exists(program):
-            yield f"{crate}: no {'cc' if before is None else 'tests that are built'}", SKIPPED
-            continue
-        yield from memory_tries(program, test, before, room)
-        if crate == "crn_run":
-            yield from thread_tries(program, test, before, room)
+    if before is None or not os.path.exists(PROGRAM):
+        yield f"tests_ring: no {'cc' if before is None else 'tests that are built'}", SKIPPED
+        return
+    yield from memory_tries(PROGRAM, OPENING, before, room)
+    yield from memory_tries(PROGRAM, RUN, before, room)
+    yield from thread_tries(PROGRAM, RUN, before, room)

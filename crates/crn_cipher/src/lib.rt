@@ -39,6 +39,3 @@ pub fn block(key: [u64; 4], n: u64) -> Block
         returns: threefry(key, [n, Stream::Returns.counter(), 0, 0]),
     }
 }
-
-#[cfg(test)]
-mod tests;

@@ -12,6 +12,3 @@ mod pair;
 pub use fault::PairFault;
 pub use fraction::Fraction;
 pub use pair::Pair;
-
-#[cfg(test)]
-mod tests;

@@ -22,6 +22,3 @@ pub use spec::RingSpec;
 
 /// What a reader's cursor holds once the reader has left. It is above every count of blocks.
 pub const LEFT: u64 = 1 << 63;
-
-#[cfg(test)]
-mod tests;

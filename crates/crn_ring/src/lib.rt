@@ -34,6 +34,3 @@ pub use answers::{Batch, Closing, Publish, PublishMany, Take};
 pub use producer_end::Producer;
 pub use reader_end::{LeftReader, Reader};
 pub use ring::Ring;
-
-#[cfg(test)]
-mod tests;

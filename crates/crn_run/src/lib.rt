@@ -20,6 +20,3 @@ pub use worker::{PolicyEnd, run_policy};
 
 // The most blocks that are published, or taken, at once.
 const BATCH: usize = 16;
-
-#[cfg(test)]
-mod tests;

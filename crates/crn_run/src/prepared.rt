@@ -8,8 +8,8 @@ ghost use Rattle.crn_run.specs.Inner.Jobs.{AreJobs};
 
 use crate::jobs::{Job, jobs_of, open_ring};
 use crate::worker::PolicyEnd;
-use crn_sequential::Checkpoint;
 use crn_ring::{Producer, Reader, Ring};
+use crn_sequential::Checkpoint;
 use crn_stock::{Scenario, State};
 use std::alloc::{AllocError, Global};
 

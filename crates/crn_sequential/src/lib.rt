@@ -6,6 +6,3 @@ mod plain;
 
 pub use checkpoint::Checkpoint;
 pub use plain::run_plain;
-
-#[cfg(test)]
-mod tests;

@@ -1,5 +1,0 @@
-use Rattle.crn_ring.specs.Calls.{IsProducerOf}
-use Rattle.crn_run.proofs.tests.ends.publish_all.Given as goal
-
-abbrev pub invariant-loop-turn : goal.invariant-loop-turn
-invariant-loop-turn l = IsProducerOf l.ring l.producer

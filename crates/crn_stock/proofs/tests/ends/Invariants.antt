@@ -1,5 +1,0 @@
-use Rattle.crn_stock.specs.Draws.{IsOf, IsBetween}
-use Rattle.crn_stock.proofs.tests.ends.Given as goal
-
-abbrev pub invariant-loop-number : goal.invariant-loop-number
-invariant-loop-number l = record { of_model : IsOf l.model l.state; between : IsBetween l.state }

@@ -1,0 +1,5 @@
+use Rattle.crn_stock.specs.Draws.{IsOf}
+use Rattle.tests_model.proofs.stock.runs_all.Given as goal
+
+abbrev pub invariant-loop-one : goal.invariant-loop-one
+invariant-loop-one l = IsOf l.model l.state

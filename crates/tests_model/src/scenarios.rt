@@ -1,0 +1,224 @@
+// The draws, models and scenarios that several tests run.
+
+ghost use Rattle.std.specs.Prelude.{◌≡◌, ◌≤◌, ℕ, ◌∷◌, [], length, All, IfOk};
+ghost use Rattle.crn_stock.specs.Models.{IsPolicy, returned_values, total};
+ghost use Rattle.crn_stock.specs.Scenarios.{AreForScenario, IsScenarioRingSize};
+
+use crn_draw::Weights;
+use crn_sequential::Checkpoint;
+use crn_stock::{Costs, Model, Name, Policy, Scenario};
+use std::alloc::{AllocError, Global};
+use std::fmt::Display;
+
+/// Returns draws of these values with these weights.
+///
+/// # Errors
+///
+/// `AllocError` if `Weights::new` fails.
+pub fn draws(alloc: Global, values: &[u32], weights: &[u32]) -> Result<Weights, AllocError>
+    ensures { IfOk result (λ w. w.values ≡ values.now) }
+{
+    match Weights::new(alloc, values, weights) {
+        Ok(draws) => Ok(draws),
+        Err(_) => Err(AllocError),
+    }
+}
+
+/// Returns draws that always give one value.
+///
+/// # Errors
+///
+/// `AllocError` if an allocation fails.
+pub fn always(alloc: Global, value: u32) -> Result<Weights, AllocError>
+    ensures { IfOk result (λ w. w.values ≡ value ∷ []) }
+{
+    draws(alloc, &[value], &[1])
+}
+
+/// Returns the base model: an initial stock of 60, demands of 1 to 4 with the weights 1, 2, 2 and 1, and lead times of 1.
+///
+/// # Asks
+///
+/// `periods` is from 1 to 1,024 and `replications` from 1 to 256.
+///
+/// # Errors
+///
+/// `AllocError` if an allocation fails.
+pub fn base_model(alloc: Global, periods: u32, replications: u32) -> Result<Model, AllocError>
+    requires periods { (1 ≤ periods) × (periods ≤ 1024) }
+    requires replications { (1 ≤ replications) × (replications ≤ 256) }
+    ensures { IfOk result (λ m. (m.periods ≡ periods) × (m.replications ≡ replications)) }
+{
+    let costs = Costs {
+        setup: 32,
+        unit: 3,
+        holding: 1,
+        backlog: 5,
+    };
+    let demand = draws(alloc, &[1, 2, 3, 4], &[1, 2, 2, 1])?;
+    let lead = always(alloc, 1)?;
+    Ok(Model::new(periods, replications, 60, costs, demand, lead, None))
+}
+
+/// Returns a model with an initial stock of 10, demands of 3, and these lead times and returned items.
+///
+/// # Asks
+///
+/// `periods` is from 1 to 1,024, `replications` from 1 to 256, `lead` from 1 to 32, and the returned items are at most
+/// 10,000.
+///
+/// # Errors
+///
+/// `AllocError` if an allocation fails.
+pub fn steady_model(
+    alloc: Global,
+    periods: u32,
+    replications: u32,
+    lead: u32,
+    returns: Option<Weights>,
+) -> Result<Model, AllocError>
+    requires periods { (1 ≤ periods) × (periods ≤ 1024) }
+    requires replications { (1 ≤ replications) × (replications ≤ 256) }
+    requires lead { (1 ≤ lead) × (lead ≤ 32) }
+    requires returns { All (λ v. v ≤ 10000) (returned_values returns) }
+    ensures { IfOk result (λ m. (m.periods ≡ periods) × (m.replications ≡ replications)) }
+{
+    let costs = Costs {
+        setup: 7,
+        unit: 2,
+        holding: 1,
+        backlog: 4,
+    };
+    let demand = always(alloc, 3)?;
+    let lead = always(alloc, lead)?;
+    Ok(Model::new(periods, replications, 10, costs, demand, lead, returns))
+}
+
+/// The levels s and S of a policy.
+#[derive(Clone, Copy)]
+pub struct Levels {
+    /// The reorder point s.
+    pub low: u32,
+    /// The order-up-to level S.
+    pub high: u32,
+}
+
+/// Returns a policy.
+///
+/// # Asks
+///
+/// `low` is at most `high`, and `high` at most 100.
+///
+/// # Errors
+///
+/// `AllocError` if an allocation fails.
+pub fn policy(alloc: Global, name: &str, levels: Levels) -> Result<Policy, AllocError>
+    requires levels { (levels.low ≤ levels.high) × (levels.high ≤ 100) }
+    ensures ranges { IfOk result IsPolicy }
+    ensures name { IfOk result (λ p. p.name ≡ name.now) }
+{
+    Ok(Policy {
+        name: Name::from_string(name.to_string(alloc)?),
+        low: i64::from(levels.low),
+        high: i64::from(levels.high),
+    })
+}
+
+/// The number of slots of a ring.
+#[derive(Clone, Copy)]
+pub enum Slots {
+    /// One slot.
+    One,
+    /// Two slots.
+    Two,
+    /// 64 slots.
+    SixtyFour,
+}
+
+impl Slots {
+    /// Returns that number.
+    pub fn count(self) -> u64
+        ensures { IsScenarioRingSize result }
+    {
+        match self {
+            Slots::One => 1,
+            Slots::Two => 2,
+            Slots::SixtyFour => 64,
+        }
+    }
+}
+
+// Policies A and B of these levels.
+fn two_policies(alloc: Global, a: Levels, b: Levels) -> Result<Vec<Policy>, AllocError>
+    requires a { (a.low ≤ a.high) × (a.high ≤ 100) }
+    requires b { (b.low ≤ b.high) × (b.high ≤ 100) }
+    ensures two { IfOk result (λ ps. length ps.items ≡ 2) }
+    ensures can { IfOk result (λ ps. (ring : ℕ) → IsScenarioRingSize ring → AreForScenario ring ps.items) }
+{
+    let first = policy(alloc, "A", a)?;
+    let second = policy(alloc, "B", b)?;
+    let policies = vec![in alloc; first, second]?;
+    Ok(policies)
+}
+
+/// Returns a scenario of the zero key and of a model, with policies A and B.
+///
+/// # Asks
+///
+/// The levels of each policy are at most 100, and `low` is at most `high`.
+///
+/// # Errors
+///
+/// `AllocError` if an allocation fails.
+pub fn scenario_of(
+    alloc: Global,
+    slots: Slots,
+    model: Model,
+    a: Levels,
+    b: Levels,
+) -> Result<Scenario, AllocError>
+    requires a { (a.low ≤ a.high) × (a.high ≤ 100) }
+    requires b { (b.low ≤ b.high) × (b.high ≤ 100) }
+    ensures model { IfOk result (λ s. s.model ≡ model) }
+    ensures key { IfOk result (λ s. s.key ≡ 0 ∷ 0 ∷ 0 ∷ 0 ∷ []) }
+    ensures two { IfOk result (λ s. length s.policies ≡ 2) }
+{
+    let policies = two_policies(alloc, a, b)?;
+    Ok(Scenario::new([0; 4], slots.count(), model, policies))
+}
+
+/// Returns the base scenario: four periods a replication of the base model, on a ring of two slots.
+///
+/// # Asks
+///
+/// `replications` is from 1 to 256.
+///
+/// # Errors
+///
+/// `AllocError` if an allocation fails.
+pub fn base(alloc: Global, replications: u32) -> Result<Scenario, AllocError>
+    requires replications { (1 ≤ replications) × (replications ≤ 256) }
+    ensures total { IfOk result (λ s. total s.model ≡ replications) }
+    ensures two { IfOk result (λ s. length s.policies ≡ 2) }
+{
+    let model = base_model(alloc, 4, replications)?;
+    let a = Levels { low: 20, high: 40 };
+    let b = Levels { low: 60, high: 80 };
+    scenario_of(alloc, Slots::Two, model, a, b)
+}
+
+/// Returns whether a checkpoint has two states, which have these costs.
+pub fn have_costs(checkpoint: &Checkpoint, a: &[u64], b: &[u64]) -> bool {
+    let states = checkpoint.states.as_slice();
+    states.len() == 2 && states[0].costs() == a && states[1].costs() == b
+}
+
+/// Returns whether a value is printed as this line.
+///
+/// # Errors
+///
+/// `AllocError` if an allocation fails.
+pub fn prints<T: Display>(alloc: Global, value: &T, line: &str) -> Result<bool, AllocError> {
+    let text = value.to_string(alloc)?;
+    Ok(text.as_str() == line)
+}

@@ -1,0 +1,350 @@
+// Schedules of the machine, worked out by hand; the words of blocks are Random123's.
+
+ghost use Rattle.std.specs.Prelude.{◌≡◌, ◌<◌, IfOk};
+ghost use Rattle.std.specs.List.{All};
+ghost use Rattle.crn_proto.specs.Machine.{IsActor};
+
+use crate::rings::ring_of;
+use crn_cipher::StreamId;
+use crn_proto::{Actor, Kind, LEFT, Machine, RingFault, RingSpec, Step, replay};
+use std::alloc::Global;
+use std::test::Fail;
+use tests_model::words::{ONES_BLOCK, ZERO_BLOCK};
+
+const P: Actor = Actor::Producer;
+
+const R0: Actor = Actor::Reader(0);
+
+fn step(kind: Kind, word: u64, value: u64) -> Option<Step> {
+    Some(Step { kind, word, value })
+}
+
+// The machine of a ring after a schedule.
+fn played(alloc: Global, spec: RingSpec, actors: &[Actor]) -> Result<Machine, Fail>
+    requires { All (IsActor spec) actors.now }
+    ensures { IfOk result (λ machine. machine.spec ≡ spec) }
+{
+    let mut machine = Machine::open(alloc, spec)?;
+    replay(alloc, &mut machine, actors)?;
+    Ok(machine)
+}
+
+// The machine of a ring after one schedule and then another.
+fn played_on(
+    alloc: Global,
+    spec: RingSpec,
+    first: &[Actor],
+    actors: &[Actor],
+) -> Result<Machine, Fail>
+    requires first { All (IsActor spec) first.now }
+    requires actors { All (IsActor spec) actors.now }
+    ensures { IfOk result (λ machine. machine.spec ≡ spec) }
+{
+    let mut machine = played(alloc, spec, first)?;
+    replay(alloc, &mut machine, actors)?;
+    Ok(machine)
+}
+
+// The answers of a ring's machine to a schedule.
+fn answers(alloc: Global, spec: RingSpec, actors: &[Actor]) -> Result<Vec<Option<Step>>, Fail>
+    requires { All (IsActor spec) actors.now }
+{
+    let mut machine = Machine::open(alloc, spec)?;
+    Ok(replay(alloc, &mut machine, actors)?)
+}
+
+// The answers of a ring's machine to a schedule, after another one.
+fn answers_after(
+    alloc: Global,
+    spec: RingSpec,
+    first: &[Actor],
+    actors: &[Actor],
+) -> Result<Vec<Option<Step>>, Fail>
+    requires first { All (IsActor spec) first.now }
+    requires actors { All (IsActor spec) actors.now }
+{
+    let mut machine = played(alloc, spec, first)?;
+    Ok(replay(alloc, &mut machine, actors)?)
+}
+
+// What a machine shows of reader r: its count, whether it has left, and whether it has seen the end.
+fn reader(machine: &Machine, r: u32) -> (u64, bool, bool)
+    requires { r < machine.now.spec.readers }
+{
+    (machine.taken(r), machine.left(r), machine.reader_ended(r))
+}
+
+// Whether the answers from the second on are steps of this kind at the words of slot 0 of a ring with one reader.
+fn are_steps(answers: &[Option<Step>], kind: Kind, words: &[u64]) -> bool {
+    for (i, word) in words.iter().enumerate() {
+        if answers.get(i.wrapping_add(1)) != Some(&step(kind, (i as u64).wrapping_add(2), *word)) {
+            return false;
+        }
+    }
+    true
+}
+
+// Two slots, one reader and one block of the zero key.
+fn one_block() -> RingSpec
+    ensures { result.readers ≡ 1 }
+{
+    ring_of([0; 4], 2, 1, 1)
+}
+
+#[test]
+fn a_producer_stores_a_block(rt: HostRuntime) -> Result<(), Fail> {
+    let stores = answers(rt.alloc(), one_block(), &[P; 15])?;
+    assert_eq!(rt; stores.first(), Some(&step(Kind::P1, 1, 0)));
+    assert!(rt; are_steps(&stores, Kind::P2, &ZERO_BLOCK));
+    assert_eq!(rt; stores.get(13), Some(&step(Kind::P3, 0, 2)));
+    assert_eq!(rt; stores.get(14), Some(&step(Kind::P3, 0, 3)));
+    Ok(())
+}
+
+#[test]
+fn a_reader_loads_a_block(rt: HostRuntime) -> Result<(), Fail> {
+    let loads = answers_after(rt.alloc(), one_block(), &[P; 15], &[R0; 15])?;
+    assert_eq!(rt; loads.first(), Some(&step(Kind::R1, 0, 3)));
+    assert!(rt; are_steps(&loads, Kind::R2, &ZERO_BLOCK));
+    assert_eq!(rt; loads.get(13), Some(&step(Kind::R3, 1, 1)));
+    assert_eq!(rt; loads.get(14), Some(&step(Kind::R1, 0, 3)));
+    Ok(())
+}
+
+#[test]
+fn a_block_goes_through_its_slot(rt: HostRuntime) -> Result<(), Fail> {
+    let machine = played_on(rt.alloc(), one_block(), &[P; 15], &[R0; 15])?;
+    assert_eq!(rt; (machine.published(), machine.ended()), (1, true));
+    assert_eq!(rt; reader(&machine, 0), (1, false, true));
+    Ok(())
+}
+
+#[test]
+fn a_reader_loads_no_end_before_it_is_stored(rt: HostRuntime) -> Result<(), Fail> {
+    let loads = answers_after(rt.alloc(), one_block(), &[P; 14], &[R0; 15])?;
+    assert_eq!(rt; loads.last(), Some(&step(Kind::R1, 0, 2)));
+    Ok(())
+}
+
+#[test]
+fn a_reader_waits_for_the_end(rt: HostRuntime) -> Result<(), Fail> {
+    let machine = played_on(rt.alloc(), one_block(), &[P; 14], &[R0; 15])?;
+    assert_eq!(rt; (machine.published(), machine.ended()), (1, false));
+    assert_eq!(rt; reader(&machine, 0), (1, false, false));
+    Ok(())
+}
+
+// One slot, one reader and one block of the key of all ones.
+fn block_of_ones() -> RingSpec
+    ensures readers { result.readers ≡ 1 }
+    ensures size { result.size ≡ 1 }
+{
+    ring_of([u64::MAX; 4], 1, 1, 1)
+}
+
+#[test]
+fn all_words_of_a_block_are_stored_in_order(rt: HostRuntime) -> Result<(), Fail> {
+    let stores = answers(rt.alloc(), block_of_ones(), &[P; 13])?;
+    assert!(rt; are_steps(&stores, Kind::P2, &ONES_BLOCK));
+    Ok(())
+}
+
+#[test]
+fn all_words_of_a_block_stand_in_order(rt: HostRuntime) -> Result<(), Fail> {
+    let machine = played(rt.alloc(), block_of_ones(), &[P; 13])?;
+    assert_eq!(rt; machine.word(2), ONES_BLOCK[0]);
+    assert_eq!(rt; machine.word(13), ONES_BLOCK[11]);
+    Ok(())
+}
+
+#[test]
+fn stored_words_are_not_yet_published(rt: HostRuntime) -> Result<(), Fail> {
+    let mut machine = played(rt.alloc(), one_block(), &[P; 13])?;
+    assert_eq!(rt; machine.step(R0), step(Kind::R1, 0, 0));
+    assert_eq!(rt; (machine.published(), machine.ended()), (0, false));
+    assert_eq!(rt; reader(&machine, 0), (0, false, false));
+    Ok(())
+}
+
+const EMPTY_STREAM: [Actor; 6] = [R0, P, Actor::Reader(1), Actor::Leave(0), Actor::Finish, R0];
+
+#[test]
+fn answers_over_an_empty_stream(rt: HostRuntime) -> Result<(), Fail> {
+    let answers = answers(rt.alloc(), ring_of([0; 4], 1, 2, 0), &EMPTY_STREAM)?;
+    let want = [
+        step(Kind::R1, 0, 0),
+        step(Kind::P3, 0, 1),
+        step(Kind::R1, 0, 1),
+        step(Kind::R3, 1, LEFT),
+        None,
+        None,
+    ];
+    assert_eq!(rt; answers.as_slice(), want.as_slice());
+    Ok(())
+}
+
+#[test]
+fn an_empty_stream_ends_at_once(rt: HostRuntime) -> Result<(), Fail> {
+    let machine = played(rt.alloc(), ring_of([0; 4], 1, 2, 0), &EMPTY_STREAM)?;
+    assert_eq!(rt; (machine.published(), machine.ended()), (0, true));
+    assert_eq!(rt; reader(&machine, 0), (0, true, false));
+    assert_eq!(rt; reader(&machine, 1), (0, false, true));
+    assert_eq!(rt;
+        (machine.word(0), machine.word(1), machine.word(2)),
+        (1, LEFT, 0)
+    );
+    Ok(())
+}
+
+// One slot, one reader and two blocks of the zero key.
+fn two_blocks() -> RingSpec
+    ensures { result.readers ≡ 1 }
+{
+    ring_of([0; 4], 1, 1, 2)
+}
+
+#[test]
+fn a_full_ring_waits_for_its_reader(rt: HostRuntime) -> Result<(), Fail> {
+    let stores = answers(rt.alloc(), two_blocks(), &[P; 15])?;
+    assert_eq!(rt; stores.get(14), Some(&step(Kind::P1, 1, 0)));
+    Ok(())
+}
+
+#[test]
+fn a_reader_leaves_a_full_ring(rt: HostRuntime) -> Result<(), Fail> {
+    let mut machine = played(rt.alloc(), two_blocks(), &[P; 15])?;
+    assert_eq!(rt; machine.step(Actor::Leave(0)), step(Kind::R3, 1, 1 << 63));
+    assert_eq!(rt; machine.step(P), step(Kind::P1, 1, 1 << 63));
+    assert_eq!(rt; (machine.published(), machine.ended()), (1, false));
+    assert_eq!(rt; reader(&machine, 0), (0, true, false));
+    Ok(())
+}
+
+const LEAVE_ONE_SLOT: [Actor; 15] = [Actor::Leave(0), P, P, P, P, P, P, P, P, P, P, P, P, P, P];
+
+#[test]
+fn a_full_ring_goes_on_once_its_reader_left(rt: HostRuntime) -> Result<(), Fail> {
+    let rest = answers_after(rt.alloc(), two_blocks(), &[P; 15], &LEAVE_ONE_SLOT)?;
+    assert_eq!(rt; rest.last(), Some(&step(Kind::P3, 0, 4)));
+    Ok(())
+}
+
+// One slot, two readers and two blocks of the zero key.
+fn two_readers() -> RingSpec
+    ensures { result.readers ≡ 2 }
+{
+    ring_of([0; 4], 1, 2, 2)
+}
+
+#[test]
+fn a_producer_publishes_a_block(rt: HostRuntime) -> Result<(), Fail> {
+    let stores = answers(rt.alloc(), two_readers(), &[P; 15])?;
+    assert_eq!(rt; stores.last(), Some(&step(Kind::P3, 0, 2)));
+    Ok(())
+}
+
+#[test]
+fn one_of_two_readers_takes_a_block(rt: HostRuntime) -> Result<(), Fail> {
+    let loads = answers_after(rt.alloc(), two_readers(), &[P; 15], &[R0; 14])?;
+    assert_eq!(rt; loads.last(), Some(&step(Kind::R3, 1, 1)));
+    Ok(())
+}
+
+// Block 1 waits for the second reader, though the first has taken block 0.
+#[test]
+fn every_reader_gates(rt: HostRuntime) -> Result<(), Fail> {
+    let mut machine = played_on(rt.alloc(), two_readers(), &[P; 15], &[R0; 14])?;
+    assert_eq!(rt; machine.step(P), step(Kind::P1, 1, 1));
+    assert_eq!(rt; machine.step(P), step(Kind::P1, 2, 0));
+    assert_eq!(rt; machine.step(P), step(Kind::P1, 1, 1));
+    assert_eq!(rt; (machine.taken(0), machine.taken(1)), (1, 0));
+    Ok(())
+}
+
+// One slot, one reader and one block of the zero key.
+fn one_slot() -> RingSpec
+    ensures { result.readers ≡ 1 }
+{
+    ring_of([0; 4], 1, 1, 1)
+}
+
+#[test]
+fn no_end_within_a_block(rt: HostRuntime) -> Result<(), Fail> {
+    let mut machine = played(rt.alloc(), one_slot(), &[P])?;
+    assert_eq!(rt; machine.spec(), one_slot());
+    assert_eq!(rt; machine.step(Actor::Finish), None);
+    Ok(())
+}
+
+#[test]
+fn no_step_after_the_end(rt: HostRuntime) -> Result<(), Fail> {
+    let answers = answers(rt.alloc(), one_slot(), &[Actor::Finish, P])?;
+    assert_eq!(rt; answers.as_slice(), [step(Kind::P3, 0, 1), None].as_slice());
+    Ok(())
+}
+
+#[test]
+fn no_step_of_a_reader_that_left(rt: HostRuntime) -> Result<(), Fail> {
+    let mut machine = played(rt.alloc(), one_slot(), &[Actor::Finish, P])?;
+    assert_eq!(rt; machine.step(Actor::Leave(0)), step(Kind::R3, 1, LEFT));
+    assert_eq!(rt; machine.step(Actor::Leave(0)), None);
+    Ok(())
+}
+
+#[test]
+fn no_leaving_within_a_block(rt: HostRuntime) -> Result<(), Fail> {
+    let mut machine = played(rt.alloc(), one_slot(), &[P; 14])?;
+    assert_eq!(rt; machine.step(R0), step(Kind::R1, 0, 2));
+    assert_eq!(rt; machine.step(Actor::Leave(0)), None);
+    Ok(())
+}
+
+// Size, readers, first block and total, and the fault that rejects the ring.
+static REFUSALS: [(u64, u32, u64, u64, RingFault); 11] = [
+    (0, 1, 0, 1, RingFault::Size),
+    (3, 1, 0, 1, RingFault::Size),
+    (2_048, 1, 0, 1, RingFault::Size),
+    (1, 0, 0, 1, RingFault::Readers),
+    (2, 17, 0, 1, RingFault::Readers),
+    (2, 1, 0, 65_537, RingFault::Stream),
+    (2, 1, 2, 1, RingFault::Stream),
+    (2, 1, u64::MAX, u64::MAX, RingFault::Stream),
+    (3, 17, 2, 1, RingFault::Size),
+    (3, 1, 2, 1, RingFault::Size),
+    (2, 0, 0, 65_537, RingFault::Readers),
+];
+
+#[test]
+fn refused_rings(rt: HostRuntime) {
+    for (size, readers, first, total, fault) in &REFUSALS {
+        let id = StreamId {
+            key: [0; 4],
+            first: *first,
+            total: *total,
+        };
+        let spec = RingSpec {
+            size: *size,
+            readers: *readers,
+            id,
+        };
+        assert_eq!(rt; Machine::open(rt.alloc(), spec).map(|_| ()), Err(*fault));
+    }
+}
+
+#[test]
+fn the_largest_ring(rt: HostRuntime) -> Result<(), Fail> {
+    let spec = ring_of([0; 4], 1_024, 16, 65_536);
+    assert_eq!(rt; Machine::open(rt.alloc(), spec)?.spec(), spec);
+    Ok(())
+}
+
+#[test]
+fn numbers_of_faults(rt: HostRuntime) {
+    let faults = [
+        RingFault::Size,
+        RingFault::Readers,
+        RingFault::Stream,
+        RingFault::Memory,
+    ];
+    assert_eq!(rt; faults.map(RingFault::number), [1, 2, 3, 90]);
+}
