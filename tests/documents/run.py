@@ -59,6 +59,18 @@ def crate_tries(_):
         yield f"docs/ARCHITECTURE.md: {name}", sorted(re.findall("`([a-z_]+)`", row)) == sorted(listed.get(name, []))
 
 
+# What the program gives out; each is defined in a crate below it, so main.rt compiles only if it is there.
+PROGRAM_NAMES = {"simulate", "leg", "resume", "migrate", "replay_run", "read_words", "Command", "Fault"}
+
+
+def name_tries(_):
+    """The program re-exports its engines, its command line and its faults. crates/tests_engines has the other names."""
+    given = re.findall(r"^pub use [\w:]+?(?:::(\w+)|::\{([^}]*)\});", text_of("crates/crnsim/src/main.rt"), re.MULTILINE)
+    names = {name.strip() for one, more in given for name in (more or one).split(",")}
+    for name in sorted(PROGRAM_NAMES):
+        yield f"crates/crnsim/src/main.rt: {name}", name in names
+
+
 def quote_tries(_):
     """Each quoted line stands in one of the files that the paragraph before it names."""
     page = text_of("docs/READING.md")
@@ -98,7 +110,7 @@ def readme_tries(program):
         yield f"README.md's table: {policy}", f"| {policy} | {low} | {high} | {total} |" in text_of("README.md")
 
 
-PARTS = [link_tries, crate_tries, quote_tries, edit_tries, believed_tries, inner_tries, docstring_tries, readme_tries,
+PARTS = [link_tries, crate_tries, name_tries, quote_tries, edit_tries, believed_tries, inner_tries, docstring_tries, readme_tries,
          command_tries, example_tries, header_tries, checkpoint_tries, usage_tries, option_tries, toml_tries, range_tries,
          number_tries, rule_tries, status_tries, figure_tries, reading_tries]
 
