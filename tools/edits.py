@@ -8,7 +8,9 @@ An edit changes lines of a crate's code. Its head says what goes wrong then and 
     old: if position < terms.low {
     new: if position <= terms.low {
 
-Each `old:` text stands exactly once in the file, on one line. Further pairs apply to what the earlier ones made.
+Each `old:` text stands exactly once in the file, on one line. Further pairs apply to what the earlier ones made. An edit
+of one arm of a `match` can name it, as in `refused by: commands::answer_command, arm Leg`: then a goal of that arm must be
+open, and edits of the other arms can share its check.
 """
 import collections
 import glob
@@ -18,7 +20,7 @@ import re
 TOP = os.path.dirname(os.path.dirname(os.path.abspath(__file__)))
 FUNCTION = re.compile(r"( *)(?:pub(?:\([^)]*\))? )?(?:(?:const|unsafe|final) )*fn \w")
 
-Edit = collections.namedtuple("Edit", "crate name what refused_by pairs")
+Edit = collections.namedtuple("Edit", "crate name what refused_by arm pairs")
 
 
 class BadEdit(Exception):
@@ -53,7 +55,8 @@ def read_edit(crate, path):
         elif word == "new":
             pairs.append((file, old, rest))
     name = os.path.basename(path).removesuffix(".edit")
-    return Edit(crate, name, head.get("what", ""), head.get("refused by", ""), pairs)
+    function, _, arm = head.get("refused by", "").partition(", arm ")
+    return Edit(crate, name, head.get("what", ""), function, arm, pairs)
 
 
 def text_of(crate, file):

@@ -48,9 +48,10 @@ LINE = re.compile(r"(?:fn|impl|struct|enum|trait|type|const|static) (\S+): (.*)"
 PROVED = re.compile(r"proved|no holes")
 BELOW = re.compile(r"no proof: it calls")
 UNDECIDED = re.compile(r"could not tell")
-# An error in a file of a function's proof, and how it begins if the file only names what the edit took away.
+# An error in a file of a function's proof, and what it says if the file only names what the edit took away, itself or in
+# a declaration that others of it cite.
 ERROR = re.compile(r"(?:note: )?(?:\./)?proofs/(\S+)/[^/\s]+\.antt:\d+:\d+: error: (.*)")
-STALE = re.compile(r"has no field|is not in scope|has no `|was not admitted")
+STALE = re.compile(r"has no field|is not in scope|has no `|was not admitted|that depends? on .*rejected")
 # What a check says where it is asked for a function that is not there.
 UNKNOWN = re.compile(r"has no function `([^`]+)`")
 # The last line of a check that came to its end.
@@ -153,13 +154,15 @@ def fault_of(lines, status):
     return f"its check ended with status {status} and no verdict: {first[:200]}"
 
 
-def goal_of(ran, function):
-    """The first goal of a function's own that is open, or None."""
-    told = [error for error in ran.errors[function] if not STALE.search(error)]
-    if told:
-        return told[0]
-    verdict = ran.verdicts[function]
-    return verdict if "did not prove" in verdict else None
+def goal_of(ran, edit):
+    """The first goal that is open of the function, or of the arm, that an edit names, or None."""
+    told = [error for error in ran.errors[edit.refused_by] if not STALE.search(error)]
+    verdict = ran.verdicts[edit.refused_by]
+    told += [verdict] if "did not prove" in verdict else []
+    if edit.arm:
+        of_arm = re.compile(rf"`[^`\s]*-in-{re.escape(edit.arm)}(-[^`\s]*)?`")
+        told = [it for it in told if of_arm.search(it)]
+    return told[0] if told else None
 
 
 def judged(each, ran, is_alone):
@@ -172,10 +175,12 @@ def judged(each, ran, is_alone):
         return f"its check names no function {function}" if is_alone else HIDDEN
     if PROVED.match(verdict):
         return f"it is not refused: {function} is still proved"
-    if goal_of(ran, function):
+    if goal_of(ran, each.edit):
         return ""
     if not is_alone:
         return HIDDEN
+    if each.edit.arm and goal_of(ran, each.edit._replace(arm="")):
+        return f"no goal of the arm {each.edit.arm} of {function} is open"
     if BELOW.match(verdict):
         return f"{function} is not refused by itself: {verdict[:200]}"
     if UNDECIDED.match(verdict):
@@ -203,17 +208,19 @@ def tries_of(crate, options):
 
 
 def packed(left, is_alone):
-    """The next round: as many edits as there are with functions of their own. What changes more than bodies is alone."""
-    chosen, places, named = [], set(), set()
+    """The next round: as many edits as there are with functions, or arms, of their own. What changes more than bodies is
+    alone."""
+    chosen, taken = [], collections.defaultdict(set)
     for each in left:
-        is_wide = None in each.places
-        if chosen and (is_alone or is_wide) or places & each.places or each.edit.refused_by in named:
+        is_wide, arm = None in each.places, each.edit.arm
+        owns = [taken[it] for it in (each.edit.refused_by, *each.places)]
+        if chosen and (is_alone or is_wide) or any(arms and (not arm or arms & {arm, ""}) for arms in owns):
             continue
         chosen.append(each)
         if is_alone or is_wide:
             break
-        places |= each.places
-        named.add(each.edit.refused_by)
+        for arms in owns:
+            arms.add(arm)
     return chosen
 
 
@@ -263,7 +270,7 @@ class Rounds:
             else:
                 self.passed += 1
                 if self.options.goals:
-                    print(f"{self.prover.name}/{each.edit.name}: {goal_of(ran, each.edit.refused_by)[:300]}", flush=True)
+                    print(f"{self.prover.name}/{each.edit.name}: {goal_of(ran, each.edit)[:300]}", flush=True)
         self.tell(f"{len(chosen)} edits", ran, f", again: {' '.join(it.edit.name for it in hidden)}" if hidden else "")
         return hidden
 

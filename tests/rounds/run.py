@@ -16,6 +16,7 @@ CODE = """//! Small functions with contracts.
 #![tactic(auto)]
 
 ghost use Rattle.std.specs.Prelude.{◌≡◌, ◌+◌, ◌<◌};
+ghost use Rattle.tiny.specs.Moves.{place_after};
 
 const STEP: u64 = 2;
 
@@ -46,12 +47,43 @@ pub fn step() -> u64
 {
     STEP
 }
+
+#[derive(Clone, Copy)]
+pub enum Way {
+    Up,
+    Down,
+    Stay,
+}
+
+pub fn moved(way: Way, n: u64) -> u64
+    requires { n < 1000 }
+    ensures { result ≡ place_after way n }
+{
+    match way {
+        Way::Up => n + 1,
+        Way::Down => n + 2,
+        Way::Stay => n,
+    }
+}
 """
-ANSWERS = """use Rattle.std.proofs.Common.{arith}
+MOVES = """-- Where one stands after a move.
+use Rattle.std.specs.Prelude.{ℕ, ◌+◌}
+use Rattle.tiny.specs.declared.Way.{Way}
+use Rattle.tiny.specs.declared.Way.TheVariants as way
+
+abbrev pub place_after : Way → ℕ → ℕ
+place_after way.Up n = n + 1
+place_after way.Down n = n + 2
+place_after way.Stay n = n
+"""
+ANSWERS = """use Rattle.std.proofs.Common.{◌≡◌, ◌+◌, arith}
 use Rattle.tiny.proofs.above.Goals as goal
 
+first_is : (c : goal.After-next-first) → c.next-first.result ≡ c.args.n + 1
+first_is c = c.next-first.ensures
+
 pub returns : goal.returns
-returns c = omega (arith, c.next-first.ensures)
+returns c = omega (arith, first_is c)
 """
 # Provers that give no verdict: one that crashes, one that does not end, one that ends with no last line.
 CRASHES = "#!/bin/sh\nkill -SEGV $$\n"
@@ -67,6 +99,10 @@ SAME_CONSTANT = ("step", "const STEP: u64 = 2;\n", "const STEP: u64 = 1 + 1;\n")
 ANOTHER_SUM = ("above", "    first + 2\n", "    first + 1\n")
 ANOTHER_NAME = ("above", "    let first = next(n);\n    first + 2\n", "    let second = next(n);\n    second + 2\n")
 ONLY_ABOVE = ("above", "    n + 1\n", "    n + 2\n")
+UP = ("moved, arm Up", "        Way::Up => n + 1,\n", "        Way::Up => n + 2,\n")
+DOWN = ("moved, arm Down", "        Way::Down => n + 2,\n", "        Way::Down => n + 1,\n")
+HARMLESS_STAY = ("moved, arm Stay", "        Way::Stay => n,\n", "        Way::Stay => n + 0,\n")
+UP_AS_STAY = ("moved, arm Stay", "        Way::Up => n + 1,\n", "        Way::Up => n + 2,\n")
 NO_TYPE = ("following", "    1 + n\n", "    1 + true\n")
 NO_FUNCTION = ("follows", "    1 + n\n", "    2 + n\n")
 NO_TEXT = ("following", "    3 + n\n", "    2 + n\n")
@@ -84,6 +120,9 @@ CASES = [
       "constant": "it is not refused: step is still proved",
       "name": "above is refused only because its proof file names what the edit took away",
       "above": "above is not refused by itself", "text": "stands 0 times", "function": "there is no function follows"}, None),
+    ("edits of the arms of one function", {"up": UP, "down": DOWN}, {"up": "", "down": ""}, None),
+    ("edits of arms that show nothing", {"up": UP, "stay": HARMLESS_STAY, "other": UP_AS_STAY},
+     {"up": "", "stay": "it is not refused: moved is still proved", "other": "no goal of the arm Stay of moved is open"}, None),
     ("edits that are hidden by one that does not compile", {"type": NO_TYPE, "next": TWO_MORE, "above": ANOTHER_SUM},
      {"type": "its check ended with status", "next": "", "above": ""}, None),
     ("a prover that crashes", {"next": TWO_MORE}, {"next": "its check was killed by signal 11"}, CRASHES),
@@ -114,6 +153,8 @@ def repository(room):
         shutil.copy2(f"{TOP}/tools/{tool}", f"{room}/tools")
     written(f"{room}/crates.txt", "tiny:\n")
     written(f"{room}/crates/tiny/src/lib.rt", CODE)
+    written(f"{room}/crates/tiny/specs/Lib.antt", "pub mod Moves\n")
+    written(f"{room}/crates/tiny/specs/Moves.antt", MOVES)
     written(f"{room}/crates/tiny/proofs/above/Answers.antt", ANSWERS)
     os.mkdir(f"{room}/.git")
     ran = subprocess.run(["rt", "check"], cwd=f"{room}/crates/tiny", stdin=subprocess.DEVNULL, capture_output=True,

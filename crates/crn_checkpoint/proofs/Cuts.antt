@@ -78,3 +78,7 @@ rows_of_text v s next states bytes items h reads {now} e = record { ranges = h.r
 pub any_text : (v : Version) (s : ScenarioParts) (next : ℕ) (states : List Parts) (bytes : List ℕ) → IsTextIn v s next states bytes → IsAnyTextOf s next states bytes
 any_text First s next states bytes text = inr text
 any_text Second s next states bytes text = inl text
+
+-- a block within a model's total is within that of the same model
+pub within : (m m' : ModelParts) (n x : ℕ) → m' ≡ m → x ≡ n → n ≤ total m → x ≤ total m'
+within m m' n x em en high = omega (arith, ap total em, en, high)

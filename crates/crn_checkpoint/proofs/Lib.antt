@@ -11,3 +11,4 @@ mod Restoring
 mod Turns
 mod Restorable
 mod Cuts
+mod Judged

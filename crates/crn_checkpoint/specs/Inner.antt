@@ -2,3 +2,4 @@
 pub mod Cells
 pub mod Amounts
 pub mod Sizes
+pub mod Judging

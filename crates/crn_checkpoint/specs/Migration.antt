@@ -5,6 +5,8 @@ use Rattle.crn_stock.specs.Scenarios.{ScenarioParts}
 use Rattle.crn_checkpoint.specs.Reading.{IsTextOf, IsOldTextOf, IsNoCheckpoint}
 use Rattle.crn_checkpoint.specs.declared.migrate_fault.MigrateFault.{MigrateFault}
 use Rattle.crn_checkpoint.specs.declared.migrate_fault.MigrateFault.TheVariants as fault
+use Rattle.crn_checkpoint.specs.declared.unread.Unread.{Unread}
+use Rattle.crn_checkpoint.specs.declared.unread.Unread.TheVariants as unread
 
 -- the bytes are the text of a checkpoint in the first version, and the text is that of the same scenario, block and states
 pub record IsMigrated (bytes text : List ℕ) : Type 0 where
@@ -26,6 +28,11 @@ abbrev pub RefusesMigration : MigrateFault → List ℕ → Type 0
 RefusesMigration fault.NoCheckpoint bytes = IsNoCheckpoint bytes
 RefusesMigration fault.NewVersion bytes = IsNew bytes
 RefusesMigration fault.Memory bytes = ⊤
+
+-- the fault for a text of which nothing was read
+abbrev pub migration_fault : Unread → MigrateFault
+migration_fault unread.NoCheckpoint = fault.NoCheckpoint
+migration_fault unread.Memory = fault.Memory
 
 -- the number by which a fault is told
 abbrev pub migration_fault_number : MigrateFault → ℕ

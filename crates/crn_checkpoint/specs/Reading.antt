@@ -11,6 +11,8 @@ use Rattle.crn_checkpoint.specs.declared.version.Version.{Version}
 use Rattle.crn_checkpoint.specs.declared.version.Version.TheVariants as version
 use Rattle.crn_checkpoint.specs.declared.checkpoint_fault.CheckpointFault.{CheckpointFault}
 use Rattle.crn_checkpoint.specs.declared.checkpoint_fault.CheckpointFault.TheVariants as fault
+use Rattle.crn_checkpoint.specs.declared.unread.Unread.{Unread}
+use Rattle.crn_checkpoint.specs.declared.unread.Unread.TheVariants as unread
 
 -- the numbers of returned items can be drawn from by their weights, where customers return any
 abbrev pub CanDraw : Option Weighted → Type 0
@@ -86,6 +88,11 @@ RefusesCheckpoint s fault.NoCheckpoint bytes = IsNoCheckpoint bytes
 RefusesCheckpoint s fault.OtherScenario bytes = IsOfAnother s bytes
 RefusesCheckpoint s fault.OldVersion bytes = IsOld s bytes
 RefusesCheckpoint s fault.Memory bytes = ⊤
+
+-- the fault for a text of which nothing was read
+abbrev pub reading_fault : Unread → CheckpointFault
+reading_fault unread.NoCheckpoint = fault.NoCheckpoint
+reading_fault unread.Memory = fault.Memory
 
 -- the number by which a fault is told
 abbrev pub checkpoint_fault_number : CheckpointFault → ℕ

@@ -3,6 +3,8 @@
 ghost use Rattle.std.specs.Prelude.{◌≡◌};
 ghost use Rattle.crn_checkpoint.specs.Reading as spec;
 
+use crate::unread::Unread;
+
 /// Why no checkpoint was read.
 #[derive(Clone, Copy, Debug, PartialEq, Eq)]
 pub enum CheckpointFault {
@@ -29,6 +31,20 @@ impl CheckpointFault {
             CheckpointFault::OtherScenario => 2,
             CheckpointFault::OldVersion => 4,
             CheckpointFault::Memory => 90,
+        }
+    }
+}
+
+impl From<Unread> for CheckpointFault {
+    ghost use Rattle.std.specs.Prelude.{◌≡◌};
+    ghost use Rattle.crn_checkpoint.specs.Reading.{reading_fault};
+
+    ghost from_gives = { λ unread fault. fault ≡ reading_fault unread };
+
+    fn from(unread: Unread) -> CheckpointFault {
+        match unread {
+            Unread::NoCheckpoint => CheckpointFault::NoCheckpoint,
+            Unread::Memory => CheckpointFault::Memory,
         }
     }
 }

@@ -8,6 +8,7 @@
 mod amounts;
 mod cells;
 mod checkpoint_fault;
+mod cut;
 mod lists;
 mod migrate_fault;
 mod migration;

@@ -3,6 +3,7 @@
 ghost use Rattle.std.specs.Prelude.{◌≡◌};
 ghost use Rattle.crn_checkpoint.specs.Migration as spec;
 
+use crate::unread::Unread;
 use std::alloc::AllocError;
 
 /// Why no checkpoint was migrated.
@@ -36,5 +37,19 @@ impl From<AllocError> for MigrateFault {
 
     fn from(_refused: AllocError) -> MigrateFault {
         MigrateFault::Memory
+    }
+}
+
+impl From<Unread> for MigrateFault {
+    ghost use Rattle.std.specs.Prelude.{◌≡◌};
+    ghost use Rattle.crn_checkpoint.specs.Migration.{migration_fault};
+
+    ghost from_gives = { λ unread fault. fault ≡ migration_fault unread };
+
+    fn from(unread: Unread) -> MigrateFault {
+        match unread {
+            Unread::NoCheckpoint => MigrateFault::NoCheckpoint,
+            Unread::Memory => MigrateFault::Memory,
+        }
     }
 }

@@ -3,12 +3,13 @@
 ghost use Rattle.std.specs.Prelude.{◌≡◌, ◌⊎◌, ℕ, List, IfOk, IfErr, MatchResult};
 ghost use Rattle.crn_stock.specs.Parts.{Parts};
 ghost use Rattle.crn_stock.specs.Scenarios.{ScenarioParts};
+ghost use Rattle.crn_checkpoint.specs.CheckpointText.{checkpoint_text};
 ghost use Rattle.crn_checkpoint.specs.Reading.{IsTextOf, IsOldTextOf};
 ghost use Rattle.crn_checkpoint.specs.Migration.{IsMigrated, RefusesMigration};
 
+use crate::cut::Cut;
 use crate::migrate_fault::MigrateFault;
 use crate::reading::read_cut;
-use crate::unread::Unread;
 use crate::version::Version;
 use crate::writing::write_checkpoint;
 use std::alloc::Global;
@@ -32,11 +33,15 @@ pub fn migrate_checkpoint(alloc: Global, bytes: &[u8]) -> Result<Vec<u8>, Migrat
         → MatchResult result (λ text. ⊥) (λ f. (f ≡ MigrateFault.NewVersion) ⊎ (f ≡ MigrateFault.Memory)) }
     ensures refused { IfErr result (λ f. RefusesMigration f bytes.now) }
 {
-    let cut = match read_cut(alloc, ANY_RING, bytes) {
-        Ok(cut) => cut,
-        Err(Unread::NoCheckpoint) => return Err(MigrateFault::NoCheckpoint),
-        Err(Unread::Memory) => return Err(MigrateFault::Memory),
-    };
+    let cut = read_cut(alloc, ANY_RING, bytes)?;
+    migrated(alloc, &cut)
+}
+
+// The text, in version 2, of a checkpoint that was read in version 1.
+fn migrated(alloc: Global, cut: &Cut) -> Result<Vec<u8>, MigrateFault>
+    ensures old { cut.now.version ≡ Version.First → MatchResult result (λ text. text.items ≡ checkpoint_text Version.Second cut.now.scenario cut.now.checkpoint.next cut.now.checkpoint.states.items) (λ f. f ≡ MigrateFault.Memory) }
+    ensures new { cut.now.version ≡ Version.Second → MatchResult result (λ text. ⊥) (λ f. f ≡ MigrateFault.NewVersion) }
+{
     match cut.version {
         Version::First => Ok(write_checkpoint(alloc, &cut.scenario, &cut.checkpoint)?),
         Version::Second => Err(MigrateFault::NewVersion),

@@ -1,15 +1,16 @@
 // Checkpoints are read.
 
-ghost use Rattle.std.specs.Prelude.{◌≡◌, ℕ, List, IfOk, IfErr, MatchResult};
+ghost use Rattle.std.specs.Prelude.{◌≡◌, ℕ, List, IfOk, IfErr, OnOk, MatchResult};
 ghost use Rattle.crn_stock.specs.Parts.{Parts};
 ghost use Rattle.crn_stock.specs.Scenarios.{ScenarioParts, IsScenarioRingSize};
 ghost use Rattle.crn_checkpoint.specs.Reading.{IsTextIn, IsTextOf, IsOldTextOf, IsAnyTextOf, IsSameButRing, RefusesCheckpoint};
+ghost use Rattle.crn_checkpoint.specs.Inner.Judging.{IsRefusedFor};
 
 use crate::checkpoint_fault::CheckpointFault;
-use crate::scenarios::{Cut, cut_of, same_but_ring};
+use crate::cut::Cut;
+use crate::scenarios::{cut_of, same_but_ring};
 use crate::unread::Unread;
 use crate::version::Version;
-use crate::writing::write_in;
 use crn_rows::read_rows;
 use crn_sequential::Checkpoint;
 use crn_stock::Scenario;
@@ -23,14 +24,20 @@ pub(crate) fn read_cut(alloc: Global, ring: u64, bytes: &[u8]) -> Result<Cut, Un
     ensures reads { (v : Version) (s : ScenarioParts) (next : ℕ) (states : List Parts) → IsTextIn v s next states bytes.now
         → MatchResult result (λ c. (v ≡ c.version) × IsSameButRing s c.scenario × (next ≡ c.checkpoint.next) × (states ≡ c.checkpoint.states.items)) (λ f. f ≡ Unread.Memory) }
 {
+    let cut = cut_in(alloc, ring, bytes)?;
+    cut.compare(alloc, bytes)?;
+    Ok(cut)
+}
+
+// The checkpoint that the rows of a text say, however they are spelt.
+fn cut_in(alloc: Global, ring: u64, bytes: &[u8]) -> Result<Cut, Unread>
+    requires { IsScenarioRingSize ring }
+    ensures ring { IfOk result (λ c. c.scenario.ring ≡ ring) }
+    ensures reads { (v : Version) (s : ScenarioParts) (next : ℕ) (states : List Parts) → IsTextIn v s next states bytes.now
+        → MatchResult result (λ c. (v ≡ c.version) × IsSameButRing s c.scenario × (next ≡ c.checkpoint.next) × (states ≡ c.checkpoint.states.items)) (λ f. f ≡ Unread.Memory) }
+{
     let rows = read_rows(alloc, bytes)?;
-    let cut = cut_of(alloc, ring, rows.as_slice())?;
-    let text = write_in(alloc, cut.version, &cut.scenario, &cut.checkpoint)?;
-    if text.as_slice() == bytes {
-        Ok(cut)
-    } else {
-        Err(Unread::NoCheckpoint)
-    }
+    cut_of(alloc, ring, rows.as_slice())
 }
 
 /// The checkpoint of a scenario that a text spells, where it is byte for byte what
@@ -60,16 +67,22 @@ pub fn read_checkpoint(
     ensures taken { (next : ℕ) (states : List Parts) → IsTextOf scenario.now next states bytes.now → IfErr result (λ f. f ≡ CheckpointFault.Memory) }
     ensures refused { IfErr result (λ f. RefusesCheckpoint scenario.now f bytes.now) }
 {
-    let cut = match read_cut(alloc, scenario.ring(), bytes) {
-        Ok(cut) => cut,
-        Err(Unread::NoCheckpoint) => return Err(CheckpointFault::NoCheckpoint),
-        Err(Unread::Memory) => return Err(CheckpointFault::Memory),
-    };
+    let cut = read_cut(alloc, scenario.ring(), bytes)?;
+    judge(&cut, scenario)?;
+    Ok(cut.checkpoint)
+}
+
+// Whether a checkpoint is one of this scenario, in the version that is written.
+fn judge(cut: &Cut, scenario: &Scenario) -> Result<(), CheckpointFault>
+    ensures same { OnOk result (IsSameButRing cut.now.scenario scenario.now) }
+    ensures new { OnOk result (cut.now.version ≡ Version.Second) }
+    ensures refused { IfErr result (λ f. IsRefusedFor f cut.now.version cut.now.scenario scenario.now) }
+{
     if !same_but_ring(&cut.scenario, scenario) {
         return Err(CheckpointFault::OtherScenario);
     }
     match cut.version {
         Version::First => Err(CheckpointFault::OldVersion),
-        Version::Second => Ok(cut.checkpoint),
+        Version::Second => Ok(()),
     }
 }

@@ -1,6 +1,6 @@
 // The scenario that the rows of a checkpoint say, and whether two are the same.
 
-ghost use Rattle.std.specs.Prelude.{◌≡◌, ◌≢◌, ◌↔◌, ◌≤◌, ◌<◌, ◌+◌, ℕ, List, drop, All, IfOk, IsTrue, MatchResult, None, Some, option_map, length, slice_get, true};
+ghost use Rattle.std.specs.Prelude.{◌≡◌, ◌≢◌, ◌↔◌, ◌≤◌, ◌<◌, ◌+◌, ℕ, List, drop, All, IfOk, OnOk, IsTrue, MatchResult, None, Some, option_map, length, slice_get, true};
 ghost use Rattle.std.specs.List.{AllPairs};
 ghost use Rattle.crn_stock.specs.Parts.{Parts};
 ghost use Rattle.crn_stock.specs.Models.{IsPolicy, total};
@@ -11,6 +11,7 @@ ghost use Rattle.crn_checkpoint.specs.Inner.Cells.{AreRowsOf};
 ghost use Rattle.crn_checkpoint.specs.Reading.{IsSameButRing, CanTell};
 
 use crate::cells::{natural_in, text_in};
+use crate::cut::Cut;
 use crate::lists::{policy_count, policy_rows};
 use crate::models::model_of;
 use crate::policies::{Policies, policies_of};
@@ -26,14 +27,6 @@ use std::alloc::Global;
 
 // The most policies of a scenario.
 const POLICY_LIMIT: usize = 16;
-
-/// A checkpoint and its scenario, and the version of their text.
-#[derive(Drop)]
-pub(crate) struct Cut {
-    pub(crate) version: Version,
-    pub(crate) scenario: Scenario,
-    pub(crate) checkpoint: Checkpoint,
-}
 
 // The version that the rows of a checkpoint are of, if it is one of those that there are.
 fn version_of(rows: &[Row]) -> Option<Version>
@@ -155,24 +148,40 @@ pub(crate) fn same_but_ring(a: &Scenario, b: &Scenario) -> bool
         && same_policies(a.policies(), b.policies())
 }
 
+// Whether a checkpoint of the model can be at block `next` and have so many policies.
+fn can_be(model: &Model, next: u64, count: usize) -> bool
+    ensures { IsTrue result ↔ ((next ≤ total model.now) × (count ≤ 16)) }
+{
+    next <= model.total() && count <= POLICY_LIMIT
+}
+
 // The policies with their states before block `next` that the rows of a checkpoint of the model say.
 fn policies_in(
     alloc: Global,
     version: Version,
     model: &Model,
+    ring: u64,
     next: u64,
     rows: &[Row],
 ) -> Result<Policies, Unread>
+    requires { IsScenarioRingSize ring }
     ensures reads { (s : ScenarioParts) (n : ℕ) (states : List Parts) → AreRowsOf version s n states rows.now → model.now ≡ s.model → next ≡ n
         → MatchResult result (λ r. (r.policies.items ≡ s.policies) × (r.states.items ≡ states)) (λ f. f ≡ Unread.Memory) }
     ensures count { IfOk result (λ r. length r.states.items ≡ length r.policies.items) }
     ensures stand { IfOk result (λ r. (i : ℕ) (v : Parts) → slice_get r.states.items i ≡ Some v → StandsBefore model.now next v) }
+    ensures next { OnOk result (next ≤ total model.now) }
+    ensures ranges { IfOk result (λ r. AreForScenario ring r.policies.items) }
 {
     let count = policy_count(rows);
-    if count > POLICY_LIMIT {
+    if !can_be(model, next, count) {
         return Err(Unread::NoCheckpoint);
     }
-    policies_of(alloc, model, next, policy_rows(version, rows), count)
+    let found = policies_of(alloc, model, next, policy_rows(version, rows), count)?;
+    if are_policies(ring, &found.policies) {
+        Ok(found)
+    } else {
+        Err(Unread::NoCheckpoint)
+    }
 }
 
 /// The checkpoint that the rows say, and its scenario with this ring, if all of it is within its ranges.
@@ -181,22 +190,13 @@ pub(crate) fn cut_of(alloc: Global, ring: u64, rows: &[Row]) -> Result<Cut, Unre
     ensures reads { (v : Version) (s : ScenarioParts) (next : ℕ) (states : List Parts) → AreRowsOf v s next states rows.now
         → MatchResult result (λ c. (v ≡ c.version) × IsSameButRing s c.scenario × (next ≡ c.checkpoint.next) × (states ≡ c.checkpoint.states.items)) (λ f. f ≡ Unread.Memory) }
     ensures ring { IfOk result (λ c. c.scenario.ring ≡ ring) }
-    ensures next { IfOk result (λ c. c.checkpoint.next ≤ total c.scenario.model) }
-    ensures of { IfOk result (λ c. IsCheckpointOf c.scenario c.checkpoint.next c.checkpoint.states.items) }
-    ensures tells { IfOk result (λ c. CanTell c.version c.scenario.model) }
 {
     let Some(version) = version_of(rows) else {
         return Err(Unread::NoCheckpoint);
     };
     let model = model_of(alloc, version, rows)?;
     let next = natural_in(rows, 0, 2);
-    if next > model.total() {
-        return Err(Unread::NoCheckpoint);
-    }
-    let Policies { policies, states } = policies_in(alloc, version, &model, next, rows)?;
-    if !are_policies(ring, &policies) {
-        return Err(Unread::NoCheckpoint);
-    }
+    let Policies { policies, states } = policies_in(alloc, version, &model, ring, next, rows)?;
     Ok(Cut {
         version,
         scenario: Scenario::new(key_of(rows), ring, model, policies),

@@ -1,2 +1,3 @@
 mod KnownBytes
 mod LegStates
+mod Sent

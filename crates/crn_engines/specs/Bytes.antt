@@ -12,3 +12,15 @@ pub record ReadAll (old new : Option (List ℕ)) (input : List ℕ) : Type 0 whe
   pub taken : Consumes old new input
   pub at_end : IsAtEnd new
   pub short : length input ≤ INPUT_LIMIT
+
+-- just a text that was made was written
+pub record Wrote (Made : List ℕ → Type 0) (held held' : Option (List ℕ)) : Type 0 where
+  pub text : List ℕ
+  pub made : Made text
+  pub written : Appends held held' text
+
+-- a front of a text that was made was written
+pub record WroteFrontOf (Made : List ℕ → Type 0) (held held' : Option (List ℕ)) : Type 0 where
+  pub text : List ℕ
+  pub made : Made text
+  pub written : AppendsFront held held' text

@@ -1,12 +1,11 @@
 -- What `leg` reads and writes. `reading` and `reading'` are the bytes that the reader has left before and after, `held`
 -- and `held'` those that the writer holds; either may tell nothing.
 use Rattle.std.specs.Prelude.{ℕ, ◌<◌, ◌≤◌, List, Option}
-use Rattle.std.specs.Io.KnownBytes.{Appends}
 use Rattle.crn_stock.specs.Models.{total}
 use Rattle.crn_stock.specs.Scenarios.{ScenarioParts}
 use Rattle.crn_checkpoint.specs.Reading.{IsLegOf}
 use Rattle.crn_scenario.specs.Reading.{Reads}
-use Rattle.crn_engines.specs.Bytes.{AppendsFront, ReadAll}
+use Rattle.crn_engines.specs.Bytes.{ReadAll, Wrote, WroteFrontOf}
 use Rattle.crn_engines.specs.Inputs.{ReadScenario}
 
 -- the text is that of a leg up to block n of the scenario that the input is a text of
@@ -15,21 +14,19 @@ pub record IsLegFor (n : ℕ) (input text : List ℕ) : Type 0 where
   pub reads : Reads input scenario
   pub leg : IsLegOf scenario n text
 
--- the whole input was read, and just the text of its leg was written
-pub record WroteLeg (n : ℕ) (reading reading' held held' : Option (List ℕ)) : Type 0 where
+-- the whole input was read, and the text is that of its leg
+pub record MadeLeg (n : ℕ) (reading reading' : Option (List ℕ)) (text : List ℕ) : Type 0 where
   pub input : List ℕ
   pub read : ReadAll reading reading' input
-  pub text : List ℕ
   pub answer : IsLegFor n input text
-  pub written : Appends held held' text
+
+-- the whole input was read, and just the text of its leg was written
+abbrev pub WroteLeg : ℕ → Option (List ℕ) → Option (List ℕ) → Option (List ℕ) → Option (List ℕ) → Type 0
+WroteLeg n reading reading' held held' = Wrote (MadeLeg n reading reading') held held'
 
 -- the whole input was read, and a front of the text of its leg was written
-pub record WroteLegFront (n : ℕ) (reading reading' held held' : Option (List ℕ)) : Type 0 where
-  pub input : List ℕ
-  pub read : ReadAll reading reading' input
-  pub text : List ℕ
-  pub answer : IsLegFor n input text
-  pub written : AppendsFront held held' text
+abbrev pub WroteLegFront : ℕ → Option (List ℕ) → Option (List ℕ) → Option (List ℕ) → Option (List ℕ) → Type 0
+WroteLegFront n reading reading' held held' = WroteFrontOf (MadeLeg n reading reading') held held'
 
 -- the whole input was read, and it is the text of a scenario of fewer than n blocks
 pub record HasFewer (n : ℕ) (reading reading' : Option (List ℕ)) : Type 0 where

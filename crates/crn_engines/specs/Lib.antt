@@ -6,4 +6,5 @@ pub mod Legs
 pub mod Resumption
 pub mod Migration
 pub mod Replay
+pub mod Commands
 pub mod Inner

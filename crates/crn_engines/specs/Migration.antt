@@ -1,13 +1,12 @@
 -- What `migrate` reads and writes. `reading` and `reading'` are the bytes that the reader has left before and after, `held`
 -- and `held'` those that the writer holds; either may tell nothing.
 use Rattle.std.specs.Prelude.{ℕ, List, Option}
-use Rattle.std.specs.Io.KnownBytes.{Appends}
 use Rattle.crn_stock.specs.Scenarios.{ScenarioParts}
 use Rattle.crn_checkpoint.specs.Reading.{IsSameButRing, IsLegOf, IsOldLegOf}
 use Rattle.crn_checkpoint.specs.Migration.{IsMigrated, RefusesMigration}
 use Rattle.crn_checkpoint.specs.declared.migrate_fault.MigrateFault.{MigrateFault}
 use Rattle.crn_report.specs.Report.{IsReportOf}
-use Rattle.crn_engines.specs.Bytes.{AppendsFront, ReadAll}
+use Rattle.crn_engines.specs.Bytes.{ReadAll, Wrote, WroteFrontOf}
 use Rattle.crn_engines.specs.Resumption.{ReportsLegs}
 
 -- the text is that of a leg of a scenario; so what a resumed run reports from it, on a ring of whatever size, is the
@@ -20,22 +19,20 @@ pub record IsResumable (s : ScenarioParts) (n : ℕ) (text : List ℕ) : Type 0 
 abbrev pub MigratesLegs : List ℕ → List ℕ → Type 0
 MigratesLegs bytes text = (s : ScenarioParts) (n : ℕ) → IsOldLegOf s n bytes → IsResumable s n text
 
--- the whole input was read, and just the text that it becomes was written
-pub record WroteMigrated (reading reading' held held' : Option (List ℕ)) : Type 0 where
+-- the whole input was read, and the text is what it becomes
+pub record MadeMigrated (reading reading' : Option (List ℕ)) (text : List ℕ) : Type 0 where
   pub input : List ℕ
   pub read : ReadAll reading reading' input
-  pub text : List ℕ
   pub answer : IsMigrated input text
   pub legs : MigratesLegs input text
-  pub written : Appends held held' text
+
+-- the whole input was read, and just the text that it becomes was written
+abbrev pub WroteMigrated : Option (List ℕ) → Option (List ℕ) → Option (List ℕ) → Option (List ℕ) → Type 0
+WroteMigrated reading reading' held held' = Wrote (MadeMigrated reading reading') held held'
 
 -- the whole input was read, and a front of the text that it becomes was written
-pub record WroteMigratedFront (reading reading' held held' : Option (List ℕ)) : Type 0 where
-  pub input : List ℕ
-  pub read : ReadAll reading reading' input
-  pub text : List ℕ
-  pub answer : IsMigrated input text
-  pub written : AppendsFront held held' text
+abbrev pub WroteMigratedFront : Option (List ℕ) → Option (List ℕ) → Option (List ℕ) → Option (List ℕ) → Type 0
+WroteMigratedFront reading reading' held held' = WroteFrontOf (MadeMigrated reading reading') held held'
 
 -- the whole input was read, and it is not migrated for a fault
 pub record ReadRefusedMigration (f : MigrateFault) (reading reading' : Option (List ℕ)) : Type 0 where

@@ -1,13 +1,12 @@
 -- What `replay_run` reads and writes. `reading` and `reading'` are the bytes that the reader has left before and
 -- after, `held` and `held'` those that the writer holds; either may tell nothing.
 use Rattle.std.specs.Prelude.{◌≡◌, ℕ, true, List, [], ◌∷◌, Option}
-use Rattle.std.specs.Io.KnownBytes.{Appends}
 use Rattle.crn_proto.specs.declared.spec.RingSpec.{RingSpec}
 use Rattle.crn_proto.specs.declared.schedule.Actor.{Actor}
 use Rattle.crn_trace.specs.declared.schedule_fault.ScheduleFault.{ScheduleFault}
 use Rattle.crn_trace.specs.Schedule.{IsScheduleOf, are_below, RefusesSchedule}
 use Rattle.crn_trace.specs.Trace.{trace_text}
-use Rattle.crn_engines.specs.Bytes.{AppendsFront, ReadAll}
+use Rattle.crn_engines.specs.Bytes.{ReadAll, Wrote, WroteFrontOf}
 
 -- the ring that is replayed: the blocks 0 to total - 1 of the zero key
 abbrev pub replayed : ℕ → ℕ → ℕ → RingSpec
@@ -20,21 +19,19 @@ pub record IsTraceFor (spec : RingSpec) (input text : List ℕ) : Type 0 where
   pub known : are_below spec.readers actors ≡ true
   pub trace : text ≡ trace_text spec actors
 
--- the whole input was read, and just its trace was written
-pub record WroteTrace (spec : RingSpec) (reading reading' held held' : Option (List ℕ)) : Type 0 where
+-- the whole input was read, and the text is its trace
+pub record MadeTrace (spec : RingSpec) (reading reading' : Option (List ℕ)) (text : List ℕ) : Type 0 where
   pub input : List ℕ
   pub read : ReadAll reading reading' input
-  pub text : List ℕ
   pub answer : IsTraceFor spec input text
-  pub written : Appends held held' text
+
+-- the whole input was read, and just its trace was written
+abbrev pub WroteTrace : RingSpec → Option (List ℕ) → Option (List ℕ) → Option (List ℕ) → Option (List ℕ) → Type 0
+WroteTrace spec reading reading' held held' = Wrote (MadeTrace spec reading reading') held held'
 
 -- the whole input was read, and a front of its trace was written
-pub record WroteTraceFront (spec : RingSpec) (reading reading' held held' : Option (List ℕ)) : Type 0 where
-  pub input : List ℕ
-  pub read : ReadAll reading reading' input
-  pub text : List ℕ
-  pub answer : IsTraceFor spec input text
-  pub written : AppendsFront held held' text
+abbrev pub WroteTraceFront : RingSpec → Option (List ℕ) → Option (List ℕ) → Option (List ℕ) → Option (List ℕ) → Type 0
+WroteTraceFront spec reading reading' held held' = WroteFrontOf (MadeTrace spec reading reading') held held'
 
 -- the whole input was read, and it is refused as a schedule
 pub record ReadRefusedSchedule (readers : ℕ) (f : ScheduleFault) (reading reading' : Option (List ℕ)) : Type 0 where

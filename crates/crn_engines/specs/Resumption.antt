@@ -2,7 +2,6 @@
 -- after, `reading` and `reading'` those of the scenario's reader, `held` and `held'` those that the writer holds; either
 -- may tell nothing.
 use Rattle.std.specs.Prelude.{◌≡◌, ℕ, List, Option, length, map}
-use Rattle.std.specs.Io.KnownBytes.{Appends}
 use Rattle.crn_stock.specs.Models.{total}
 use Rattle.crn_stock.specs.Parts.{Parts}
 use Rattle.crn_stock.specs.Scenarios.{ScenarioParts}
@@ -11,7 +10,7 @@ use Rattle.crn_checkpoint.specs.Reading.{IsTextOf, IsSameButRing, IsLegOf, Refus
 use Rattle.crn_checkpoint.specs.declared.checkpoint_fault.CheckpointFault.{CheckpointFault}
 use Rattle.crn_scenario.specs.Reading.{Reads}
 use Rattle.crn_report.specs.Report.{IsReportText, IsReportOf}
-use Rattle.crn_engines.specs.Bytes.{AppendsFront, ReadAll}
+use Rattle.crn_engines.specs.Bytes.{ReadAll, Wrote, WroteFrontOf}
 use Rattle.crn_engines.specs.Inputs.{ReadScenario}
 
 -- the text is the report of the states that these become by all blocks that are left, one for each policy
@@ -39,33 +38,32 @@ pub record ReadBoth (saved saved' reading reading' : Option (List ℕ)) (s : Sce
   pub scenario : ReadScenario reading reading' s
   pub checkpoint : ReadAll saved saved' bytes
 
--- both inputs were read whole, and just the report onward from the checkpoint was written
-pub record WroteResumed (saved saved' reading reading' held held' : Option (List ℕ)) : Type 0 where
+-- both inputs were read whole, and the text is the report onward from the checkpoint
+pub record MadeResumed (saved saved' reading reading' : Option (List ℕ)) (text : List ℕ) : Type 0 where
   pub scenario : ScenarioParts
   pub bytes : List ℕ
   pub read : ReadBoth saved saved' reading reading' scenario bytes
-  pub text : List ℕ
   pub answer : IsResumedReport scenario bytes text
-  pub written : Appends held held' text
+
+-- both inputs were read whole, and just the report onward from the checkpoint was written
+abbrev pub WroteResumed : Option (List ℕ) → Option (List ℕ) → Option (List ℕ) → Option (List ℕ) → Option (List ℕ) → Option (List ℕ) → Type 0
+WroteResumed saved saved' reading reading' held held' = Wrote (MadeResumed saved saved' reading reading') held held'
 
 -- both inputs were read whole, and a front of the report onward from the checkpoint was written
-pub record WroteResumedFront (saved saved' reading reading' held held' : Option (List ℕ)) : Type 0 where
-  pub scenario : ScenarioParts
-  pub bytes : List ℕ
-  pub read : ReadBoth saved saved' reading reading' scenario bytes
-  pub text : List ℕ
-  pub answer : IsResumedReport scenario bytes text
-  pub written : AppendsFront held held' text
+abbrev pub WroteResumedFront : Option (List ℕ) → Option (List ℕ) → Option (List ℕ) → Option (List ℕ) → Option (List ℕ) → Option (List ℕ) → Type 0
+WroteResumedFront saved saved' reading reading' held held' = WroteFrontOf (MadeResumed saved saved' reading reading') held held'
 
--- both inputs were read whole; where they are a scenario and a leg of it, just the scenario's report was written
-pub record WroteLegsReport (saved saved' reading reading' held held' : Option (List ℕ)) : Type 0 where
+-- both inputs were read whole; where they are a scenario and a leg of it, the text is the scenario's report
+pub record MadeLegsReport (saved saved' reading reading' : Option (List ℕ)) (text : List ℕ) : Type 0 where
   pub input : List ℕ
   pub read : ReadAll reading reading' input
   pub bytes : List ℕ
   pub read_bytes : ReadAll saved saved' bytes
-  pub text : List ℕ
   pub report : (s : ScenarioParts) → Reads input s → ReportsLegs s bytes text
-  pub written : Appends held held' text
+
+-- both inputs were read whole; where they are a scenario and a leg of it, just the scenario's report was written
+abbrev pub WroteLegsReport : Option (List ℕ) → Option (List ℕ) → Option (List ℕ) → Option (List ℕ) → Option (List ℕ) → Option (List ℕ) → Type 0
+WroteLegsReport saved saved' reading reading' held held' = Wrote (MadeLegsReport saved saved' reading reading') held held'
 
 -- both inputs were read whole, and the bytes are refused as a checkpoint of the scenario
 pub record ReadRefusedCheckpoint (f : CheckpointFault) (saved saved' reading reading' : Option (List ℕ)) : Type 0 where

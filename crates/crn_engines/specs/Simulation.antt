@@ -1,11 +1,10 @@
 -- What `simulate` reads and writes. `reading` and `reading'` are the bytes that the reader has left before and
 -- after, `held` and `held'` those that the writer holds; either may tell nothing.
 use Rattle.std.specs.Prelude.{ℕ, List, Option}
-use Rattle.std.specs.Io.KnownBytes.{Appends}
 use Rattle.crn_stock.specs.Scenarios.{ScenarioParts}
 use Rattle.crn_scenario.specs.Reading.{Reads}
 use Rattle.crn_report.specs.Report.{IsReportOf}
-use Rattle.crn_engines.specs.Bytes.{AppendsFront, ReadAll}
+use Rattle.crn_engines.specs.Bytes.{ReadAll, Wrote, WroteFrontOf}
 
 -- the text is the report of the scenario that the input is a text of
 pub record IsReportFor (input text : List ℕ) : Type 0 where
@@ -13,18 +12,16 @@ pub record IsReportFor (input text : List ℕ) : Type 0 where
   pub reads : Reads input scenario
   pub report : IsReportOf scenario text
 
--- the whole input was read, and just its report was written
-pub record WroteReport (reading reading' held held' : Option (List ℕ)) : Type 0 where
+-- the whole input was read, and the text is its report
+pub record MadeReport (reading reading' : Option (List ℕ)) (text : List ℕ) : Type 0 where
   pub input : List ℕ
   pub read : ReadAll reading reading' input
-  pub text : List ℕ
   pub answer : IsReportFor input text
-  pub written : Appends held held' text
+
+-- the whole input was read, and just its report was written
+abbrev pub WroteReport : Option (List ℕ) → Option (List ℕ) → Option (List ℕ) → Option (List ℕ) → Type 0
+WroteReport reading reading' held held' = Wrote (MadeReport reading reading') held held'
 
 -- the whole input was read, and a front of its report was written
-pub record WroteFront (reading reading' held held' : Option (List ℕ)) : Type 0 where
-  pub input : List ℕ
-  pub read : ReadAll reading reading' input
-  pub text : List ℕ
-  pub answer : IsReportFor input text
-  pub written : AppendsFront held held' text
+abbrev pub WroteFront : Option (List ℕ) → Option (List ℕ) → Option (List ℕ) → Option (List ℕ) → Type 0
+WroteFront reading reading' held held' = WroteFrontOf (MadeReport reading reading') held held'

@@ -1,5 +1,7 @@
 -- The statuses of the program, and the faults that each of its parts may answer.
 use Rattle.std.specs.Prelude.{ℕ, Bool, true, false, ◌||◌}
+use Rattle.crn_command_line.specs.declared.fault.CommandLineFault.{CommandLineFault}
+use Rattle.crn_command_line.specs.declared.fault.CommandLineFault.TheVariants as words
 use Rattle.crn_run.specs.declared.fault.RunFault.{RunFault}
 use Rattle.crn_run.specs.declared.fault.RunFault.TheVariants as run
 use Rattle.crn_engines.specs.declared.fault.Fault.{Fault}
@@ -22,6 +24,11 @@ abbrev pub fault_of_run : RunFault → Fault
 fault_of_run run.Thread = fault.Thread
 fault_of_run run.Gate = fault.Gate
 fault_of_run run.Memory = fault.Memory
+
+-- the program's word for a fault of the command line
+abbrev pub fault_of_words : CommandLineFault → Fault
+fault_of_words words.Words = fault.CommandLine
+fault_of_words words.Memory = fault.Memory
 
 -- ---- whether a part of the program may answer a fault
 

@@ -2,6 +2,7 @@ ghost use Rattle.std.specs.Prelude.{◌≡◌};
 ghost use Rattle.crn_engines.specs.Statuses.{status_of};
 
 use crn_checkpoint::{CheckpointFault, MigrateFault};
+use crn_command_line::CommandLineFault;
 use crn_run::RunFault;
 use crn_scenario::ScenarioFault;
 use crn_trace::ScheduleFault;
@@ -80,6 +81,19 @@ impl From<RunFault> for Fault {
             RunFault::Thread => Fault::Thread,
             RunFault::Gate => Fault::Gate,
             RunFault::Memory => Fault::Memory,
+        }
+    }
+}
+
+impl From<CommandLineFault> for Fault {
+    ghost use Rattle.crn_engines.specs.Statuses.{fault_of_words};
+
+    ghost from_gives = { λ e f. f ≡ fault_of_words e };
+
+    fn from(fault: CommandLineFault) -> Fault {
+        match fault {
+            CommandLineFault::Words => Fault::CommandLine,
+            CommandLineFault::Memory => Fault::Memory,
         }
     }
 }

@@ -5,11 +5,12 @@ ghost use Rattle.crn_stock.specs.Models.{total};
 ghost use Rattle.crn_sequential.specs.Runs.{IsCheckpointOf, EachAt};
 ghost use Rattle.crn_checkpoint.specs.Reading.{IsLegOf};
 ghost use Rattle.crn_engines.specs.Statuses.{is_of_leg, is_of_run};
+ghost use Rattle.crn_engines.specs.Inner.Statuses.{is_of_leg_run, is_of_leg_text};
 ghost use Rattle.crn_engines.specs.Inputs.{ReadRefused};
-ghost use Rattle.crn_engines.specs.Legs.{WroteLeg, WroteLegFront, HasFewer, HasEnough};
+ghost use Rattle.crn_engines.specs.Legs.{MadeLeg, WroteLeg, WroteLegFront, HasFewer, HasEnough};
 
 use crate::fault::Fault;
-use crate::steps::{run_to, scenario_from, send};
+use crate::steps::{run_to, scenario_from, send_made};
 use crn_checkpoint::write_checkpoint;
 use crn_run::Checkpoint;
 use crn_stock::Scenario;
@@ -48,9 +49,25 @@ pub fn leg<H: Threads + Wait + Sync, R: Read, W: Write>(
     ensures threads { IfErr result (λ e. (e ≡ Fault.Thread) ⊎ (e ≡ Fault.Gate) → HasEnough n (R.remaining reader.old) (R.remaining reader.new)) }
     ensures others { IfErr result (λ e. is_of_leg e ≡ true) }
 {
+    let text = leg_from(rt, alloc, n, reader)?;
+    send_made(writer, text)
+}
+
+// Reads a scenario, and makes the text of its leg.
+fn leg_from<H: Threads + Wait + Sync, R: Read>(
+    rt: &H,
+    alloc: Global,
+    n: u64,
+    reader: &mut R,
+) -> Result<Vec<u8>, Fault>
+    ensures made { IfOk result (λ text. MadeLeg n (R.remaining reader.old) (R.remaining reader.new) text.items) }
+    ensures scenario { (f : ScenarioFault) → result ≡ Err (Fault.Scenario f) → (f ≢ ScenarioFault.Memory) × ReadRefused f (R.remaining reader.old) (R.remaining reader.new) }
+    ensures command_line { IfErr result (λ e. e ≡ Fault.CommandLine → HasFewer n (R.remaining reader.old) (R.remaining reader.new)) }
+    ensures threads { IfErr result (λ e. (e ≡ Fault.Thread) ⊎ (e ≡ Fault.Gate) → HasEnough n (R.remaining reader.old) (R.remaining reader.new)) }
+    ensures faults { IfErr result (λ e. is_of_leg_text e ≡ true) }
+{
     let scenario = scenario_from(alloc, reader)?;
-    let text = leg_text(rt, alloc, &scenario, n)?;
-    send(writer, text.as_slice())
+    leg_text(rt, alloc, &scenario, n)
 }
 
 // Runs all policies over the blocks below `n`, and makes the text of the checkpoint there.
@@ -63,9 +80,7 @@ fn leg_text<H: Threads + Wait + Sync>(
     ensures leg { IfOk result (λ text. IsLegOf scenario.now n text.items) }
     ensures command_line { IfErr result (λ e. e ≡ Fault.CommandLine → total scenario.now.model < n) }
     ensures threads { IfErr result (λ e. (e ≡ Fault.Thread) ⊎ (e ≡ Fault.Gate) → n ≤ total scenario.now.model) }
-    ensures no_writing { IfErr result (λ e. e ≢ Fault.Writing) }
-    ensures no_scenario { (f : ScenarioFault) → result ≢ Err (Fault.Scenario f) }
-    ensures others { IfErr result (λ e. is_of_leg e ≡ true) }
+    ensures faults { IfErr result (λ e. is_of_leg_run e ≡ true) }
 {
     if !has_blocks(scenario, n) {
         return Err(Fault::CommandLine);

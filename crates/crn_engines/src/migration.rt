@@ -1,12 +1,13 @@
-ghost use Rattle.std.specs.Prelude.{◌≡◌, ◌≢◌, ◌||◌, true, IfOk, IfErr, OnOk};
+ghost use Rattle.std.specs.Prelude.{◌≡◌, ◌≢◌, true, IfOk, IfErr, OnOk};
 ghost use Rattle.std.specs.Io.KnownBytes.{Keeps};
 ghost use Rattle.crn_checkpoint.specs.Migration.{IsMigrated, RefusesMigration};
 ghost use Rattle.crn_checkpoint.specs.declared.migrate_fault.MigrateFault.{MigrateFault};
 ghost use Rattle.crn_engines.specs.Statuses.{is_of_migrate, is_of_migration};
-ghost use Rattle.crn_engines.specs.Migration.{MigratesLegs, WroteMigrated, WroteMigratedFront, ReadRefusedMigration};
+ghost use Rattle.crn_engines.specs.Inner.Statuses.{is_of_migrated};
+ghost use Rattle.crn_engines.specs.Migration.{MadeMigrated, MigratesLegs, WroteMigrated, WroteMigratedFront, ReadRefusedMigration};
 
 use crate::fault::Fault;
-use crate::steps::{input_from, send};
+use crate::steps::{input_from, send_made};
 use crn_checkpoint::{MigrateFault, migrate_checkpoint};
 use std::alloc::Global;
 use std::io::{Read, Write};
@@ -36,9 +37,18 @@ pub fn migrate<R: Read, W: Write>(
     ensures migration { (f : MigrateFault) → result ≡ Err (Fault.Migration f) → (f ≢ MigrateFault.Memory) × ReadRefusedMigration f (R.remaining reader.old) (R.remaining reader.new) }
     ensures others { IfErr result (λ e. is_of_migrate e ≡ true) }
 {
+    let text = migrated_from(alloc, reader)?;
+    send_made(writer, text)
+}
+
+// Reads a checkpoint of version 1, and makes its text in version 2.
+fn migrated_from<R: Read>(alloc: Global, reader: &mut R) -> Result<Vec<u8>, Fault>
+    ensures made { IfOk result (λ text. MadeMigrated (R.remaining reader.old) (R.remaining reader.new) text.items) }
+    ensures migration { (f : MigrateFault) → result ≡ Err (Fault.Migration f) → (f ≢ MigrateFault.Memory) × ReadRefusedMigration f (R.remaining reader.old) (R.remaining reader.new) }
+    ensures faults { IfErr result (λ e. is_of_migrated e ≡ true) }
+{
     let bytes = input_from(alloc, reader)?;
-    let text = migrated_text(alloc, bytes.as_slice())?;
-    send(writer, text.as_slice())
+    migrated_text(alloc, bytes.as_slice())
 }
 
 // The text in version 2 of the checkpoint that a text of version 1 spells.

@@ -5,10 +5,11 @@ ghost use Rattle.crn_trace.specs.declared.schedule_fault.ScheduleFault.{Schedule
 ghost use Rattle.crn_trace.specs.Schedule.{RefusesSchedule};
 ghost use Rattle.crn_engines.specs.Statuses.{is_of_schedule, is_of_replay};
 ghost use Rattle.crn_proto.specs.Opening.{CanOpen};
-ghost use Rattle.crn_engines.specs.Replay.{replayed, IsTraceFor, WroteTrace, WroteTraceFront, ReadRefusedSchedule};
+ghost use Rattle.crn_engines.specs.Inner.Statuses.{is_of_trace_text};
+ghost use Rattle.crn_engines.specs.Replay.{replayed, MadeTrace, IsTraceFor, WroteTrace, WroteTraceFront, ReadRefusedSchedule};
 
 use crate::fault::Fault;
-use crate::steps::{input_from, send};
+use crate::steps::{input_from, send_made};
 use crn_cipher::StreamId;
 use crn_proto::{Machine, RingFault, RingSpec};
 use crn_trace::{ScheduleFault, read_schedule, trace_text};
@@ -45,9 +46,19 @@ pub fn replay_run<R: Read, W: Write>(
     ensures unread { IfErr result (λ e. e ≡ Fault.CommandLine → Keeps (R.remaining reader.old) (R.remaining reader.new)) }
 {
     let machine = open_ring(alloc, size, readers, total)?;
+    let text = trace_from(alloc, machine, reader)?;
+    send_made(writer, text)
+}
+
+// Reads a schedule, and makes its trace.
+fn trace_from<R: Read>(alloc: Global, machine: Machine, reader: &mut R) -> Result<Vec<u8>, Fault>
+    requires { machine ≡ open_machine machine.spec }
+    ensures made { IfOk result (λ text. MadeTrace machine.spec (R.remaining reader.old) (R.remaining reader.new) text.items) }
+    ensures schedule { (f : ScheduleFault) → result ≡ Err (Fault.Schedule f) → (f ≢ ScheduleFault.Memory) × ReadRefusedSchedule machine.spec.readers f (R.remaining reader.old) (R.remaining reader.new) }
+    ensures faults { IfErr result (λ e. is_of_trace_text e ≡ true) }
+{
     let input = input_from(alloc, reader)?;
-    let text = trace_for(alloc, machine, input.as_slice())?;
-    send(writer, text.as_slice())
+    trace_for(alloc, machine, input.as_slice())
 }
 
 // The ring before any step.

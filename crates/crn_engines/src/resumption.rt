@@ -1,17 +1,18 @@
-ghost use Rattle.std.specs.Prelude.{◌≡◌, ◌≢◌, ℕ, List, true, IfOk, IfErr, OnOk};
+ghost use Rattle.std.specs.Prelude.{◌≡◌, ◌≢◌, ◌||◌, ℕ, List, true, IfOk, IfErr, OnOk};
 ghost use Rattle.std.specs.Io.KnownBytes.{Keeps};
 ghost use Rattle.crn_scenario.specs.declared.scenario_fault.ScenarioFault.{ScenarioFault};
 ghost use Rattle.crn_stock.specs.Parts.{Parts};
 ghost use Rattle.crn_stock.specs.Scenarios.{ScenarioParts};
 ghost use Rattle.crn_checkpoint.specs.Reading.{IsTextOf, IsAnyTextOf, IsSameButRing, RefusesCheckpoint};
 ghost use Rattle.crn_checkpoint.specs.declared.checkpoint_fault.CheckpointFault.{CheckpointFault};
-ghost use Rattle.crn_engines.specs.Statuses.{is_of_resume};
-ghost use Rattle.crn_engines.specs.Inner.Statuses.{is_of_checkpoint};
+ghost use Rattle.crn_engines.specs.Statuses.{is_of_input, is_of_resume};
+ghost use Rattle.crn_engines.specs.Inner.Statuses.{is_of_checkpoint, is_of_onward_run, is_of_resumed};
+ghost use Rattle.crn_engines.specs.Inner.Onward.{MadeOnward, RefusedOnward};
 ghost use Rattle.crn_engines.specs.Inputs.{ReadRefused};
-ghost use Rattle.crn_engines.specs.Resumption.{IsResumedReport, ReportsLegs, WroteResumed, WroteResumedFront, WroteLegsReport, ReadRefusedCheckpoint};
+ghost use Rattle.crn_engines.specs.Resumption.{MadeResumed, MadeLegsReport, IsResumedReport, ReportsLegs, WroteResumed, WroteResumedFront, WroteLegsReport, ReadRefusedCheckpoint};
 
 use crate::fault::Fault;
-use crate::steps::{input_from, run_and_report, scenario_from, send};
+use crate::steps::{input_from, run_and_report, scenario_from, send_made};
 use crn_checkpoint::{CheckpointFault, read_checkpoint};
 use crn_run::Checkpoint;
 use crn_stock::Scenario;
@@ -54,10 +55,41 @@ pub fn resume<H: Threads + Wait + Sync, C: Read, R: Read, W: Write>(
     ensures checkpoint { (f : CheckpointFault) → result ≡ Err (Fault.Checkpoint f) → (f ≢ CheckpointFault.Memory) × ReadRefusedCheckpoint f (C.remaining checkpoint.old) (C.remaining checkpoint.new) (R.remaining reader.old) (R.remaining reader.new) }
     ensures others { IfErr result (λ e. is_of_resume e ≡ true) }
 {
+    let text = report_from(rt, alloc, checkpoint, reader)?;
+    send_made(writer, text)
+}
+
+// Reads a scenario and a checkpoint of it, and makes the report of the run onward.
+fn report_from<H: Threads + Wait + Sync, C: Read, R: Read>(
+    rt: &H,
+    alloc: Global,
+    checkpoint: &mut C,
+    reader: &mut R,
+) -> Result<Vec<u8>, Fault>
+    ensures made { IfOk result (λ text. MadeResumed (C.remaining checkpoint.old) (C.remaining checkpoint.new) (R.remaining reader.old) (R.remaining reader.new) text.items) }
+    ensures legs { IfOk result (λ text. MadeLegsReport (C.remaining checkpoint.old) (C.remaining checkpoint.new) (R.remaining reader.old) (R.remaining reader.new) text.items) }
+    ensures scenario { (f : ScenarioFault) → result ≡ Err (Fault.Scenario f) → (f ≢ ScenarioFault.Memory) × ReadRefused f (R.remaining reader.old) (R.remaining reader.new) }
+    ensures unread { (f : ScenarioFault) → result ≡ Err (Fault.Scenario f) → Keeps (C.remaining checkpoint.old) (C.remaining checkpoint.new) }
+    ensures checkpoint { (f : CheckpointFault) → result ≡ Err (Fault.Checkpoint f) → (f ≢ CheckpointFault.Memory) × ReadRefusedCheckpoint f (C.remaining checkpoint.old) (C.remaining checkpoint.new) (R.remaining reader.old) (R.remaining reader.new) }
+    ensures faults { IfErr result (λ e. is_of_resumed e ≡ true) }
+{
     let scenario = scenario_from(alloc, reader)?;
+    report_onward(rt, alloc, &scenario, checkpoint)
+}
+
+// Reads a checkpoint of a scenario, and makes the report of the run onward.
+fn report_onward<H: Threads + Wait + Sync, C: Read>(
+    rt: &H,
+    alloc: Global,
+    scenario: &Scenario,
+    checkpoint: &mut C,
+) -> Result<Vec<u8>, Fault>
+    ensures made { IfOk result (λ text. MadeOnward scenario.now (C.remaining checkpoint.old) (C.remaining checkpoint.new) text.items) }
+    ensures checkpoint { (f : CheckpointFault) → result ≡ Err (Fault.Checkpoint f) → (f ≢ CheckpointFault.Memory) × RefusedOnward scenario.now f (C.remaining checkpoint.old) (C.remaining checkpoint.new) }
+    ensures faults { IfErr result (λ e. is_of_input e || is_of_onward_run e ≡ true) }
+{
     let bytes = input_from(alloc, checkpoint)?;
-    let text = resumed_text(rt, alloc, &scenario, bytes.as_slice())?;
-    send(writer, text.as_slice())
+    resumed_text(rt, alloc, scenario, bytes.as_slice())
 }
 
 // The report of a run onward from the checkpoint that a text spells.
@@ -70,9 +102,7 @@ fn resumed_text<H: Threads + Wait + Sync>(
     ensures report { IfOk result (λ text. IsResumedReport scenario.now bytes.now text.items) }
     ensures legs { IfOk result (λ text. ReportsLegs scenario.now bytes.now text.items) }
     ensures checkpoint { (f : CheckpointFault) → result ≡ Err (Fault.Checkpoint f) → (f ≢ CheckpointFault.Memory) × RefusesCheckpoint scenario.now f bytes.now }
-    ensures no_writing { IfErr result (λ e. e ≢ Fault.Writing) }
-    ensures no_scenario { (f : ScenarioFault) → result ≢ Err (Fault.Scenario f) }
-    ensures others { IfErr result (λ e. is_of_resume e ≡ true) }
+    ensures faults { IfErr result (λ e. is_of_onward_run e ≡ true) }
 {
     let start = checkpoint_of(alloc, scenario, bytes)?;
     run_and_report(rt, alloc, scenario, &start)

@@ -3,11 +3,12 @@ ghost use Rattle.std.specs.Io.KnownBytes.{Keeps};
 ghost use Rattle.crn_scenario.specs.declared.scenario_fault.ScenarioFault.{ScenarioFault};
 ghost use Rattle.crn_report.specs.Report.{IsReportOf};
 ghost use Rattle.crn_engines.specs.Statuses.{is_of_run, is_of_simulation};
+ghost use Rattle.crn_engines.specs.Inner.Statuses.{is_of_report};
 ghost use Rattle.crn_engines.specs.Inputs.{ReadRefused};
-ghost use Rattle.crn_engines.specs.Simulation.{WroteReport, WroteFront};
+ghost use Rattle.crn_engines.specs.Simulation.{MadeReport, WroteReport, WroteFront};
 
 use crate::fault::Fault;
-use crate::steps::{run_and_report, scenario_from, send};
+use crate::steps::{run_and_report, scenario_from, send_made};
 use crn_run::Checkpoint;
 use crn_stock::Scenario;
 use std::alloc::Global;
@@ -40,9 +41,22 @@ pub fn simulate<H: Threads + Wait + Sync, R: Read, W: Write>(
     ensures others { IfErr result (λ e. is_of_simulation e ≡ true) }
     ensures scenario { (f : ScenarioFault) → result ≡ Err (Fault.Scenario f) → (f ≢ ScenarioFault.Memory) × ReadRefused f (R.remaining reader.old) (R.remaining reader.new) }
 {
+    let text = report_from(rt, alloc, reader)?;
+    send_made(writer, text)
+}
+
+// Reads a scenario, and makes its report.
+fn report_from<H: Threads + Wait + Sync, R: Read>(
+    rt: &H,
+    alloc: Global,
+    reader: &mut R,
+) -> Result<Vec<u8>, Fault>
+    ensures made { IfOk result (λ text. MadeReport (R.remaining reader.old) (R.remaining reader.new) text.items) }
+    ensures scenario { (f : ScenarioFault) → result ≡ Err (Fault.Scenario f) → (f ≢ ScenarioFault.Memory) × ReadRefused f (R.remaining reader.old) (R.remaining reader.new) }
+    ensures faults { IfErr result (λ e. is_of_report e ≡ true) }
+{
     let scenario = scenario_from(alloc, reader)?;
-    let text = report_of(rt, alloc, &scenario)?;
-    send(writer, text.as_slice())
+    report_of(rt, alloc, &scenario)
 }
 
 // Runs all policies over the whole stream, and makes the report.

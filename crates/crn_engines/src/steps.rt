@@ -115,12 +115,21 @@ pub(crate) fn run_and_report<H: Threads + Wait + Sync>(
     Ok(text)
 }
 
+/// Writes a whole text that was made for it.
+pub(crate) fn send_made<W: Write>(writer: &mut W, text: Vec<u8>) -> Result<(), Fault>
+    ensures whole { OnOk result (Appends (W.contents writer.old) (W.contents writer.new) text.items) }
+    ensures front { OnErr result (AppendsFront (W.contents writer.old) (W.contents writer.new) text.items) }
+    ensures fault { IfErr result (λ e. e ≡ Fault.Writing) }
+{
+    send(writer, text.as_slice())
+}
+
 /// Writes a whole text.
 ///
 /// # Errors
 ///
 /// `Writing` where a write fails or takes no byte: a front of the text, which may be empty, went out.
-pub fn send<W: Write>(writer: &mut W, text: &[u8]) -> Result<(), Fault>
+pub(crate) fn send<W: Write>(writer: &mut W, text: &[u8]) -> Result<(), Fault>
     ensures whole { OnOk result (Appends (W.contents writer.old) (W.contents writer.new) text.now) }
     ensures front { OnErr result (AppendsFront (W.contents writer.old) (W.contents writer.new) text.now) }
     ensures fault { IfErr result (λ e. e ≡ Fault.Writing) }

@@ -1,5 +1,7 @@
 -- The runs of all policies, as stacks: of their jobs, and of their ends.
-use Rattle.std.proofs.Common.{◌≡◌, Bool, ℕ, zero, suc, refl, ◌+◌, ◌<◌, List, [], ◌∷◌, ◌++◌, length, Some, slice_get, get_or, Result, Ok, Err, IfOk, OnOk, true, false, subst, sym, ap, ◌∙◌, arith, length-append}
+use Rattle.std.proofs.Common.{◌≡◌, ◌≢◌, Bool, ℕ, zero, suc, refl, ◌+◌, ◌<◌, ◌≤◌, List, [], ◌∷◌, ◌++◌, length, Some, slice_get, get_or, Result, Ok, Err, IfOk, OnOk, true, false, subst, sym, ap, ◌∙◌, arith, length-append}
+use mathlib.Core.Logic.{dite}
+use native.Mathlib.Decide.{ℕ_discrete}
 use Rattle.std.proofs.lemmas.Bool.{false≢true}
 use Rattle.std.specs.List.{list_any}
 use Rattle.std.proofs.lemmas.Option.{slice_get_within, slice_get-get_or, get_or_from_slice_get}
@@ -213,3 +215,11 @@ pub of_run : (s : ScenarioParts) (first : ℕ) (start : List Parts) (upto : ℕ)
     → IfOk r (λ f. HasRun s first start upto f.checkpoint.next f.checkpoint.states.items f.readers.items) → IfOk r Q
 of_run s first start upto (Ok f) Q gives h = gives f h
 of_run s first start upto (Err e) Q gives h = h
+
+-- the end of a run whose reader has seen the end of the ring after the blocks below n
+pub ends_as : (s : ScenarioParts) (k : ℕ) (v : Parts) (ring : Ring) (r n : ℕ) (w : Parts) (x : Reader) (e : PolicyEnd) → IsRun s k v n w → HasReadAll ring r n x → n ≤ (spec_of ring).id.total
+    → (n ≡ (spec_of ring).id.total → e ≡ Reached w x) → (n ≢ (spec_of ring).id.total → e ≡ Short n w x) → EndsAs s k v ring r e
+ends_as s k v ring r n w x e run read within total early =
+    dite (ℕ_discrete n (spec_of ring).id.total)
+    (λ is. subst (EndsAs s k v ring r) (sym (total is)) (subst (λ (m : ℕ). IsRun s k v m w) is run, subst (λ (m : ℕ). HasReadAll ring r m x) is read))
+    (λ not. subst (EndsAs s k v ring r) (sym (early not)) (omega (arith, within, not), run, read))

@@ -1,5 +1,5 @@
 //! The runs of all policies that are still to start.
-ghost use Rattle.std.specs.Prelude.{◌≡◌, ◌<◌, ◌≤◌, false, length, IfOk, IfErr};
+ghost use Rattle.std.specs.Prelude.{◌≡◌, ◌<◌, ◌≤◌, false, length, slice_get, Some, IfOk, IfErr};
 ghost use Rattle.crn_stock.specs.Models.{total};
 ghost use Rattle.crn_ring.specs.Calls.{AllFresh, IsOpened, reader_number, spec_of};
 ghost use Rattle.crn_sequential.specs.Runs.{IsCheckpointOf};
@@ -93,13 +93,24 @@ pub(crate) fn jobs_of(
 {
     let mut jobs = Vec::with_capacity(alloc, readers.len())?;
     while let Some(reader) = readers.pop() {
-        let policy = reader.number();
-        let state = start.states[policy as usize].copy(alloc)?;
-        jobs.push(Job {
-            policy,
-            reader,
-            state,
-        })?;
+        let job = job_of(alloc, start, reader)?;
+        jobs.push(job)?;
     }
     Ok(jobs)
+}
+
+// The job of a reader's policy, from a copy of its state in `start`.
+fn job_of(alloc: Global, start: &Checkpoint, reader: Reader) -> Result<Job, AllocError>
+    requires { reader_number reader < length start.now.states.items }
+    ensures policy { IfOk result (λ j. j.policy ≡ reader_number reader) }
+    ensures reader { IfOk result (λ j. j.reader ≡ reader) }
+    ensures state { IfOk result (λ j. slice_get start.now.states.items j.policy ≡ Some j.state) }
+{
+    let policy = reader.number();
+    let state = start.states[policy as usize].copy(alloc)?;
+    Ok(Job {
+        policy,
+        reader,
+        state,
+    })
 }

@@ -18,7 +18,7 @@ use std::slice::IterMut;
 use std::snapshot::Snapshot;
 use std::sync::Wait;
 use std::thread;
-use std::thread::{Promise, Scope, Threads};
+use std::thread::{Promise, PromisedHandle, Scope, Threads};
 
 // What a thread promises: the end of the job that it was given.
 #[derive(Drop)]
@@ -35,6 +35,39 @@ impl<G: Gate> Promise<PolicyEnd> for EndsJob<G> {
     ghost use Rattle.crn_run.specs.Jobs.{HasRefused};
 
     ghost kept_by = { λ p e. EndsAs p.scenario.value p.job.value.policy p.job.value.state p.ring.value p.job.value.policy e × (is_held e ≡ true → HasRefused G.refused) };
+}
+
+// Starts a thread for a job.
+fn start<'s, 'e: 's, 'g: 's, R: Wait + Sync, G: Gate + Send>(
+    rt: &'e R,
+    scope: &'s Scope<'s, &'e ()>,
+    ring: &'e Ring,
+    scenario: &'e Scenario,
+    job: Job,
+    gate: &'g mut G,
+) -> Result<PromisedHandle<PolicyEnd, EndsJob<G>>, RunFault>
+    requires job { IsReady scenario.now ring.now job }
+    requires ring { CarriesFor scenario.now ring.now }
+    requires gate { G.refused gate.now ≡ false }
+    ensures promise { IfOk result (λ h. (h.promise.ring.value ≡ ring.now) × (h.promise.scenario.value ≡ scenario.now) × (h.promise.job.value ≡ job)) }
+    ensures thread { IfErr result (λ e. e ≡ RunFault.Thread) }
+{
+    let promise = EndsJob {
+        ring: Snapshot::of(ring),
+        scenario: Snapshot::of(scenario),
+        job: Snapshot::of(&job),
+        gate: PhantomData::<G>,
+    };
+    let work = move || -> PolicyEnd
+        requires ready { IsReady scenario.now ring.now job }
+        requires ring { CarriesFor scenario.now ring.now }
+        requires gate { G.refused gate.now ≡ false }
+        ensures { EndsAs scenario.entry.now job.policy job.state ring.entry.now job.policy result × (is_held result ≡ true → HasRefused G.refused) }
+    { job.run(rt, ring, scenario, gate) };
+    match scope.spawn_with(promise, work) {
+        Ok(child) => Ok(child),
+        Err(_refused) => Err(RunFault::Thread),
+    }
 }
 
 // Starts a thread for the last job, goes on with those before it, and then joins that thread. Where no job is left it
@@ -63,27 +96,17 @@ fn start_from<'s, 'e: 's, 'g: 's, R: Threads + Wait + Sync, G: Gate + Send>(
     ensures refused { OnErr result ((producer_part producer.new).published ≡ (producer_part producer.old).published) }
     ensures joined { OnErr result (vec_len ends.new + vec_len jobs.new + 1 ≡ vec_len jobs.old) }
 {
-    let (Some(job), Some(gate)) = (jobs.pop(), gates.next()) else {
+    let Some(job) = jobs.pop() else {
         feed(rt, ring, producer);
         return Ok(());
     };
-    let promise = EndsJob {
-        ring: Snapshot::of(ring),
-        scenario: Snapshot::of(scenario),
-        job: Snapshot::of(&job),
-        gate: PhantomData::<G>,
+    let Some(gate) = gates.next() else {
+        unreachable!()
     };
-    let work = move || -> PolicyEnd
-        requires ready { IsReady scenario.now ring.now job }
-        requires ring { CarriesFor scenario.now ring.now }
-        requires gate { G.refused gate.now ≡ false }
-        ensures { EndsAs scenario.entry.now job.policy job.state ring.entry.now job.policy result × (is_held result ≡ true → HasRefused G.refused) }
-    { job.run(rt, ring, scenario, gate) };
-    match scope.spawn_with(promise, work) {
+    match start(rt, scope, ring, scenario, job, gate) {
         Err(refused) => {
-            drop(refused);
             producer.finish(ring);
-            Err(RunFault::Thread)
+            Err(refused)
         }
         Ok(child) => {
             let others = start_from(rt, scope, ring, scenario, producer, jobs, gates, ends);

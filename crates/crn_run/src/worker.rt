@@ -1,11 +1,11 @@
 //! The run of one policy, on the thread that calls it.
-ghost use Rattle.std.specs.Prelude.{◌≡◌, ℕ, ◌+◌, ◌<◌, ◌≤◌, true, false, not, length, slice_get, Some, IfOk, IfErr, OnOk, OnErr};
+ghost use Rattle.std.specs.Prelude.{◌≡◌, ◌≢◌, ℕ, ◌+◌, ◌<◌, ◌≤◌, true, false, not, length, slice_get, Some, IfOk, IfErr, OnOk, OnErr};
 ghost use Rattle.crn_cipher.specs.declared.stream.Block.{Block};
 ghost use Rattle.crn_stock.specs.Models.{IsPolicy, total};
 ghost use Rattle.crn_stock.specs.Draws.{next_block};
 ghost use Rattle.crn_ring.specs.Calls.{HasLeft, IsReaderOf, reader_number, reader_part, spec_of};
 ghost use Rattle.crn_sequential.specs.Runs.{StandsBefore};
-ghost use Rattle.crn_run.specs.declared.worker.PolicyEnd.TheVariants.{Held};
+ghost use Rattle.crn_run.specs.declared.worker.PolicyEnd.TheVariants.{Held, Reached, Short};
 ghost use Rattle.crn_run.specs.Ends.{EndsAs, is_held};
 ghost use Rattle.crn_run.specs.Inner.Ends.{Advances, FollowFrom};
 
@@ -120,19 +120,27 @@ fn run_until_held<R: Wait, G: Gate>(
                 waiting.reset();
             }
             Batch::Empty { published: _ } => waiting.wait(rt),
-            Batch::Ended { published } if published == ring.spec().id.total => {
-                return Ok(PolicyEnd::Reached { state, reader });
-            }
-            Batch::Ended { published } => {
-                return Ok(PolicyEnd::Short {
-                    published,
-                    state,
-                    reader,
-                });
-            }
+            Batch::Ended { published } => return Ok(ended(ring, published, state, reader)),
         }
     }
     unreachable!()
+}
+
+// The end of a run whose reader has seen the end of the ring after `published` blocks.
+fn ended(ring: &Ring, published: u64, state: State, reader: Reader) -> PolicyEnd
+    ensures total { published ≡ (spec_of ring.now).id.total → result ≡ Reached state reader }
+    ensures not_held { is_held result ≡ false }
+    ensures early { published ≢ (spec_of ring.now).id.total → result ≡ Short published state reader }
+{
+    if published == ring.spec().id.total {
+        PolicyEnd::Reached { state, reader }
+    } else {
+        PolicyEnd::Short {
+            published,
+            state,
+            reader,
+        }
+    }
 }
 
 // Applies the first `count` blocks, which are the state's next ones, each after the gate has passed it. Answers whether

@@ -3,13 +3,10 @@
 //! once it is migrated. It also writes the words of blocks, and replays schedules of the ring that carries them.
 #![tactic(auto)]
 
-mod command_line;
-mod dispatch;
-
-pub use command_line::read_words;
 pub use crn_command_line::Command;
-pub use crn_engines::{Fault, leg, migrate, replay_run, resume, simulate, write_words};
-pub use dispatch::answer_command;
+pub use crn_engines::{
+    Fault, answer_command, leg, migrate, read_words, replay_run, resume, simulate, write_words,
+};
 use std::env;
 use std::fs::File;
 use std::io::{ErrorKind, Read, Stdin};

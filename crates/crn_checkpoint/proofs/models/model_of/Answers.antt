@@ -1,4 +1,5 @@
-use Rattle.std.proofs.Common.{sym, subst, codes}
+use Rattle.std.proofs.Common.{◌∙◌, sym, subst, codes}
+use Rattle.std.proofs.lemmas.Result.{IfOk-weaker}
 use Rattle.crn_stock.specs.Models.{IsModel}
 use Rattle.crn_checkpoint.proofs.ListRows.{demands_small, leads_small, returned_small}
 use Rattle.crn_checkpoint.proofs.WholeRows.{handed_on, same_model_parts, answered}
@@ -27,3 +28,7 @@ returns-clause-model c = λ s next states h.
     let returns = c.in_ok-returns.ensures.reads s.model.returns in_range.returns (returned_small s in_range) (c.returned_rows.ensures.are s next states h) in
     let same = same_model_parts c.sizes_of.result _ _ _ s.model demand lead returns (c.sizes_of.ensures c.args.version s next states h) in
     answered _ _ _ same (c.model_with.ensures.model (subst IsModel (sym same) in_range.model))
+
+pub returns-clause-tells : goal.returns-clause-tells
+returns-clause-tells c =
+    IfOk-weaker c.model_with.result _ _ (λ m same first. same ∙ c.in_ok-returns.ensures.none (c.returned_rows.ensures.none first)) c.model_with.ensures.returns

@@ -1,15 +1,11 @@
-use Rattle.std.proofs.Common.{ℕ, List, rules, subst}
-use Rattle.crn_checkpoint.specs.Migration.{RefusesMigration}
+use Rattle.crn_engines.proofs.Sent.{handed_fault, sent, sent_front}
 use Rattle.crn_engines.proofs.migration.migrate.Goals as goal
 
 pub returns-in_err-text-clause-migration : goal.returns-in_err-text-clause-migration
-returns-in_err-text-clause-migration g c f e =
-    let h = c.in_err-text.ensures.migration f (search rules) in
-    let refused = subst (λ (bytes : List ℕ). RefusesMigration f bytes) c.as_slice.ensures.value h.1 in
-    (h.0, record { input = c.in_ok-bytes.bytes.items; read = c.in_ok-bytes.ensures.all; refused = refused })
+returns-in_err-text-clause-migration g c f is = c.in_err-text.ensures.migration f (handed_fault _ _ _ c.from_residual.ensures is)
 
 pub returns-clause-wrote : goal.returns-clause-wrote
-returns-clause-wrote g c = search rules
+returns-clause-wrote g c = sent _ _ _ c.in_ok-text.text.items c.in_ok-text.ensures.made c.send_made.result c.send_made.ensures.whole
 
 pub returns-clause-front : goal.returns-clause-front
-returns-clause-front g c = search rules
+returns-clause-front g c = sent_front _ _ _ c.in_ok-text.text.items c.in_ok-text.ensures.made c.send_made.result _ c.send_made.ensures.front

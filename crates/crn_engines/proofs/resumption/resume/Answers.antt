@@ -1,40 +1,20 @@
-use Rattle.std.proofs.Common.{ℕ, List, rules, subst}
-use Rattle.std.proofs.lemmas.Result.{IfOk-weaker}
-use Rattle.crn_checkpoint.specs.Reading.{RefusesCheckpoint}
-use Rattle.crn_stock.specs.Scenarios.{ScenarioParts}
-use Rattle.crn_engines.specs.Resumption.{ReportsLegs}
-use Rattle.crn_engines.proofs.LegStates.{reads_one}
+use Rattle.crn_engines.proofs.Sent.{handed_fault, sent, sent_front}
 use Rattle.crn_engines.proofs.resumption.resume.Goals as goal
 
-pub returns-in_err-scenario-clause-scenario : goal.returns-in_err-scenario-clause-scenario
-returns-in_err-scenario-clause-scenario g c f e = c.in_err-scenario.ensures.scenario f (search rules)
+pub returns-in_err-text-clause-scenario : goal.returns-in_err-text-clause-scenario
+returns-in_err-text-clause-scenario g c f is = c.in_err-text.ensures.scenario f (handed_fault _ _ _ c.from_residual.ensures is)
+
+pub returns-in_err-text-clause-unread : goal.returns-in_err-text-clause-unread
+returns-in_err-text-clause-unread g c f is = c.in_err-text.ensures.unread f (handed_fault _ _ _ c.from_residual.ensures is)
 
 pub returns-in_err-text-clause-checkpoint : goal.returns-in_err-text-clause-checkpoint
-returns-in_err-text-clause-checkpoint g c f e =
-    let s = c.in_ok-scenario.scenario in
-    let h = c.in_err-text.ensures.checkpoint f (search rules) in (
-      h.0,
-      record {
-        scenario = s;
-        bytes = c.in_ok-bytes.bytes.items;
-        read = record { scenario = c.in_ok-scenario.ensures.reads; checkpoint = c.in_ok-bytes.ensures.all };
-        refused = subst (λ (bytes : List ℕ). RefusesCheckpoint s f bytes) c.as_slice.ensures.value h.1;
-      },
-    )
+returns-in_err-text-clause-checkpoint g c f is = c.in_err-text.ensures.checkpoint f (handed_fault _ _ _ c.from_residual.ensures is)
+
+pub returns-clause-wrote : goal.returns-clause-wrote
+returns-clause-wrote g c = sent _ _ _ c.in_ok-text.text.items c.in_ok-text.ensures.made c.send_made.result c.send_made.ensures.whole
+
+pub returns-clause-front : goal.returns-clause-front
+returns-clause-front g c = sent_front _ _ _ c.in_ok-text.text.items c.in_ok-text.ensures.made c.send_made.result _ c.send_made.ensures.front
 
 pub returns-clause-legs : goal.returns-clause-legs
-returns-clause-legs g c =
-    let s = c.in_ok-scenario.scenario in
-    let bytes = c.in_ok-bytes.bytes.items in
-    let text = c.in_ok-text.text.items in
-    let read = c.in_ok-scenario.ensures.reads in
-    let legs = subst (λ (l : List ℕ). ReportsLegs s l text) c.as_slice.ensures.value c.in_ok-text.ensures.legs in
-    IfOk-weaker c.send.result _ _ (λ done whole. record {
-      input = read.input;
-      read = read.read;
-      bytes = bytes;
-      read_bytes = c.in_ok-bytes.ensures.all;
-      text = text;
-      report = λ t reads. subst (λ (v : ScenarioParts). ReportsLegs v bytes text) (reads_one read.input s t read.reads reads) legs;
-      written = search rules;
-    }) c.send.ensures.whole
+returns-clause-legs g c = sent _ _ _ c.in_ok-text.text.items c.in_ok-text.ensures.legs c.send_made.result c.send_made.ensures.whole

@@ -9,36 +9,37 @@ use Rattle.crn_sequential.proofs.Growing.{all-head, all-tail, each-front, each-l
 use Rattle.crn_run.proofs.Ending.{held_or_last, one_more_end, with_value}
 use Rattle.crn_run.proofs.threads.+start_from.Goals as goal
 
-pub spawn_with-requires-clause-runs : goal.spawn_with-requires-clause-runs
-spawn_with-requires-clause-runs g t c κs within =
+pub start-requires-clause-job : goal.start-requires-clause-job
+start-requires-clause-job g t c κs within =
     let front : List Job = c.pop.new.self.items in
-    let whole : c.args.jobs.now.items ≡ front ++ c.in-Some-Some.job ∷ [] = search rules in
-    let ready : IsReady c.args.scenario.now c.args.ring.now c.in-Some-Some.job = each-last (λ _. IsReady c.args.scenario.now c.args.ring.now) front c.args.jobs.now.items c.in-Some-Some.job whole c.requires.jobs in
-    let split : iter_mut_rest c.args.gates ≡ c.in-Some-Some.gate.now ∷ iter_mut_rest c.next.new.self = search rules in
-    let passing : g.G.Gate.refused c.in-Some-Some.gate.now ≡ false =
-    all-head (λ (x : g.row.G.Denot). g.G.Gate.refused x ≡ false) (iter_mut_rest c.args.gates) (iter_mut_rest c.next.new.self) c.in-Some-Some.gate.now split c.requires.gates in
-    search rules
+    let whole : c.args.jobs.now.items ≡ front ++ c.in-Some.job ∷ [] = search rules in
+    each-last (λ _. IsReady c.args.scenario.now c.args.ring.now) front c.args.jobs.now.items c.in-Some.job whole c.requires.jobs
+
+pub start-requires-clause-gate : goal.start-requires-clause-gate
+start-requires-clause-gate g t c κs within =
+    let split : iter_mut_rest c.args.gates ≡ c.in-Some-next.gate.now ∷ iter_mut_rest c.next.new.self = search rules in
+    all-head (λ (x : g.row.G.Denot). g.G.Gate.refused x ≡ false) (iter_mut_rest c.args.gates) (iter_mut_rest c.next.new.self) c.in-Some-next.gate.now split c.requires.gates
 
 pub start_from-others-requires-clause-gates : goal.start_from-others-requires-clause-gates
 start_from-others-requires-clause-gates g t c κs within =
-    let split : iter_mut_rest c.args.gates ≡ c.in-Some-Some.gate.now ∷ iter_mut_rest c.next.new.self = search rules in
-    all-tail (λ (x : g.row.G.Denot). g.G.Gate.refused x ≡ false) (iter_mut_rest c.args.gates) (iter_mut_rest c.next.new.self) c.in-Some-Some.gate.now split c.requires.gates
+    let split : iter_mut_rest c.args.gates ≡ c.in-Some-next.gate.now ∷ iter_mut_rest c.next.new.self = search rules in
+    all-tail (λ (x : g.row.G.Denot). g.G.Gate.refused x ≡ false) (iter_mut_rest c.args.gates) (iter_mut_rest c.next.new.self) c.in-Some-next.gate.now split c.requires.gates
 
 pub start_from-others-requires-clause-jobs : goal.start_from-others-requires-clause-jobs
 start_from-others-requires-clause-jobs g t c κs within =
     let front : List Job = c.pop.new.self.items in
-    let whole : c.args.jobs.now.items ≡ front ++ c.in-Some-Some.job ∷ [] = search rules in
-    each-front (λ _. IsReady c.args.scenario.now c.args.ring.now) front c.args.jobs.now.items c.in-Some-Some.job whole c.requires.jobs
+    let whole : c.args.jobs.now.items ≡ front ++ c.in-Some.job ∷ [] = search rules in
+    each-front (λ _. IsReady c.args.scenario.now c.args.ring.now) front c.args.jobs.now.items c.in-Some.job whole c.requires.jobs
 
 pub returns-in-Ok-clause-ends : goal.returns-in-Ok-clause-ends
 returns-in-Ok-clause-ends g t c =
     let front : List Job = c.pop.new.self.items in
     let below : List PolicyEnd = c.start_from-others.new.ends.items in
-    let whole : c.args.jobs.now.items ≡ front ++ c.in-Some-Some.job ∷ [] = search rules in
+    let whole : c.args.jobs.now.items ≡ front ++ c.in-Some.job ∷ [] = search rules in
     let grown : c.push_reserved.new.self.items ≡ below ++ c.join.result ∷ [] = search rules in
-    let last : EndsAs c.args.scenario.now c.in-Some-Some.job.policy c.in-Some-Some.job.state c.args.ring.now c.in-Some-Some.job.policy c.join.result = search rules in
+    let last : EndsAs c.args.scenario.now c.in-Some.job.policy c.in-Some.job.state c.args.ring.now c.in-Some.job.policy c.join.result = search rules in
     with_value c.start_from-others.result
-    (one_more_end c.args.scenario.now c.args.ring.now front c.args.jobs.now.items below c.push_reserved.new.self.items c.in-Some-Some.job c.join.result whole grown)
+    (one_more_end c.args.scenario.now c.args.ring.now front c.args.jobs.now.items below c.push_reserved.new.self.items c.in-Some.job c.join.result whole grown)
     c.start_from-others.ensures.ends last
 
 pub returns-in-Ok-clause-held : goal.returns-in-Ok-clause-held

@@ -1,9 +1,9 @@
-use Rattle.std.proofs.Common.{rules, ◌≡◌, ◌+◌, ◌<◌, ◌≤◌, length, slice_get, Some, refl, sym, ap, ◌∙◌, arith}
+use Rattle.std.proofs.Common.{rules, ◌≡◌, ◌+◌, ◌≤◌, length, slice_get, Some, refl, sym, ◌∙◌, arith}
 use Rattle.crn_stock.specs.Draws.{next_block}
-use Rattle.crn_proto.specs.declared.spec.RingSpec.{RingSpec}
-use Rattle.crn_ring.specs.Calls.{FollowOn, reader_part, spec_of}
+use Rattle.crn_ring.specs.Calls.{FollowOn, reader_number, reader_part, spec_of}
 use Rattle.crn_ring.specs.Parts.{Takes, SeesEnd}
 use Rattle.crn_run.specs.Inner.Ends.{Advances}
+use Rattle.crn_run.proofs.Ending.{ends_as}
 use Rattle.crn_run.proofs.Advancing.{advances_then, advanced, follow_from, taken_on}
 use Rattle.crn_sequential.proofs.Running.{read_policy}
 use Rattle.crn_run.proofs.worker.run_until_held.Goals as goal
@@ -47,33 +47,15 @@ returns-in-Ended-clause-end g c =
     let p = c.index-policies-policy.result in
     let is_policy : slice_get s.policies c.args.policy ≡ Some p = read_policy s.policies c.policies.result.now c.args.policy p c.policies.ensures.value (search rules) c.index-policies-policy.is in
     let saw : SeesEnd (reader_part c.loop.reader) (reader_part c.take_batch.new.self) c.in-Ended.published = search rules in
-    let there : c.in-Ended.published ≡ (spec_of c.args.ring.now).id.total = search rules in
-    let stands : next_block c.loop.state ≡ (spec_of c.args.ring.now).id.total = sym c.loop.invariant.taken ∙ sym saw.all_taken ∙ there in (
-      advanced s c.args.policy p c.args.state c.loop.state (spec_of c.args.ring.now).id.total is_policy c.onward_from_itself.ensures c.loop.invariant.advances stands,
-      record {
-        of_ring = search rules;
-        number = search rules;
-        ended = saw.ended;
-        taken = saw.stays ∙ sym saw.all_taken ∙ there;
-      },
-    )
-
-pub returns-in-Ended-2-clause-end : goal.returns-in-Ended-2-clause-end
-returns-in-Ended-2-clause-end g c =
-    let s = c.args.scenario.now in
-    let p = c.index-policies-policy.result in
-    let is_policy : slice_get s.policies c.args.policy ≡ Some p = read_policy s.policies c.policies.result.now c.args.policy p c.policies.ensures.value (search rules) c.index-policies-policy.is in
-    let saw : SeesEnd (reader_part c.loop.reader) (reader_part c.take_batch.new.self) c.in-Ended.published = search rules in
     let within : (reader_part c.take_batch.new.self).taken ≤ (spec_of c.args.ring.now).id.total = search rules in
     let stands : next_block c.loop.state ≡ c.in-Ended.published = sym c.loop.invariant.taken ∙ sym saw.all_taken in
-    let total_is : c.spec.result.id.total ≡ (spec_of c.args.ring.now).id.total = ap (λ (r : RingSpec). r.id.total) c.spec.ensures in
-    let below : c.in-Ended.published < (spec_of c.args.ring.now).id.total = omega (arith, within, saw.stays, saw.all_taken, total_is, c.if-published-spec.false) in (
-      below,
-      advanced s c.args.policy p c.args.state c.loop.state c.in-Ended.published is_policy c.onward_from_itself.ensures c.loop.invariant.advances stands,
-      record {
-        of_ring = search rules;
-        number = search rules;
-        ended = saw.ended;
-        taken = saw.stays ∙ sym saw.all_taken;
-      },
-    )
+    let below : c.in-Ended.published ≤ (spec_of c.args.ring.now).id.total = omega (arith, within, saw.stays, saw.all_taken) in
+    ends_as s c.args.policy c.args.state c.args.ring.now (reader_number c.args.reader) c.in-Ended.published c.loop.state c.take_batch.new.self c.ended.result
+    (advanced s c.args.policy p c.args.state c.loop.state c.in-Ended.published is_policy c.onward_from_itself.ensures c.loop.invariant.advances stands)
+    (record {
+      of_ring = search rules;
+      number = search rules;
+      ended = saw.ended;
+      taken = saw.stays ∙ sym saw.all_taken;
+    })
+    below c.ended.ensures.total c.ended.ensures.early

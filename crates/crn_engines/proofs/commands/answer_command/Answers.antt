@@ -1,5 +1,5 @@
 use Rattle.std.proofs.Common.{rules}
-use Rattle.crnsim.proofs.dispatch.answer_command.Goals as goal
+use Rattle.crn_engines.proofs.commands.answer_command.Goals as goal
 
 pub returns-in-Run-clause-wrote : goal.returns-in-Run-clause-wrote
 returns-in-Run-clause-wrote g c = search rules

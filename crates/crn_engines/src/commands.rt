@@ -1,9 +1,18 @@
-ghost use Rattle.std.specs.Prelude.{◌≡◌, ◌≢◌, true, IfErr, OnOk};
-ghost use Rattle.std.specs.Io.KnownBytes.{Keeps};
-ghost use Rattle.crnsim.specs.Dispatch.{Streams, Answered, AnsweredFront, is_of_command};
+// The commands of the program.
 
+ghost use Rattle.std.specs.Prelude.{◌≡◌, ◌≢◌, ◌⊎◌, true, IfErr, OnOk};
+ghost use Rattle.std.specs.Io.KnownBytes.{Keeps};
+ghost use Rattle.crn_engines.specs.Commands.{Streams, Answered, AnsweredFront, is_of_command};
+
+use crate::block_words::write_words;
+use crate::fault::Fault;
+use crate::legs::leg;
+use crate::migration::migrate;
+use crate::replay::replay_run;
+use crate::resumption::resume;
+use crate::simulation::simulate;
+use crate::steps::send;
 use crn_command_line::Command;
-use crn_engines::{Fault, leg, migrate, replay_run, resume, send, simulate, write_words};
 use std::alloc::Global;
 use std::io::{Read, Write};
 use std::sync::Wait;
@@ -44,4 +53,16 @@ pub fn answer_command<H: Threads + Wait + Sync, C: Read, R: Read, W: Write>(
         Command::Migrate { .. } => migrate(alloc, saved, writer),
         Command::Help { text } => send(writer, text.as_bytes()),
     }
+}
+
+/// Reads the words that follow the program's name, as [`crn_command_line::read_words`] does.
+///
+/// # Errors
+///
+/// - `CommandLine` if the words are refused.
+/// - `Memory` if an allocation fails.
+pub fn read_words(alloc: Global, words: &[String]) -> Result<Command, Fault>
+    ensures { IfErr result (λ e. (e ≡ Fault.CommandLine) ⊎ (e ≡ Fault.Memory)) }
+{
+    Ok(crn_command_line::read_words(alloc, words)?)
 }

@@ -1,0 +1,33 @@
+-- What an engine answers, once its text is made.
+use Rattle.std.proofs.Common.{◌≡◌, ℕ, List, Option, Result, Ok, Err, IfOk, IfErr, OnOk, OnErr, sym, subst}
+use Rattle.std.specs.Prelude.{IsErr, IsErrAnd}
+use Rattle.std.specs.Io.KnownBytes.{Appends}
+use Rattle.crn_engines.specs.declared.fault.Fault.{Fault}
+use Rattle.crn_engines.specs.Bytes.{AppendsFront, Wrote, WroteFrontOf}
+
+module _ {T E : Type 0} where
+  -- what holds of a fault holds of a result that hands it on
+  pub handed : (r : Result T E) (e : E) (P : E → Type 0) → IsErr r × IsErrAnd r (λ f. f ≡ e) → P e → IfErr r P
+  handed (Ok x) e P h holds = absurd (cc h.0)
+  handed (Err f) e P h holds = subst P (sym h.1) holds
+
+  -- a result that hands a fault on is of that fault alone, and so was the result that it came from
+  pub handed_fault : {U : Type 0} (r : Result T E) (e f : E) → IsErr r × IsErrAnd r (λ g. g ≡ e) → r ≡ Err f → ◌≡◌ {A = Result U E} (Err e) (Err f)
+  handed_fault {U} (Ok x) e f h is = absurd (cc is)
+  handed_fault {U} (Err g) e f h is = cc (h.1, is)
+
+module _ (Made : List ℕ → Type 0) (held held' : Option (List ℕ)) (text : List ℕ) (made : Made text) where
+  -- the text that was made went out
+  pub sent : {T E : Type 0} (r : Result T E) → OnOk r (Appends held held' text) → OnOk r (Wrote Made held held')
+  sent (Ok x) whole = record { text = text; made = made; written = whole }
+  sent (Err e) whole = tt
+
+  -- or a front of it did
+  pub sent_front : {T E : Type 0} (r : Result T E) (P : E → Type 0) → OnErr r (AppendsFront held held' text) → IfErr r (λ e. P e → WroteFrontOf Made held held')
+  sent_front (Ok x) P front = tt
+  sent_front (Err e) P front = λ _. record { text = text; made = made; written = front }
+
+-- what follows from two facts of an answer
+pub both_ok : {T E : Type 0} (r : Result T E) (P Q R : T → Type 0) → ((t : T) → P t → Q t → R t) → IfOk r P → IfOk r Q → IfOk r R
+both_ok (Ok t) P Q R join p q = join t p q
+both_ok (Err e) P Q R join p q = tt
