@@ -48,60 +48,117 @@ pub enum Command {
 /// - `Words` if the words are none of these.
 /// - `Memory` if an allocation fails.
 pub fn read_words<'a>(alloc: Global, words: &'a [String]) -> Result<Command, CommandLineFault> {
-    let parser = parser(alloc)?;
-    match parser.try_get_matches_from(words) {
+    match matches_of(alloc, words) {
         Ok(matches) => command_of(alloc, &matches),
-        Err(e) => match e.kind() {
-            ErrorKind::OutOfMemory => Err(CommandLineFault::Memory),
-            ErrorKind::DisplayHelp => {
-                let text = e.to_string(alloc)?;
-                Ok(Command::Help { text })
-            }
-            _ => Err(CommandLineFault::Words),
-        },
+        Err(answer) => answered(alloc, &answer),
     }
 }
 
-// What `clap` knows of the commands.
+// What `clap` finds in the words.
+fn matches_of<'a>(alloc: Global, words: &'a [String]) -> Result<ArgMatches<'a>, clap::Error> {
+    parser(alloc)?.try_get_matches_from(words)
+}
+
+// What `clap` answers in place of a command: the help that was asked for, or why there is none.
+fn answered(alloc: Global, answer: &clap::Error) -> Result<Command, CommandLineFault> {
+    match answer.kind() {
+        ErrorKind::OutOfMemory => Err(CommandLineFault::Memory),
+        ErrorKind::DisplayHelp => help_in(alloc, answer),
+        _ => Err(CommandLineFault::Words),
+    }
+}
+
+// The help that was asked for.
+fn help_in(alloc: Global, answer: &clap::Error) -> Result<Command, CommandLineFault> {
+    let text = answer.to_string(alloc)?;
+    Ok(Command::Help { text })
+}
+
+// What `clap` knows of the program.
 fn parser<'a>(alloc: Global) -> Result<clap::Command<'a>, AllocError> {
-    let mut parser = clap::Command::new(alloc, "crnsim")
-        .bin_name("crnsim")?
+    let commands = parsers(alloc)?;
+    clap::Command::new(alloc, "crnsim")
         .about(ABOUT)
         .after_help(AFTER_HELP)
-        .no_binary_name(true);
+        .no_binary_name(true)
+        .subcommands(commands)?
+        .bin_name("crnsim")
+}
+
+// What `clap` knows of the commands, in the order of the help.
+fn parsers<'a>(alloc: Global) -> Result<Vec<clap::Command<'a>>, AllocError> {
+    let mut parsers = Vec::new(alloc);
     for command in &COMMANDS {
-        parser = parser.subcommand(parser_of(alloc, command)?)?;
+        add_parser(alloc, &mut parsers, command)?;
     }
-    Ok(parser)
+    Ok(parsers)
 }
 
-// What `clap` knows of one command.
-fn parser_of<'a>(alloc: Global, command: &CommandHelp) -> Result<clap::Command<'a>, AllocError> {
-    let mut parser = clap::Command::new(alloc, command.name)
+// Adds what `clap` knows of one command.
+fn add_parser<'a>(
+    alloc: Global,
+    parsers: &mut Vec<clap::Command<'a>>,
+    command: &CommandHelp,
+) -> Result<(), AllocError> {
+    let args = args_of(alloc, command)?;
+    let parser = clap::Command::new(alloc, command.name)
         .about(command.about)
-        .after_help(command.example);
-    for (name, help) in command.args {
-        parser = parser.arg(Arg::new(alloc, name).required(true).help(help))?;
-    }
-    Ok(parser)
+        .after_help(command.example)
+        .args(args)?;
+    parsers.push(parser)?;
+    Ok(())
 }
 
+// What `clap` knows of the arguments of one command.
+fn args_of<'a>(alloc: Global, command: &CommandHelp) -> Result<Vec<Arg<'a>>, AllocError> {
+    let mut args = Vec::new(alloc);
+    for (name, help) in command.args {
+        args.push(Arg::new(alloc, name).required(true).help(help))?;
+    }
+    Ok(args)
+}
+
+// The command that the words ask for.
 fn command_of(alloc: Global, matches: &ArgMatches<'_>) -> Result<Command, CommandLineFault> {
     match matches.subcommand() {
-        None | Some(("run", _)) => Ok(Command::Run),
-        Some(("words", words)) => block_words(words),
-        Some(("replay", words)) => ring(words),
-        Some(("leg", words)) => Ok(Command::Leg {
-            n: number_at(words, "N")?,
-        }),
-        Some(("resume", words)) => Ok(Command::Resume {
-            file: file_at(alloc, words)?,
-        }),
-        Some(("migrate", words)) => Ok(Command::Migrate {
-            file: file_at(alloc, words)?,
-        }),
-        Some(_) => Err(CommandLineFault::Words),
+        Some((name, words)) => command_named(alloc, name, words),
+        None => Ok(Command::Run),
     }
+}
+
+// The command of this name, from the words after the name.
+fn command_named(
+    alloc: Global,
+    name: &str,
+    words: &ArgMatches<'_>,
+) -> Result<Command, CommandLineFault> {
+    match name {
+        "run" => Ok(Command::Run),
+        "words" => block_words(words),
+        "replay" => ring(words),
+        "leg" => leg(words),
+        "resume" => resume(alloc, words),
+        "migrate" => migrate(alloc, words),
+        _ => Err(CommandLineFault::Words),
+    }
+}
+
+// The leg up to the block that comes next.
+fn leg(words: &ArgMatches<'_>) -> Result<Command, CommandLineFault> {
+    let n = number_at(words, "N")?;
+    Ok(Command::Leg { n })
+}
+
+// The run that goes on from a checkpoint.
+fn resume(alloc: Global, words: &ArgMatches<'_>) -> Result<Command, CommandLineFault> {
+    let file = file_at(alloc, words)?;
+    Ok(Command::Resume { file })
+}
+
+// The checkpoint that is written in the present version.
+fn migrate(alloc: Global, words: &ArgMatches<'_>) -> Result<Command, CommandLineFault> {
+    let file = file_at(alloc, words)?;
+    Ok(Command::Migrate { file })
 }
 
 // The block whose words are asked for.

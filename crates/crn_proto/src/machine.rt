@@ -3,9 +3,9 @@
 ghost use Rattle.std.specs.Prelude.{◌≡◌, ℕ, ◌+◌, ◌-◌, ◌*◌, ◌/◌, ◌%◌, ◌^◌, ◌<◌, ◌≤◌, ◌↔◌, true, false, ◌++◌, length, slice_index, List, take, drop, Some, IfOk, OnErr, IsErrOf};
 ghost use Rattle.std.specs.List.{All};
 ghost use Rattle.crn_proto.specs.Ring.{IsRing, left_mark, place, word_count, open_words};
-ghost use Rattle.crn_proto.specs.Opening.{IsRingSize, IsReaderCount, IsStream};
+ghost use Rattle.crn_proto.specs.Opening.{CanOpen, IsRingSize, IsReaderCount, IsStream};
 ghost use Rattle.crn_proto.specs.Machine.{MachineState, machine_of, machine_steps, ends, loads_gate, stores_word, publishes, producer_steps, finish_steps, loads_cursor, loads_word, takes, leaves, reader_steps, leave_steps, IsActor, open_machine, taker_at, machine_after, machine_answers};
-ghost use Rattle.crn_proto.specs.Inner.Machine.{MachineFits};
+ghost use Rattle.crn_proto.specs.Inner.Machine.{MachineFits, TakerFits};
 
 mod shown;
 
@@ -83,6 +83,25 @@ fn opening_words(alloc: Global, spec: &RingSpec) -> Result<Vec<u64>, AllocError>
     Ok(words)
 }
 
+// The first fault of a ring that may not be opened.
+fn judge(spec: &RingSpec) -> Result<(), RingFault>
+    ensures valid { IfOk result (λ _. CanOpen spec.now) }
+    ensures size { IsErrOf result RingFault.Size ↔ (¬ IsRingSize spec.now.size) }
+    ensures readers { IsErrOf result RingFault.Readers ↔ (IsRingSize spec.now.size × (¬ IsReaderCount spec.now.readers)) }
+    ensures stream { IsErrOf result RingFault.Stream ↔ (IsRingSize spec.now.size × IsReaderCount spec.now.readers × (¬ IsStream spec.now.id)) }
+{
+    if !spec.size.is_power_of_two() || spec.size > 1_024 {
+        return Err(RingFault::Size);
+    }
+    if spec.readers == 0 || spec.readers > 16 {
+        return Err(RingFault::Readers);
+    }
+    if spec.id.total > 65_536 || spec.id.first > spec.id.total {
+        return Err(RingFault::Stream);
+    }
+    Ok(())
+}
+
 impl Machine {
     /// The ring before any step: nothing is published or taken. Its memory is that of the words and the readers, and no
     /// step takes any more.
@@ -101,15 +120,15 @@ impl Machine {
         ensures readers { IsErrOf result RingFault.Readers ↔ (IsRingSize spec.size × (¬ IsReaderCount spec.readers)) }
         ensures stream { IsErrOf result RingFault.Stream ↔ (IsRingSize spec.size × IsReaderCount spec.readers × (¬ IsStream spec.id)) }
     {
-        if !spec.size.is_power_of_two() || spec.size > 1_024 {
-            return Err(RingFault::Size);
-        }
-        if spec.readers == 0 || spec.readers > 16 {
-            return Err(RingFault::Readers);
-        }
-        if spec.id.total > 65_536 || spec.id.first > spec.id.total {
-            return Err(RingFault::Stream);
-        }
+        judge(&spec)?;
+        Ok(Machine::before_any_step(alloc, spec)?)
+    }
+
+    // The machine of a ring that may be opened.
+    fn before_any_step(alloc: Global, spec: RingSpec) -> Result<Machine, AllocError>
+        requires { CanOpen spec }
+        ensures { IfOk result (λ m. m ≡ open_machine spec) }
+    {
         let words = opening_words(alloc, &spec)?;
         let taker = Taker {
             taken: spec.id.first,
@@ -228,6 +247,16 @@ impl Machine {
         }
     }
 
+    // Where reader `r` stands.
+    #[inline(always)]
+    fn taker(&self, r: u32) -> Taker
+        requires { r < self.now.spec.readers }
+        ensures stands { result ≡ taker_at self.now r }
+        ensures fits { TakerFits self.now.spec.id.total result }
+    {
+        self.takers[r as usize]
+    }
+
     // Reader `r` looks how far blocks are published.
     fn load_cursor(&mut self, r: u32) -> Step
         requires { r < self.old.spec.readers }
@@ -235,7 +264,7 @@ impl Machine {
         ensures answer { Some result ≡ (loads_cursor self.old r).1 }
     {
         let value = self.words[0];
-        let mut taker = self.takers[r as usize];
+        let mut taker = self.taker(r);
         taker.seen_end = value == 2 * taker.taken + 1;
         taker.reading = taker.taken < value / 2;
         self.takers[r as usize] = taker;
@@ -253,7 +282,7 @@ impl Machine {
         ensures state { self.new ≡ (loads_word self.old r).0 }
         ensures answer { Some result ≡ (loads_word self.old r).1 }
     {
-        let mut taker = self.takers[r as usize];
+        let mut taker = self.taker(r);
         let word = place_of(&self.spec, taker.taken, taker.read);
         let value = self.words[word as usize];
         taker.read += 1;
@@ -272,7 +301,7 @@ impl Machine {
         ensures state { self.new ≡ (takes self.old r).0 }
         ensures answer { Some result ≡ (takes self.old r).1 }
     {
-        let mut taker = self.takers[r as usize];
+        let mut taker = self.taker(r);
         taker.taken += 1;
         taker.reading = false;
         taker.read = 0;
@@ -291,7 +320,7 @@ impl Machine {
         ensures state { self.new ≡ (leaves self.old r).0 }
         ensures answer { Some result ≡ (leaves self.old r).1 }
     {
-        let mut taker = self.takers[r as usize];
+        let mut taker = self.taker(r);
         taker.left = true;
         self.words[1 + r as usize] = LEFT;
         self.takers[r as usize] = taker;
@@ -308,7 +337,7 @@ impl Machine {
         ensures state { self.new ≡ (reader_steps self.old r).0 }
         ensures answer { result ≡ (reader_steps self.old r).1 }
     {
-        let taker = self.takers[r as usize];
+        let taker = self.taker(r);
         if taker.left || taker.seen_end {
             None
         } else if !taker.reading {
@@ -326,7 +355,7 @@ impl Machine {
         ensures state { self.new ≡ (leave_steps self.old r).0 }
         ensures answer { result ≡ (leave_steps self.old r).1 }
     {
-        let taker = self.takers[r as usize];
+        let taker = self.taker(r);
         if taker.left || taker.reading {
             None
         } else {

@@ -8,7 +8,7 @@ ghost use Rattle.crn_ring.specs.Calls.{IsOpened, AllFresh, RefusesRing};
 use crate::plays::CutsReader;
 use crate::producer_end::Producer;
 use crate::reader_end::Reader;
-use crate::ring::{Place, Ring};
+use crate::ring::{Place, Ring, Words};
 use atomic_table::Table;
 use crn_cipher::BLOCK_WORDS;
 use crn_proto::{RingFault, RingSpec};
@@ -24,6 +24,33 @@ fn blank(alloc: Global, spec: RingSpec) -> Result<Vec<u64>, AllocError>
     words.resize(1 + readers, spec.id.first)?;
     words.resize(1 + readers + BLOCK_WORDS * spec.size as usize, 0)?;
     Ok(words)
+}
+
+// The first fault of a ring that may not be opened.
+fn judge(spec: &RingSpec) -> Result<(), RingFault>
+    ensures valid { IfOk result (λ _. CanOpen spec.now) }
+    ensures refused { IfErr result (λ f. RefusesRing spec.now f) }
+{
+    if !spec.size.is_power_of_two() || spec.size > 1024 {
+        return Err(RingFault::Size);
+    }
+    if spec.readers == 0 || spec.readers > 16 {
+        return Err(RingFault::Readers);
+    }
+    if spec.id.total > 65_536 || spec.id.first > spec.id.total {
+        return Err(RingFault::Stream);
+    }
+    Ok(())
+}
+
+// The table of the words at open, and the seat that all actors' seats are cut from.
+fn table_at_open(alloc: Global, spec: &RingSpec) -> Result<(Words, Place), AllocError>
+    requires { CanOpen spec.now }
+    ensures table { IfOk result (λ t. (t.0.shared.key ≡ spec.now) × (t.0.shared.table_id.words ≡ word_count spec.now) × (t.0.shared.table_id.slots ≡ 0)) }
+    ensures seat { IfOk result (λ t. (t.1.table_id ≡ t.0.shared.table_id) × (t.1.me.0 ≡ opened spec.now 0)) }
+{
+    let words = blank(alloc, *spec)?;
+    Table::of_words(alloc, words.as_slice(), spec)
 }
 
 impl Ring {
@@ -63,24 +90,20 @@ impl Ring {
         ensures opened { IfOk result (λ r. IsOpened spec r.0 r.1 r.2.items) }
         ensures valid { IfOk result (λ r. CanOpen spec) }
     {
-        if !spec.size.is_power_of_two() || spec.size > 1024 {
-            return Err(RingFault::Size);
-        }
-        if spec.readers == 0 || spec.readers > 16 {
-            return Err(RingFault::Readers);
-        }
-        if spec.id.total > 65_536 || spec.id.first > spec.id.total {
-            return Err(RingFault::Stream);
-        }
-        let Ok(words) = blank(alloc, spec) else {
-            return Err(RingFault::Memory);
-        };
-        let Ok(readers) = Vec::with_capacity(alloc, spec.readers as usize) else {
-            return Err(RingFault::Memory);
-        };
-        let Ok((table, seat)) = Table::of_words(alloc, words.as_slice(), &spec) else {
-            return Err(RingFault::Memory);
-        };
+        judge(&spec)?;
+        Ok(Ring::with_actors(alloc, spec)?)
+    }
+
+    // A ring that may be opened, with all its actors.
+    fn with_actors(
+        alloc: Global,
+        spec: RingSpec,
+    ) -> Result<(Ring, Producer, Vec<Reader>), AllocError>
+        requires { CanOpen spec }
+        ensures { IfOk result (λ r. IsOpened spec r.0 r.1 r.2.items) }
+    {
+        let readers = Vec::with_capacity(alloc, spec.readers as usize)?;
+        let (table, seat) = table_at_open(alloc, &spec)?;
         let ring = Ring { table, spec };
         let (seat, readers) = ring.cut_all(seat, readers);
         let producer = Producer {
