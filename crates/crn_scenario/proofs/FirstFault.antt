@@ -1,5 +1,5 @@
 -- What the first fault of a tree says: the numbers of the faults rise, so the first that holds is the least.
-use Rattle.std.proofs.Common.{◌≡◌, ◌≢◌, ℕ, ◌<◌, ◌≤◌, Bool, true, false, List, [], ◌∷◌, Some, None, refl, subst, sym, arith, lit<}
+use Rattle.std.proofs.Common.{◌≡◌, ◌≢◌, ℕ, ◌<◌, ◌≤◌, Bool, true, false, List, [], ◌∷◌, ◌++◌, Some, None, refl, subst, sym, arith, lit<}
 use Rattle.std.proofs.lemmas.Bool.{false≢true}
 use Rattle.std.proofs.lemmas.Bool.Decides.{nat_tests}
 use Rattle.std.specs.Prelude.{⊤, Result, Ok, Err, IfErr}
@@ -39,6 +39,17 @@ first_below n k ((m, true) ∷ ps) h e j less =
     let more : holds_at j ps ≡ false = absent m j ps h.1 (omega arith) in
     grind (arith, nat_tests, more, same)
 first_below n k ((m, false) ∷ ps) h e j less = let more : holds_at j ps ≡ false = first_below m k ps h.1 e j less in grind (arith, nat_tests, more)
+
+-- the first of two lists of faults, one after the other
+pub first_of : (k : ℕ) (ps qs : List (ℕ × Bool)) → first_true ps ≡ Some k → first_true (ps ++ qs) ≡ Some k
+first_of k [] qs e = cc
+first_of k ((m, true) ∷ ps) qs e = e
+first_of k ((m, false) ∷ ps) qs e = first_of k ps qs e
+
+pub first_after : (ps qs : List (ℕ × Bool)) → first_true ps ≡ None → first_true (ps ++ qs) ≡ first_true qs
+first_after [] qs e = refl
+first_after ((m, true) ∷ ps) qs e = cc
+first_after ((m, false) ∷ ps) qs e = first_after ps qs e
 
 rising : (ms : Members) → AreAbove 0 (faults ms)
 rising ms = (lit< tt, (lit< tt, (lit< tt, (lit< tt, (lit< tt, (lit< tt, (lit< tt, (lit< tt, (lit< tt, (lit< tt, (lit< tt, (lit< tt, tt))))))))))))

@@ -401,6 +401,39 @@ fn refuse_where(holds: bool, fault: ScenarioFault) -> Result<(), ScenarioFault>
     if holds { Err(fault) } else { Ok(()) }
 }
 
+// Refuses a tree whose tables, keys or single values have a fault, with the first of these.
+fn judge_form(table: &Table) -> Result<(), ScenarioFault>
+    ensures sound { OnOk result (inner.first_true (inner.form_faults (table_view table.now)) ≡ None) }
+    ensures fault { IfErr result (λ f. inner.first_true (inner.form_faults (table_view table.now)) ≡ Some (scenario_fault_number f)) }
+{
+    refuse_where(has_other_version(table), ScenarioFault::Version)?;
+    refuse_where(has_unknown_key(table), ScenarioFault::UnknownKey)?;
+    refuse_where(lacks_key(table), ScenarioFault::MissingKey)?;
+    refuse_where(has_other_kind(table), ScenarioFault::Kind)?;
+    refuse_where(breaks_range(table), ScenarioFault::Range)
+}
+
+// Refuses a tree whose values or weights have a fault as lists, with the first of these.
+fn judge_draws(table: &Table) -> Result<(), ScenarioFault>
+    ensures sound { OnOk result (inner.first_true (inner.draw_faults (table_view table.now)) ≡ None) }
+    ensures fault { IfErr result (λ f. inner.first_true (inner.draw_faults (table_view table.now)) ≡ Some (scenario_fault_number f)) }
+{
+    refuse_where(has_other_lengths(table), ScenarioFault::Lengths)?;
+    refuse_where(has_values_out_of_order(table), ScenarioFault::Order)?;
+    refuse_where(has_weights_out_of_range(table), ScenarioFault::WeightSum)
+}
+
+// Refuses a tree whose policies or ring have a fault, with the first of these.
+fn judge_policies(alloc: Global, table: &Table) -> Result<(), ScenarioFault>
+    ensures sound { OnOk result (inner.first_true (inner.policy_faults (table_view table.now)) ≡ None) }
+    ensures fault { IfErr result (λ f. f ≢ ScenarioFault.Memory → inner.first_true (inner.policy_faults (table_view table.now)) ≡ Some (scenario_fault_number f)) }
+{
+    refuse_where(has_low_above_high(table), ScenarioFault::Levels)?;
+    refuse_where(has_bad_name(alloc, table)?, ScenarioFault::Name)?;
+    refuse_where(has_other_ring(table), ScenarioFault::RingSize)?;
+    refuse_where(has_other_policy_count(table), ScenarioFault::PolicyCount)
+}
+
 /// Refuses a tree that has a fault, with the fault of the least number that holds of it.
 ///
 /// # Errors
@@ -410,16 +443,7 @@ pub fn judge(alloc: Global, table: &Table) -> Result<(), ScenarioFault>
     ensures sound { OnOk result (inner.first_true (spec.faults (table_view table.now)) ≡ None) }
     ensures fault { IfErr result (λ f. f ≢ ScenarioFault.Memory → inner.first_true (spec.faults (table_view table.now)) ≡ Some (scenario_fault_number f)) }
 {
-    refuse_where(has_other_version(table), ScenarioFault::Version)?;
-    refuse_where(has_unknown_key(table), ScenarioFault::UnknownKey)?;
-    refuse_where(lacks_key(table), ScenarioFault::MissingKey)?;
-    refuse_where(has_other_kind(table), ScenarioFault::Kind)?;
-    refuse_where(breaks_range(table), ScenarioFault::Range)?;
-    refuse_where(has_other_lengths(table), ScenarioFault::Lengths)?;
-    refuse_where(has_values_out_of_order(table), ScenarioFault::Order)?;
-    refuse_where(has_weights_out_of_range(table), ScenarioFault::WeightSum)?;
-    refuse_where(has_low_above_high(table), ScenarioFault::Levels)?;
-    refuse_where(has_bad_name(alloc, table)?, ScenarioFault::Name)?;
-    refuse_where(has_other_ring(table), ScenarioFault::RingSize)?;
-    refuse_where(has_other_policy_count(table), ScenarioFault::PolicyCount)
+    judge_form(table)?;
+    judge_draws(table)?;
+    judge_policies(alloc, table)
 }

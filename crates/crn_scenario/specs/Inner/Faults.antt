@@ -1,5 +1,7 @@
 -- The faults of a scenario's tree as the code finds them: sums number by number, and the first fault that holds.
 use Rattle.std.specs.Prelude.{ℕ, ℤ, ◌+ℤ◌, List, [], ◌∷◌, Bool, if◌then◌else◌, Option, Some, None}
+use Rattle.toml.specs.Data.{Members}
+use Rattle.crn_scenario.specs.Faults.{has_other_version, has_unknown_key, lacks_key, has_other_kind, breaks_range, has_other_lengths, has_values_out_of_order, has_weights_out_of_range, has_low_above_high, has_bad_name, has_other_ring, has_other_policy_count}
 
 -- a sum with one number more, where there is one
 abbrev pub plus : ℤ → Option ℤ → ℤ
@@ -10,3 +12,13 @@ plus total (Some z) = total +ℤ z
 abbrev pub first_true : List (ℕ × Bool) → Option ℕ
 first_true [] = None
 first_true (p ∷ ps) = if p.1 then Some p.0 else first_true ps
+
+-- the faults in three parts: of tables, keys and single values, of values and weights, and of the policies and the ring
+abbrev pub form_faults : Members → List (ℕ × Bool)
+form_faults ms = (2, has_other_version ms) ∷ (3, has_unknown_key ms) ∷ (4, lacks_key ms) ∷ (5, has_other_kind ms) ∷ (6, breaks_range ms) ∷ []
+
+abbrev pub draw_faults : Members → List (ℕ × Bool)
+draw_faults ms = (7, has_other_lengths ms) ∷ (8, has_values_out_of_order ms) ∷ (9, has_weights_out_of_range ms) ∷ []
+
+abbrev pub policy_faults : Members → List (ℕ × Bool)
+policy_faults ms = (10, has_low_above_high ms) ∷ (11, has_bad_name ms) ∷ (12, has_other_ring ms) ∷ (13, has_other_policy_count ms) ∷ []

@@ -1,6 +1,5 @@
 -- The keys of a scenario's tables as the code has them.
 use Rattle.crn_scenario.specs.declared.fields.Field.{Field}
-use Rattle.crn_scenario.specs.declared.fields.Kind.TheVariants as kind
 use Rattle.crn_scenario.specs.Fields.{Entry}
 
 -- the entry of a field of the code's table
