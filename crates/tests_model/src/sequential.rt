@@ -62,13 +62,20 @@ fn last_legs(
     run_plain(alloc, scenario, &stays, upto)
 }
 
-// A run of two replications by way of block 1.
+// A run by way of block 1.
+fn legs(alloc: Global, scenario: &Scenario, upto: u64) -> Result<Checkpoint, AllocError>
+    requires { (1 ≤ upto) × (upto ≤ total scenario.now.model) }
+{
+    let middle = first_leg(alloc, scenario, 1)?;
+    last_legs(alloc, scenario, &middle, upto)
+}
+
+// The same of two replications of the base scenario.
 fn run_in_legs(alloc: Global, upto: u64) -> Result<Checkpoint, AllocError>
     requires { (1 ≤ upto) × (upto ≤ 2) }
 {
     let scenario = base(alloc, 2)?;
-    let middle = first_leg(alloc, &scenario, 1)?;
-    last_legs(alloc, &scenario, &middle, upto)
+    legs(alloc, &scenario, upto)
 }
 
 #[test]
@@ -80,12 +87,12 @@ fn a_leg_of_no_blocks(rt: HostRuntime) -> Result<(), Fail> {
 
 // Whether two checkpoints stand at the same block, with the same two costs of each policy.
 fn agree(one: &Checkpoint, other: &Checkpoint) -> bool {
-    for (a, b) in one.states.iter().zip(other.states.iter()) {
-        if a.costs().len() != 2 || a.costs() != b.costs() {
-            return false;
-        }
-    }
-    one.next == other.next && one.states.len() == 2 && other.states.len() == 2
+    let states = one.states.as_slice();
+    one.next == other.next
+        && states.len() == 2
+        && states[0].costs().len() == 2
+        && states[1].costs().len() == 2
+        && have_costs(other, states[0].costs(), states[1].costs())
 }
 
 // Whether a run of two replications in legs ends as a whole run does.

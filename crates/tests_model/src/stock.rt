@@ -8,7 +8,7 @@ ghost use Rattle.crn_stock.specs.Draws.{IsOf, IsBetween};
 mod returns;
 mod sizes;
 
-use crate::scenarios::{Levels, always, base_model, policy, prints, steady_model};
+use crate::scenarios::{Levels, always, base_model, fixed_draws, policy, prints, steady_model};
 use crn_cipher::block;
 use crn_stock::{Costs, Model, Policy, RestoreFault, Scenario, State};
 use std::alloc::{AllocError, Global};
@@ -26,8 +26,7 @@ fn late(alloc: Global, periods: u32, replications: u32, initial: i64) -> Result<
         holding: 1,
         backlog: 4,
     };
-    let demand = always(alloc, 2)?;
-    let lead = always(alloc, 2)?;
+    let (demand, lead) = fixed_draws(alloc, 2, 2)?;
     Ok(Model::new(periods, replications, initial, costs, demand, lead, None))
 }
 
@@ -211,10 +210,15 @@ fn late_block(rt: HostRuntime) -> Result<(), Fail> {
     Ok(())
 }
 
+// The blocks of a replication of that model, and all its blocks.
+fn blocks_of_twice(alloc: Global) -> Result<(u64, u64), AllocError> {
+    let model = twice(alloc)?;
+    Ok((model.blocks_per_replication(), model.total()))
+}
+
 #[test]
 fn partial_blocks(rt: HostRuntime) -> Result<(), Fail> {
-    let model = twice(rt.alloc())?;
-    assert_eq!(rt; (model.blocks_per_replication(), model.total()), (2, 4));
+    assert_eq!(rt; blocks_of_twice(rt.alloc())?, (2, 4));
     Ok(())
 }
 
@@ -357,6 +361,16 @@ fn first_other(
     None
 }
 
+// The same of two replications of five periods.
+fn first_other_of_twice(
+    alloc: Global,
+    table: &[Amounts],
+    want: Option<RestoreFault>,
+) -> Result<Option<usize>, AllocError> {
+    let model = twice(alloc)?;
+    Ok(first_other(alloc, &model, table, want))
+}
+
 static KEPT: [Amounts; 5] = [
     (1, -40_000, 30_000, 800_000_000_000, &[]),
     (1, 1_000_000, 0, 0, &[]),
@@ -367,8 +381,7 @@ static KEPT: [Amounts; 5] = [
 
 #[test]
 fn ends_of_ranges(rt: HostRuntime) -> Result<(), Fail> {
-    let model = twice(rt.alloc())?;
-    let other = first_other(rt.alloc(), &model, &KEPT, None);
+    let other = first_other_of_twice(rt.alloc(), &KEPT, None)?;
     assert_eq!(rt; other, None);
     Ok(())
 }
@@ -390,41 +403,53 @@ static BROKEN: [Amounts; 12] = [
 
 #[test]
 fn past_ranges(rt: HostRuntime) -> Result<(), Fail> {
-    let model = twice(rt.alloc())?;
-    let other = first_other(rt.alloc(), &model, &BROKEN, Some(RestoreFault::Range));
+    let other = first_other_of_twice(rt.alloc(), &BROKEN, Some(RestoreFault::Range))?;
     assert_eq!(rt; other, None);
     Ok(())
 }
 
+// The faults, with their numbers and their lines.
+static FAULTS: [(RestoreFault, u8, &str); 2] = [
+    (RestoreFault::Range, 1, "an amount is outside its range"),
+    (RestoreFault::Memory, 90, "out of memory"),
+];
+
+// The first line whose fault has another number or is printed in another way.
+fn first_other_line(alloc: Global) -> Result<Option<&'static str>, AllocError> {
+    for (fault, number, line) in &FAULTS {
+        if fault.number() != *number || !prints(alloc, fault, line)? {
+            return Ok(Some(line));
+        }
+    }
+    Ok(None)
+}
+
 #[test]
 fn numbers_and_lines_of_faults(rt: HostRuntime) -> Result<(), Fail> {
-    let table = [
-        (RestoreFault::Range, 1u8, "an amount is outside its range"),
-        (RestoreFault::Memory, 90, "out of memory"),
-    ];
-    for (fault, number, line) in table {
-        assert_eq!(rt; fault.number(), number, "{line}");
-        assert!(rt; prints(rt.alloc(), &fault, line)?, "{line}");
-    }
+    assert_eq!(rt; first_other_line(rt.alloc())?, None);
     Ok(())
 }
 
-// A model's periods, replications, initial stock, first demand and first lead time, and its cost rates.
-fn parts(model: &Model) -> ([i64; 5], Costs) {
-    let sizes = [
+// A model's periods, replications, initial stock, first demand and first lead time.
+fn sizes_of(model: &Model) -> [i64; 5] {
+    [
         i64::from(model.periods()),
         i64::from(model.replications()),
         model.initial(),
         i64::from(model.demand().pick(0)),
         i64::from(model.lead().pick(0)),
-    ];
-    (sizes, *model.costs())
+    ]
+}
+
+// The same of two replications of five periods, and the cost rates.
+fn parts_of_twice(alloc: Global) -> Result<([i64; 5], Costs), AllocError> {
+    let model = twice(alloc)?;
+    Ok((sizes_of(&model), *model.costs()))
 }
 
 #[test]
 fn model_parts(rt: HostRuntime) -> Result<(), Fail> {
-    let model = twice(rt.alloc())?;
-    let (sizes, costs) = parts(&model);
+    let (sizes, costs) = parts_of_twice(rt.alloc())?;
     assert_eq!(rt; sizes, [5, 2, 10, 3, 1]);
     assert_eq!(rt;
         (costs.setup, costs.unit, costs.holding, costs.backlog),
@@ -441,19 +466,18 @@ fn scenario(alloc: Global) -> Result<Scenario, AllocError> {
 }
 
 // Its key, its ring size, the total of its blocks and the number of its policies.
-fn parts_of(scenario: &Scenario) -> ([u64; 4], u64, u64, usize) {
-    (
+fn parts(alloc: Global) -> Result<([u64; 4], u64, u64, usize), AllocError> {
+    let scenario = scenario(alloc)?;
+    Ok((
         scenario.key(),
         scenario.ring(),
         scenario.model().total(),
         scenario.policies().len(),
-    )
+    ))
 }
 
 #[test]
 fn scenario_parts(rt: HostRuntime) -> Result<(), Fail> {
-    let scenario = scenario(rt.alloc())?;
-    let parts = parts_of(&scenario);
-    assert_eq!(rt; parts, ([1, 2, 3, 4], 2, 4, 1));
+    assert_eq!(rt; parts(rt.alloc())?, ([1, 2, 3, 4], 2, 4, 1));
     Ok(())
 }

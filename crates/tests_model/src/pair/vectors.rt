@@ -1,7 +1,6 @@
 // Paired differences computed by an independent program from the sums over pairs.
 
-use super::{Figures, has_figures};
-use std::test::Fail;
+use super::{Figures, other_figure};
 
 // The costs of two policies by replication, and the figures of their pair.
 struct Line {
@@ -770,25 +769,22 @@ static THIRD: [Line; 22] = [
 ];
 
 #[test]
-fn pairs_of_the_first_lists(rt: HostRuntime) -> Result<(), Fail> {
+fn pairs_of_the_first_lists(rt: HostRuntime) {
     for line in &FIRST {
-        has_figures(&rt, line.a, line.b, line.figures)?;
+        assert_eq!(rt; other_figure(line.a, line.b, &line.figures), None);
     }
-    Ok(())
 }
 
 #[test]
-fn pairs_of_the_second_lists(rt: HostRuntime) -> Result<(), Fail> {
+fn pairs_of_the_second_lists(rt: HostRuntime) {
     for line in &SECOND {
-        has_figures(&rt, line.a, line.b, line.figures)?;
+        assert_eq!(rt; other_figure(line.a, line.b, &line.figures), None);
     }
-    Ok(())
 }
 
 #[test]
-fn pairs_of_the_third_lists(rt: HostRuntime) -> Result<(), Fail> {
+fn pairs_of_the_third_lists(rt: HostRuntime) {
     for line in &THIRD {
-        has_figures(&rt, line.a, line.b, line.figures)?;
+        assert_eq!(rt; other_figure(line.a, line.b, &line.figures), None);
     }
-    Ok(())
 }

@@ -1,7 +1,7 @@
 // Customers who return items: examples worked out by hand, and figures of an independent program that adds up all
 // orders, demands and returned items.
 
-ghost use Rattle.std.specs.Prelude.{◌≤◌, All};
+ghost use Rattle.std.specs.Prelude.{◌≡◌, ◌≤◌, ◌∷◌, [], All, IfOk};
 ghost use Rattle.crn_stock.specs.Models.{returned_values};
 
 use super::*;
@@ -25,7 +25,17 @@ fn one_a_period(alloc: Global, periods: u32, lead: u32) -> Result<Model, AllocEr
     steady_model(alloc, periods, 2, lead, Some(returns))
 }
 
-// Three replications of ten periods whose draws all vary, with these returns.
+// Demands and lead times that vary.
+fn varying_draws(alloc: Global) -> Result<(Weights, Weights), AllocError>
+    ensures demand { IfOk result (λ r. r.0.values ≡ 1 ∷ 2 ∷ 3 ∷ 4 ∷ []) }
+    ensures lead { IfOk result (λ r. r.1.values ≡ 1 ∷ 2 ∷ 3 ∷ []) }
+{
+    let demand = draws(alloc, &[1, 2, 3, 4], &[1, 2, 2, 1])?;
+    let lead = draws(alloc, &[1, 2, 3], &[2, 5, 3])?;
+    Ok((demand, lead))
+}
+
+// Three replications of ten periods with these draws and returns.
 fn drawn(alloc: Global, returns: Option<Weights>) -> Result<Model, AllocError>
     requires { All (λ v. v ≤ 10000) (returned_values returns) }
 {
@@ -35,8 +45,7 @@ fn drawn(alloc: Global, returns: Option<Weights>) -> Result<Model, AllocError>
         holding: 1,
         backlog: 5,
     };
-    let demand = draws(alloc, &[1, 2, 3, 4], &[1, 2, 2, 1])?;
-    let lead = draws(alloc, &[1, 2, 3], &[2, 5, 3])?;
+    let (demand, lead) = varying_draws(alloc)?;
     Ok(Model::new(10, 3, 12, costs, demand, lead, returns))
 }
 
@@ -54,8 +63,7 @@ fn filling(alloc: Global) -> Result<Model, AllocError> {
         holding: 10_000,
         backlog: 0,
     };
-    let demand = always(alloc, 0)?;
-    let lead = always(alloc, 1)?;
+    let (demand, lead) = fixed_draws(alloc, 0, 1)?;
     let returns = always(alloc, 10_000)?;
     Ok(Model::new(1_024, 1, 1_000_000, costs, demand, lead, Some(returns)))
 }
@@ -68,10 +76,15 @@ fn has_none(model: &Model) -> bool {
         && model.returned(u64::MAX) == 0
 }
 
+// Whether this is so of a model that is made without returns.
+fn without_returns_has_none(alloc: Global) -> Result<bool, AllocError> {
+    let model = drawn(alloc, None)?;
+    Ok(has_none(&model))
+}
+
 #[test]
 fn no_returns(rt: HostRuntime) -> Result<(), Fail> {
-    let model = drawn(rt.alloc(), None)?;
-    assert!(rt; has_none(&model));
+    assert!(rt; without_returns_has_none(rt.alloc())?);
     Ok(())
 }
 
@@ -83,11 +96,15 @@ fn last_returned(model: &Model) -> Option<u32> {
     }
 }
 
+// The same of the model with drawn returns.
+fn last_drawn(alloc: Global) -> Result<Option<u32>, AllocError> {
+    let model = with_drawn_returns(alloc)?;
+    Ok(last_returned(&model))
+}
+
 #[test]
 fn parts_of_returns(rt: HostRuntime) -> Result<(), Fail> {
-    let model = with_drawn_returns(rt.alloc())?;
-    let picked = last_returned(&model);
-    assert_eq!(rt; picked, Some(5));
+    assert_eq!(rt; last_drawn(rt.alloc())?, Some(5));
     Ok(())
 }
 
@@ -111,11 +128,15 @@ fn first_other_word(model: &Model, table: &[(u64, u32)]) -> Option<u64> {
     None
 }
 
+// The same of the model with drawn returns and the words above.
+fn first_other_drawn(alloc: Global) -> Result<Option<u64>, AllocError> {
+    let model = with_drawn_returns(alloc)?;
+    Ok(first_other_word(&model, &RETURNED))
+}
+
 #[test]
 fn returned_by_words(rt: HostRuntime) -> Result<(), Fail> {
-    let model = with_drawn_returns(rt.alloc())?;
-    let other = first_other_word(&model, &RETURNED);
-    assert_eq!(rt; other, None);
+    assert_eq!(rt; first_other_drawn(rt.alloc())?, None);
     Ok(())
 }
 
@@ -183,6 +204,19 @@ fn restored_with_drawn_returns(rt: HostRuntime) -> Result<(), Fail> {
     Ok(())
 }
 
+// The first row of a table that is not judged as it should be, in a model with so many returned items in every period.
+fn first_other_returning(
+    alloc: Global,
+    returned: u32,
+    table: &[Amounts],
+    want: Option<RestoreFault>,
+) -> Result<Option<usize>, AllocError>
+    requires { returned ≤ 10000 }
+{
+    let model = returning(alloc, returned)?;
+    Ok(first_other(alloc, &model, table, want))
+}
+
 // The limit is wider for a model with returns, even if no item is ever returned.
 static WIDER: [Amounts; 7] = [
     (1, 1_040_000, 0, 0, &[]),
@@ -196,8 +230,7 @@ static WIDER: [Amounts; 7] = [
 
 #[test]
 fn ends_of_wider_ranges(rt: HostRuntime) -> Result<(), Fail> {
-    let model = returning(rt.alloc(), 0)?;
-    let other = first_other(rt.alloc(), &model, &WIDER, None);
+    let other = first_other_returning(rt.alloc(), 0, &WIDER, None)?;
     assert_eq!(rt; other, None);
     Ok(())
 }
@@ -217,9 +250,8 @@ static PAST_WIDER: [Amounts; 10] = [
 
 #[test]
 fn past_wider_ranges(rt: HostRuntime) -> Result<(), Fail> {
-    let model = returning(rt.alloc(), 1)?;
     let range = Some(RestoreFault::Range);
-    let other = first_other(rt.alloc(), &model, &PAST_WIDER, range);
+    let other = first_other_returning(rt.alloc(), 1, &PAST_WIDER, range)?;
     assert_eq!(rt; other, None);
     Ok(())
 }
