@@ -210,31 +210,6 @@ fn late_block(rt: HostRuntime) -> Result<(), Fail> {
     Ok(())
 }
 
-// The blocks of a replication of that model, and all its blocks.
-fn blocks_of_twice(alloc: Global) -> Result<(u64, u64), AllocError> {
-    let model = twice(alloc)?;
-    Ok((model.blocks_per_replication(), model.total()))
-}
-
-#[test]
-fn partial_blocks(rt: HostRuntime) -> Result<(), Fail> {
-    assert_eq!(rt; blocks_of_twice(rt.alloc())?, (2, 4));
-    Ok(())
-}
-
-fn costs_of_partial_blocks(alloc: Global) -> Result<bool, AllocError> {
-    let model = twice(alloc)?;
-    let a = Levels { low: 5, high: 10 };
-    let b = Levels { low: 4, high: 10 };
-    two_costs(alloc, &model, a, &[55, 55], b, &[49, 49])
-}
-
-#[test]
-fn partial_blocks_run(rt: HostRuntime) -> Result<(), Fail> {
-    assert!(rt; costs_of_partial_blocks(rt.alloc())?);
-    Ok(())
-}
-
 // Whether a state shows these amounts, with nothing due later than in the next period.
 fn shows(state: &State, next_block: u64, stock: i64, running: u64, due: u64) -> bool {
     for k in 1..32 {
@@ -282,17 +257,6 @@ fn both_copy(alloc: Global, model: &Model) -> Result<bool, AllocError> {
     )
 }
 
-fn twice_copies(alloc: Global) -> Result<bool, AllocError> {
-    let model = twice(alloc)?;
-    both_copy(alloc, &model)
-}
-
-#[test]
-fn copied(rt: HostRuntime) -> Result<(), Fail> {
-    assert!(rt; twice_copies(rt.alloc())?);
-    Ok(())
-}
-
 // Whether a state of these amounts can be restored at block 1, and ends with these costs.
 fn resumes(
     alloc: Global,
@@ -325,17 +289,6 @@ fn both_resume(alloc: Global, model: &Model) -> Result<bool, AllocError> {
     )
 }
 
-fn twice_resumes(alloc: Global) -> Result<bool, AllocError> {
-    let model = twice(alloc)?;
-    both_resume(alloc, &model)
-}
-
-#[test]
-fn restored(rt: HostRuntime) -> Result<(), Fail> {
-    assert!(rt; twice_resumes(rt.alloc())?);
-    Ok(())
-}
-
 // Amounts to restore: the next block, the stock, the items due in the next period, the running cost and the costs.
 type Amounts = (u64, i64, u32, u64, &'static [u64]);
 
@@ -361,16 +314,6 @@ fn first_other(
     None
 }
 
-// The same of two replications of five periods.
-fn first_other_of_twice(
-    alloc: Global,
-    table: &[Amounts],
-    want: Option<RestoreFault>,
-) -> Result<Option<usize>, AllocError> {
-    let model = twice(alloc)?;
-    Ok(first_other(alloc, &model, table, want))
-}
-
 static KEPT: [Amounts; 5] = [
     (1, -40_000, 30_000, 800_000_000_000, &[]),
     (1, 1_000_000, 0, 0, &[]),
@@ -378,13 +321,6 @@ static KEPT: [Amounts; 5] = [
     (3, 4, 0, 35, &[1_000_000_000_000]),
     (4, 10, 0, 0, &[55, 55]),
 ];
-
-#[test]
-fn ends_of_ranges(rt: HostRuntime) -> Result<(), Fail> {
-    let other = first_other_of_twice(rt.alloc(), &KEPT, None)?;
-    assert_eq!(rt; other, None);
-    Ok(())
-}
 
 static BROKEN: [Amounts; 12] = [
     (5, 10, 0, 0, &[55, 55]),
@@ -401,10 +337,97 @@ static BROKEN: [Amounts; 12] = [
     (2, 10, 0, 1, &[55]),
 ];
 
+// A model's periods, replications, initial stock, first demand and first lead time.
+fn sizes_of(model: &Model) -> [i64; 5] {
+    [
+        i64::from(model.periods()),
+        i64::from(model.replications()),
+        model.initial(),
+        i64::from(model.demand().pick(0)),
+        i64::from(model.lead().pick(0)),
+    ]
+}
+
+// Whether whole runs have their costs.
+fn both_run(alloc: Global, model: &Model) -> Result<bool, AllocError> {
+    let a = Levels { low: 5, high: 10 };
+    let b = Levels { low: 4, high: 10 };
+    two_costs(alloc, model, a, &[55, 55], b, &[49, 49])
+}
+
+// What a model of two replications of five periods shows: its parts, its blocks a replication and all its blocks, whether
+// its runs have their costs, whole, after a copy and restored, and the first rows that are not judged as they should be.
+#[derive(Clone, Copy)]
+struct TwiceFigures {
+    sizes: [i64; 5],
+    costs: Costs,
+    blocks: (u64, u64),
+    runs: bool,
+    copies: bool,
+    resumes: bool,
+    other_kept: Option<usize>,
+    other_broken: Option<usize>,
+}
+
+fn shown_by(alloc: Global, model: &Model) -> Result<TwiceFigures, AllocError> {
+    Ok(TwiceFigures {
+        sizes: sizes_of(model),
+        costs: *model.costs(),
+        blocks: (model.blocks_per_replication(), model.total()),
+        runs: both_run(alloc, model)?,
+        copies: both_copy(alloc, model)?,
+        resumes: both_resume(alloc, model)?,
+        other_kept: first_other(alloc, model, &KEPT, None),
+        other_broken: first_other(alloc, model, &BROKEN, Some(RestoreFault::Range)),
+    })
+}
+
+fn shown_by_twice(alloc: Global) -> Result<TwiceFigures, AllocError> {
+    let model = twice(alloc)?;
+    shown_by(alloc, &model)
+}
+
+#[test]
+fn model_parts(rt: HostRuntime) -> Result<(), Fail> {
+    let TwiceFigures { sizes, costs, .. } = shown_by_twice(rt.alloc())?;
+    let rates = (costs.setup, costs.unit, costs.holding, costs.backlog);
+    assert_eq!(rt; (sizes, rates), ([5, 2, 10, 3, 1], (7, 2, 1, 4)));
+    Ok(())
+}
+
+#[test]
+fn partial_blocks(rt: HostRuntime) -> Result<(), Fail> {
+    assert_eq!(rt; shown_by_twice(rt.alloc())?.blocks, (2, 4));
+    Ok(())
+}
+
+#[test]
+fn partial_blocks_run(rt: HostRuntime) -> Result<(), Fail> {
+    assert!(rt; shown_by_twice(rt.alloc())?.runs);
+    Ok(())
+}
+
+#[test]
+fn copied(rt: HostRuntime) -> Result<(), Fail> {
+    assert!(rt; shown_by_twice(rt.alloc())?.copies);
+    Ok(())
+}
+
+#[test]
+fn restored(rt: HostRuntime) -> Result<(), Fail> {
+    assert!(rt; shown_by_twice(rt.alloc())?.resumes);
+    Ok(())
+}
+
+#[test]
+fn ends_of_ranges(rt: HostRuntime) -> Result<(), Fail> {
+    assert_eq!(rt; shown_by_twice(rt.alloc())?.other_kept, None);
+    Ok(())
+}
+
 #[test]
 fn past_ranges(rt: HostRuntime) -> Result<(), Fail> {
-    let other = first_other_of_twice(rt.alloc(), &BROKEN, Some(RestoreFault::Range))?;
-    assert_eq!(rt; other, None);
+    assert_eq!(rt; shown_by_twice(rt.alloc())?.other_broken, None);
     Ok(())
 }
 
@@ -427,34 +450,6 @@ fn first_other_line(alloc: Global) -> Result<Option<&'static str>, AllocError> {
 #[test]
 fn numbers_and_lines_of_faults(rt: HostRuntime) -> Result<(), Fail> {
     assert_eq!(rt; first_other_line(rt.alloc())?, None);
-    Ok(())
-}
-
-// A model's periods, replications, initial stock, first demand and first lead time.
-fn sizes_of(model: &Model) -> [i64; 5] {
-    [
-        i64::from(model.periods()),
-        i64::from(model.replications()),
-        model.initial(),
-        i64::from(model.demand().pick(0)),
-        i64::from(model.lead().pick(0)),
-    ]
-}
-
-// The same of two replications of five periods, and the cost rates.
-fn parts_of_twice(alloc: Global) -> Result<([i64; 5], Costs), AllocError> {
-    let model = twice(alloc)?;
-    Ok((sizes_of(&model), *model.costs()))
-}
-
-#[test]
-fn model_parts(rt: HostRuntime) -> Result<(), Fail> {
-    let (sizes, costs) = parts_of_twice(rt.alloc())?;
-    assert_eq!(rt; sizes, [5, 2, 10, 3, 1]);
-    assert_eq!(rt;
-        (costs.setup, costs.unit, costs.holding, costs.backlog),
-        (7, 2, 1, 4)
-    );
     Ok(())
 }
 

@@ -137,20 +137,26 @@ fn one_block() -> RingSpec
 #[test]
 fn a_producer_stores_a_block(rt: HostRuntime) -> Result<(), Fail> {
     let stores = answers(rt.alloc(), one_block(), &[P; 15])?;
-    assert_eq!(rt; stores[0], step(Kind::P1, 1, 0));
+    let want = [
+        step(Kind::P1, 1, 0),
+        step(Kind::P3, 0, 2),
+        step(Kind::P3, 0, 3),
+    ];
     assert!(rt; are_steps(&stores, Kind::P2, &ZERO_BLOCK));
-    assert_eq!(rt; stores[13], step(Kind::P3, 0, 2));
-    assert_eq!(rt; stores[14], step(Kind::P3, 0, 3));
+    assert_eq!(rt; [stores[0], stores[13], stores[14]], want);
     Ok(())
 }
 
 #[test]
 fn a_reader_loads_a_block(rt: HostRuntime) -> Result<(), Fail> {
     let loads = answers_after(rt.alloc(), one_block(), &[P; 15], &[R0; 15])?;
-    assert_eq!(rt; loads[0], step(Kind::R1, 0, 3));
+    let want = [
+        step(Kind::R1, 0, 3),
+        step(Kind::R3, 1, 1),
+        step(Kind::R1, 0, 3),
+    ];
     assert!(rt; are_steps(&loads, Kind::R2, &ZERO_BLOCK));
-    assert_eq!(rt; loads[13], step(Kind::R3, 1, 1));
-    assert_eq!(rt; loads[14], step(Kind::R1, 0, 3));
+    assert_eq!(rt; [loads[0], loads[13], loads[14]], want);
     Ok(())
 }
 
@@ -211,9 +217,8 @@ fn load_of_unpublished(alloc: Global) -> Result<(Option<Step>, Shown), RingFault
 
 #[test]
 fn stored_words_are_not_yet_published(rt: HostRuntime) -> Result<(), Fail> {
-    let (load, shown) = load_of_unpublished(rt.alloc())?;
-    assert_eq!(rt; load, step(Kind::R1, 0, 0));
-    assert_eq!(rt; shown, (0, false, (0, false, false)));
+    let want = (step(Kind::R1, 0, 0), (0, false, (0, false, false)));
+    assert_eq!(rt; load_of_unpublished(rt.alloc())?, want);
     Ok(())
 }
 
@@ -251,10 +256,9 @@ fn shown_of_no_block(alloc: Global) -> Result<(Shown, (u64, bool, bool), [u64; 3
 
 #[test]
 fn an_empty_stream_ends_at_once(rt: HostRuntime) -> Result<(), Fail> {
-    let (shown, second, words) = shown_of_no_block(rt.alloc())?;
-    assert_eq!(rt; shown, (0, true, (0, true, false)));
-    assert_eq!(rt; second, (0, false, true));
-    assert_eq!(rt; words, [1, LEFT, 0]);
+    let shown = (0, true, (0, true, false));
+    let want = (shown, (0, false, true), [1, LEFT, 0]);
+    assert_eq!(rt; shown_of_no_block(rt.alloc())?, want);
     Ok(())
 }
 
@@ -274,12 +278,9 @@ fn a_full_ring_waits_for_its_reader(rt: HostRuntime) -> Result<(), Fail> {
 
 #[test]
 fn a_reader_leaves_a_full_ring(rt: HostRuntime) -> Result<(), Fail> {
-    let (steps, shown) = steps_after(rt.alloc(), two_blocks(), &[P; 15], Actor::Leave(0), P)?;
-    assert_eq!(rt;
-        steps,
-        [step(Kind::R3, 1, 1 << 63), step(Kind::P1, 1, 1 << 63)]
-    );
-    assert_eq!(rt; shown, (1, false, (0, true, false)));
+    let found = steps_after(rt.alloc(), two_blocks(), &[P; 15], Actor::Leave(0), P)?;
+    let steps = [step(Kind::R3, 1, 1 << 63), step(Kind::P1, 1, 1 << 63)];
+    assert_eq!(rt; found, (steps, (1, false, (0, true, false))));
     Ok(())
 }
 
@@ -324,16 +325,12 @@ fn gates_of_two(alloc: Global) -> Result<([Option<Step>; 3], [u64; 2]), RingFaul
 // Block 1 waits for the second reader, though the first has taken block 0.
 #[test]
 fn every_reader_gates(rt: HostRuntime) -> Result<(), Fail> {
-    let (loads, taken) = gates_of_two(rt.alloc())?;
-    assert_eq!(rt;
-        loads,
-        [
-            step(Kind::P1, 1, 1),
-            step(Kind::P1, 2, 0),
-            step(Kind::P1, 1, 1)
-        ]
-    );
-    assert_eq!(rt; taken, [1, 0]);
+    let loads = [
+        step(Kind::P1, 1, 1),
+        step(Kind::P1, 2, 0),
+        step(Kind::P1, 1, 1),
+    ];
+    assert_eq!(rt; gates_of_two(rt.alloc())?, (loads, [1, 0]));
     Ok(())
 }
 

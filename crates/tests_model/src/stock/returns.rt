@@ -96,18 +96,6 @@ fn last_returned(model: &Model) -> Option<u32> {
     }
 }
 
-// The same of the model with drawn returns.
-fn last_drawn(alloc: Global) -> Result<Option<u32>, AllocError> {
-    let model = with_drawn_returns(alloc)?;
-    Ok(last_returned(&model))
-}
-
-#[test]
-fn parts_of_returns(rt: HostRuntime) -> Result<(), Fail> {
-    assert_eq!(rt; last_drawn(rt.alloc())?, Some(5));
-    Ok(())
-}
-
 // Words and the items returned at them: 0 in the first four tenths, 5 in the last one.
 static RETURNED: [(u64, u32); 6] = [
     (0, 0),
@@ -126,18 +114,6 @@ fn first_other_word(model: &Model, table: &[(u64, u32)]) -> Option<u64> {
         }
     }
     None
-}
-
-// The same of the model with drawn returns and the words above.
-fn first_other_drawn(alloc: Global) -> Result<Option<u64>, AllocError> {
-    let model = with_drawn_returns(alloc)?;
-    Ok(first_other_word(&model, &RETURNED))
-}
-
-#[test]
-fn returned_by_words(rt: HostRuntime) -> Result<(), Fail> {
-    assert_eq!(rt; first_other_drawn(rt.alloc())?, None);
-    Ok(())
 }
 
 // The review of period 3 sees a stock of 4, without the item that is returned in that period.
@@ -175,17 +151,6 @@ fn both_copy(alloc: Global, model: &Model) -> Result<bool, AllocError> {
     )
 }
 
-fn drawn_copies(alloc: Global) -> Result<bool, AllocError> {
-    let model = with_drawn_returns(alloc)?;
-    both_copy(alloc, &model)
-}
-
-#[test]
-fn copied_with_drawn_returns(rt: HostRuntime) -> Result<(), Fail> {
-    assert!(rt; drawn_copies(rt.alloc())?);
-    Ok(())
-}
-
 fn both_resume(alloc: Global, model: &Model) -> Result<bool, AllocError> {
     Ok(
         resumes(alloc, model, A, (6, 37, 0), &[152, 152, 146])?
@@ -193,14 +158,51 @@ fn both_resume(alloc: Global, model: &Model) -> Result<bool, AllocError> {
     )
 }
 
-fn drawn_resumes(alloc: Global) -> Result<bool, AllocError> {
+// What the model with drawn returns shows: the returned items at the last word, the first word at which there are others
+// than these, and whether its runs have their costs after a copy and restored.
+#[derive(Clone, Copy)]
+struct DrawnFigures {
+    last: Option<u32>,
+    other_word: Option<u64>,
+    copies: bool,
+    resumes: bool,
+}
+
+fn drawn_by(alloc: Global, model: &Model) -> Result<DrawnFigures, AllocError> {
+    Ok(DrawnFigures {
+        last: last_returned(model),
+        other_word: first_other_word(model, &RETURNED),
+        copies: both_copy(alloc, model)?,
+        resumes: both_resume(alloc, model)?,
+    })
+}
+
+fn shown_by_drawn(alloc: Global) -> Result<DrawnFigures, AllocError> {
     let model = with_drawn_returns(alloc)?;
-    both_resume(alloc, &model)
+    drawn_by(alloc, &model)
+}
+
+#[test]
+fn parts_of_returns(rt: HostRuntime) -> Result<(), Fail> {
+    assert_eq!(rt; shown_by_drawn(rt.alloc())?.last, Some(5));
+    Ok(())
+}
+
+#[test]
+fn returned_by_words(rt: HostRuntime) -> Result<(), Fail> {
+    assert_eq!(rt; shown_by_drawn(rt.alloc())?.other_word, None);
+    Ok(())
+}
+
+#[test]
+fn copied_with_drawn_returns(rt: HostRuntime) -> Result<(), Fail> {
+    assert!(rt; shown_by_drawn(rt.alloc())?.copies);
+    Ok(())
 }
 
 #[test]
 fn restored_with_drawn_returns(rt: HostRuntime) -> Result<(), Fail> {
-    assert!(rt; drawn_resumes(rt.alloc())?);
+    assert!(rt; shown_by_drawn(rt.alloc())?.resumes);
     Ok(())
 }
 
