@@ -1,18 +1,28 @@
 // Calls of one thread in a row, with all answers worked out by hand. The words of blocks are Random123's.
 
 use crate::rings::{One, Two, Which, ring_of};
+use crn_cipher::Block;
 use crn_proto::{LEFT, RingFault, RingSpec};
 use crn_ring::{Closing, Publish, Reader, Ring, Take};
 use std::alloc::Global;
 use tests_model::words::ZERO_BLOCK;
 
-// The words of the first block of a ring of one slot, stream after stream, as they are taken.
-fn first_words(alloc: Global) -> Option<[[u64; 4]; 3]> {
+// The words of a block, stream after stream.
+fn words_of(block: Block) -> [[u64; 4]; 3] {
+    let Block {
+        demand,
+        lead,
+        returns,
+        ..
+    } = block;
+    [demand, lead, returns]
+}
+
+// The first block of a ring of one slot, as it is taken.
+fn first_block(alloc: Global) -> Option<Block> {
     let mut one = One::open(alloc, 1, 1)?;
     match (one.publishes(0), one.take()) {
-        (true, Some(Take::Got(arrived))) => {
-            Some([arrived.demand, arrived.lead, arrived.returns])
-        }
+        (true, Some(Take::Got(arrived))) => Some(arrived),
         _ => None,
     }
 }
@@ -21,7 +31,10 @@ fn first_words(alloc: Global) -> Option<[[u64; 4]; 3]> {
 fn the_words_of_every_stream_arrive(rt: HostRuntime) {
     let [d0, d1, d2, d3, l0, l1, l2, l3, r0, r1, r2, r3] = ZERO_BLOCK;
     let want = [[d0, d1, d2, d3], [l0, l1, l2, l3], [r0, r1, r2, r3]];
-    assert_eq!(rt; first_words(rt.alloc()), Some(want));
+    let Some(arrived) = first_block(rt.alloc()) else {
+        panic!(rt; "no block")
+    };
+    assert_eq!(rt; words_of(arrived), want);
 }
 
 // Passes two blocks through one slot, and returns whether each answer was right.
