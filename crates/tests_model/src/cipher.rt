@@ -6,7 +6,7 @@ ghost use Rattle.crn_cipher.specs.Blocks.{BlockWords};
 mod vectors;
 
 use crate::words::{ONES_BLOCK, ZERO_BLOCK};
-use crn_cipher::{BLOCK_WORDS, Block, STREAMS, block, threefry, unthreefry};
+use crn_cipher::{BLOCK_WORDS, Block, STREAMS, Stream, block, threefry, unthreefry};
 use vectors::VECTORS;
 
 // The words of a line, of 16 hexadecimal digits each: four of the key, four of the counter and four of the output. None
@@ -98,21 +98,28 @@ fn words_of_a_block_in_order(rt: HostRuntime) {
     assert_eq!(rt; words_of(block(ONES, 0)), ONES_BLOCK);
 }
 
-// Whether each stream of a block has its four of these words.
-fn has_streams(made: &Block, words: &[u64; BLOCK_WORDS]) -> bool {
-    for (stream, four) in STREAMS.iter().zip(words.chunks(4)) {
-        if made.words(*stream).as_slice() != four {
-            return false;
-        }
-    }
-    true
+// The name of a stream, and its words in a block.
+fn name_and_words(made: &Block, stream: Stream) -> (&'static str, [u64; 4]) {
+    let words = *made.words(stream);
+    (stream.name(), words)
 }
 
 #[test]
 fn words_of_each_stream(rt: HostRuntime) {
-    assert!(rt; has_streams(&block(ONES, 0), &ONES_BLOCK));
-    let names = [STREAMS[0].name(), STREAMS[1].name(), STREAMS[2].name()];
-    assert_eq!(rt; names, ["demand", "lead", "returns"]);
+    let [d0, d1, d2, d3, l0, l1, l2, l3, r0, r1, r2, r3] = ONES_BLOCK;
+    let want = [
+        ("demand", [d0, d1, d2, d3]),
+        ("lead", [l0, l1, l2, l3]),
+        ("returns", [r0, r1, r2, r3]),
+    ];
+    let made = block(ONES, 0);
+    let [first, second, third] = STREAMS;
+    let found = [
+        name_and_words(&made, first),
+        name_and_words(&made, second),
+        name_and_words(&made, third),
+    ];
+    assert_eq!(rt; found, want);
 }
 
 // The block of the same key and number as another, from its words.

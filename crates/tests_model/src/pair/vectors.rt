@@ -768,23 +768,27 @@ static THIRD: [Line; 22] = [
     },
 ];
 
+// The place of the first of these lines that has another figure, and the name of that figure.
+fn first_other(lines: &[Line]) -> Option<(usize, &'static str)> {
+    for (i, line) in lines.iter().enumerate() {
+        if let Some(name) = other_figure(line.a, line.b, &line.figures) {
+            return Some((i, name));
+        }
+    }
+    None
+}
+
 #[test]
 fn pairs_of_the_first_lists(rt: HostRuntime) {
-    for line in &FIRST {
-        assert_eq!(rt; other_figure(line.a, line.b, &line.figures), None);
-    }
+    assert_eq!(rt; first_other(&FIRST), None);
 }
 
 #[test]
 fn pairs_of_the_second_lists(rt: HostRuntime) {
-    for line in &SECOND {
-        assert_eq!(rt; other_figure(line.a, line.b, &line.figures), None);
-    }
+    assert_eq!(rt; first_other(&SECOND), None);
 }
 
 #[test]
 fn pairs_of_the_third_lists(rt: HostRuntime) {
-    for line in &THIRD {
-        assert_eq!(rt; other_figure(line.a, line.b, &line.figures), None);
-    }
+    assert_eq!(rt; first_other(&THIRD), None);
 }
