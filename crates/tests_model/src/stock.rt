@@ -369,6 +369,7 @@ struct TwiceFigures {
     other_broken: Option<usize>,
 }
 
+// All that a model of these sizes shows.
 fn shown_by(alloc: Global, model: &Model) -> Result<TwiceFigures, AllocError> {
     Ok(TwiceFigures {
         sizes: sizes_of(model),
@@ -382,6 +383,7 @@ fn shown_by(alloc: Global, model: &Model) -> Result<TwiceFigures, AllocError> {
     })
 }
 
+// The same of two replications of five periods.
 fn shown_by_twice(alloc: Global) -> Result<TwiceFigures, AllocError> {
     let model = twice(alloc)?;
     shown_by(alloc, &model)

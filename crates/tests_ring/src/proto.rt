@@ -32,6 +32,7 @@ fn played(alloc: Global, spec: RingSpec, actors: &[Actor]) -> Result<Machine, Ri
     Ok(machine)
 }
 
+// Copies these answers.
 fn first_of(answers: &[Option<Step>]) -> Answers {
     let mut first = [None; 15];
     for (place, answer) in first.iter_mut().zip(answers) {
@@ -81,6 +82,7 @@ fn reader(machine: &Machine, r: u32) -> (u64, bool, bool)
 // The count of published blocks, whether the end is marked, and what is shown of reader 0.
 type Shown = (u64, bool, (u64, bool, bool));
 
+// What a machine shows.
 fn shown(machine: &Machine) -> Shown
     requires { 0 < machine.now.spec.readers }
 {

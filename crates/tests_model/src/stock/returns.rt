@@ -168,6 +168,7 @@ struct DrawnFigures {
     resumes: bool,
 }
 
+// All that such a model shows.
 fn drawn_by(alloc: Global, model: &Model) -> Result<DrawnFigures, AllocError> {
     Ok(DrawnFigures {
         last: last_returned(model),
@@ -177,6 +178,7 @@ fn drawn_by(alloc: Global, model: &Model) -> Result<DrawnFigures, AllocError> {
     })
 }
 
+// The same of the model with drawn returns.
 fn shown_by_drawn(alloc: Global) -> Result<DrawnFigures, AllocError> {
     let model = with_drawn_returns(alloc)?;
     drawn_by(alloc, &model)

@@ -86,6 +86,7 @@ fn shares_four_slots(one: &mut One) -> bool {
         && are_blocks(&ten[..4], 3)
 }
 
+// The same of a ring of four slots; false also if it is not opened.
 fn four_slots_are_shared(alloc: Global) -> bool {
     match One::open(alloc, 4, 10) {
         None => false,
@@ -110,6 +111,7 @@ fn fills_one_slot(one: &mut One) -> bool {
         && one.reader.taken() == 0
 }
 
+// The same of a ring of one slot; false also if it is not opened.
 fn one_slot_is_filled(alloc: Global) -> bool {
     match One::open(alloc, 1, 2) {
         None => false,

@@ -50,6 +50,7 @@ fn waits_for_both(two: &mut Two) -> bool {
         && two.publishes(1)
 }
 
+// The same of a ring of one slot; false also if it is not opened.
 fn one_slot_waits(alloc: Global) -> bool {
     match Two::open(alloc, 1, 2) {
         None => false,
@@ -92,6 +93,7 @@ fn ends_at_five(one: &mut One) -> bool {
         && one.reader.taken() == 5
 }
 
+// Whether both are so of a ring of two slots.
 fn two_slots_carry(alloc: Global) -> bool {
     match One::open(alloc, 2, 5) {
         None => false,

@@ -74,6 +74,7 @@ fn drain_one_by_one<R: Wait>(rt: &R, ring: &Ring, reader: &mut Reader) -> u64
 // A reader's number, how many blocks it has taken at the end, and how many of these were the key's own.
 type Read = (u32, u64, u64);
 
+// Takes all blocks up to the end, at this pace.
 fn drain_by<R: Wait>(rt: &R, ring: &Ring, mut reader: Reader, pace: Pace) -> Read
     requires of { IsReaderOf ring.now reader }
     requires running { (reader_part reader).seen_end ≡ false }
@@ -97,6 +98,7 @@ fn feed_by<R: Wait>(rt: &R, ring: &Ring, mut producer: Producer, pace: Pace) -> 
     producer.published()
 }
 
+// Takes all blocks by both readers, each on a thread of its own.
 fn drain_both<R: Threads + Wait + Sync>(
     rt: &R,
     ring: &Ring,
@@ -118,6 +120,7 @@ fn drain_both<R: Threads + Wait + Sync>(
     )
 }
 
+// Publishes all blocks on one thread while both readers take them.
 fn run<R: Threads + Wait + Sync>(
     rt: &R,
     ring: &Ring,

@@ -92,6 +92,7 @@ fn ends_early<R: Wait>(rt: &R, alloc: Global, scenario: &Scenario) -> Result<boo
     Ok(is_short_at(&end, 2))
 }
 
+// The same of twenty periods of the steady model.
 fn twenty_periods_end_early<R: Wait>(rt: &R, alloc: Global) -> Result<bool, AllocError> {
     let scenario = steady(alloc, Slots::Two, 20, 1)?;
     ends_early(rt, alloc, &scenario)
@@ -193,6 +194,7 @@ fn holds_before<R: Wait>(
     }
 }
 
+// The same of two replications of five periods.
 fn five_periods_hold_before<R: Wait>(rt: &R, alloc: Global, k: u64) -> Result<bool, AllocError> {
     let scenario = steady(alloc, Slots::Two, 5, 2)?;
     holds_before(rt, alloc, &scenario, k)
@@ -302,6 +304,7 @@ fn published_at_first<R: Wait>(
     }
 }
 
+// The same of 1,024 periods of the steady model.
 fn published_of_many<R: Wait>(rt: &R, alloc: Global) -> Result<Option<u64>, AllocError> {
     let scenario = steady(alloc, Slots::Two, 1_024, 1)?;
     let state = State::start(alloc, scenario.model())?;

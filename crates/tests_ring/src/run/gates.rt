@@ -99,6 +99,7 @@ fn meet<R: Threads + Wait + Sync>(rt: &R, alloc: Global, scenario: &Scenario) ->
     reaches_under(rt, alloc, scenario, &mut gates, 1, &[222], &[359])
 }
 
+// The same of the base scenario.
 fn base_policies_meet<R: Threads + Wait + Sync>(rt: &R, alloc: Global) -> Result<bool, AllocError> {
     let scenario = base(alloc, 1)?;
     Ok(meet(rt, alloc, &scenario))
@@ -148,6 +149,7 @@ fn waits_for_late<R: Threads + Wait + Sync>(rt: &R, alloc: Global, scenario: &Sc
     reaches_under(rt, alloc, scenario, &mut gates, 4, &[55, 55], &[49, 49])
 }
 
+// The same on a ring of one slot.
 fn one_slot_waits_for_late<R: Threads + Wait + Sync>(
     rt: &R,
     alloc: Global,

@@ -83,6 +83,7 @@ pub(super) fn run_reaches<R: Threads + Wait + Sync>(
     has_reached(&answer, upto, a, b)
 }
 
+// Whether a whole run of the base scenario has its costs.
 fn base_reaches<R: Threads + Wait + Sync>(rt: &R, alloc: Global) -> Result<bool, AllocError> {
     let scenario = base(alloc, 1)?;
     Ok(run_reaches(rt, alloc, &scenario, 1, &[222], &[359]))
