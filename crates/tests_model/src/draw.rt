@@ -125,27 +125,36 @@ fn refusals(rt: HostRuntime) {
     }
 }
 
+// The faults, with their numbers and their lines.
+static FAULTS: [(DrawFault, u8, &str); 5] = [
+    (DrawFault::Empty, 1, "there are no values"),
+    (
+        DrawFault::Lengths,
+        2,
+        "there are not as many weights as values",
+    ),
+    (DrawFault::Order, 3, "the values do not rise strictly"),
+    (
+        DrawFault::Total,
+        4,
+        "the sum of the weights is 0 or over 65536",
+    ),
+    (DrawFault::Memory, 90, "out of memory"),
+];
+
+// The first line whose fault has another number or is printed in another way.
+fn first_other_line(alloc: Global) -> Result<Option<&'static str>, AllocError> {
+    for (fault, number, line) in &FAULTS {
+        if fault.number() != *number || !prints(alloc, fault, line)? {
+            return Ok(Some(line));
+        }
+    }
+    Ok(None)
+}
+
 #[test]
 fn numbers_and_lines_of_faults(rt: HostRuntime) -> Result<(), Fail> {
-    let table = [
-        (DrawFault::Empty, 1u8, "there are no values"),
-        (
-            DrawFault::Lengths,
-            2,
-            "there are not as many weights as values",
-        ),
-        (DrawFault::Order, 3, "the values do not rise strictly"),
-        (
-            DrawFault::Total,
-            4,
-            "the sum of the weights is 0 or over 65536",
-        ),
-        (DrawFault::Memory, 90, "out of memory"),
-    ];
-    for (fault, number, line) in table {
-        assert_eq!(rt; fault.number(), number, "{line}");
-        assert!(rt; prints(rt.alloc(), &fault, line)?, "{line}");
-    }
+    assert_eq!(rt; first_other_line(rt.alloc())?, None);
     Ok(())
 }
 

@@ -35,6 +35,20 @@ pub fn always(alloc: Global, value: u32) -> Result<Weights, AllocError>
     draws(alloc, &[value], &[1])
 }
 
+/// Returns draws that always give one demand, and draws that always give one lead time.
+///
+/// # Errors
+///
+/// `AllocError` if an allocation fails.
+pub fn fixed_draws(alloc: Global, demand: u32, lead: u32) -> Result<(Weights, Weights), AllocError>
+    ensures demand { IfOk result (λ r. r.0.values ≡ demand ∷ []) }
+    ensures lead { IfOk result (λ r. r.1.values ≡ lead ∷ []) }
+{
+    let demands = always(alloc, demand)?;
+    let leads = always(alloc, lead)?;
+    Ok((demands, leads))
+}
+
 /// Returns the base model: an initial stock of 60, demands of 1 to 4 with the weights 1, 2, 2 and 1, and lead times of 1.
 ///
 /// # Asks
@@ -89,8 +103,7 @@ pub fn steady_model(
         holding: 1,
         backlog: 4,
     };
-    let demand = always(alloc, 3)?;
-    let lead = always(alloc, lead)?;
+    let (demand, lead) = fixed_draws(alloc, 3, lead)?;
     Ok(Model::new(periods, replications, 10, costs, demand, lead, returns))
 }
 

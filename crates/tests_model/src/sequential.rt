@@ -1,102 +1,93 @@
 // Runs on one thread, with costs worked out by hand from the model's rules.
 
-ghost use Rattle.std.specs.Prelude.{◌≡◌, ◌≤◌, IfOk};
-ghost use Rattle.crn_stock.specs.Models.{total};
-ghost use Rattle.crn_sequential.specs.Runs.{IsCheckpointOf};
+ghost use Rattle.std.specs.Prelude.{◌≤◌};
 
-use crate::scenarios::{base, have_costs};
+use crate::scenarios::base;
 use crn_sequential::{Checkpoint, run_plain};
-use crn_stock::Scenario;
+use crn_stock::{Scenario, State};
 use std::alloc::{AllocError, Global};
 use std::test::Fail;
 
-fn start_of_base(alloc: Global) -> Result<Checkpoint, AllocError> {
-    let scenario = base(alloc, 1)?;
-    Checkpoint::start(alloc, &scenario)
+// The block at which a checkpoint stands, and the costs of its two states, None for each that is not there.
+type Shown = (u64, [[Option<u64>; 2]; 2]);
+
+// The costs of a state; None if they are more than two.
+fn costs_of(state: &State) -> Option<[Option<u64>; 2]> {
+    let costs = state.costs();
+    if costs.len() > 2 {
+        return None;
+    }
+    Some([costs.first().copied(), costs.get(1).copied()])
+}
+
+// What a checkpoint shows, if it has two states of two costs at most.
+fn shown(checkpoint: &Checkpoint) -> Option<Shown> {
+    let states = checkpoint.states.as_slice();
+    if states.len() != 2 {
+        return None;
+    }
+    Some((
+        checkpoint.next,
+        [costs_of(&states[0])?, costs_of(&states[1])?],
+    ))
+}
+
+// What is shown after legs from the start to each of these blocks in turn; None also if a block is out of range.
+fn shown_by_way_of(
+    alloc: Global,
+    scenario: &Scenario,
+    blocks: &[u64],
+) -> Result<Option<Shown>, AllocError> {
+    let mut end = Checkpoint::start(alloc, scenario)?;
+    for block in blocks {
+        if *block < end.next || *block > scenario.model().total() {
+            return Ok(None);
+        }
+        end = run_plain(alloc, scenario, &end, *block)?;
+    }
+    Ok(shown(&end))
+}
+
+// The same of the base scenario.
+fn base_shown(alloc: Global, replications: u32, blocks: &[u64]) -> Result<Option<Shown>, AllocError>
+    requires { (1 ≤ replications) × (replications ≤ 256) }
+{
+    let scenario = base(alloc, replications)?;
+    shown_by_way_of(alloc, &scenario, blocks)
 }
 
 #[test]
 fn start_of_the_base_scenario(rt: HostRuntime) -> Result<(), Fail> {
-    let start = start_of_base(rt.alloc())?;
-    assert!(rt; start.next == 0 && have_costs(&start, &[], &[]));
+    let start = base_shown(rt.alloc(), 1, &[])?;
+    assert_eq!(rt; start, Some((0, [[None, None], [None, None]])));
     Ok(())
-}
-
-// A run from its start up to a block.
-fn first_leg(alloc: Global, scenario: &Scenario, upto: u64) -> Result<Checkpoint, AllocError>
-    requires { upto ≤ total scenario.now.model }
-    ensures next { IfOk result (λ c. c.next ≡ upto) }
-    ensures of { IfOk result (λ c. IsCheckpointOf scenario.now upto c.states.items) }
-{
-    let start = Checkpoint::start(alloc, scenario)?;
-    run_plain(alloc, scenario, &start, upto)
-}
-
-// A whole run of the base scenario.
-fn whole_run(alloc: Global, replications: u32) -> Result<Checkpoint, AllocError>
-    requires { (1 ≤ replications) × (replications ≤ 256) }
-{
-    let scenario = base(alloc, replications)?;
-    first_leg(alloc, &scenario, u64::from(replications))
 }
 
 #[test]
 fn base_scenario(rt: HostRuntime) -> Result<(), Fail> {
-    let end = whole_run(rt.alloc(), 1)?;
-    assert!(rt; end.next == 1 && have_costs(&end, &[222], &[359]));
+    let end = base_shown(rt.alloc(), 1, &[1])?;
+    assert_eq!(rt; end, Some((1, [[Some(222), None], [Some(359), None]])));
     Ok(())
-}
-
-// A run that stays at block 1, and then goes on to another block.
-fn last_legs(
-    alloc: Global,
-    scenario: &Scenario,
-    middle: &Checkpoint,
-    upto: u64,
-) -> Result<Checkpoint, AllocError>
-    requires of { IsCheckpointOf scenario.now middle.now.next middle.now.states.items }
-    requires middle { middle.now.next ≡ 1 }
-    requires upto { (1 ≤ upto) × (upto ≤ total scenario.now.model) }
-{
-    let stays = run_plain(alloc, scenario, middle, 1)?;
-    run_plain(alloc, scenario, &stays, upto)
-}
-
-// A run of two replications by way of block 1.
-fn run_in_legs(alloc: Global, upto: u64) -> Result<Checkpoint, AllocError>
-    requires { (1 ≤ upto) × (upto ≤ 2) }
-{
-    let scenario = base(alloc, 2)?;
-    let middle = first_leg(alloc, &scenario, 1)?;
-    last_legs(alloc, &scenario, &middle, upto)
 }
 
 #[test]
 fn a_leg_of_no_blocks(rt: HostRuntime) -> Result<(), Fail> {
-    let stays = run_in_legs(rt.alloc(), 1)?;
-    assert!(rt; have_costs(&stays, &[222], &[359]));
+    let stays = base_shown(rt.alloc(), 2, &[1, 1, 1])?;
+    assert_eq!(rt; stays, Some((1, [[Some(222), None], [Some(359), None]])));
     Ok(())
 }
 
-// Whether two checkpoints stand at the same block, with the same two costs of each policy.
-fn agree(one: &Checkpoint, other: &Checkpoint) -> bool {
-    for (a, b) in one.states.iter().zip(other.states.iter()) {
-        if a.costs().len() != 2 || a.costs() != b.costs() {
-            return false;
-        }
-    }
-    one.next == other.next && one.states.len() == 2 && other.states.len() == 2
-}
-
-// Whether a run of two replications in legs ends as a whole run does.
-fn legs_agree(alloc: Global) -> Result<bool, AllocError> {
-    let whole = whole_run(alloc, 2)?;
-    let end = run_in_legs(alloc, 2)?;
-    Ok(agree(&end, &whole))
+// Whether there is a second cost of each state.
+fn are_whole(costs: [[Option<u64>; 2]; 2]) -> bool {
+    let [[_, a], [_, b]] = costs;
+    a.is_some() && b.is_some()
 }
 
 #[test]
 fn two_legs(rt: HostRuntime) -> Result<(), Fail> {
-    assert!(rt; legs_agree(rt.alloc())?);
+    let whole = base_shown(rt.alloc(), 2, &[2])?;
+    let (block, costs) = whole.unwrap_or((0, [[None; 2]; 2]));
+    assert!(rt; block == 2 && are_whole(costs));
+    assert_eq!(rt; base_shown(rt.alloc(), 2, &[1, 1, 2])?, whole);
     Ok(())
 }

@@ -8,7 +8,7 @@ ghost use Rattle.crn_stock.specs.Draws.{IsOf, IsBetween};
 mod returns;
 mod sizes;
 
-use crate::scenarios::{Levels, always, base_model, policy, prints, steady_model};
+use crate::scenarios::{Levels, always, base_model, fixed_draws, policy, prints, steady_model};
 use crn_cipher::block;
 use crn_stock::{Costs, Model, Policy, RestoreFault, Scenario, State};
 use std::alloc::{AllocError, Global};
@@ -26,8 +26,7 @@ fn late(alloc: Global, periods: u32, replications: u32, initial: i64) -> Result<
         holding: 1,
         backlog: 4,
     };
-    let demand = always(alloc, 2)?;
-    let lead = always(alloc, 2)?;
+    let (demand, lead) = fixed_draws(alloc, 2, 2)?;
     Ok(Model::new(periods, replications, initial, costs, demand, lead, None))
 }
 
@@ -211,26 +210,6 @@ fn late_block(rt: HostRuntime) -> Result<(), Fail> {
     Ok(())
 }
 
-#[test]
-fn partial_blocks(rt: HostRuntime) -> Result<(), Fail> {
-    let model = twice(rt.alloc())?;
-    assert_eq!(rt; (model.blocks_per_replication(), model.total()), (2, 4));
-    Ok(())
-}
-
-fn costs_of_partial_blocks(alloc: Global) -> Result<bool, AllocError> {
-    let model = twice(alloc)?;
-    let a = Levels { low: 5, high: 10 };
-    let b = Levels { low: 4, high: 10 };
-    two_costs(alloc, &model, a, &[55, 55], b, &[49, 49])
-}
-
-#[test]
-fn partial_blocks_run(rt: HostRuntime) -> Result<(), Fail> {
-    assert!(rt; costs_of_partial_blocks(rt.alloc())?);
-    Ok(())
-}
-
 // Whether a state shows these amounts, with nothing due later than in the next period.
 fn shows(state: &State, next_block: u64, stock: i64, running: u64, due: u64) -> bool {
     for k in 1..32 {
@@ -278,17 +257,6 @@ fn both_copy(alloc: Global, model: &Model) -> Result<bool, AllocError> {
     )
 }
 
-fn twice_copies(alloc: Global) -> Result<bool, AllocError> {
-    let model = twice(alloc)?;
-    both_copy(alloc, &model)
-}
-
-#[test]
-fn copied(rt: HostRuntime) -> Result<(), Fail> {
-    assert!(rt; twice_copies(rt.alloc())?);
-    Ok(())
-}
-
 // Whether a state of these amounts can be restored at block 1, and ends with these costs.
 fn resumes(
     alloc: Global,
@@ -319,17 +287,6 @@ fn both_resume(alloc: Global, model: &Model) -> Result<bool, AllocError> {
         resumes(alloc, model, a, (4, 35, 0), &[55, 55])?
             && resumes(alloc, model, b, (-2, 45, 9), &[49, 49])?,
     )
-}
-
-fn twice_resumes(alloc: Global) -> Result<bool, AllocError> {
-    let model = twice(alloc)?;
-    both_resume(alloc, &model)
-}
-
-#[test]
-fn restored(rt: HostRuntime) -> Result<(), Fail> {
-    assert!(rt; twice_resumes(rt.alloc())?);
-    Ok(())
 }
 
 // Amounts to restore: the next block, the stock, the items due in the next period, the running cost and the costs.
@@ -365,14 +322,6 @@ static KEPT: [Amounts; 5] = [
     (4, 10, 0, 0, &[55, 55]),
 ];
 
-#[test]
-fn ends_of_ranges(rt: HostRuntime) -> Result<(), Fail> {
-    let model = twice(rt.alloc())?;
-    let other = first_other(rt.alloc(), &model, &KEPT, None);
-    assert_eq!(rt; other, None);
-    Ok(())
-}
-
 static BROKEN: [Amounts; 12] = [
     (5, 10, 0, 0, &[55, 55]),
     (1, -40_001, 30_001, 0, &[]),
@@ -388,48 +337,121 @@ static BROKEN: [Amounts; 12] = [
     (2, 10, 0, 1, &[55]),
 ];
 
-#[test]
-fn past_ranges(rt: HostRuntime) -> Result<(), Fail> {
-    let model = twice(rt.alloc())?;
-    let other = first_other(rt.alloc(), &model, &BROKEN, Some(RestoreFault::Range));
-    assert_eq!(rt; other, None);
-    Ok(())
-}
-
-#[test]
-fn numbers_and_lines_of_faults(rt: HostRuntime) -> Result<(), Fail> {
-    let table = [
-        (RestoreFault::Range, 1u8, "an amount is outside its range"),
-        (RestoreFault::Memory, 90, "out of memory"),
-    ];
-    for (fault, number, line) in table {
-        assert_eq!(rt; fault.number(), number, "{line}");
-        assert!(rt; prints(rt.alloc(), &fault, line)?, "{line}");
-    }
-    Ok(())
-}
-
-// A model's periods, replications, initial stock, first demand and first lead time, and its cost rates.
-fn parts(model: &Model) -> ([i64; 5], Costs) {
-    let sizes = [
+// A model's periods, replications, initial stock, first demand and first lead time.
+fn sizes_of(model: &Model) -> [i64; 5] {
+    [
         i64::from(model.periods()),
         i64::from(model.replications()),
         model.initial(),
         i64::from(model.demand().pick(0)),
         i64::from(model.lead().pick(0)),
-    ];
-    (sizes, *model.costs())
+    ]
+}
+
+// Whether whole runs have their costs.
+fn both_run(alloc: Global, model: &Model) -> Result<bool, AllocError> {
+    let a = Levels { low: 5, high: 10 };
+    let b = Levels { low: 4, high: 10 };
+    two_costs(alloc, model, a, &[55, 55], b, &[49, 49])
+}
+
+// What a model of two replications of five periods shows: its parts, its blocks a replication and all its blocks, whether
+// its runs have their costs, whole, after a copy and restored, and the first rows that are not judged as they should be.
+#[derive(Clone, Copy)]
+struct TwiceFigures {
+    sizes: [i64; 5],
+    costs: Costs,
+    blocks: (u64, u64),
+    runs: bool,
+    copies: bool,
+    resumes: bool,
+    other_kept: Option<usize>,
+    other_broken: Option<usize>,
+}
+
+// All that a model of these sizes shows.
+fn shown_by(alloc: Global, model: &Model) -> Result<TwiceFigures, AllocError> {
+    Ok(TwiceFigures {
+        sizes: sizes_of(model),
+        costs: *model.costs(),
+        blocks: (model.blocks_per_replication(), model.total()),
+        runs: both_run(alloc, model)?,
+        copies: both_copy(alloc, model)?,
+        resumes: both_resume(alloc, model)?,
+        other_kept: first_other(alloc, model, &KEPT, None),
+        other_broken: first_other(alloc, model, &BROKEN, Some(RestoreFault::Range)),
+    })
+}
+
+// The same of two replications of five periods.
+fn shown_by_twice(alloc: Global) -> Result<TwiceFigures, AllocError> {
+    let model = twice(alloc)?;
+    shown_by(alloc, &model)
 }
 
 #[test]
 fn model_parts(rt: HostRuntime) -> Result<(), Fail> {
-    let model = twice(rt.alloc())?;
-    let (sizes, costs) = parts(&model);
-    assert_eq!(rt; sizes, [5, 2, 10, 3, 1]);
-    assert_eq!(rt;
-        (costs.setup, costs.unit, costs.holding, costs.backlog),
-        (7, 2, 1, 4)
-    );
+    let TwiceFigures { sizes, costs, .. } = shown_by_twice(rt.alloc())?;
+    let rates = (costs.setup, costs.unit, costs.holding, costs.backlog);
+    assert_eq!(rt; (sizes, rates), ([5, 2, 10, 3, 1], (7, 2, 1, 4)));
+    Ok(())
+}
+
+#[test]
+fn partial_blocks(rt: HostRuntime) -> Result<(), Fail> {
+    assert_eq!(rt; shown_by_twice(rt.alloc())?.blocks, (2, 4));
+    Ok(())
+}
+
+#[test]
+fn partial_blocks_run(rt: HostRuntime) -> Result<(), Fail> {
+    assert!(rt; shown_by_twice(rt.alloc())?.runs);
+    Ok(())
+}
+
+#[test]
+fn copied(rt: HostRuntime) -> Result<(), Fail> {
+    assert!(rt; shown_by_twice(rt.alloc())?.copies);
+    Ok(())
+}
+
+#[test]
+fn restored(rt: HostRuntime) -> Result<(), Fail> {
+    assert!(rt; shown_by_twice(rt.alloc())?.resumes);
+    Ok(())
+}
+
+#[test]
+fn ends_of_ranges(rt: HostRuntime) -> Result<(), Fail> {
+    assert_eq!(rt; shown_by_twice(rt.alloc())?.other_kept, None);
+    Ok(())
+}
+
+#[test]
+fn past_ranges(rt: HostRuntime) -> Result<(), Fail> {
+    assert_eq!(rt; shown_by_twice(rt.alloc())?.other_broken, None);
+    Ok(())
+}
+
+// The faults, with their numbers and their lines.
+static FAULTS: [(RestoreFault, u8, &str); 2] = [
+    (RestoreFault::Range, 1, "an amount is outside its range"),
+    (RestoreFault::Memory, 90, "out of memory"),
+];
+
+// The first line whose fault has another number or is printed in another way.
+fn first_other_line(alloc: Global) -> Result<Option<&'static str>, AllocError> {
+    for (fault, number, line) in &FAULTS {
+        if fault.number() != *number || !prints(alloc, fault, line)? {
+            return Ok(Some(line));
+        }
+    }
+    Ok(None)
+}
+
+#[test]
+fn numbers_and_lines_of_faults(rt: HostRuntime) -> Result<(), Fail> {
+    assert_eq!(rt; first_other_line(rt.alloc())?, None);
     Ok(())
 }
 
@@ -441,19 +463,18 @@ fn scenario(alloc: Global) -> Result<Scenario, AllocError> {
 }
 
 // Its key, its ring size, the total of its blocks and the number of its policies.
-fn parts_of(scenario: &Scenario) -> ([u64; 4], u64, u64, usize) {
-    (
+fn parts(alloc: Global) -> Result<([u64; 4], u64, u64, usize), AllocError> {
+    let scenario = scenario(alloc)?;
+    Ok((
         scenario.key(),
         scenario.ring(),
         scenario.model().total(),
         scenario.policies().len(),
-    )
+    ))
 }
 
 #[test]
 fn scenario_parts(rt: HostRuntime) -> Result<(), Fail> {
-    let scenario = scenario(rt.alloc())?;
-    let parts = parts_of(&scenario);
-    assert_eq!(rt; parts, ([1, 2, 3, 4], 2, 4, 1));
+    assert_eq!(rt; parts(rt.alloc())?, ([1, 2, 3, 4], 2, 4, 1));
     Ok(())
 }

@@ -1,6 +1,6 @@
 // Schedules of the machine, worked out by hand; the words of blocks are Random123's.
 
-ghost use Rattle.std.specs.Prelude.{◌≡◌, ◌<◌, IfOk};
+ghost use Rattle.std.specs.Prelude.{◌≡◌, ◌<◌, ◌≤◌, IfOk};
 ghost use Rattle.std.specs.List.{All};
 ghost use Rattle.crn_proto.specs.Machine.{IsActor};
 
@@ -19,8 +19,11 @@ fn step(kind: Kind, word: u64, value: u64) -> Option<Step> {
     Some(Step { kind, word, value })
 }
 
+// The first answers to a schedule, with None for each that is missing.
+type Answers = [Option<Step>; 15];
+
 // The machine of a ring after a schedule.
-fn played(alloc: Global, spec: RingSpec, actors: &[Actor]) -> Result<Machine, Fail>
+fn played(alloc: Global, spec: RingSpec, actors: &[Actor]) -> Result<Machine, RingFault>
     requires { All (IsActor spec) actors.now }
     ensures { IfOk result (λ machine. machine.spec ≡ spec) }
 {
@@ -29,28 +32,30 @@ fn played(alloc: Global, spec: RingSpec, actors: &[Actor]) -> Result<Machine, Fa
     Ok(machine)
 }
 
-// The machine of a ring after one schedule and then another.
-fn played_on(
-    alloc: Global,
-    spec: RingSpec,
-    first: &[Actor],
-    actors: &[Actor],
-) -> Result<Machine, Fail>
-    requires first { All (IsActor spec) first.now }
-    requires actors { All (IsActor spec) actors.now }
-    ensures { IfOk result (λ machine. machine.spec ≡ spec) }
+// Copies these answers.
+fn first_of(answers: &[Option<Step>]) -> Answers {
+    let mut first = [None; 15];
+    for (place, answer) in first.iter_mut().zip(answers) {
+        *place = *answer;
+    }
+    first
+}
+
+// The answers of a machine to a schedule.
+fn answers_of(alloc: Global, machine: &mut Machine, actors: &[Actor]) -> Result<Answers, RingFault>
+    requires { All (IsActor machine.old.spec) actors.now }
+    ensures { machine.new.spec ≡ machine.old.spec }
 {
-    let mut machine = played(alloc, spec, first)?;
-    replay(alloc, &mut machine, actors)?;
-    Ok(machine)
+    let answers = replay(alloc, machine, actors)?;
+    Ok(first_of(answers.as_slice()))
 }
 
 // The answers of a ring's machine to a schedule.
-fn answers(alloc: Global, spec: RingSpec, actors: &[Actor]) -> Result<Vec<Option<Step>>, Fail>
+fn answers(alloc: Global, spec: RingSpec, actors: &[Actor]) -> Result<Answers, RingFault>
     requires { All (IsActor spec) actors.now }
 {
     let mut machine = Machine::open(alloc, spec)?;
-    Ok(replay(alloc, &mut machine, actors)?)
+    answers_of(alloc, &mut machine, actors)
 }
 
 // The answers of a ring's machine to a schedule, after another one.
@@ -59,12 +64,12 @@ fn answers_after(
     spec: RingSpec,
     first: &[Actor],
     actors: &[Actor],
-) -> Result<Vec<Option<Step>>, Fail>
+) -> Result<Answers, RingFault>
     requires first { All (IsActor spec) first.now }
     requires actors { All (IsActor spec) actors.now }
 {
     let mut machine = played(alloc, spec, first)?;
-    Ok(replay(alloc, &mut machine, actors)?)
+    answers_of(alloc, &mut machine, actors)
 }
 
 // What a machine shows of reader r: its count, whether it has left, and whether it has seen the end.
@@ -74,8 +79,52 @@ fn reader(machine: &Machine, r: u32) -> (u64, bool, bool)
     (machine.taken(r), machine.left(r), machine.reader_ended(r))
 }
 
+// The count of published blocks, whether the end is marked, and what is shown of reader 0.
+type Shown = (u64, bool, (u64, bool, bool));
+
+// What a machine shows.
+fn shown(machine: &Machine) -> Shown
+    requires { 0 < machine.now.spec.readers }
+{
+    (machine.published(), machine.ended(), reader(machine, 0))
+}
+
+// What a ring's machine shows after one schedule and then another.
+fn shown_after(
+    alloc: Global,
+    spec: RingSpec,
+    first: &[Actor],
+    actors: &[Actor],
+) -> Result<Shown, RingFault>
+    requires first { All (IsActor spec) first.now }
+    requires actors { All (IsActor spec) actors.now }
+    requires readers { 0 < spec.readers }
+{
+    let mut machine = played(alloc, spec, first)?;
+    replay(alloc, &mut machine, actors)?;
+    Ok(shown(&machine))
+}
+
+// The answers of a ring's machine to two more steps after a schedule, and what it then shows.
+fn steps_after(
+    alloc: Global,
+    spec: RingSpec,
+    first: &[Actor],
+    one: Actor,
+    other: Actor,
+) -> Result<([Option<Step>; 2], Shown), RingFault>
+    requires first { All (IsActor spec) first.now }
+    requires one { IsActor spec one }
+    requires other { IsActor spec other }
+    requires readers { 0 < spec.readers }
+{
+    let mut machine = played(alloc, spec, first)?;
+    let answers = [machine.step(one), machine.step(other)];
+    Ok((answers, shown(&machine)))
+}
+
 // Whether the answers from the second on are steps of this kind at the words of slot 0 of a ring with one reader.
-fn are_steps(answers: &[Option<Step>], kind: Kind, words: &[u64]) -> bool {
+fn are_steps(answers: &Answers, kind: Kind, words: &[u64]) -> bool {
     for (i, word) in words.iter().enumerate() {
         if answers.get(i.wrapping_add(1)) != Some(&step(kind, (i as u64).wrapping_add(2), *word)) {
             return false;
@@ -94,43 +143,47 @@ fn one_block() -> RingSpec
 #[test]
 fn a_producer_stores_a_block(rt: HostRuntime) -> Result<(), Fail> {
     let stores = answers(rt.alloc(), one_block(), &[P; 15])?;
-    assert_eq!(rt; stores.first(), Some(&step(Kind::P1, 1, 0)));
+    let want = [
+        step(Kind::P1, 1, 0),
+        step(Kind::P3, 0, 2),
+        step(Kind::P3, 0, 3),
+    ];
     assert!(rt; are_steps(&stores, Kind::P2, &ZERO_BLOCK));
-    assert_eq!(rt; stores.get(13), Some(&step(Kind::P3, 0, 2)));
-    assert_eq!(rt; stores.get(14), Some(&step(Kind::P3, 0, 3)));
+    assert_eq!(rt; [stores[0], stores[13], stores[14]], want);
     Ok(())
 }
 
 #[test]
 fn a_reader_loads_a_block(rt: HostRuntime) -> Result<(), Fail> {
     let loads = answers_after(rt.alloc(), one_block(), &[P; 15], &[R0; 15])?;
-    assert_eq!(rt; loads.first(), Some(&step(Kind::R1, 0, 3)));
+    let want = [
+        step(Kind::R1, 0, 3),
+        step(Kind::R3, 1, 1),
+        step(Kind::R1, 0, 3),
+    ];
     assert!(rt; are_steps(&loads, Kind::R2, &ZERO_BLOCK));
-    assert_eq!(rt; loads.get(13), Some(&step(Kind::R3, 1, 1)));
-    assert_eq!(rt; loads.get(14), Some(&step(Kind::R1, 0, 3)));
+    assert_eq!(rt; [loads[0], loads[13], loads[14]], want);
     Ok(())
 }
 
 #[test]
 fn a_block_goes_through_its_slot(rt: HostRuntime) -> Result<(), Fail> {
-    let machine = played_on(rt.alloc(), one_block(), &[P; 15], &[R0; 15])?;
-    assert_eq!(rt; (machine.published(), machine.ended()), (1, true));
-    assert_eq!(rt; reader(&machine, 0), (1, false, true));
+    let shown = shown_after(rt.alloc(), one_block(), &[P; 15], &[R0; 15])?;
+    assert_eq!(rt; shown, (1, true, (1, false, true)));
     Ok(())
 }
 
 #[test]
 fn a_reader_loads_no_end_before_it_is_stored(rt: HostRuntime) -> Result<(), Fail> {
     let loads = answers_after(rt.alloc(), one_block(), &[P; 14], &[R0; 15])?;
-    assert_eq!(rt; loads.last(), Some(&step(Kind::R1, 0, 2)));
+    assert_eq!(rt; loads[14], step(Kind::R1, 0, 2));
     Ok(())
 }
 
 #[test]
 fn a_reader_waits_for_the_end(rt: HostRuntime) -> Result<(), Fail> {
-    let machine = played_on(rt.alloc(), one_block(), &[P; 14], &[R0; 15])?;
-    assert_eq!(rt; (machine.published(), machine.ended()), (1, false));
-    assert_eq!(rt; reader(&machine, 0), (1, false, false));
+    let shown = shown_after(rt.alloc(), one_block(), &[P; 14], &[R0; 15])?;
+    assert_eq!(rt; shown, (1, false, (1, false, false)));
     Ok(())
 }
 
@@ -149,28 +202,45 @@ fn all_words_of_a_block_are_stored_in_order(rt: HostRuntime) -> Result<(), Fail>
     Ok(())
 }
 
+// The first and the last word of the slot that the block of ones is stored in.
+fn ends_of_ones(alloc: Global) -> Result<[u64; 2], RingFault> {
+    let machine = played(alloc, block_of_ones(), &[P; 13])?;
+    Ok([machine.word(2), machine.word(13)])
+}
+
 #[test]
 fn all_words_of_a_block_stand_in_order(rt: HostRuntime) -> Result<(), Fail> {
-    let machine = played(rt.alloc(), block_of_ones(), &[P; 13])?;
-    assert_eq!(rt; machine.word(2), ONES_BLOCK[0]);
-    assert_eq!(rt; machine.word(13), ONES_BLOCK[11]);
+    assert_eq!(rt; ends_of_ones(rt.alloc())?, [ONES_BLOCK[0], ONES_BLOCK[11]]);
     Ok(())
+}
+
+// The answer of reader 0 to its first step after the producer's first 13, and what the machine then shows.
+fn load_of_unpublished(alloc: Global) -> Result<(Option<Step>, Shown), RingFault> {
+    let mut machine = played(alloc, one_block(), &[P; 13])?;
+    let load = machine.step(R0);
+    Ok((load, shown(&machine)))
 }
 
 #[test]
 fn stored_words_are_not_yet_published(rt: HostRuntime) -> Result<(), Fail> {
-    let mut machine = played(rt.alloc(), one_block(), &[P; 13])?;
-    assert_eq!(rt; machine.step(R0), step(Kind::R1, 0, 0));
-    assert_eq!(rt; (machine.published(), machine.ended()), (0, false));
-    assert_eq!(rt; reader(&machine, 0), (0, false, false));
+    let want = (step(Kind::R1, 0, 0), (0, false, (0, false, false)));
+    assert_eq!(rt; load_of_unpublished(rt.alloc())?, want);
     Ok(())
+}
+
+// One slot, two readers and no block.
+fn no_block() -> RingSpec
+    ensures readers { result.readers ≡ 2 }
+    ensures size { result.size ≡ 1 }
+{
+    ring_of([0; 4], 1, 2, 0)
 }
 
 const EMPTY_STREAM: [Actor; 6] = [R0, P, Actor::Reader(1), Actor::Leave(0), Actor::Finish, R0];
 
 #[test]
 fn answers_over_an_empty_stream(rt: HostRuntime) -> Result<(), Fail> {
-    let answers = answers(rt.alloc(), ring_of([0; 4], 1, 2, 0), &EMPTY_STREAM)?;
+    let answers = answers(rt.alloc(), no_block(), &EMPTY_STREAM)?;
     let want = [
         step(Kind::R1, 0, 0),
         step(Kind::P3, 0, 1),
@@ -179,20 +249,22 @@ fn answers_over_an_empty_stream(rt: HostRuntime) -> Result<(), Fail> {
         None,
         None,
     ];
-    assert_eq!(rt; answers.as_slice(), want.as_slice());
+    assert_eq!(rt; &answers[..6], want.as_slice());
     Ok(())
+}
+
+// What is shown at the end of an empty stream, of reader 1 too, and the first three words of the ring.
+fn shown_of_no_block(alloc: Global) -> Result<(Shown, (u64, bool, bool), [u64; 3]), RingFault> {
+    let machine = played(alloc, no_block(), &EMPTY_STREAM)?;
+    let words = [machine.word(0), machine.word(1), machine.word(2)];
+    Ok((shown(&machine), reader(&machine, 1), words))
 }
 
 #[test]
 fn an_empty_stream_ends_at_once(rt: HostRuntime) -> Result<(), Fail> {
-    let machine = played(rt.alloc(), ring_of([0; 4], 1, 2, 0), &EMPTY_STREAM)?;
-    assert_eq!(rt; (machine.published(), machine.ended()), (0, true));
-    assert_eq!(rt; reader(&machine, 0), (0, true, false));
-    assert_eq!(rt; reader(&machine, 1), (0, false, true));
-    assert_eq!(rt;
-        (machine.word(0), machine.word(1), machine.word(2)),
-        (1, LEFT, 0)
-    );
+    let shown = (0, true, (0, true, false));
+    let want = (shown, (0, false, true), [1, LEFT, 0]);
+    assert_eq!(rt; shown_of_no_block(rt.alloc())?, want);
     Ok(())
 }
 
@@ -206,17 +278,15 @@ fn two_blocks() -> RingSpec
 #[test]
 fn a_full_ring_waits_for_its_reader(rt: HostRuntime) -> Result<(), Fail> {
     let stores = answers(rt.alloc(), two_blocks(), &[P; 15])?;
-    assert_eq!(rt; stores.get(14), Some(&step(Kind::P1, 1, 0)));
+    assert_eq!(rt; stores[14], step(Kind::P1, 1, 0));
     Ok(())
 }
 
 #[test]
 fn a_reader_leaves_a_full_ring(rt: HostRuntime) -> Result<(), Fail> {
-    let mut machine = played(rt.alloc(), two_blocks(), &[P; 15])?;
-    assert_eq!(rt; machine.step(Actor::Leave(0)), step(Kind::R3, 1, 1 << 63));
-    assert_eq!(rt; machine.step(P), step(Kind::P1, 1, 1 << 63));
-    assert_eq!(rt; (machine.published(), machine.ended()), (1, false));
-    assert_eq!(rt; reader(&machine, 0), (0, true, false));
+    let found = steps_after(rt.alloc(), two_blocks(), &[P; 15], Actor::Leave(0), P)?;
+    let steps = [step(Kind::R3, 1, 1 << 63), step(Kind::P1, 1, 1 << 63)];
+    assert_eq!(rt; found, (steps, (1, false, (0, true, false))));
     Ok(())
 }
 
@@ -225,7 +295,7 @@ const LEAVE_ONE_SLOT: [Actor; 15] = [Actor::Leave(0), P, P, P, P, P, P, P, P, P,
 #[test]
 fn a_full_ring_goes_on_once_its_reader_left(rt: HostRuntime) -> Result<(), Fail> {
     let rest = answers_after(rt.alloc(), two_blocks(), &[P; 15], &LEAVE_ONE_SLOT)?;
-    assert_eq!(rt; rest.last(), Some(&step(Kind::P3, 0, 4)));
+    assert_eq!(rt; rest[14], step(Kind::P3, 0, 4));
     Ok(())
 }
 
@@ -239,25 +309,34 @@ fn two_readers() -> RingSpec
 #[test]
 fn a_producer_publishes_a_block(rt: HostRuntime) -> Result<(), Fail> {
     let stores = answers(rt.alloc(), two_readers(), &[P; 15])?;
-    assert_eq!(rt; stores.last(), Some(&step(Kind::P3, 0, 2)));
+    assert_eq!(rt; stores[14], step(Kind::P3, 0, 2));
     Ok(())
 }
 
 #[test]
 fn one_of_two_readers_takes_a_block(rt: HostRuntime) -> Result<(), Fail> {
     let loads = answers_after(rt.alloc(), two_readers(), &[P; 15], &[R0; 14])?;
-    assert_eq!(rt; loads.last(), Some(&step(Kind::R3, 1, 1)));
+    assert_eq!(rt; loads[13], step(Kind::R3, 1, 1));
     Ok(())
+}
+
+// Three more steps of the producer after reader 0 has taken block 0, and how many blocks each reader has taken.
+fn gates_of_two(alloc: Global) -> Result<([Option<Step>; 3], [u64; 2]), RingFault> {
+    let mut machine = played(alloc, two_readers(), &[P; 15])?;
+    replay(alloc, &mut machine, &[R0; 14])?;
+    let loads = [machine.step(P), machine.step(P), machine.step(P)];
+    Ok((loads, [machine.taken(0), machine.taken(1)]))
 }
 
 // Block 1 waits for the second reader, though the first has taken block 0.
 #[test]
 fn every_reader_gates(rt: HostRuntime) -> Result<(), Fail> {
-    let mut machine = played_on(rt.alloc(), two_readers(), &[P; 15], &[R0; 14])?;
-    assert_eq!(rt; machine.step(P), step(Kind::P1, 1, 1));
-    assert_eq!(rt; machine.step(P), step(Kind::P1, 2, 0));
-    assert_eq!(rt; machine.step(P), step(Kind::P1, 1, 1));
-    assert_eq!(rt; (machine.taken(0), machine.taken(1)), (1, 0));
+    let loads = [
+        step(Kind::P1, 1, 1),
+        step(Kind::P1, 2, 0),
+        step(Kind::P1, 1, 1),
+    ];
+    assert_eq!(rt; gates_of_two(rt.alloc())?, (loads, [1, 0]));
     Ok(())
 }
 
@@ -268,35 +347,45 @@ fn one_slot() -> RingSpec
     ring_of([0; 4], 1, 1, 1)
 }
 
+// The ring of a machine within a block, and the answer to an early end.
+fn end_within_a_block(alloc: Global) -> Result<(RingSpec, Option<Step>), RingFault> {
+    let mut machine = played(alloc, one_slot(), &[P])?;
+    let spec = machine.spec();
+    Ok((spec, machine.step(Actor::Finish)))
+}
+
 #[test]
 fn no_end_within_a_block(rt: HostRuntime) -> Result<(), Fail> {
-    let mut machine = played(rt.alloc(), one_slot(), &[P])?;
-    assert_eq!(rt; machine.spec(), one_slot());
-    assert_eq!(rt; machine.step(Actor::Finish), None);
+    assert_eq!(rt; end_within_a_block(rt.alloc())?, (one_slot(), None));
     Ok(())
 }
 
 #[test]
 fn no_step_after_the_end(rt: HostRuntime) -> Result<(), Fail> {
     let answers = answers(rt.alloc(), one_slot(), &[Actor::Finish, P])?;
-    assert_eq!(rt; answers.as_slice(), [step(Kind::P3, 0, 1), None].as_slice());
+    assert_eq!(rt; [answers[0], answers[1]], [step(Kind::P3, 0, 1), None]);
     Ok(())
 }
 
 #[test]
 fn no_step_of_a_reader_that_left(rt: HostRuntime) -> Result<(), Fail> {
-    let mut machine = played(rt.alloc(), one_slot(), &[Actor::Finish, P])?;
-    assert_eq!(rt; machine.step(Actor::Leave(0)), step(Kind::R3, 1, LEFT));
-    assert_eq!(rt; machine.step(Actor::Leave(0)), None);
+    let leave = Actor::Leave(0);
+    let (steps, _) = steps_after(rt.alloc(), one_slot(), &[Actor::Finish, P], leave, leave)?;
+    assert_eq!(rt; steps, [step(Kind::R3, 1, LEFT), None]);
     Ok(())
 }
 
 #[test]
 fn no_leaving_within_a_block(rt: HostRuntime) -> Result<(), Fail> {
-    let mut machine = played(rt.alloc(), one_slot(), &[P; 14])?;
-    assert_eq!(rt; machine.step(R0), step(Kind::R1, 0, 2));
-    assert_eq!(rt; machine.step(Actor::Leave(0)), None);
+    let (steps, _) = steps_after(rt.alloc(), one_slot(), &[P; 14], R0, Actor::Leave(0))?;
+    assert_eq!(rt; steps, [step(Kind::R1, 0, 2), None]);
     Ok(())
+}
+
+// The ring of a machine as it is opened.
+fn opened(alloc: Global, spec: RingSpec) -> Result<RingSpec, RingFault> {
+    let machine = Machine::open(alloc, spec)?;
+    Ok(machine.spec())
 }
 
 // Size, readers, first block and total, and the fault that rejects the ring.
@@ -327,24 +416,24 @@ fn refused_rings(rt: HostRuntime) {
             readers: *readers,
             id,
         };
-        assert_eq!(rt; Machine::open(rt.alloc(), spec).map(|_| ()), Err(*fault));
+        assert_eq!(rt; opened(rt.alloc(), spec), Err(*fault));
     }
 }
 
 #[test]
 fn the_largest_ring(rt: HostRuntime) -> Result<(), Fail> {
     let spec = ring_of([0; 4], 1_024, 16, 65_536);
-    assert_eq!(rt; Machine::open(rt.alloc(), spec)?.spec(), spec);
+    assert_eq!(rt; opened(rt.alloc(), spec)?, spec);
     Ok(())
 }
 
 #[test]
 fn numbers_of_faults(rt: HostRuntime) {
-    let faults = [
-        RingFault::Size,
-        RingFault::Readers,
-        RingFault::Stream,
-        RingFault::Memory,
+    let numbers = [
+        RingFault::Size.number(),
+        RingFault::Readers.number(),
+        RingFault::Stream.number(),
+        RingFault::Memory.number(),
     ];
-    assert_eq!(rt; faults.map(RingFault::number), [1, 2, 3, 90]);
+    assert_eq!(rt; numbers, [1, 2, 3, 90]);
 }

@@ -1,7 +1,7 @@
 // Customers who return items: examples worked out by hand, and figures of an independent program that adds up all
 // orders, demands and returned items.
 
-ghost use Rattle.std.specs.Prelude.{◌≤◌, All};
+ghost use Rattle.std.specs.Prelude.{◌≡◌, ◌≤◌, ◌∷◌, [], All, IfOk};
 ghost use Rattle.crn_stock.specs.Models.{returned_values};
 
 use super::*;
@@ -25,7 +25,17 @@ fn one_a_period(alloc: Global, periods: u32, lead: u32) -> Result<Model, AllocEr
     steady_model(alloc, periods, 2, lead, Some(returns))
 }
 
-// Three replications of ten periods whose draws all vary, with these returns.
+// Demands and lead times that vary.
+fn varying_draws(alloc: Global) -> Result<(Weights, Weights), AllocError>
+    ensures demand { IfOk result (λ r. r.0.values ≡ 1 ∷ 2 ∷ 3 ∷ 4 ∷ []) }
+    ensures lead { IfOk result (λ r. r.1.values ≡ 1 ∷ 2 ∷ 3 ∷ []) }
+{
+    let demand = draws(alloc, &[1, 2, 3, 4], &[1, 2, 2, 1])?;
+    let lead = draws(alloc, &[1, 2, 3], &[2, 5, 3])?;
+    Ok((demand, lead))
+}
+
+// Three replications of ten periods with these draws and returns.
 fn drawn(alloc: Global, returns: Option<Weights>) -> Result<Model, AllocError>
     requires { All (λ v. v ≤ 10000) (returned_values returns) }
 {
@@ -35,8 +45,7 @@ fn drawn(alloc: Global, returns: Option<Weights>) -> Result<Model, AllocError>
         holding: 1,
         backlog: 5,
     };
-    let demand = draws(alloc, &[1, 2, 3, 4], &[1, 2, 2, 1])?;
-    let lead = draws(alloc, &[1, 2, 3], &[2, 5, 3])?;
+    let (demand, lead) = varying_draws(alloc)?;
     Ok(Model::new(10, 3, 12, costs, demand, lead, returns))
 }
 
@@ -54,8 +63,7 @@ fn filling(alloc: Global) -> Result<Model, AllocError> {
         holding: 10_000,
         backlog: 0,
     };
-    let demand = always(alloc, 0)?;
-    let lead = always(alloc, 1)?;
+    let (demand, lead) = fixed_draws(alloc, 0, 1)?;
     let returns = always(alloc, 10_000)?;
     Ok(Model::new(1_024, 1, 1_000_000, costs, demand, lead, Some(returns)))
 }
@@ -68,10 +76,15 @@ fn has_none(model: &Model) -> bool {
         && model.returned(u64::MAX) == 0
 }
 
+// Whether this is so of a model that is made without returns.
+fn without_returns_has_none(alloc: Global) -> Result<bool, AllocError> {
+    let model = drawn(alloc, None)?;
+    Ok(has_none(&model))
+}
+
 #[test]
 fn no_returns(rt: HostRuntime) -> Result<(), Fail> {
-    let model = drawn(rt.alloc(), None)?;
-    assert!(rt; has_none(&model));
+    assert!(rt; without_returns_has_none(rt.alloc())?);
     Ok(())
 }
 
@@ -81,14 +94,6 @@ fn last_returned(model: &Model) -> Option<u32> {
         Some(returns) if model.has_returns() => Some(returns.pick(u64::MAX)),
         _ => None,
     }
-}
-
-#[test]
-fn parts_of_returns(rt: HostRuntime) -> Result<(), Fail> {
-    let model = with_drawn_returns(rt.alloc())?;
-    let picked = last_returned(&model);
-    assert_eq!(rt; picked, Some(5));
-    Ok(())
 }
 
 // Words and the items returned at them: 0 in the first four tenths, 5 in the last one.
@@ -109,14 +114,6 @@ fn first_other_word(model: &Model, table: &[(u64, u32)]) -> Option<u64> {
         }
     }
     None
-}
-
-#[test]
-fn returned_by_words(rt: HostRuntime) -> Result<(), Fail> {
-    let model = with_drawn_returns(rt.alloc())?;
-    let other = first_other_word(&model, &RETURNED);
-    assert_eq!(rt; other, None);
-    Ok(())
 }
 
 // The review of period 3 sees a stock of 4, without the item that is returned in that period.
@@ -154,17 +151,6 @@ fn both_copy(alloc: Global, model: &Model) -> Result<bool, AllocError> {
     )
 }
 
-fn drawn_copies(alloc: Global) -> Result<bool, AllocError> {
-    let model = with_drawn_returns(alloc)?;
-    both_copy(alloc, &model)
-}
-
-#[test]
-fn copied_with_drawn_returns(rt: HostRuntime) -> Result<(), Fail> {
-    assert!(rt; drawn_copies(rt.alloc())?);
-    Ok(())
-}
-
 fn both_resume(alloc: Global, model: &Model) -> Result<bool, AllocError> {
     Ok(
         resumes(alloc, model, A, (6, 37, 0), &[152, 152, 146])?
@@ -172,15 +158,67 @@ fn both_resume(alloc: Global, model: &Model) -> Result<bool, AllocError> {
     )
 }
 
-fn drawn_resumes(alloc: Global) -> Result<bool, AllocError> {
+// What the model with drawn returns shows: the returned items at the last word, the first word at which there are others
+// than these, and whether its runs have their costs after a copy and restored.
+#[derive(Clone, Copy)]
+struct DrawnFigures {
+    last: Option<u32>,
+    other_word: Option<u64>,
+    copies: bool,
+    resumes: bool,
+}
+
+// All that such a model shows.
+fn drawn_by(alloc: Global, model: &Model) -> Result<DrawnFigures, AllocError> {
+    Ok(DrawnFigures {
+        last: last_returned(model),
+        other_word: first_other_word(model, &RETURNED),
+        copies: both_copy(alloc, model)?,
+        resumes: both_resume(alloc, model)?,
+    })
+}
+
+// The same of the model with drawn returns.
+fn shown_by_drawn(alloc: Global) -> Result<DrawnFigures, AllocError> {
     let model = with_drawn_returns(alloc)?;
-    both_resume(alloc, &model)
+    drawn_by(alloc, &model)
+}
+
+#[test]
+fn parts_of_returns(rt: HostRuntime) -> Result<(), Fail> {
+    assert_eq!(rt; shown_by_drawn(rt.alloc())?.last, Some(5));
+    Ok(())
+}
+
+#[test]
+fn returned_by_words(rt: HostRuntime) -> Result<(), Fail> {
+    assert_eq!(rt; shown_by_drawn(rt.alloc())?.other_word, None);
+    Ok(())
+}
+
+#[test]
+fn copied_with_drawn_returns(rt: HostRuntime) -> Result<(), Fail> {
+    assert!(rt; shown_by_drawn(rt.alloc())?.copies);
+    Ok(())
 }
 
 #[test]
 fn restored_with_drawn_returns(rt: HostRuntime) -> Result<(), Fail> {
-    assert!(rt; drawn_resumes(rt.alloc())?);
+    assert!(rt; shown_by_drawn(rt.alloc())?.resumes);
     Ok(())
+}
+
+// The first row of a table that is not judged as it should be, in a model with so many returned items in every period.
+fn first_other_returning(
+    alloc: Global,
+    returned: u32,
+    table: &[Amounts],
+    want: Option<RestoreFault>,
+) -> Result<Option<usize>, AllocError>
+    requires { returned ≤ 10000 }
+{
+    let model = returning(alloc, returned)?;
+    Ok(first_other(alloc, &model, table, want))
 }
 
 // The limit is wider for a model with returns, even if no item is ever returned.
@@ -196,8 +234,7 @@ static WIDER: [Amounts; 7] = [
 
 #[test]
 fn ends_of_wider_ranges(rt: HostRuntime) -> Result<(), Fail> {
-    let model = returning(rt.alloc(), 0)?;
-    let other = first_other(rt.alloc(), &model, &WIDER, None);
+    let other = first_other_returning(rt.alloc(), 0, &WIDER, None)?;
     assert_eq!(rt; other, None);
     Ok(())
 }
@@ -217,9 +254,8 @@ static PAST_WIDER: [Amounts; 10] = [
 
 #[test]
 fn past_wider_ranges(rt: HostRuntime) -> Result<(), Fail> {
-    let model = returning(rt.alloc(), 1)?;
     let range = Some(RestoreFault::Range);
-    let other = first_other(rt.alloc(), &model, &PAST_WIDER, range);
+    let other = first_other_returning(rt.alloc(), 1, &PAST_WIDER, range)?;
     assert_eq!(rt; other, None);
     Ok(())
 }

@@ -77,10 +77,7 @@ fn is_run(
     cost: u64,
 ) -> Result<bool, AllocError> {
     let model = model_of(rt, alloc, sizes)?;
-    if model.total() != total {
-        return Ok(false);
-    }
-    run_alike(alloc, &model, sizes, cost)
+    Ok(model.total() == total && run_alike(alloc, &model, sizes, cost)?)
 }
 
 #[test]

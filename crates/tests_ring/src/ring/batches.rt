@@ -1,10 +1,22 @@
 // Calls by batches, with all answers worked out by hand.
 
-use super::loops::fill;
+ghost use Rattle.std.specs.Prelude.{◌≡◌, ◌+◌, ◌<◌, ◌≤◌, ℕ, length, slice_get, Some};
+ghost use Rattle.crn_cipher.specs.declared.stream.Block.{Block};
+
 use crate::rings::One;
 use crn_cipher::{Block, block};
 use crn_ring::{Batch, PublishMany};
-use std::test::Fail;
+use std::alloc::Global;
+
+// The blocks of a key from n on, in the front of `blocks`.
+fn fill(key: [u64; 4], n: u64, blocks: &mut [Block], count: usize)
+    requires room { (count ≤ length blocks.old) × (n + count ≤ 65536) }
+    ensures blocks { (j : ℕ) (b : Block) → j < count → slice_get blocks.new j ≡ Some b → (b.key ≡ key) × (b.number ≡ n + j) }
+{
+    for k in 0..count {
+        blocks[k] = block(key, n + k as u64);
+    }
+}
 
 // Publishes a batch of `count` blocks from n on; None if these are not the next blocks, or if `count` is out of range.
 fn publish_from(one: &mut One, n: u64, count: usize) -> Option<PublishMany> {
@@ -31,65 +43,83 @@ fn take_into(one: &mut One, out: &mut [Block]) -> Option<Batch> {
 
 // Whether these are the blocks of the zero key from n on.
 fn are_blocks(blocks: &[Block], n: u64) -> bool {
-    blocks
-        .iter()
-        .enumerate()
-        .all(|(k, b)| *b == block([0; 4], n.wrapping_add(k as u64)))
+    for (k, b) in blocks.iter().enumerate() {
+        if *b != block([0; 4], n.wrapping_add(k as u64)) {
+            return false;
+        }
+    }
+    true
 }
 
-#[test]
-fn batches_share_four_slots(rt: HostRuntime) -> Result<(), Fail> {
-    let Some(mut one) = One::open(rt.alloc(), 4, 10) else {
-        panic!(rt; "not opened")
-    };
-    assert_eq!(rt;
-        publish_from(&mut one, 0, 6),
-        Some(PublishMany::Done { count: 4 })
-    );
+// Publishes four of six blocks and takes three of them, and returns whether each answer was right.
+fn begins(one: &mut One, three: &mut [Block; 3]) -> bool {
+    publish_from(one, 0, 6) == Some(PublishMany::Done { count: 4 })
+        && take_into(one, three) == Some(Batch::Got { count: 3 })
+        && are_blocks(three, 0)
+}
+
+// Publishes three more blocks and takes four, which leave the rest of `ten` as it was, and returns whether each answer was
+// right.
+fn goes_on(one: &mut One, ten: &mut [Block; 10], mark: Block) -> bool {
+    publish_from(one, 4, 6) == Some(PublishMany::Done { count: 3 })
+        && take_into(one, ten) == Some(Batch::Got { count: 4 })
+        && are_blocks(&ten[..4], 3)
+        && ten[4..] == [mark; 6]
+}
+
+// Takes nothing, then marks the end and takes it, and returns whether each answer was right.
+fn ends(one: &mut One, three: &mut [Block; 3], ten: &mut [Block; 10]) -> bool {
+    let is_empty = take_into(one, ten) == Some(Batch::Empty { published: 7 });
+    one.finish();
+    is_empty && take_into(one, three) == Some(Batch::Ended { published: 7 })
+}
+
+// Makes these calls on a ring, and returns whether the blocks that were taken stay as they were at the end too.
+fn shares_four_slots(one: &mut One) -> bool {
     let mark = block([7; 4], 99);
     let mut three = [mark; 3];
-    assert_eq!(rt;
-        take_into(&mut one, &mut three),
-        Some(Batch::Got { count: 3 })
-    );
-    assert!(rt; are_blocks(&three, 0));
-    assert_eq!(rt;
-        publish_from(&mut one, 4, 6),
-        Some(PublishMany::Done { count: 3 })
-    );
     let mut ten = [mark; 10];
-    assert_eq!(rt;
-        take_into(&mut one, &mut ten),
-        Some(Batch::Got { count: 4 })
-    );
-    assert!(rt; are_blocks(&ten[..4], 3) && ten[4..].iter().all(|b| *b == mark));
-    assert_eq!(rt;
-        take_into(&mut one, &mut ten),
-        Some(Batch::Empty { published: 7 })
-    );
-    one.finish();
-    assert_eq!(rt;
-        take_into(&mut one, &mut three),
-        Some(Batch::Ended { published: 7 })
-    );
-    assert!(rt; are_blocks(&three, 0) && are_blocks(&ten[..4], 3));
-    Ok(())
+    begins(one, &mut three)
+        && goes_on(one, &mut ten, mark)
+        && ends(one, &mut three, &mut ten)
+        && are_blocks(&three, 0)
+        && are_blocks(&ten[..4], 3)
+}
+
+// The same of a ring of four slots; false also if it is not opened.
+fn four_slots_are_shared(alloc: Global) -> bool {
+    match One::open(alloc, 4, 10) {
+        None => false,
+        Some(mut one) => shares_four_slots(&mut one),
+    }
 }
 
 #[test]
-fn a_batch_for_one_slot(rt: HostRuntime) -> Result<(), Fail> {
-    let Some(mut one) = One::open(rt.alloc(), 1, 2) else {
-        panic!(rt; "not opened")
-    };
-    assert_eq!(rt;
-        publish_from(&mut one, 0, 2),
-        Some(PublishMany::Done { count: 1 })
-    );
+fn batches_share_four_slots(rt: HostRuntime) {
+    assert!(rt; four_slots_are_shared(rt.alloc()));
+}
+
+// Publishes a batch of two blocks on one slot, and then one block, and returns whether each answer was right.
+fn fills_one_slot(one: &mut One) -> bool {
     let full = PublishMany::Full {
         reader: 0,
         taken: 0,
     };
-    assert_eq!(rt; publish_from(&mut one, 1, 1), Some(full));
-    assert!(rt; one.producer.published() == 1 && one.reader.taken() == 0);
-    Ok(())
+    publish_from(one, 0, 2) == Some(PublishMany::Done { count: 1 })
+        && publish_from(one, 1, 1) == Some(full)
+        && one.producer.published() == 1
+        && one.reader.taken() == 0
+}
+
+// The same of a ring of one slot; false also if it is not opened.
+fn one_slot_is_filled(alloc: Global) -> bool {
+    match One::open(alloc, 1, 2) {
+        None => false,
+        Some(mut one) => fills_one_slot(&mut one),
+    }
+}
+
+#[test]
+fn a_batch_for_one_slot(rt: HostRuntime) {
+    assert!(rt; one_slot_is_filled(rt.alloc()));
 }

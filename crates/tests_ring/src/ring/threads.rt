@@ -2,14 +2,14 @@
 ghost use Rattle.std.specs.Prelude.{◌≡◌, false, true};
 ghost use Rattle.crn_ring.specs.Calls.{IsProducerOf, IsReaderOf, producer_part, reader_part, spec_of};
 
-use super::loops::{Consumer, drain, feed};
+use super::loops::drain;
 use crate::rings::open_two;
 use crn_cipher::block;
 use crn_ring::{Producer, Publish, Reader, Ring, Take};
+use crn_run::feed;
 use crossbeam_utils::Backoff;
 use std::alloc::Global;
 use std::sync::Wait;
-use std::test::Fail;
 use std::thread;
 use std::thread::Threads;
 
@@ -21,11 +21,11 @@ enum Pace {
 }
 
 // Publishes all blocks one by one, and then the end.
-fn feed_one_by_one<R: Wait>(rt: &R, ring: &Ring, mut producer: Producer) -> Producer
-    requires of { IsProducerOf ring.now producer }
-    requires running { (producer_part producer).ended ≡ false }
-    ensures all { (producer_part result).published ≡ (spec_of ring.now).id.total }
-    ensures ended { (producer_part result).ended ≡ true }
+fn feed_one_by_one<R: Wait>(rt: &R, ring: &Ring, producer: &mut Producer)
+    requires of { IsProducerOf ring.now producer.old }
+    requires running { (producer_part producer.old).ended ≡ false }
+    ensures all { (producer_part producer.new).published ≡ (spec_of ring.now).id.total }
+    ensures ended { (producer_part producer.new).ended ≡ true }
 {
     let id = ring.spec().id;
     let backoff = Backoff::new();
@@ -33,7 +33,7 @@ fn feed_one_by_one<R: Wait>(rt: &R, ring: &Ring, mut producer: Producer) -> Prod
         let n = producer.published();
         if n == id.total {
             producer.finish(ring);
-            return producer;
+            return;
         }
         match producer.try_publish(ring, &block(id.key, n)) {
             Publish::Done => backoff.reset(),
@@ -46,11 +46,11 @@ fn feed_one_by_one<R: Wait>(rt: &R, ring: &Ring, mut producer: Producer) -> Prod
     unreachable!()
 }
 
-// Takes blocks one by one up to the end. Answers the reader and how many blocks were the key's own.
-fn drain_one_by_one<R: Wait>(rt: &R, ring: &Ring, mut reader: Reader) -> (Reader, u64)
-    requires of { IsReaderOf ring.now reader }
-    requires running { (reader_part reader).seen_end ≡ false }
-    ensures ended { (reader_part result.0).seen_end ≡ true }
+// Takes blocks one by one up to the end. Answers how many were the key's own.
+fn drain_one_by_one<R: Wait>(rt: &R, ring: &Ring, reader: &mut Reader) -> u64
+    requires of { IsReaderOf ring.now reader.old }
+    requires running { (reader_part reader.old).seen_end ≡ false }
+    ensures ended { (reader_part reader.new).seen_end ≡ true }
 {
     let key = ring.spec().id.key;
     let backoff = Backoff::new();
@@ -59,74 +59,68 @@ fn drain_one_by_one<R: Wait>(rt: &R, ring: &Ring, mut reader: Reader) -> (Reader
         let n = reader.taken();
         match reader.try_take(ring) {
             Take::Got(b) => {
-                if b == block(key, n) && right < 1 << 32 {
-                    right += 1;
+                if b == block(key, n) {
+                    right = right.wrapping_add(1);
                 }
                 backoff.reset();
             }
             Take::Empty { published: _ } => backoff.snooze(),
-            Take::Ended { published: _ } => return (reader, right),
+            Take::Ended { published: _ } => return right,
         }
     }
     unreachable!()
 }
 
-// The reader at the end, and how many blocks that it has taken were the key's own.
-fn drain_by<R: Wait>(rt: &R, ring: &Ring, reader: Reader, pace: Pace) -> (Reader, u64)
+// A reader's number, how many blocks it has taken at the end, and how many of these were the key's own.
+type Read = (u32, u64, u64);
+
+// Takes all blocks up to the end, at this pace.
+fn drain_by<R: Wait>(rt: &R, ring: &Ring, mut reader: Reader, pace: Pace) -> Read
     requires of { IsReaderOf ring.now reader }
     requires running { (reader_part reader).seen_end ≡ false }
-    ensures ended { (reader_part result.0).seen_end ≡ true }
 {
-    match pace {
-        Pace::OneByOne => drain_one_by_one(rt, ring, reader),
-        Pace::ByBatches => {
-            let key = ring.spec().id.key;
-            let mut consumer = Consumer {
-                key,
-                next: reader.taken(),
-                right: 0,
-            };
-            let (reader, _) = drain(rt, ring, reader, &mut consumer);
-            (reader, consumer.right)
-        }
-    }
+    let right = match pace {
+        Pace::OneByOne => drain_one_by_one(rt, ring, &mut reader),
+        Pace::ByBatches => drain(rt, ring, &mut reader),
+    };
+    (reader.number(), reader.taken(), right)
 }
 
-fn feed_by<R: Wait>(rt: &R, ring: &Ring, producer: Producer, pace: Pace) -> Producer
+// Publishes all blocks and then the end. Answers how many are published.
+fn feed_by<R: Wait>(rt: &R, ring: &Ring, mut producer: Producer, pace: Pace) -> u64
     requires of { IsProducerOf ring.now producer }
     requires running { (producer_part producer).ended ≡ false }
-    ensures ended { (producer_part result).ended ≡ true }
 {
     match pace {
-        Pace::OneByOne => feed_one_by_one(rt, ring, producer),
-        Pace::ByBatches => feed(rt, ring, producer),
+        Pace::OneByOne => feed_one_by_one(rt, ring, &mut producer),
+        Pace::ByBatches => feed(rt, ring, &mut producer),
     }
+    producer.published()
 }
 
+// Takes all blocks by both readers, each on a thread of its own.
 fn drain_both<R: Threads + Wait + Sync>(
     rt: &R,
     ring: &Ring,
     a: Reader,
     b: Reader,
     pace: Pace,
-) -> ((Reader, u64), (Reader, u64))
+) -> (Read, Read)
     requires first { IsReaderOf ring.now a × ((reader_part a).seen_end ≡ false) }
     requires second { IsReaderOf ring.now b × ((reader_part b).seen_end ≡ false) }
-    ensures { ((reader_part result.0.0).seen_end ≡ true) × ((reader_part result.1.0).seen_end ≡ true) }
 {
     thread::join(
         rt,
         move ||
             requires { IsReaderOf ring.now a × ((reader_part a).seen_end ≡ false) }
-            ensures { (reader_part result.0).seen_end ≡ true }
         { drain_by(rt, ring, a, pace) },
         move ||
             requires { IsReaderOf ring.now b × ((reader_part b).seen_end ≡ false) }
-            ensures { (reader_part result.0).seen_end ≡ true }
         { drain_by(rt, ring, b, pace) },
     )
 }
 
+// Publishes all blocks on one thread while both readers take them.
 fn run<R: Threads + Wait + Sync>(
     rt: &R,
     ring: &Ring,
@@ -134,11 +128,10 @@ fn run<R: Threads + Wait + Sync>(
     a: Reader,
     b: Reader,
     pace: Pace,
-) -> (Producer, ((Reader, u64), (Reader, u64)))
+) -> (u64, (Read, Read))
     requires producer { IsProducerOf ring.now producer × ((producer_part producer).ended ≡ false) }
     requires first { IsReaderOf ring.now a × ((reader_part a).seen_end ≡ false) }
     requires second { IsReaderOf ring.now b × ((reader_part b).seen_end ≡ false) }
-    ensures { ((reader_part result.1.0.0).seen_end ≡ true) × ((reader_part result.1.1.0).seen_end ≡ true) }
 {
     thread::join(
         rt,
@@ -147,7 +140,6 @@ fn run<R: Threads + Wait + Sync>(
         { feed_by(rt, ring, producer, pace) },
         move ||
             requires { (IsReaderOf ring.now a × ((reader_part a).seen_end ≡ false)) × (IsReaderOf ring.now b × ((reader_part b).seen_end ≡ false)) }
-            ensures { ((reader_part result.0.0).seen_end ≡ true) × ((reader_part result.1.0).seen_end ≡ true) }
         { drain_both(rt, ring, a, b, pace) },
     )
 }
@@ -160,32 +152,31 @@ fn all_arrive<R: Threads + Wait + Sync>(
     total: u64,
     pace: Pace,
 ) -> bool {
-    let Some((ring, producer, a, b)) = open_two(alloc, size, total) else {
-        return false;
-    };
-    let (producer, ((a, first), (b, second))) = run(rt, &ring, producer, a, b, pace);
-    let readers = a.number() == 0 && b.number() == 1 && a.taken() == total && b.taken() == total;
-    readers && first == total && second == total && producer.published() == total
+    match open_two(alloc, size, total) {
+        None => false,
+        Some((ring, producer, a, b)) => {
+            let reads = ((0, total, total), (1, total, total));
+            run(rt, &ring, producer, a, b, pace) == (total, reads)
+        }
+    }
 }
 
 #[test]
-fn two_readers_get_every_block_one_by_one(rt: HostRuntime) -> Result<(), Fail> {
+fn two_readers_get_every_block_one_by_one(rt: HostRuntime) {
     for size in [2, 64] {
         assert!(rt;
             all_arrive(&rt, rt.alloc(), size, 4_096, Pace::OneByOne),
             "size {size}"
         );
     }
-    Ok(())
 }
 
 #[test]
-fn two_readers_get_every_block_by_batches(rt: HostRuntime) -> Result<(), Fail> {
+fn two_readers_get_every_block_by_batches(rt: HostRuntime) {
     for size in [1, 2, 64, 1_024] {
         assert!(rt;
             all_arrive(&rt, rt.alloc(), size, 65_536, Pace::ByBatches),
             "size {size}"
         );
     }
-    Ok(())
 }

@@ -92,10 +92,15 @@ fn ends_early<R: Wait>(rt: &R, alloc: Global, scenario: &Scenario) -> Result<boo
     Ok(is_short_at(&end, 2))
 }
 
+// The same of twenty periods of the steady model.
+fn twenty_periods_end_early<R: Wait>(rt: &R, alloc: Global) -> Result<bool, AllocError> {
+    let scenario = steady(alloc, Slots::Two, 20, 1)?;
+    ends_early(rt, alloc, &scenario)
+}
+
 #[test]
 fn an_early_end(rt: HostRuntime) -> Result<(), Fail> {
-    let scenario = steady(rt.alloc(), Slots::Two, 20, 1)?;
-    assert!(rt; ends_early(&rt, rt.alloc(), &scenario)?);
+    assert!(rt; twenty_periods_end_early(&rt, rt.alloc())?);
     Ok(())
 }
 
@@ -189,11 +194,16 @@ fn holds_before<R: Wait>(
     }
 }
 
+// The same of two replications of five periods.
+fn five_periods_hold_before<R: Wait>(rt: &R, alloc: Global, k: u64) -> Result<bool, AllocError> {
+    let scenario = steady(alloc, Slots::Two, 5, 2)?;
+    holds_before(rt, alloc, &scenario, k)
+}
+
 #[test]
 fn a_held_policy(rt: HostRuntime) -> Result<(), Fail> {
-    let scenario = steady(rt.alloc(), Slots::Two, 5, 2)?;
     for k in 0..4 {
-        assert!(rt; holds_before(&rt, rt.alloc(), &scenario, k)?, "block {k}");
+        assert!(rt; five_periods_hold_before(&rt, rt.alloc(), k)?, "block {k}");
     }
     Ok(())
 }
@@ -274,29 +284,36 @@ fn run_filling<R: Wait>(
     gate.published
 }
 
-// The same on a ring of 32 slots that were full before the policy ran.
+// The same of a policy that starts on a ring of 32 slots that are full.
 fn published_at_first<R: Wait>(
     rt: &R,
     alloc: Global,
     scenario: &Scenario,
-) -> Result<Option<u64>, AllocError>
-    requires scenario { (scenario.now.model.periods ≡ 1024) × (scenario.now.model.replications ≡ 1) }
-    requires key { scenario.now.key ≡ 0 ∷ 0 ∷ 0 ∷ 0 ∷ [] }
+    state: State,
+) -> Option<u64>
     requires two { length scenario.now.policies ≡ 2 }
+    requires key { scenario.now.key ≡ 0 ∷ 0 ∷ 0 ∷ 0 ∷ [] }
+    requires stands { StandsBefore scenario.now.model 0 state }
+    requires blocks { 100 ≤ total scenario.now.model }
 {
-    let state = State::start(alloc, scenario.model())?;
     match full_ring(alloc) {
-        None => Ok(None),
-        Some((ring, producer, reader)) => Ok(Some(run_filling(
+        None => None,
+        Some((ring, producer, reader)) => Some(run_filling(
             rt, &ring, producer, reader, scenario, state,
-        ))),
+        )),
     }
+}
+
+// The same of 1,024 periods of the steady model.
+fn published_of_many<R: Wait>(rt: &R, alloc: Global) -> Result<Option<u64>, AllocError> {
+    let scenario = steady(alloc, Slots::Two, 1_024, 1)?;
+    let state = State::start(alloc, scenario.model())?;
+    Ok(published_at_first(rt, alloc, &scenario, state))
 }
 
 // The first batch has freed 16 of the slots.
 #[test]
 fn batches_of_sixteen(rt: HostRuntime) -> Result<(), Fail> {
-    let scenario = steady(rt.alloc(), Slots::Two, 1_024, 1)?;
-    assert_eq!(rt; published_at_first(&rt, rt.alloc(), &scenario)?, Some(48));
+    assert_eq!(rt; published_of_many(&rt, rt.alloc())?, Some(48));
     Ok(())
 }

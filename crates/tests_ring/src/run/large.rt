@@ -1,5 +1,5 @@
 // Long runs: 4,096 blocks and more, up to the most that a scenario can have.
-ghost use Rattle.std.specs.Prelude.{◌≡◌, length};
+ghost use Rattle.std.specs.Prelude.{◌≡◌, ◌≤◌, length};
 
 use super::runs::{run_reaches, run_whole};
 use super::scenarios::{largest, steady};
@@ -31,27 +31,34 @@ fn agree<R: Threads + Wait + Sync>(
     Ok(states.len() == 2 && have_costs(&finished.checkpoint, states[0].costs(), states[1].costs()))
 }
 
+// The same of so many replications of the steady model.
+fn agree_over<R: Threads + Wait + Sync>(
+    rt: &R,
+    alloc: Global,
+    replications: u32,
+) -> Result<bool, RunFault>
+    requires { (1 ≤ replications) × (replications ≤ 256) }
+{
+    let scenario = steady(alloc, Slots::Two, 1_024, replications)?;
+    agree(rt, alloc, &scenario)
+}
+
 #[test]
-fn over_4096_blocks(rt: HostRuntime) -> Result<(), Fail> {
+fn over_4096_blocks(rt: HostRuntime) {
     for replications in [16, 17] {
-        let scenario = steady(rt.alloc(), Slots::Two, 1_024, replications)?;
-        assert!(rt; matches!(agree(&rt, rt.alloc(), &scenario), Ok(true)));
+        assert_eq!(rt; agree_over(&rt, rt.alloc(), replications), Ok(true));
     }
-    Ok(())
+}
+
+// Whether the largest run ends with a cost of 1,024 for each replication.
+fn largest_reaches<R: Threads + Wait + Sync>(rt: &R, alloc: Global) -> Result<bool, AllocError> {
+    let scenario = largest(alloc)?;
+    let costs = [1_024; 256];
+    Ok(run_reaches(rt, alloc, &scenario, 65_536, &costs, &costs))
 }
 
 #[test]
 fn all_blocks(rt: HostRuntime) -> Result<(), Fail> {
-    let scenario = largest(rt.alloc())?;
-    assert!(rt;
-        run_reaches(
-            &rt,
-            rt.alloc(),
-            &scenario,
-            65_536,
-            &[1_024; 256],
-            &[1_024; 256]
-        )
-    );
+    assert!(rt; largest_reaches(&rt, rt.alloc())?);
     Ok(())
 }

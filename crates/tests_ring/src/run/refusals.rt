@@ -68,9 +68,17 @@ fn leaves_start<R: Threads + Wait + Sync>(
     Ok(run_twice(rt, alloc, scenario, &start) && is_kept(&start))
 }
 
+// The same of the steady model.
+fn steady_leaves_start<R: Threads + Wait + Sync>(
+    rt: &R,
+    alloc: Global,
+) -> Result<bool, AllocError> {
+    let scenario = steady(alloc, Slots::Two, 5, 2)?;
+    leaves_start(rt, alloc, &scenario)
+}
+
 #[test]
 fn a_refusal_leaves_the_start(rt: HostRuntime) -> Result<(), Fail> {
-    let scenario = steady(rt.alloc(), Slots::Two, 5, 2)?;
-    assert!(rt; leaves_start(&rt, rt.alloc(), &scenario)?);
+    assert!(rt; steady_leaves_start(&rt, rt.alloc())?);
     Ok(())
 }

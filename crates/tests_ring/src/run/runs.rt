@@ -83,17 +83,37 @@ pub(super) fn run_reaches<R: Threads + Wait + Sync>(
     has_reached(&answer, upto, a, b)
 }
 
+// Whether a whole run of the base scenario has its costs.
+fn base_reaches<R: Threads + Wait + Sync>(rt: &R, alloc: Global) -> Result<bool, AllocError> {
+    let scenario = base(alloc, 1)?;
+    Ok(run_reaches(rt, alloc, &scenario, 1, &[222], &[359]))
+}
+
 #[test]
 fn base_scenario(rt: HostRuntime) -> Result<(), Fail> {
-    let scenario = base(rt.alloc(), 1)?;
-    assert!(rt; run_reaches(&rt, rt.alloc(), &scenario, 1, &[222], &[359]));
+    assert!(rt; base_reaches(&rt, rt.alloc())?);
     Ok(())
+}
+
+// Whether so many whole runs of the steady model have its costs.
+fn all_alike<R: Threads + Wait + Sync>(
+    rt: &R,
+    alloc: Global,
+    slots: Slots,
+    runs: u32,
+) -> Result<bool, AllocError> {
+    let scenario = steady(alloc, slots, 5, 2)?;
+    for _ in 0..runs {
+        if !run_reaches(rt, alloc, &scenario, 4, &[55, 55], &[49, 49]) {
+            return Ok(false);
+        }
+    }
+    Ok(true)
 }
 
 #[test]
 fn two_replications(rt: HostRuntime) -> Result<(), Fail> {
-    let scenario = steady(rt.alloc(), Slots::Two, 5, 2)?;
-    assert!(rt; run_reaches(&rt, rt.alloc(), &scenario, 4, &[55, 55], &[49, 49]));
+    assert!(rt; all_alike(&rt, rt.alloc(), Slots::Two, 1)?);
     Ok(())
 }
 
@@ -119,41 +139,25 @@ fn run_in_two_legs<R: Threads + Wait + Sync>(
 }
 
 // Whether that run has the costs of a whole run of the steady model.
-fn legs_reach<R: Threads + Wait + Sync>(rt: &R, alloc: Global, scenario: &Scenario, n: u64) -> bool
-    requires two { length scenario.now.policies ≡ 2 }
-    requires below { n ≤ total scenario.now.model }
+fn legs_reach<R: Threads + Wait + Sync>(rt: &R, alloc: Global, n: u64) -> Result<bool, AllocError>
+    requires { n ≤ 4 }
 {
-    let answer = run_in_two_legs(rt, alloc, scenario, n);
-    has_reached(&answer, 4, &[55, 55], &[49, 49])
+    let scenario = steady(alloc, Slots::One, 5, 2)?;
+    let answer = run_in_two_legs(rt, alloc, &scenario, n);
+    Ok(has_reached(&answer, 4, &[55, 55], &[49, 49]))
 }
 
 #[test]
 fn two_legs(rt: HostRuntime) -> Result<(), Fail> {
-    let scenario = steady(rt.alloc(), Slots::One, 5, 2)?;
     for n in 0..5 {
-        assert!(rt; legs_reach(&rt, rt.alloc(), &scenario, n), "by way of {n}");
+        assert!(rt; legs_reach(&rt, rt.alloc(), n)?, "by way of {n}");
     }
     Ok(())
 }
 
-// Whether 200 runs over a ring of this size have the same costs.
-fn all_alike<R: Threads + Wait + Sync>(
-    rt: &R,
-    alloc: Global,
-    slots: Slots,
-) -> Result<bool, AllocError> {
-    let scenario = steady(alloc, slots, 5, 2)?;
-    for _ in 0..200 {
-        if !run_reaches(rt, alloc, &scenario, 4, &[55, 55], &[49, 49]) {
-            return Ok(false);
-        }
-    }
-    Ok(true)
-}
-
 #[test]
 fn two_hundred_runs_alike(rt: HostRuntime) -> Result<(), Fail> {
-    assert!(rt; all_alike(&rt, rt.alloc(), Slots::One)?);
-    assert!(rt; all_alike(&rt, rt.alloc(), Slots::Two)?);
+    assert!(rt; all_alike(&rt, rt.alloc(), Slots::One, 200)?);
+    assert!(rt; all_alike(&rt, rt.alloc(), Slots::Two, 200)?);
     Ok(())
 }

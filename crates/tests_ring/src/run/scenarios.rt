@@ -3,7 +3,7 @@ ghost use Rattle.std.specs.Prelude.{◌≡◌, ◌≤◌, ◌∷◌, [], length,
 
 use crn_stock::{Costs, Model, Scenario};
 use std::alloc::{AllocError, Global};
-use tests_model::scenarios::{Levels, Slots, always, scenario_of, steady_model};
+use tests_model::scenarios::{Levels, Slots, fixed_draws, scenario_of, steady_model};
 
 // Replications of the steady model with lead times of 1.
 pub(super) fn steady(
@@ -32,8 +32,7 @@ fn largest_model(alloc: Global) -> Result<Model, AllocError> {
         holding: 1,
         backlog: 0,
     };
-    let demand = always(alloc, 0)?;
-    let lead = always(alloc, 1)?;
+    let (demand, lead) = fixed_draws(alloc, 0, 1)?;
     Ok(Model::new(1_024, 256, 1, costs, demand, lead, None))
 }
 

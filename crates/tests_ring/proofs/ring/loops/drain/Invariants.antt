@@ -3,4 +3,4 @@ use Rattle.crn_ring.specs.Calls.{IsReaderOf, reader_part}
 use Rattle.tests_ring.proofs.ring.loops.drain.Given as goal
 
 abbrev pub invariant-loop : goal.invariant-loop
-invariant-loop g l = IsReaderOf l.ring l.reader × ((reader_part l.reader).seen_end ≡ false) × (l.consumer.next ≡ (reader_part l.reader).taken) × (length l.blocks ≡ 16)
+invariant-loop g l = IsReaderOf l.ring l.reader × ((reader_part l.reader).seen_end ≡ false) × (length l.blocks ≡ 16)

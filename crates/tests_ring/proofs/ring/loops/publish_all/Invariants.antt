@@ -1,6 +1,0 @@
-use Rattle.std.proofs.Common.{◌≡◌, ◌+◌, ◌≤◌, length, false}
-use Rattle.crn_ring.specs.Calls.{IsProducerOf, producer_part}
-use Rattle.tests_ring.proofs.ring.loops.publish_all.Given as goal
-
-abbrev pub invariant-loop : goal.invariant-loop
-invariant-loop g l = IsProducerOf l.ring l.producer × ((producer_part l.producer).ended ≡ false) × (l.start ≤ length l.blocks) × ((producer_part l.producer).published ≡ (producer_part l.initial.producer).published + l.start)
