@@ -7,12 +7,12 @@ pub use crn_command_line::Command;
 pub use crn_engines::{
     Fault, answer_command, leg, migrate, read_words, replay_run, resume, simulate, write_words,
 };
-use std::env;
 use std::fs::File;
 use std::io::{ErrorKind, Read, Stdin};
 use std::process::ExitCode;
 use std::sync::Wait;
 use std::thread::Threads;
+use std::{env, io};
 
 fn main(rt: HostRuntime) -> ExitCode {
     match run(&rt, &rt) {
@@ -25,32 +25,57 @@ fn main(rt: HostRuntime) -> ExitCode {
     }
 }
 
-// Answers the words of the command line, a run of policies on threads of `threads`. The file of a checkpoint is opened
-// before a byte of any input is read.
+// Answers the words of the command line, a run of policies on threads of `threads`.
 fn run<H: Threads + Wait + Sync>(rt: &HostRuntime, threads: &H) -> Result<(), Fault> {
-    let alloc = rt.alloc();
-    let command = read_words(alloc, words_of(rt)?.as_slice())?;
-    let (mut input, mut output) = (rt.stdin(), rt.stdout());
-    if let Command::Resume { .. } = &command {
-        check_open(&mut input)?;
-    }
-    match &command {
-        Command::Resume { file } | Command::Migrate { file } => {
-            let mut saved = opened(rt, file.as_str())?;
-            answer_command(
-                threads,
-                alloc,
-                &command,
-                &mut saved,
-                &mut input,
-                &mut output,
-            )
+    let command = command_of(rt)?;
+    answer(rt, threads, &command)
+}
+
+// The command that the words of the command line are.
+fn command_of(rt: &HostRuntime) -> Result<Command, Fault> {
+    let words = words_of(rt)?;
+    read_words(rt.alloc(), words.as_slice())
+}
+
+// Answers a command. The file of a checkpoint is opened before a byte of any input is read.
+fn answer<H: Threads + Wait + Sync>(
+    rt: &HostRuntime,
+    threads: &H,
+    command: &Command,
+) -> Result<(), Fault> {
+    match command {
+        Command::Resume { file } => {
+            check_open(&mut rt.stdin())?;
+            answer_from_file(rt, threads, command, file.as_str())
         }
+        Command::Migrate { file } => answer_from_file(rt, threads, command, file.as_str()),
         _ => {
             let mut none: &[u8] = &[];
-            answer_command(threads, alloc, &command, &mut none, &mut input, &mut output)
+            answer_from(rt, threads, command, &mut none)
         }
     }
+}
+
+// Answers a command with the checkpoint in the file of this name.
+fn answer_from_file<H: Threads + Wait + Sync>(
+    rt: &HostRuntime,
+    threads: &H,
+    command: &Command,
+    name: &str,
+) -> Result<(), Fault> {
+    let mut saved = opened(rt, name)?;
+    answer_from(rt, threads, command, &mut saved)
+}
+
+// Answers a command with the checkpoint that is read from `saved`.
+fn answer_from<H: Threads + Wait + Sync, C: Read>(
+    rt: &HostRuntime,
+    threads: &H,
+    command: &Command,
+    saved: &mut C,
+) -> Result<(), Fault> {
+    let (mut input, mut output) = (rt.stdin(), rt.stdout());
+    answer_command(threads, rt.alloc(), command, saved, &mut input, &mut output)
 }
 
 // Refuses a standard input that is closed: the system would put the next file that is opened in its place, and the
@@ -64,14 +89,9 @@ fn check_open(input: &mut Stdin) -> Result<(), Fault> {
 
 // The words after the program's name. A word that is no text is refused.
 fn words_of(rt: &HostRuntime) -> Result<Vec<String>, Fault> {
-    let words = match env::args(rt) {
-        Ok(words) => words,
-        Err(e) if e.kind() == ErrorKind::OutOfMemory => return Err(Fault::Memory),
-        Err(_) => return Err(Fault::CommandLine),
-    };
-    match words.skip(1).collect(rt.alloc()) {
-        Ok(words) => Ok(words),
-        Err(_) => Err(Fault::Memory),
+    match env::args(rt) {
+        Ok(words) => Ok(words.skip(1).collect(rt.alloc())?),
+        Err(e) => Err(fault_of(&e, Fault::CommandLine)),
     }
 }
 
@@ -79,7 +99,14 @@ fn words_of(rt: &HostRuntime) -> Result<Vec<String>, Fault> {
 fn opened(rt: &HostRuntime, name: &str) -> Result<File, Fault> {
     match File::open(rt, name) {
         Ok(file) => Ok(file),
-        Err(e) if e.kind() == ErrorKind::OutOfMemory => Err(Fault::Memory),
-        Err(_) => Err(Fault::Reading),
+        Err(e) => Err(fault_of(&e, Fault::Reading)),
+    }
+}
+
+// Want of memory, or the fault that stands for any other error.
+fn fault_of(e: &io::Error, other: Fault) -> Fault {
+    match e.kind() {
+        ErrorKind::OutOfMemory => Fault::Memory,
+        _ => other,
     }
 }
