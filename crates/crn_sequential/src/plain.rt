@@ -35,8 +35,9 @@ pub fn run_plain(
     let policies = scenario.policies();
     let mut states = Vec::with_capacity(alloc, policies.len())?;
     for i in 0..policies.len() {
+        let policy = &policies[i];
         let from = &start.states[i];
-        let state = run_policy_plain(alloc, scenario, &policies[i], from, upto)?;
+        let state = run_policy_plain(alloc, scenario, policy, from, upto)?;
         states.push(state)?;
     }
     Ok(Checkpoint { next: upto, states })

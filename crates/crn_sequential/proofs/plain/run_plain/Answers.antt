@@ -6,7 +6,7 @@ use Rattle.crn_sequential.proofs.Running.{Ran, ran, read_at, read_policy, reache
 use Rattle.crn_sequential.proofs.plain.run_plain.Goals as goal
 
 -- the state that is taken further stands where the checkpoint does
-stands : (c : goal.After-index-policies-i) → StandsBefore c.args.scenario.now.model c.args.start.now.next c.index-from.result.now
+stands : (c : goal.After-index-from) → StandsBefore c.args.scenario.now.model c.args.start.now.next c.index-from.result.now
 stands c =
     c.requires.of.stand c.loop-i.i c.index-from.result.now
     (read_at c.args.start.now.states.items c.args.scenario.now.policies c.policies-policies.result.now c.loop-i.i c.index-from.result.now c.requires.of.count c.policies-policies.ensures.value c.loop-i-test.true c.index-from.ensures)
