@@ -37,7 +37,8 @@ import oracle
 from scenarios import on_ring
 
 FILES = ["cases.toml", "checkpoints.toml", "scenarios.toml", "legs.toml"]
-SECONDS = 10
+# After so long a run counts as one that does not end. Beside other work a ring of one slot can take ten seconds.
+SECONDS = 60
 # A standard input that says nothing and doesn't end.
 SILENT = os.pipe()
 
