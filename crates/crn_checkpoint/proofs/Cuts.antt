@@ -42,9 +42,6 @@ pub next_read : (v : Version) (s : ScenarioParts) (next : ℕ) (states : List Pa
 unfolding checkpoint_rows
 next_read v s next states rows h x says = says next (omega (arith, h.ranges.next_high, total_high s.model h.ranges.scenario.model)) (ap (λ rows. cell rows 0 2) h.rows_are)
 
-pub not_over : (m m' : ModelParts) (n x t : ℕ) → m' ≡ m → x ≡ n → t ≡ total m' → n ≤ total m → t < x → ⊥
-not_over m m' n x t em en et high over = omega (arith, et ∙ ap total em, en, high, over)
-
 pub for_scenario : (s : ScenarioParts) (ring : ℕ) (ps : List Policy) → IsScenarioRingSize ring → AreForScenario s.ring s.policies → ps ≡ s.policies → AreForScenario ring ps
 for_scenario s ring ps size h e = subst (AreForScenario ring) (sym e) (record { size = size; some = h.some; few = h.few; ranges = h.ranges; names = h.names; differ = h.differ })
 

@@ -438,7 +438,7 @@ fn judge_policies(alloc: Global, table: &Table) -> Result<(), ScenarioFault>
 ///
 /// # Errors
 ///
-/// That fault, or `Memory` where a growth was refused.
+/// That fault, or `Memory` if an allocation fails.
 pub fn judge(alloc: Global, table: &Table) -> Result<(), ScenarioFault>
     ensures sound { OnOk result (inner.first_true (spec.faults (table_view table.now)) ≡ None) }
     ensures fault { IfErr result (λ f. f ≢ ScenarioFault.Memory → inner.first_true (spec.faults (table_view table.now)) ≡ Some (scenario_fault_number f)) }

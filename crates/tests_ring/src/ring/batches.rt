@@ -8,7 +8,7 @@ use crn_cipher::{Block, block};
 use crn_ring::{Batch, PublishMany};
 use std::alloc::Global;
 
-// The blocks of a key from n on, in the front of `blocks`.
+// Makes the first `count` of the blocks those of the key from block n on.
 fn fill(key: [u64; 4], n: u64, blocks: &mut [Block], count: usize)
     requires room { (count ≤ length blocks.old) × (n + count ≤ 65536) }
     ensures blocks { (j : ℕ) (b : Block) → j < count → slice_get blocks.new j ≡ Some b → (b.key ≡ key) × (b.number ≡ n + j) }

@@ -98,7 +98,7 @@ fn feed_by<R: Wait>(rt: &R, ring: &Ring, mut producer: Producer, pace: Pace) -> 
     producer.published()
 }
 
-// Takes all blocks by both readers, each on a thread of its own.
+// Takes all blocks by both readers, each on its own thread.
 fn drain_both<R: Threads + Wait + Sync>(
     rt: &R,
     ring: &Ring,
