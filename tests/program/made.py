@@ -4,6 +4,9 @@ Policy p costs 1,000 + 10 p + (p + 1) i in replication i. With R replications th
 R^2 (R^2 - 1) / 12, so the variance of the mean difference to policy 0 is p^2 (R + 1) / 12 and the covariance
 (p + 1) R (R + 1) / 12.
 """
+import itertools
+
+import oracle
 
 
 def scenario(policies, replications):
@@ -32,4 +35,30 @@ def checkpoint(policies, replications):
     return "".join(f"{row}\n" for row in [*rows, "end,-,-,-,-"])
 
 
-MAKERS = {"scenario": scenario, "checkpoint": checkpoint}
+def words(number):
+    """The words of a block of the zero key."""
+    return oracle.words_text((0, 0, 0, 0), int(number))
+
+
+def producer_steps(size, readers):
+    """Yields the producer's steps, block after block, on a ring whose readers have all left."""
+    for block in itertools.count():
+        yield from (f"p P1 {1 + reader} 8000000000000000" for reader in range(readers))
+        stored = [word for it in oracle.STREAMS for word in oracle.stream_words((0, 0, 0, 0), block, it)]
+        first = 1 + readers + len(stored) * (block % size)
+        yield from (f"p P2 {place} {word:016x}" for place, word in enumerate(stored, first))
+        yield f"p P3 0 {2 * (block + 1):016x}"
+
+
+def trace(size, readers, turns):
+    """The trace of a ring whose readers all leave before the producer takes so many turns."""
+    # The producer loads each cursor, stores twelve words and publishes.
+    published = turns // (readers + 13)
+    lines = [f"l{reader} R3 {1 + reader} 8000000000000000" for reader in range(readers)]
+    lines += itertools.islice(producer_steps(size, readers), turns)
+    lines.append(f"published {published} ended 0")
+    lines += [f"reader {reader} taken 0 left 1 ended 0" for reader in range(readers)]
+    return "".join(f"{line}\n" for line in lines)
+
+
+MAKERS = {"scenario": scenario, "checkpoint": checkpoint, "words": words, "trace": trace}

@@ -156,9 +156,8 @@ def fraction(num, den):
     return f"{it.numerator}/{it.denominator}"
 
 
-def report(text):
-    """The report of a scenario."""
-    run = run_of(text)
+def report_of(run):
+    """The report of a run."""
     count, periods = run.scenario.replications, run.scenario.periods
     rows = ["policy,s,S,total,per_period,diff_total,diff_mean,diff_var,cov"]
     first = run.costs(0)
@@ -173,9 +172,8 @@ def report(text):
     return "".join(f"{row}\n" for row in rows)
 
 
-def checkpoint(text, block, version):
-    """The checkpoint of a scenario at a block, in version 1 or 2 of the format."""
-    run = run_of(text)
+def checkpoint_of(run, block, version):
+    """The checkpoint of a run at a block, in version 1 or 2 of the format."""
     scenario, tree = run.scenario, run.scenario.tree
     if block > scenario.total or version == 1 and "returns" in tree:
         raise SystemExit("there is no such checkpoint")
@@ -195,6 +193,16 @@ def checkpoint(text, block, version):
         rows += [["cost", replication, its] for replication, its in enumerate(costs)]
     rows.append(["end"])
     return "".join(",".join(map(str, row + ["-"] * (5 - len(row)))) + "\n" for row in rows)
+
+
+def report(text):
+    """The report of a scenario."""
+    return report_of(run_of(text))
+
+
+def checkpoint(text, block, version):
+    """The checkpoint of a scenario at a block, in version 1 or 2 of the format."""
+    return checkpoint_of(run_of(text), block, version)
 
 
 def main(words):

@@ -7,18 +7,24 @@ standard output (output, or some parts of it (has), in lines of at most so many 
 status. Each of these texts is given, or is that of a file of the repository (input_from), or is made of some numbers by
 a function of made.py (input_made), with one change (input_change) and then others (input_changes), cut after so many
 lines (input_lines), filled up with a piece to a size (input_fill, input_size), followed by an end (input_end), and in
-UTF-8 or another encoding (input_encoding). A change is an old piece and a new one; where a first number and a count
-come after them, the new piece stands so many times, each time with the next number for `#`.
+UTF-8 or another encoding (input_encoding); so may the words of the command line be (args_encoding). A change is an old
+piece and a new one; where a first number and a count come after them, the new piece stands so many times, each time with
+the next number for `#`. The input and the file may come in pieces of so many bytes (input_pieces, file_pieces), the file
+then as a named pipe (pieces.py).
 
 A case is tried with each of its commands and each of its files (of the repository), where it has lists of them. Some
-cases stand for many tries. blocks: the scenario is cut at each of these blocks, or at all, and resumed on another ring
-(ring). old_blocks: its checkpoints of the old version there are migrated. prefixes: the fault is told of each proper
-prefix of the file. turned: and of the file with each of its bytes put to this one. Where these are answered in several
-ways, a map has in place of each byte the name of an answer; a case without a file has its input changed. rows: the
-fault is told of the file with one of these rows put in, at each place. steps: of changes of the input that are made one
-after the other, each tells the scenario's fault that comes next. What the oracle, a second program (oracle.py), can
-tell of a case is tried too: it has to write the output that is wanted, so to agree with what was worked by hand.
+cases stand for many tries. blocks: the scenario is run, then cut at each of these blocks, or at all, and resumed on
+another ring (ring). old_blocks: its checkpoints of the old version there are migrated. long: for both the oracle needs
+the histories of longest.py. prefixes: the fault is told of each proper prefix of the file. turned: and of the file with
+each of its bytes put to this one. Where these are answered in several ways, a map has in place of each byte the name of
+an answer; a case without a file has its input changed. rows: the fault is told of the file with one of these rows put
+in, at each place. steps: of changes of the input that are made one after the other, each tells the scenario's fault that
+comes next. What the oracle, a second program (oracle.py), can tell of a case is tried too: it has to write the output
+that is wanted, so to agree with what was worked by hand.
+
+At the end the longest run is timed on rings of several sizes (waits.py).
 """
+import contextlib
 import itertools
 import os
 import resource
@@ -32,11 +38,16 @@ TOP = os.path.dirname(os.path.dirname(HERE))
 # Compiled text is not to stand in the repository.
 sys.dont_write_bytecode = True
 sys.path.append(f"{TOP}/tests")
+import longest
 import made
 import oracle
+import pieces
+import waits
 from scenarios import on_ring
 
-FILES = ["cases.toml", "checkpoints.toml", "scenarios.toml", "legs.toml"]
+FILES = ["cases.toml", "checkpoints.toml", "scenarios.toml", "legs.toml", "limits.toml"]
+# The scenario of the longest run.
+LONGEST = "bench/largest.toml"
 # After so long a run counts as one that does not end. Beside other work a ring of one slot can take ten seconds.
 SECONDS = 60
 # A standard input that says nothing and doesn't end.
@@ -79,11 +90,13 @@ def text_of(case, name):
 def words_of(case, room):
     """The words of a case's command line."""
     words = case["args"].split() if isinstance(case["args"], str) else case["args"]
-    return [f"{room}/FILE" if word == "FILE" else word for word in words]
+    words = [f"{room}/FILE" if word == "FILE" else word for word in words]
+    return [it.encode(case["args_encoding"]) for it in words] if "args_encoding" in case else words
 
 
 def run(program, args, data, to=None, kilobytes=None):
-    """What a run writes to standard output and standard error, and its status; None where it doesn't end."""
+    """What a run writes to standard output and standard error, and its status; None where it doesn't end. Its input is a
+    text, a file that is open (a number), or none that ever ends (None)."""
 
     def prepare():
         if kilobytes:
@@ -92,7 +105,7 @@ def run(program, args, data, to=None, kilobytes=None):
             os.close(1)
 
     output = open(to, "wb") if to and to != "closed" else subprocess.PIPE
-    how = {"stdin": SILENT[0]} if data is None else {"input": data}
+    how = {"input": data} if isinstance(data, bytes) else {"stdin": SILENT[0] if data is None else data}
     how |= {"stdout": output, "stderr": subprocess.PIPE, "cwd": TOP, "timeout": SECONDS}
     # Where nothing is to be done in between, a process starts without a copy of this one, which takes less time.
     how |= {"preexec_fn": prepare} if kilobytes or to == "closed" else {}
@@ -135,14 +148,29 @@ def write_file(room, file):
         it.write(file)
 
 
+@contextlib.contextmanager
+def given(case, room):
+    """Puts a case's file in its place and yields the input; both come in pieces if the case says so."""
+    file, data, path = text_of(case, "file"), text_of(case, "input"), f"{room}/FILE"
+    with contextlib.ExitStack() as stack:
+        if "file_pieces" in case:
+            with contextlib.suppress(FileNotFoundError):
+                os.unlink(path)
+            stack.enter_context(pieces.named_pipe(file, case["file_pieces"], path))
+        elif file is not None:
+            write_file(room, file)
+        yield stack.enter_context(pieces.piped(data, case["input_pieces"])) if "input_pieces" in case else data
+
+
+def shown_of(program, case, room):
+    """Returns what one run of a case shows."""
+    with given(case, room) as data:
+        return run(program, words_of(case, room), data, case.get("to"), case.get("kilobytes"))
+
+
 def try_case(program, case, room):
     """Runs a case as often as it says."""
-    file = text_of(case, "file")
-    if file is not None:
-        write_file(room, file)
-    args = words_of(case, room)
-    data, to, kilobytes = text_of(case, "input"), case.get("to"), case.get("kilobytes")
-    return all(is_wanted(case, run(program, args, data, to, kilobytes)) for _ in range(case.get("times", 1)))
+    return all(is_wanted(case, shown_of(program, case, room)) for _ in range(case.get("times", 1)))
 
 
 def told(case):
@@ -173,13 +201,23 @@ def blocks_of(case, name):
     return case[name]
 
 
+def run_of(case):
+    """Returns the oracle's run of a case's scenario; of a long one, with the states at the case's blocks."""
+    text = text_of(case, "input").decode()
+    if "long" not in case:
+        return oracle.run_of(text)
+    return longest.run_of(text, tuple(case.get("blocks", []) + case.get("old_blocks", [])))
+
+
 def cut_tries(program, case, room):
-    """Cuts a run at blocks, and resumes it on a ring of one block or of the size said: it ends as the whole run."""
+    """Runs a scenario, then cuts it at blocks and resumes it on a ring of one block or of the size said: each ends as
+    the whole run."""
     data, resume, size = text_of(case, "input"), ["resume", f"{room}/FILE"], case.get("ring", 1)
-    text = data.decode()
-    whole = (oracle.report(text).encode(), b"", 0)
+    its = run_of(case)
+    whole = (oracle.report_of(its).encode(), b"", 0)
+    yield "run", lambda: run(program, ["run"], data) == whole
     for block in blocks_of(case, "blocks"):
-        leg = oracle.checkpoint(text, block, 2).encode()
+        leg = oracle.checkpoint_of(its, block, 2).encode()
         yield f"leg {block}", lambda: run(program, ["leg", str(block)], data) == (leg, b"", 0)
         yield f"resumed from {block}", lambda: on_file(program, room, resume, leg, on_ring(data, size)) == whole
 
@@ -187,10 +225,10 @@ def cut_tries(program, case, room):
 def old_tries(program, case, room):
     """Migrates old checkpoints of a run: from what comes of them it ends as the whole run. No command takes both."""
     data, resume, migrate = text_of(case, "input"), ["resume", f"{room}/FILE"], ["migrate", f"{room}/FILE"]
-    text = data.decode()
-    whole = (oracle.report(text).encode(), b"", 0)
+    its = run_of(case)
+    whole = (oracle.report_of(its).encode(), b"", 0)
     for block in blocks_of(case, "old_blocks"):
-        old, new = (oracle.checkpoint(text, block, version).encode() for version in (1, 2))
+        old, new = (oracle.checkpoint_of(its, block, version).encode() for version in (1, 2))
         yield f"migrated at {block}", lambda: on_file(program, room, migrate, old) == (new, b"", 0)
         yield f"resumed from {block}", lambda: on_file(program, room, resume, new, on_ring(data, 1024)) == whole
         yield f"migrated twice at {block}", lambda: on_file(program, room, migrate, new) == refused("checkpoint 5", 4)
@@ -298,14 +336,21 @@ def tries(program, groups, room):
                 yield f"oracle, {name}", lambda: is_wanted(case, (text.encode(), b"", 0))
 
 
-def main(program):
+def all_tries(program, room):
+    """Yields the tries of all cases, and those of the time that the longest run takes."""
     groups = []
     for file in FILES:
         with open(f"{HERE}/{file}", "rb") as it:
             groups += tomllib.load(it)["group"]
+    yield from tries(program, groups, room)
+    with open(f"{TOP}/{LONGEST}", "rb") as it:
+        yield from waits.tries(program, it.read())
+
+
+def main(program):
     passed = failed = 0
     with tempfile.TemporaryDirectory(prefix="crnsim-") as room:
-        for name, does_well in tries(os.path.abspath(program), groups, room):
+        for name, does_well in all_tries(os.path.abspath(program), room):
             if does_well():
                 passed += 1
             else:
