@@ -183,7 +183,7 @@ def told(case):
             return oracle.report(text)
         case ["leg", block]:
             return oracle.checkpoint(text, int(block), 2)
-        case ["words", *_] as words if "--help" not in words:
+        case ["words", _, _, _, _, _] as words:
             return oracle.main(words)
     return None
 
