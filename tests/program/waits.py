@@ -5,8 +5,9 @@ longest run would take eight seconds on each of these rings, since all sleeps to
 
 On an idle machine the run takes 0.1 to 0.3 seconds on each ring from 64 slots up, on one processor and on two. The bound
 is far from both: two seconds. On a busy machine the small ring is the slowest, so the bound rises faster than what is
-compared with it: beside four busy processes on one processor the run took ten seconds on 64 slots, and one or two on a
-large ring.
+compared with it: beside four busy processes on one processor the run took 19 seconds on 64 slots, 3 to 5 on 128, and less
+than one on 512 and 1,024. A ring of one slot is no measure: it takes 3 seconds on an idle machine, so that even the
+eight would be within the bound.
 """
 import subprocess
 import time
