@@ -88,7 +88,8 @@ def checks(names, copy):
 def runs(copy):
     """The wall time of what the gate does once all is proved."""
     program = f"{TOP}/crates/crnsim/out/crnsim"
-    for part in ("tests/program/run.py", "tests/hostile/run.py", "examples/check", "tests/documents/run.py"):
+    for part in ("tests/program/run.py", "tests/hostile/run.py", "tests/theory/run.py", "examples/check",
+                 "tests/documents/run.py"):
         began = time.monotonic()
         said = subprocess.run([f"{TOP}/{part}", program], cwd=copy, capture_output=True, text=True).stdout
         last = said.splitlines()[-1] if said else "nothing said"
