@@ -24,6 +24,7 @@ NOT_RUN = {
         ("it reads all crates first", "crates/crnsim/out/crnsim < examples/two_policies.toml"),
     ".ci/run": ("it is the gate, of which this is a part", None),
     "apt-get install python3-pandas": ("it changes the machine", None),
+    "apt-get install python3-numpy": ("it changes the machine", None),
     "apt-get install r-base-core": ("it changes the machine", None),
 }
 # Blocks without a kind that no command prints: a page and how the block begins, and what it is.
@@ -92,7 +93,7 @@ class Page:
         self.waiting = None
 
     def run(self, kind, command, printed):
-        """Runs a command, and adds it with what it prints to a list."""
+        """Runs a command, and adds it with what it prints to a list: None where this machine lacks what it needs."""
         name, key = f"{self.name}: {short(command)}", " ".join(command.split())
         if key in NOT_RUN:
             self.met.add(key)
@@ -105,6 +106,7 @@ class Page:
         try:
             status, text = self.room.run(kind, command)
         except Missing as missing:
+            printed.append((name, None))
             yield f"{name}: {missing} is missing", None
             return
         printed.append((name, text))
@@ -114,6 +116,8 @@ class Page:
         """That a block printed nothing where the page shows nothing. What pandas and R print is not shown."""
         kind, printed = self.waiting or ("", [])
         for name, text in printed:
+            if text is None:
+                continue
             right = ranks(text) if kind != "sh" else not text or f"prints {short(text)!r}, which is not shown"
             yield f"{name}: what it prints", right
         self.waiting = None
@@ -134,6 +138,10 @@ class Page:
                 return
         _, printed = self.waiting or ("", [])
         self.waiting = None
+        lacking = [name for name, it in printed if it is None]
+        if lacking:
+            yield f"{lacking[0]}: what it prints", None
+            return
         wrong, place = unlike("".join(it for _, it in printed), text)
         names = [name for name, it in printed for _ in it]
         name = f"{names[min(place, len(names) - 1)]}: what it prints" if names else f"{self.name}: {short(text)}"

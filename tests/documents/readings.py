@@ -88,6 +88,19 @@ def shown_tries(_):
         told is not None and sorted(re.findall(r"\([0-9]+,[0-9]+\)", told[1])) == sorted(alike)
 
 
+def suggested_tries(_):
+    """What the guide and the worked case read off the table of suggest.py, which is compared with what is printed."""
+    rows = {line.split()[0]: line.split() for line in text_of("examples/case/suggested.txt").splitlines()[:16] if line}
+    (_, s, S, best, *_), today, fill = rows["best"], rows["today"][3], rows["fill_98"]
+    yield from sentence_tries([
+        f"Here 98% of demand met at once costs {rounded(Fraction(fill[3]) - Fraction(best), 2)} a week more than the best"])
+    yield from sentence_tries([
+        f"The best by theory is ({s}, {S}), which is one of the twelve too: in the long run it costs "
+        f"{rounded(Fraction(best), 2)} a week without `unit`, and today's policy {rounded(Fraction(today), 2)}. A fill rate "
+        f"of at least 98% costs {rounded(Fraction(fill[3]), 2)}, with ({fill[1]}, {fill[2]}).",
+        f"today's policy and {len(rows) - 2} others"], CASE)
+
+
 def case_tries(_):
     """What the worked case reads off its files, which examples/check compares with what is printed."""
     decision, sweep = text_of("examples/case/decision.txt"), text_of("examples/case/sweep.csv")
@@ -101,5 +114,5 @@ def case_tries(_):
 
 def reading_tries(program):
     """All sentences that read figures."""
-    for part in (report_sentences, formula_tries, key_tries, shown_tries, case_tries):
+    for part in (report_sentences, formula_tries, key_tries, shown_tries, suggested_tries, case_tries):
         yield from part(program)

@@ -13,7 +13,8 @@ RUNNERS = {"sh": SHELL, "python": ["python3", "-c"], "r": ["Rscript", "-e"]}
 TOOLS = [("GNU parallel", r"^parallel ", [(["parallel", "--version"], SHELL)]),
          ("pandas", r"^import pandas$", [([it, "-c", "import pandas"], [it, "-c"])
                                          for it in ("python3", "/usr/bin/python3")]),
-         ("R", r"\bread\.csv\(", [(["Rscript", "--version"], RUNNERS["r"])])]
+         ("R", r"\bread\.csv\(", [(["Rscript", "--version"], RUNNERS["r"])]),
+         ("numpy (Debian's python3-numpy)", r"suggest", [(["/usr/bin/python3", "-c", "import numpy"], SHELL)])]
 # A script for a scheduler's array is run as this task of it.
 TASK = {"SLURM_ARRAY_TASK_ID": "3"}
 # What a sweep tells of its progress.

@@ -1,0 +1,162 @@
+"""Tries of the theory of suggest.py, for examples/check: examples/checks/theory.py prints a line for each.
+
+It needs numpy, so suggestions.py runs it with a Python that has it. A line has the name of a try, a tab, and how it
+went: `right`, or else what is wrong. What the theory says is compared with a Markov chain of the stock and of all that is
+under way, by period of arrival, which goes through docs/FORMATS.md step by step; with published optima; and on coarser
+lattices with itself where it is exact.
+"""
+import math
+import os
+import sys
+
+sys.dont_write_bytecode = True
+sys.path.append(os.path.join(os.path.dirname(os.path.dirname(os.path.abspath(__file__))), "tools"))
+import numpy as np
+
+from lattice import shape_of, theories_of, theory_on
+from laws import Law, law_of, reflected, sum_of
+from longrun import OneLead, ladder
+
+COSTS = {"setup": 7, "unit": 2, "holding": 1, "backlog": 4}
+# Demands, lead times and returns, and the levels of a policy.
+CHAINS = [(([0, 1, 3], [3, 2, 1]), ([1], [1]), None, (2, 5)), (([0, 2], [1, 1]), ([3], [1]), None, (4, 6)),
+          (([0, 1, 3], [3, 2, 1]), ([1, 2], [1, 2]), None, (3, 6)), (([1, 2], [2, 1]), ([1, 3], [1, 1]), None, (4, 4)),
+          (([0, 3], [2, 1]), ([1, 2, 4], [1, 1, 1]), None, (2, 5)),
+          (([1, 3], [1, 1]), ([1, 2], [1, 1]), ([0, 1], [2, 1]), (3, 5)),
+          (([0, 3], [1, 1]), ([2], [1]), ([0, 1, 2], [4, 2, 1]), (3, 5))]
+# Zheng and Federgruen (1991), table I; they order at s too, so their s is one below crnsim's, and orders arrive at once.
+PUBLISHED = [(10, 6, 40, "35.022"), (15, 10, 49, "42.698"), (20, 14, 62, "49.173"), (25, 19, 56, "54.262")]
+# The first has a gap of less than a cell.
+LATTICE_POLICIES = [(90, 92), (100, 260), (131, 294), (160, 223), (140, 249), (150, 301)]
+ROUNDS, LEAST_CHANCE = 4000, 1e-13
+
+
+def table(values, weights):
+    """Returns a table of a scenario."""
+    return {"values": values, "weights": weights}
+
+
+def tree_of(demand, lead, back=None, costs=None, levels=(1, 5)):
+    """Returns a scenario, as far as the theory looks at it."""
+    tree = {"costs": costs or COSTS, "demand": table(*demand), "lead": table(*lead),
+            "policy": [{"name": "today", "s": levels[0], "S": levels[1]}]}
+    return tree | ({"returns": table(*back)} if back else {})
+
+
+def draws_of(tree):
+    """Returns each demand, lead time and number of returned items with its chance."""
+    laws = [tree.get(name, table([0], [1])) for name in ("demand", "lead", "returns")]
+    chances = [[(value, weight / sum(law["weights"])) for value, weight in zip(law["values"], law["weights"])]
+               for law in laws]
+    return [(demand, lead, back, a * b * c) for demand, a in chances[0] for lead, b in chances[1] for back, c in chances[2]]
+
+
+def period(state, tree, demand, lead, back):
+    """Returns what a period makes of a state (the stock, and what is due in the next periods), and what is counted:
+    orders, stock, items owed, demand that is met at once, and whether items are owed at the end."""
+    stock, due = state[0] + state[1], list(state[2:]) + [0]
+    levels, position = tree["policy"][0], stock + sum(due)
+    order = levels["S"] - position if position < levels["s"] else 0
+    due[lead - 1] += order
+    stock += back
+    met = min(max(stock, 0), demand)
+    stock -= demand
+    return (stock, *due), np.array([order > 0, max(stock, 0), max(-stock, 0), met, stock < 0], float)
+
+
+def by_chain(tree):
+    """Returns the figures of the first policy by the chain's law, from one period to the next until it stays."""
+    draws, longest = draws_of(tree), max(tree["lead"]["values"])
+    law, before = {(tree["policy"][0]["S"], *[0] * longest): 1.0}, np.zeros(5)
+    for _ in range(ROUNDS):
+        after, counted = {}, np.zeros(5)
+        for state, chance in law.items():
+            for *drawn, share in draws:
+                to, counts = period(state, tree, *drawn)
+                after[to] = after.get(to, 0) + chance * share
+                counted += chance * share * counts
+        law = {state: chance for state, chance in after.items() if chance > LEAST_CHANCE}
+        if abs(counted - before).max() < 1e-11:
+            break
+        before = counted
+    orders, stock, owed, met, short = counted
+    costs, mean = tree["costs"], sum(demand * share for demand, _, _, share in draws)
+    return [costs["setup"] * orders + costs["holding"] * stock + costs["backlog"] * owed, met / mean, short, stock, orders]
+
+
+def chain_tries():
+    """Figures beside those of the chain."""
+    for demand, lead, back, levels in CHAINS:
+        tree = tree_of(demand, lead, back, levels=levels)
+        told, wanted = theories_of(tree, tree["policy"][0])[0].figures(*levels), by_chain(tree)
+        right = bool(max(abs(a - b) for a, b in zip(told, wanted)) < 1e-7)
+        yield f"theory: demands {demand}, lead times {lead}, returns {back}", right or f"{told}, and by a chain {wanted}"
+
+
+def ladder_tries():
+    """The heights and falls of a walk beside those of its steps one by one."""
+    net = sum_of(law_of(table([0, 1, 4], [3, 2, 2]), 1), reflected(law_of(table([0, 1, 2], [5, 2, 1]), 1)))
+    visits, falls, heights, most = np.zeros(300), np.zeros(net.high + 1), {0: 1.0}, 300
+    while heights:
+        after = {}
+        for height, chance in heights.items():
+            visits[height] += chance
+            for step, share in zip(net.cells, net.chances):
+                to = height - int(step)
+                if to < 0:
+                    falls[-to] += chance * share
+                elif to < most:
+                    after[to] = after.get(to, 0) + chance * share
+        heights = {height: chance for height, chance in after.items() if chance > 1e-16}
+    told, its_falls = ladder(net)
+    error = max(abs(told - visits[:len(told)]).max(), abs(its_falls - falls).max(), visits[len(told):].max())
+    yield "theory: the walk with returns", bool(error < 1e-9) or f"it differs by {error}"
+
+
+def published_tries():
+    """The best policies beside those that were published, and beside all pairs."""
+    for mean, point, level, cost in PUBLISHED:
+        weights = [math.exp(value * math.log(mean) - mean - math.lgamma(value + 1)) for value in range(100)]
+        tree = tree_of((list(range(100)), weights), ([0], [1]), costs={"setup": 64, "unit": 0, "holding": 1, "backlog": 9})
+        best = OneLead(tree, 1, True, 150, 0).best()
+        right = (f"{best.cost:.3f}", best.point - 1, best.level) == (cost, point, level)
+        yield f"theory: the published optimum of mean {mean}", right or str(best)
+    for lead in (([2], [1]), ([1, 2, 4], [1, 2, 1])):
+        tree = tree_of(([0, 1, 5], [5, 3, 2]), lead, costs={"setup": 20, "unit": 0, "holding": 2, "backlog": 9})
+        theory = theories_of(tree, tree["policy"][0])[0]
+        pairs = [(point, level) for level in range(31) for point in range(level + 1)]
+        best, cheapest = theory.best(), min(pairs, key=lambda pair: theory.figures(*pair).cost)
+        yield f"theory: the best of all pairs, lead times {lead}", (best.point, best.level) == cheapest or f"{best}, {cheapest}"
+        fill = theory.best_with_fill(0.98)
+        cost, *cheapest = min((theory.figures(*it).cost, *it) for it in pairs if theory.figures(*it).fill >= 0.98)
+        yield f"theory: fill of all pairs, lead times {lead}", [fill.point, fill.level] == cheapest or f"{fill}, {cheapest}"
+
+
+def lattice_tries():
+    """Costs on a lattice of steps of 4 items are no further from the exact ones than steps of 8 move them at most."""
+    demand = (list(range(61)), [1 + value % 7 for value in range(61)])
+    for lead, back in ((([3], [1]), None), (([1, 4], [1, 1]), None), (([2], [1]), ([0, 5, 13], [3, 2, 1]))):
+        tree = tree_of(demand, lead, back, {"setup": 900, "unit": 0, "holding": 1, "backlog": 12}, (100, 260))
+        shape = shape_of(tree)
+        exact, fine, coarse = (theory_on(tree, shape, step, step == 1) for step in (1, 4, 8))
+        theories = exact, fine, coarse
+        costs = [[theory.figures(*levels).cost for theory in theories] for levels in LATTICE_POLICIES]
+        error = max(abs(near - true) / true for true, near, _ in costs)
+        told = max(abs(far - near) / near for _, near, far in costs)
+        name = f"a lattice, lead times {lead}, returns {back}"
+        yield f"theory: the error of {name}", error <= told < 0.04 or str(costs)
+        wide = max(abs(near - true) / true for true, near, _ in costs[1:])
+        yield f"theory: wide gaps on {name}", wide < 0.0035 or str(costs)
+        best = fine.best()
+        yield f"theory: the best on {name}", best.cost == fine.figures(best.point, best.level).cost or str(best)
+
+
+def main():
+    """Prints how all tries went."""
+    for part in (chain_tries, ladder_tries, published_tries, lattice_tries):
+        for name, right in part():
+            print(f"{name}\t{'right' if right is True else right or 'wrong'}", flush=True)
+
+
+if __name__ == "__main__":
+    main()
