@@ -147,7 +147,8 @@ reader 1 taken 0 left 0 ended 1
 """)
     names = (b"run", b"leg", b"resume", b"migrate", b"words", b"replay", b"help")
     help_text = Command("help", ["help"], parts=tuple(b"\n  %s " % it for it in names))
-    return [*runs_of_policies(2, room), migration(room), words, replay, help_text]
+    base = Command("run of the stored run", ["run"], stored("crates/crnsim/stdin"), stored("crates/crnsim/stdout"), starts=2)
+    return [*runs_of_policies(2, room), base, migration(room), words, replay, help_text]
 
 
 def refused_commands(room):

@@ -1,6 +1,6 @@
 -- What a refusal says of a text.
 use Rattle.std.proofs.Common.{◌≡◌, ◌∙◌, ℕ, List, Ok, Err, Result, IfOk, IfErr, MatchResult, sym, subst, inl, inr}
-use Rattle.std.specs.Prelude.{◌⊎◌, IsErr, IsErrAnd}
+use Rattle.std.specs.Prelude.{◌⊎◌, IsErr, IsErrAnd, alloc_error}
 use Rattle.crn_stock.specs.Parts.{Parts}
 use Rattle.crn_stock.specs.Scenarios.{ScenarioParts}
 use Rattle.crn_checkpoint.specs.declared.version.Version.{Version}
@@ -19,7 +19,7 @@ use Rattle.crn_checkpoint.proofs.Cuts.{any_text, text_of_same}
 
 -- whatever checkpoint a text may be of, nothing is read of it only for memory
 abbrev pub ReadsUnlessMemory : Unread → List ℕ → Type 0
-ReadsUnlessMemory u bytes = (v : Version) (s : ScenarioParts) (next : ℕ) (states : List Parts) → IsTextIn v s next states bytes → u ≡ unread.Memory
+ReadsUnlessMemory u bytes = (v : Version) (s : ScenarioParts) (next : ℕ) (states : List Parts) → IsTextIn v s next states bytes → u ≡ unread.Memory alloc_error
 
 no_checkpoint : (u : Unread) (bytes : List ℕ) → u ≡ unread.NoCheckpoint → ReadsUnlessMemory u bytes → IsNoCheckpoint bytes
 no_checkpoint u bytes is reads s next states text = elim text [
@@ -29,24 +29,24 @@ no_checkpoint u bytes is reads s next states text = elim text [
 
 pub reading_refuses : (u : Unread) (s : ScenarioParts) (bytes : List ℕ) → ReadsUnlessMemory u bytes → RefusesCheckpoint s (reading_fault u) bytes
 reading_refuses unread.NoCheckpoint s bytes reads = no_checkpoint unread.NoCheckpoint bytes (λ _. unread.NoCheckpoint) reads
-reading_refuses unread.Memory s bytes reads = tt
+reading_refuses (unread.Memory _) s bytes reads = tt
 
 pub migration_refuses : (u : Unread) (bytes : List ℕ) → ReadsUnlessMemory u bytes → RefusesMigration (migration_fault u) bytes
 migration_refuses unread.NoCheckpoint bytes reads = no_checkpoint unread.NoCheckpoint bytes (λ _. unread.NoCheckpoint) reads
-migration_refuses unread.Memory bytes reads = tt
+migration_refuses (unread.Memory _) bytes reads = tt
 
 -- a checkpoint that was read is refused for its scenario or its version
 pub refuses : (f : CheckpointFault) (v : Version) (s t : ScenarioParts) (next : ℕ) (states : List Parts) (bytes : List ℕ) → IsRefusedFor f v s t → s.ring ≡ t.ring → IsTextIn v s next states bytes → RefusesCheckpoint t f bytes
 refuses fault.NoCheckpoint v s t next states bytes h ring text = absurd h
 refuses fault.OtherScenario v s t next states bytes h ring text = record { scenario = s; next = next; states = states; is_text = any_text v s next states bytes text; differs = h }
 refuses fault.OldVersion v s t next states bytes h ring text = record { next = next; states = states; is_text = text_of_same v First s t next states bytes h.0 ring h.1 text }
-refuses fault.Memory v s t next states bytes h ring text = absurd h
+refuses (fault.Memory _) v s t next states bytes h ring text = absurd h
 
 -- what is told of bytes that a checkpoint's text differs from
-pub told : {T : Type 0} (r : Result T Unread) (e : Unread) (P : T → Type 0) → IsErr r × IsErrAnd r (λ f. f ≡ e) → ¬ (e ≡ unread.NoCheckpoint) → MatchResult r P (λ f. f ≡ unread.Memory)
+pub told : {T : Type 0} (r : Result T Unread) (e : Unread) (P : T → Type 0) → IsErr r × IsErrAnd r (λ f. f ≡ e) → ¬ (e ≡ unread.NoCheckpoint) → MatchResult r P (λ f. f ≡ unread.Memory alloc_error)
 told (Ok x) e P h other = absurd (cc h.0)
 told (Err f) unread.NoCheckpoint P h other = absurd (other (λ _. unread.NoCheckpoint))
-told (Err f) unread.Memory P h other = h.1
+told (Err f) (unread.Memory _) P h other = h.1
 
 -- what holds of a fault holds of a result that hands it on
 pub handed : {T E : Type 0} (r : Result T E) (e : E) (P : E → Type 0) → IsErr r × IsErrAnd r (λ f. f ≡ e) → P e → IfErr r P
@@ -56,17 +56,17 @@ handed (Err f) e P h holds = subst P (sym h.1) holds
 module _ {T : Type 0} (items : T → List ℕ) where
   -- what a checkpoint becomes that was read in the first version
   pub old_text : (r : Result T MigrateFault) (s t : ScenarioParts) (next n : ℕ) (states vs : List Parts) → IsInRange s next states → checkpoint_text Second s next states ≡ checkpoint_text Second t n vs
-      → MatchResult r (λ text. items text ≡ checkpoint_text Second t n vs) (λ f. f ≡ migration.Memory) → MatchResult r (λ text. IsTextOf s next states (items text)) (λ f. f ≡ migration.Memory)
+      → MatchResult r (λ text. items text ≡ checkpoint_text Second t n vs) (λ f. f ≡ migration.Memory alloc_error) → MatchResult r (λ text. IsTextOf s next states (items text)) (λ f. f ≡ migration.Memory alloc_error)
   old_text (Ok text) s t next n states vs ranges same is = record { ranges = ranges; tells = λ e. absurd (cc e); text_is = is ∙ sym same }
   old_text (Err f) s t next n states vs ranges same is = is
 
   -- one that was read in the second is refused
-  pub new_text : (r : Result T MigrateFault) → MatchResult r (λ text. ⊥) (λ f. f ≡ migration.NewVersion) → MatchResult r (λ text. ⊥) (λ f. (f ≡ migration.NewVersion) ⊎ (f ≡ migration.Memory))
+  pub new_text : (r : Result T MigrateFault) → MatchResult r (λ text. ⊥) (λ f. f ≡ migration.NewVersion) → MatchResult r (λ text. ⊥) (λ f. (f ≡ migration.NewVersion) ⊎ (f ≡ migration.Memory alloc_error))
   new_text (Ok text) h = h
   new_text (Err f) h = inl h
 
   pub migrated : (r : Result T MigrateFault) (v : Version) (s : ScenarioParts) (next : ℕ) (states : List Parts) (bytes : List ℕ) → IsTextIn v s next states bytes
-      → (v ≡ First → MatchResult r (λ t. items t ≡ checkpoint_text Second s next states) (λ f. f ≡ migration.Memory)) → (v ≡ Second → MatchResult r (λ t. ⊥) (λ f. f ≡ migration.NewVersion))
+      → (v ≡ First → MatchResult r (λ t. items t ≡ checkpoint_text Second s next states) (λ f. f ≡ migration.Memory alloc_error)) → (v ≡ Second → MatchResult r (λ t. ⊥) (λ f. f ≡ migration.NewVersion))
       → IfOk r (λ t. IsMigrated bytes (items t))
   migrated (Ok t) First s next states bytes h old new =
       record { scenario = s; next = next; states = states; old = h; new = record { ranges = h.ranges; tells = λ e. absurd (cc e); text_is = old (λ _. First) } }
@@ -74,7 +74,7 @@ module _ {T : Type 0} (items : T → List ℕ) where
   migrated (Err f) v s next states bytes h old new = tt
 
   pub not_migrated : (r : Result T MigrateFault) (v : Version) (s : ScenarioParts) (next : ℕ) (states : List Parts) (bytes : List ℕ) → IsTextIn v s next states bytes
-      → (v ≡ First → MatchResult r (λ t. items t ≡ checkpoint_text Second s next states) (λ f. f ≡ migration.Memory)) → (v ≡ Second → MatchResult r (λ t. ⊥) (λ f. f ≡ migration.NewVersion))
+      → (v ≡ First → MatchResult r (λ t. items t ≡ checkpoint_text Second s next states) (λ f. f ≡ migration.Memory alloc_error)) → (v ≡ Second → MatchResult r (λ t. ⊥) (λ f. f ≡ migration.NewVersion))
       → IfErr r (λ f. RefusesMigration f bytes)
   not_migrated (Ok t) v s next states bytes h old new = tt
   not_migrated (Err f) First s next states bytes h old new = subst (λ (g : MigrateFault). RefusesMigration g bytes) (sym (old (λ _. First))) tt

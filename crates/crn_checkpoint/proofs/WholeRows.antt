@@ -12,7 +12,7 @@ use Rattle.crn_checkpoint.specs.declared.models.Sizes.{Sizes}
 use Rattle.crn_checkpoint.specs.declared.unread.Unread.{Unread}
 use Rattle.crn_checkpoint.specs.declared.unread.Unread.TheVariants.{Memory}
 use Rattle.crn_stock.specs.declared.rules.Policy.{Policy}
-use Rattle.std.specs.Prelude.{Result, Ok, Err, IsErr, IsErrAnd, MatchResult}
+use Rattle.std.specs.Prelude.{Result, Ok, Err, IsErr, IsErrAnd, MatchResult, alloc_error}
 use Rattle.crn_checkpoint.specs.CheckpointText.{weight_rows, cost_rows}
 
 -- ---- lists, front and rest
@@ -110,7 +110,7 @@ same_policy p name low high en el eh = rw (en, el, eh) refl
 
 -- ---- an answer that is handed on
 
-pub handed_on : {T : Type 0} (r : Result T Unread) (e : Unread) (P : T → Type 0) → IsErr r × IsErrAnd r (λ f. f ≡ e) → e ≡ Memory → MatchResult r P (λ f. f ≡ Memory)
+pub handed_on : {T : Type 0} (r : Result T Unread) (e : Unread) (P : T → Type 0) → IsErr r × IsErrAnd r (λ f. f ≡ e) → e ≡ Memory alloc_error → MatchResult r P (λ f. f ≡ Memory alloc_error)
 handed_on (Ok x) e P h m = absurd (cc h.0)
 handed_on (Err f) e P h m = h.1 ∙ m
 
@@ -118,6 +118,6 @@ pub same_model_parts : (z : Sizes) (demand lead : Weighted) (returns : Option We
     → model_parts_of z m.demand m.lead m.returns ≡ m → model_parts_of z demand lead returns ≡ m
 same_model_parts z demand lead returns m ed el er e = (λ i. model_parts_of z (ed i) (el i) (er i)) ∙ e
 
-pub answered : {T : Type 0} (r : Result T Unread) (a b : T) → a ≡ b → MatchResult r (λ x. x ≡ a) (λ f. f ≡ Memory) → MatchResult r (λ x. x ≡ b) (λ f. f ≡ Memory)
+pub answered : {T : Type 0} (r : Result T Unread) (a b : T) → a ≡ b → MatchResult r (λ x. x ≡ a) (λ f. f ≡ Memory alloc_error) → MatchResult r (λ x. x ≡ b) (λ f. f ≡ Memory alloc_error)
 answered (Ok x) a b e h = h ∙ e
 answered (Err f) a b e h = h

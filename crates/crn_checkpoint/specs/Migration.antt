@@ -27,15 +27,15 @@ pub record IsNew (bytes : List ℕ) : Type 0 where
 abbrev pub RefusesMigration : MigrateFault → List ℕ → Type 0
 RefusesMigration fault.NoCheckpoint bytes = IsNoCheckpoint bytes
 RefusesMigration fault.NewVersion bytes = IsNew bytes
-RefusesMigration fault.Memory bytes = ⊤
+RefusesMigration (fault.Memory _) bytes = ⊤
 
 -- the fault for a text of which nothing was read
 abbrev pub migration_fault : Unread → MigrateFault
 migration_fault unread.NoCheckpoint = fault.NoCheckpoint
-migration_fault unread.Memory = fault.Memory
+migration_fault (unread.Memory refused) = fault.Memory refused
 
 -- the number by which a fault is told
 abbrev pub migration_fault_number : MigrateFault → ℕ
 migration_fault_number fault.NoCheckpoint = 1
 migration_fault_number fault.NewVersion = 5
-migration_fault_number fault.Memory = 90
+migration_fault_number (fault.Memory _) = 90

@@ -87,19 +87,19 @@ abbrev pub RefusesCheckpoint : ScenarioParts → CheckpointFault → List ℕ �
 RefusesCheckpoint s fault.NoCheckpoint bytes = IsNoCheckpoint bytes
 RefusesCheckpoint s fault.OtherScenario bytes = IsOfAnother s bytes
 RefusesCheckpoint s fault.OldVersion bytes = IsOld s bytes
-RefusesCheckpoint s fault.Memory bytes = ⊤
+RefusesCheckpoint s (fault.Memory _) bytes = ⊤
 
 -- the fault for a text of which nothing was read
 abbrev pub reading_fault : Unread → CheckpointFault
 reading_fault unread.NoCheckpoint = fault.NoCheckpoint
-reading_fault unread.Memory = fault.Memory
+reading_fault (unread.Memory refused) = fault.Memory refused
 
 -- the number by which a fault is told
 abbrev pub checkpoint_fault_number : CheckpointFault → ℕ
 checkpoint_fault_number fault.NoCheckpoint = 1
 checkpoint_fault_number fault.OtherScenario = 2
 checkpoint_fault_number fault.OldVersion = 4
-checkpoint_fault_number fault.Memory = 90
+checkpoint_fault_number (fault.Memory _) = 90
 
 -- the bytes are the text of a leg: of the states that the scenario's policies have after the blocks below `next`
 pub record IsLegOf (s : ScenarioParts) (next : ℕ) (bytes : List ℕ) : Type 0 where

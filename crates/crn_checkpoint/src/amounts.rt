@@ -1,6 +1,6 @@
 // The amounts of a state from its rows.
 
-ghost use Rattle.std.specs.Prelude.{◌≡◌, ◌∷◌, ◌++◌, ◌+◌, ℕ, List, ◌<◌, ◌^◌, All, IfOk, MatchResult, length};
+ghost use Rattle.std.specs.Prelude.{◌≡◌, ◌∷◌, ◌++◌, ◌+◌, ℕ, List, ◌<◌, ◌^◌, All, IfOk, MatchResult, length, alloc_error};
 ghost use Rattle.crn_stock.specs.Restored.{first_period};
 ghost use Rattle.crn_stock.specs.Parts.{Parts};
 ghost use Rattle.crn_sequential.specs.Runs.{StandsBefore};
@@ -91,7 +91,7 @@ pub(crate) fn state_of(
     rows: &[Row],
 ) -> Result<State, Unread>
     ensures reads { (p : Policy) (v : Parts) (rest : List (List (List ℕ))) → IsRestorable model.now next v → rows.now ≡ policy_rows p v ++ rest
-        → MatchResult result (λ w. w ≡ v) (λ f. f ≡ Unread.Memory) }
+        → MatchResult result (λ w. w ≡ v) (λ f. f ≡ Unread.Memory alloc_error) }
     ensures stands { IfOk result (λ w. StandsBefore model.now next w) }
 {
     let a = amounts_of(alloc, model, next, rows)?;
@@ -106,7 +106,7 @@ pub(crate) fn state_of(
     ) {
         Ok(state) => Ok(state),
         Err(RestoreFault::Range) => Err(Unread::NoCheckpoint),
-        Err(RestoreFault::Memory) => Err(Unread::Memory),
+        Err(RestoreFault::Memory(refused)) => Err(Unread::Memory(refused)),
     }
 }
 

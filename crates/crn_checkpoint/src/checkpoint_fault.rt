@@ -4,6 +4,7 @@ ghost use Rattle.std.specs.Prelude.{◌≡◌};
 ghost use Rattle.crn_checkpoint.specs.Reading as spec;
 
 use crate::unread::Unread;
+use std::alloc::AllocError;
 
 /// Why no checkpoint was read.
 #[derive(Clone, Copy, Debug, PartialEq, Eq)]
@@ -17,7 +18,7 @@ pub enum CheckpointFault {
     /// takes.
     OldVersion,
     /// 90: a growth was refused. It says nothing of the text.
-    Memory,
+    Memory(AllocError),
 }
 
 impl CheckpointFault {
@@ -30,7 +31,7 @@ impl CheckpointFault {
             CheckpointFault::NoCheckpoint => 1,
             CheckpointFault::OtherScenario => 2,
             CheckpointFault::OldVersion => 4,
-            CheckpointFault::Memory => 90,
+            CheckpointFault::Memory(_) => 90,
         }
     }
 }
@@ -44,7 +45,7 @@ impl From<Unread> for CheckpointFault {
     fn from(unread: Unread) -> CheckpointFault {
         match unread {
             Unread::NoCheckpoint => CheckpointFault::NoCheckpoint,
-            Unread::Memory => CheckpointFault::Memory,
+            Unread::Memory(refused) => CheckpointFault::Memory(refused),
         }
     }
 }

@@ -14,7 +14,7 @@ pub enum MigrateFault {
     /// 5: the text is a checkpoint of version 2 already.
     NewVersion,
     /// 90: a growth was refused. It says nothing of the text.
-    Memory,
+    Memory(AllocError),
 }
 
 impl MigrateFault {
@@ -25,7 +25,7 @@ impl MigrateFault {
         match self {
             MigrateFault::NoCheckpoint => 1,
             MigrateFault::NewVersion => 5,
-            MigrateFault::Memory => 90,
+            MigrateFault::Memory(_) => 90,
         }
     }
 }
@@ -33,10 +33,10 @@ impl MigrateFault {
 impl From<AllocError> for MigrateFault {
     ghost use Rattle.crn_checkpoint.specs.declared.migrate_fault.MigrateFault.TheVariants.{Memory};
 
-    ghost from_gives = { λ _ f. f ≡ Memory };
+    ghost from_gives = { λ e f. f ≡ Memory e };
 
-    fn from(_refused: AllocError) -> MigrateFault {
-        MigrateFault::Memory
+    fn from(refused: AllocError) -> MigrateFault {
+        MigrateFault::Memory(refused)
     }
 }
 
@@ -49,7 +49,7 @@ impl From<Unread> for MigrateFault {
     fn from(unread: Unread) -> MigrateFault {
         match unread {
             Unread::NoCheckpoint => MigrateFault::NoCheckpoint,
-            Unread::Memory => MigrateFault::Memory,
+            Unread::Memory(refused) => MigrateFault::Memory(refused),
         }
     }
 }

@@ -1,6 +1,6 @@
 // Texts of version 1 become texts of version 2.
 
-ghost use Rattle.std.specs.Prelude.{◌≡◌, ◌⊎◌, ℕ, List, IfOk, IfErr, MatchResult};
+ghost use Rattle.std.specs.Prelude.{◌≡◌, ◌⊎◌, ℕ, List, IfOk, IfErr, MatchResult, alloc_error};
 ghost use Rattle.crn_stock.specs.Parts.{Parts};
 ghost use Rattle.crn_stock.specs.Scenarios.{ScenarioParts};
 ghost use Rattle.crn_checkpoint.specs.CheckpointText.{checkpoint_text};
@@ -28,9 +28,9 @@ const ANY_RING: u64 = 1;
 pub fn migrate_checkpoint(alloc: Global, bytes: &[u8]) -> Result<Vec<u8>, MigrateFault>
     ensures migrated { IfOk result (λ text. IsMigrated bytes.now text.items) }
     ensures old { (s : ScenarioParts) (next : ℕ) (states : List Parts) → IsOldTextOf s next states bytes.now
-        → MatchResult result (λ text. IsTextOf s next states text.items) (λ f. f ≡ MigrateFault.Memory) }
+        → MatchResult result (λ text. IsTextOf s next states text.items) (λ f. f ≡ MigrateFault.Memory alloc_error) }
     ensures new { (s : ScenarioParts) (next : ℕ) (states : List Parts) → IsTextOf s next states bytes.now
-        → MatchResult result (λ text. ⊥) (λ f. (f ≡ MigrateFault.NewVersion) ⊎ (f ≡ MigrateFault.Memory)) }
+        → MatchResult result (λ text. ⊥) (λ f. (f ≡ MigrateFault.NewVersion) ⊎ (f ≡ MigrateFault.Memory alloc_error)) }
     ensures refused { IfErr result (λ f. RefusesMigration f bytes.now) }
 {
     let cut = read_cut(alloc, ANY_RING, bytes)?;
@@ -39,7 +39,7 @@ pub fn migrate_checkpoint(alloc: Global, bytes: &[u8]) -> Result<Vec<u8>, Migrat
 
 // The text, in version 2, of a checkpoint that was read in version 1.
 fn migrated(alloc: Global, cut: &Cut) -> Result<Vec<u8>, MigrateFault>
-    ensures old { cut.now.version ≡ Version.First → MatchResult result (λ text. text.items ≡ checkpoint_text Version.Second cut.now.scenario cut.now.checkpoint.next cut.now.checkpoint.states.items) (λ f. f ≡ MigrateFault.Memory) }
+    ensures old { cut.now.version ≡ Version.First → MatchResult result (λ text. text.items ≡ checkpoint_text Version.Second cut.now.scenario cut.now.checkpoint.next cut.now.checkpoint.states.items) (λ f. f ≡ MigrateFault.Memory alloc_error) }
     ensures new { cut.now.version ≡ Version.Second → MatchResult result (λ text. ⊥) (λ f. f ≡ MigrateFault.NewVersion) }
 {
     match cut.version {

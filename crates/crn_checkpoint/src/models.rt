@@ -1,6 +1,6 @@
 // The model from the rows of a checkpoint.
 
-ghost use Rattle.std.specs.Prelude.{◌≡◌, ◌≢◌, ◌⊎◌, ◌↔◌, ◌≤◌, ◌<◌, ◌^◌, ℕ, List, [], Option, None, All, IfOk, IsTrue, MatchResult};
+ghost use Rattle.std.specs.Prelude.{◌≡◌, ◌≢◌, ◌⊎◌, ◌↔◌, ◌≤◌, ◌<◌, ◌^◌, ℕ, List, [], Option, None, All, IfOk, IsTrue, MatchResult, alloc_error};
 ghost use Rattle.crn_draw.specs.Spread.{Weighted};
 ghost use Rattle.crn_draw.specs.Faults.{least_weights_fault};
 ghost use Rattle.crn_stock.specs.Parts.{Parts};
@@ -80,7 +80,7 @@ fn model_with(
     returns: Option<Weights>,
 ) -> Result<Model, Unread>
     ensures returns { IfOk result (λ m. m.returns ≡ returns) }
-    ensures model { IsModel (model_parts_of sizes demand lead returns) → MatchResult result (λ m. m ≡ model_parts_of sizes demand lead returns) (λ f. f ≡ Unread.Memory) }
+    ensures model { IsModel (model_parts_of sizes demand lead returns) → MatchResult result (λ m. m ≡ model_parts_of sizes demand lead returns) (λ f. f ≡ Unread.Memory alloc_error) }
 {
     if !is_model(&sizes, &demand, &lead, &returns) {
         return Err(Unread::NoCheckpoint);
@@ -98,10 +98,10 @@ fn model_with(
 
 // Want of memory tells nothing of the rows; any other fault does.
 fn unread(fault: DrawFault) -> Unread
-    ensures { (result ≡ Unread.Memory) ⊎ (fault ≢ DrawFault.Memory) }
+    ensures { (result ≡ Unread.Memory alloc_error) ⊎ (fault ≢ DrawFault.Memory alloc_error) }
 {
     match fault {
-        DrawFault::Memory => Unread::Memory,
+        DrawFault::Memory(refused) => Unread::Memory(refused),
         _ => Unread::NoCheckpoint,
     }
 }
@@ -109,7 +109,7 @@ fn unread(fault: DrawFault) -> Unread
 // Values with their weights from their rows.
 fn weights_of(alloc: Global, rows: &[Row]) -> Result<Weights, Unread>
     ensures { (name : List ℕ) (d : Weighted) → least_weights_fault d.values d.weights ≡ None → All (λ v. v < 2 ^ 32) d.values → rows.now ≡ drawn_rows name d
-        → MatchResult result (λ w. w ≡ d) (λ f. f ≡ Unread.Memory) }
+        → MatchResult result (λ w. w ≡ d) (λ f. f ≡ Unread.Memory alloc_error) }
 {
     let values = small_column(alloc, rows, 1)?;
     let weights = small_column(alloc, rows, 2)?;
@@ -123,7 +123,7 @@ fn weights_of(alloc: Global, rows: &[Row]) -> Result<Weights, Unread>
 fn returns_of(alloc: Global, rows: &[Row]) -> Result<Option<Weights>, Unread>
     ensures none { rows.now ≡ [] → IfOk result (λ r. r ≡ None) }
     ensures reads { (d : Option Weighted) → CanDraw d → All (λ v. v < 2 ^ 32) (returned_values d) → rows.now ≡ returned_rows d
-        → MatchResult result (λ r. r ≡ d) (λ f. f ≡ Unread.Memory) }
+        → MatchResult result (λ r. r ≡ d) (λ f. f ≡ Unread.Memory alloc_error) }
 {
     if rows.is_empty() {
         return Ok(None);
@@ -152,7 +152,7 @@ fn sizes_of(rows: &[Row]) -> Sizes
 /// The model that the rows of a checkpoint say, if it is within its ranges.
 pub(crate) fn model_of(alloc: Global, version: Version, rows: &[Row]) -> Result<Model, Unread>
     ensures tells { IfOk result (λ m. CanTell version m) }
-    ensures model { (s : ScenarioParts) (next : ℕ) (states : List Parts) → AreRowsOf version s next states rows.now → MatchResult result (λ m. m ≡ s.model) (λ f. f ≡ Unread.Memory) }
+    ensures model { (s : ScenarioParts) (next : ℕ) (states : List Parts) → AreRowsOf version s next states rows.now → MatchResult result (λ m. m ≡ s.model) (λ f. f ≡ Unread.Memory alloc_error) }
 {
     let demand = weights_of(alloc, demand_rows(version, rows))?;
     let lead = weights_of(alloc, lead_rows(version, rows))?;

@@ -1,6 +1,6 @@
 // The policies and their states from rows.
 
-ghost use Rattle.std.specs.Prelude.{◌≡◌, ◌∷◌, ◌++◌, ℕ, List, [], ◌≤◌, All, IfOk, OnOk, MatchResult, Some, length, slice_get, true};
+ghost use Rattle.std.specs.Prelude.{◌≡◌, ◌∷◌, ◌++◌, ℕ, List, [], ◌≤◌, All, IfOk, OnOk, MatchResult, Some, length, slice_get, true, alloc_error};
 ghost use Rattle.crn_stock.specs.Models.{IsPolicy};
 ghost use Rattle.crn_spelling.specs.Names.{is_name};
 ghost use Rattle.crn_stock.specs.Parts.{Parts};
@@ -56,7 +56,7 @@ pub(crate) fn policies_of(
 ) -> Result<Policies, Unread>
     requires { count ≤ 16 }
     ensures reads { (ps : List Policy) (vs : List Parts) (rest : List (List (List ℕ))) → ArePoliciesOf model.now next ps vs → count ≡ length ps → rows.now ≡ all_policy_rows ps vs ++ rest
-        → MatchResult result (λ r. (r.policies.items ≡ ps) × (r.states.items ≡ vs)) (λ f. f ≡ Unread.Memory) }
+        → MatchResult result (λ r. (r.policies.items ≡ ps) × (r.states.items ≡ vs)) (λ f. f ≡ Unread.Memory alloc_error) }
     ensures count { IfOk result (λ r. length r.states.items ≡ length r.policies.items) }
     ensures stand { IfOk result (λ r. (i : ℕ) (v : Parts) → slice_get r.states.items i ≡ Some v → StandsBefore model.now next v) }
 {

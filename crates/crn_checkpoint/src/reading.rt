@@ -1,6 +1,6 @@
 // Checkpoints are read.
 
-ghost use Rattle.std.specs.Prelude.{◌≡◌, ℕ, List, IfOk, IfErr, OnOk, MatchResult};
+ghost use Rattle.std.specs.Prelude.{◌≡◌, ℕ, List, IfOk, IfErr, OnOk, MatchResult, alloc_error};
 ghost use Rattle.crn_stock.specs.Parts.{Parts};
 ghost use Rattle.crn_stock.specs.Scenarios.{ScenarioParts, IsScenarioRingSize};
 ghost use Rattle.crn_checkpoint.specs.Reading.{IsTextIn, IsTextOf, IsOldTextOf, IsAnyTextOf, IsSameButRing, RefusesCheckpoint};
@@ -22,7 +22,7 @@ pub(crate) fn read_cut(alloc: Global, ring: u64, bytes: &[u8]) -> Result<Cut, Un
     ensures is_text { IfOk result (λ c. IsTextIn c.version c.scenario c.checkpoint.next c.checkpoint.states.items bytes.now) }
     ensures ring { IfOk result (λ c. c.scenario.ring ≡ ring) }
     ensures reads { (v : Version) (s : ScenarioParts) (next : ℕ) (states : List Parts) → IsTextIn v s next states bytes.now
-        → MatchResult result (λ c. (v ≡ c.version) × IsSameButRing s c.scenario × (next ≡ c.checkpoint.next) × (states ≡ c.checkpoint.states.items)) (λ f. f ≡ Unread.Memory) }
+        → MatchResult result (λ c. (v ≡ c.version) × IsSameButRing s c.scenario × (next ≡ c.checkpoint.next) × (states ≡ c.checkpoint.states.items)) (λ f. f ≡ Unread.Memory alloc_error) }
 {
     let cut = cut_in(alloc, ring, bytes)?;
     cut.compare(alloc, bytes)?;
@@ -34,7 +34,7 @@ fn cut_in(alloc: Global, ring: u64, bytes: &[u8]) -> Result<Cut, Unread>
     requires { IsScenarioRingSize ring }
     ensures ring { IfOk result (λ c. c.scenario.ring ≡ ring) }
     ensures reads { (v : Version) (s : ScenarioParts) (next : ℕ) (states : List Parts) → IsTextIn v s next states bytes.now
-        → MatchResult result (λ c. (v ≡ c.version) × IsSameButRing s c.scenario × (next ≡ c.checkpoint.next) × (states ≡ c.checkpoint.states.items)) (λ f. f ≡ Unread.Memory) }
+        → MatchResult result (λ c. (v ≡ c.version) × IsSameButRing s c.scenario × (next ≡ c.checkpoint.next) × (states ≡ c.checkpoint.states.items)) (λ f. f ≡ Unread.Memory alloc_error) }
 {
     let rows = read_rows(alloc, bytes)?;
     cut_of(alloc, ring, rows.as_slice())
@@ -64,7 +64,7 @@ pub fn read_checkpoint(
         → IsSameButRing s scenario.now × (next ≡ c.next) × (states ≡ c.states.items)) }
     ensures not_old { IfOk result (λ c. (s : ScenarioParts) (next : ℕ) (states : List Parts) → ¬ IsOldTextOf s next states bytes.now) }
     ensures one_spelling { IfOk result (λ c. (other : List ℕ) → IsTextOf scenario.now c.next c.states.items other → other ≡ bytes.now) }
-    ensures taken { (next : ℕ) (states : List Parts) → IsTextOf scenario.now next states bytes.now → IfErr result (λ f. f ≡ CheckpointFault.Memory) }
+    ensures taken { (next : ℕ) (states : List Parts) → IsTextOf scenario.now next states bytes.now → IfErr result (λ f. f ≡ CheckpointFault.Memory alloc_error) }
     ensures refused { IfErr result (λ f. RefusesCheckpoint scenario.now f bytes.now) }
 {
     let cut = read_cut(alloc, scenario.ring(), bytes)?;

@@ -1,6 +1,6 @@
 // The scenario that the rows of a checkpoint say, and whether two are the same.
 
-ghost use Rattle.std.specs.Prelude.{◌≡◌, ◌≢◌, ◌↔◌, ◌≤◌, ◌<◌, ◌+◌, ℕ, List, drop, All, IfOk, OnOk, IsTrue, MatchResult, None, Some, option_map, length, slice_get, true};
+ghost use Rattle.std.specs.Prelude.{◌≡◌, ◌≢◌, ◌↔◌, ◌≤◌, ◌<◌, ◌+◌, ℕ, List, drop, All, IfOk, OnOk, IsTrue, MatchResult, None, Some, option_map, length, slice_get, true, alloc_error};
 ghost use Rattle.std.specs.List.{AllPairs};
 ghost use Rattle.crn_stock.specs.Parts.{Parts};
 ghost use Rattle.crn_stock.specs.Models.{IsPolicy, total};
@@ -166,7 +166,7 @@ fn policies_in(
 ) -> Result<Policies, Unread>
     requires { IsScenarioRingSize ring }
     ensures reads { (s : ScenarioParts) (n : ℕ) (states : List Parts) → AreRowsOf version s n states rows.now → model.now ≡ s.model → next ≡ n
-        → MatchResult result (λ r. (r.policies.items ≡ s.policies) × (r.states.items ≡ states)) (λ f. f ≡ Unread.Memory) }
+        → MatchResult result (λ r. (r.policies.items ≡ s.policies) × (r.states.items ≡ states)) (λ f. f ≡ Unread.Memory alloc_error) }
     ensures count { IfOk result (λ r. length r.states.items ≡ length r.policies.items) }
     ensures stand { IfOk result (λ r. (i : ℕ) (v : Parts) → slice_get r.states.items i ≡ Some v → StandsBefore model.now next v) }
     ensures next { OnOk result (next ≤ total model.now) }
@@ -188,7 +188,7 @@ fn policies_in(
 pub(crate) fn cut_of(alloc: Global, ring: u64, rows: &[Row]) -> Result<Cut, Unread>
     requires { IsScenarioRingSize ring }
     ensures reads { (v : Version) (s : ScenarioParts) (next : ℕ) (states : List Parts) → AreRowsOf v s next states rows.now
-        → MatchResult result (λ c. (v ≡ c.version) × IsSameButRing s c.scenario × (next ≡ c.checkpoint.next) × (states ≡ c.checkpoint.states.items)) (λ f. f ≡ Unread.Memory) }
+        → MatchResult result (λ c. (v ≡ c.version) × IsSameButRing s c.scenario × (next ≡ c.checkpoint.next) × (states ≡ c.checkpoint.states.items)) (λ f. f ≡ Unread.Memory alloc_error) }
     ensures ring { IfOk result (λ c. c.scenario.ring ≡ ring) }
 {
     let Some(version) = version_of(rows) else {

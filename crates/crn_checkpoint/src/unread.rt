@@ -4,16 +4,16 @@ use std::alloc::AllocError;
 #[derive(Clone, Copy, Debug, PartialEq, Eq)]
 pub(crate) enum Unread {
     NoCheckpoint,
-    Memory,
+    Memory(AllocError),
 }
 
 impl From<AllocError> for Unread {
     ghost use Rattle.std.specs.Prelude.{◌≡◌};
     ghost use Rattle.crn_checkpoint.specs.declared.unread.Unread.TheVariants.{Memory};
 
-    ghost from_gives = { λ _ f. f ≡ Memory };
+    ghost from_gives = { λ e f. f ≡ Memory e };
 
-    fn from(_refused: AllocError) -> Unread {
-        Unread::Memory
+    fn from(refused: AllocError) -> Unread {
+        Unread::Memory(refused)
     }
 }

@@ -6,11 +6,11 @@ pub enum CommandLineFault {
     /// The words are no command, or one of them is misspelt or outside its type.
     Words,
     /// An allocation failed. It says nothing about the words.
-    Memory,
+    Memory(AllocError),
 }
 
 impl From<AllocError> for CommandLineFault {
-    fn from(_refused: AllocError) -> CommandLineFault {
-        CommandLineFault::Memory
+    fn from(refused: AllocError) -> CommandLineFault {
+        CommandLineFault::Memory(refused)
     }
 }

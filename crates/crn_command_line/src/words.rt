@@ -1,6 +1,7 @@
 // The words of the command line.
 
-ghost use Rattle.std.specs.Prelude.{◌≡◌};
+ghost use Rattle.std.specs.Prelude.{◌≡◌, ◌↔◌, IsSome};
+ghost use Rattle.clap.specs.Values.{kind_of};
 ghost use Rattle.crn_command_line.specs.Inner.CommandLine.{key_word_of};
 
 use crate::fault::CommandLineFault;
@@ -61,10 +62,22 @@ fn matches_of<'a>(alloc: Global, words: &'a [String]) -> Result<ArgMatches<'a>, 
 
 // What `clap` answers in place of a command: the help that was asked for, or why there is none.
 fn answered(alloc: Global, answer: &clap::Error) -> Result<Command, CommandLineFault> {
+    if let Some(refused) = refusal_of(answer) {
+        return Err(CommandLineFault::Memory(refused));
+    }
     match answer.kind() {
-        ErrorKind::OutOfMemory => Err(CommandLineFault::Memory),
         ErrorKind::DisplayHelp => help_in(alloc, answer),
         _ => Err(CommandLineFault::Words),
+    }
+}
+
+// The refusal of memory that `clap` tells by a kind.
+fn refusal_of(answer: &clap::Error) -> Option<AllocError>
+    ensures { IsSome result ↔ (kind_of answer.now ≡ ErrorKind.OutOfMemory) }
+{
+    match answer.kind() {
+        ErrorKind::OutOfMemory => Some(AllocError),
+        _ => None,
     }
 }
 

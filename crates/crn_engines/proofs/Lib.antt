@@ -1,3 +1,4 @@
 mod KnownBytes
 mod LegStates
+mod Refused
 mod Sent

@@ -2,7 +2,6 @@
 use Rattle.std.proofs.Common.{◌≡◌, ℕ, List, Option, Result, Ok, Err, IfOk, IfErr, OnOk, OnErr, sym, subst}
 use Rattle.std.specs.Prelude.{IsErr, IsErrAnd}
 use Rattle.std.specs.Io.KnownBytes.{Appends}
-use Rattle.crn_engines.specs.declared.fault.Fault.{Fault}
 use Rattle.crn_engines.specs.Bytes.{AppendsFront, Wrote, WroteFrontOf}
 
 module _ {T E : Type 0} where

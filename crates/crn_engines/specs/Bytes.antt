@@ -1,5 +1,5 @@
 -- What is read from a reader, and what is written to a writer, where they tell their bytes.
-use Rattle.std.specs.Prelude.{ℕ, ◌≤◌, List, length, take, Option}
+use Rattle.std.specs.Prelude.{ℕ, ◌<◌, ◌≤◌, List, length, take, Option}
 use Rattle.std.specs.Io.KnownBytes.{Appends, Consumes, IsAtEnd}
 use Rattle.crn_engines.specs.declared.input.TheConstants.{INPUT_LIMIT}
 
@@ -12,6 +12,12 @@ pub record ReadAll (old new : Option (List ℕ)) (input : List ℕ) : Type 0 whe
   pub taken : Consumes old new input
   pub at_end : IsAtEnd new
   pub short : length input ≤ INPUT_LIMIT
+
+-- there was more than the limit
+pub record ReadTooMuch (old new : Option (List ℕ)) : Type 0 where
+  pub bytes : List ℕ
+  pub taken : Consumes old new bytes
+  pub long : INPUT_LIMIT < length bytes
 
 -- just a text that was made was written
 pub record Wrote (Made : List ℕ → Type 0) (held held' : Option (List ℕ)) : Type 0 where

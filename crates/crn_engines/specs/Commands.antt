@@ -1,5 +1,5 @@
 -- What the program reads and writes for a command.
-use Rattle.std.specs.Prelude.{ℕ, Bool, List, Option, string_bytes}
+use Rattle.std.specs.Prelude.{ℕ, List, Option, string_bytes}
 use Rattle.std.specs.Io.KnownBytes.{Appends, Keeps}
 use Rattle.crn_trace.specs.BlockWords.{words_text}
 use Rattle.crn_command_line.specs.declared.words.Command.{Command}
@@ -11,7 +11,7 @@ use Rattle.crn_engines.specs.Legs.{WroteLeg, WroteLegFront}
 use Rattle.crn_engines.specs.Resumption.{WroteResumed, WroteResumedFront, WroteLegsReport}
 use Rattle.crn_engines.specs.Migration.{WroteMigrated, WroteMigratedFront}
 use Rattle.crn_engines.specs.Replay.{replayed, WroteTrace, WroteTraceFront}
-use Rattle.crn_engines.specs.Statuses.{is_of_words, is_of_simulation, is_of_leg, is_of_resume, is_of_migrate, is_of_replay, is_of_help}
+use Rattle.crn_engines.specs.Refusals.{RefusesLeg, RefusesMigrate, RefusesOutput, RefusesReplay, RefusesResume, RefusesSimulation, RefusesWords}
 
 -- the bytes that the checkpoint's reader and the input's have left, and those that the writer holds; each may tell nothing
 pub record Streams : Type 0 where
@@ -44,12 +44,12 @@ AnsweredFront (command.Resume _) a b = WroteResumedFront a.saved b.saved a.readi
 AnsweredFront (command.Migrate _) a b = WroteMigratedFront a.saved b.saved a.held b.held
 AnsweredFront (command.Help text) a b = AppendsFront a.held b.held (string_bytes text)
 
--- whether the command may be refused for a fault
-abbrev pub is_of_command : Command → Fault → Bool
-is_of_command command.Run e = is_of_simulation e
-is_of_command (command.Words _ _) e = is_of_words e
-is_of_command (command.Replay _ _ _) e = is_of_replay e
-is_of_command (command.Leg _) e = is_of_leg e
-is_of_command (command.Resume _) e = is_of_resume e
-is_of_command (command.Migrate _) e = is_of_migrate e
-is_of_command (command.Help _) e = is_of_help e
+-- the command is refused for a fault, and this is what the fault tells of what was read
+abbrev pub Refuses : Command → Fault → Streams → Streams → Type 0
+Refuses command.Run e a b = Keeps a.saved b.saved × RefusesSimulation e a.reading b.reading
+Refuses (command.Words _ _) e a b = Unread a b × RefusesWords e
+Refuses (command.Replay size readers total) e a b = Keeps a.saved b.saved × RefusesReplay size readers total e a.reading b.reading
+Refuses (command.Leg n) e a b = Keeps a.saved b.saved × RefusesLeg n e a.reading b.reading
+Refuses (command.Resume _) e a b = RefusesResume e a.saved b.saved a.reading b.reading
+Refuses (command.Migrate _) e a b = Keeps a.reading b.reading × RefusesMigrate e a.saved b.saved
+Refuses (command.Help _) e a b = Unread a b × RefusesOutput e

@@ -1,4 +1,4 @@
 -- Definitions that no public contract states: of private functions, of proofs and of what a type keeps by its invariant.
-pub mod Statuses
+pub mod Refusals
 pub mod Bytes
 pub mod Onward

@@ -12,6 +12,11 @@ pub record ReadScenario (reading reading' : Option (List ℕ)) (scenario : Scena
   pub read : ReadAll reading reading' input
   pub reads : Reads input scenario
 
+-- the whole input was read, and it is the text of some scenario
+pub record HasScenario (reading reading' : Option (List ℕ)) : Type 0 where
+  pub scenario : ScenarioParts
+  pub read : ReadScenario reading reading' scenario
+
 -- the whole input was read, and it is refused for a fault
 pub record ReadRefused (f : ScenarioFault) (reading reading' : Option (List ℕ)) : Type 0 where
   pub input : List ℕ

@@ -6,5 +6,6 @@ pub mod Legs
 pub mod Resumption
 pub mod Migration
 pub mod Replay
+pub mod Refusals
 pub mod Commands
 pub mod Inner

@@ -38,6 +38,15 @@ pub record ReadBoth (saved saved' reading reading' : Option (List ℕ)) (s : Sce
   pub scenario : ReadScenario reading reading' s
   pub checkpoint : ReadAll saved saved' bytes
 
+-- both inputs were read whole: the text of a scenario, and that of a checkpoint of it
+pub record HasCheckpoint (saved saved' reading reading' : Option (List ℕ)) : Type 0 where
+  pub scenario : ScenarioParts
+  pub bytes : List ℕ
+  pub read : ReadBoth saved saved' reading reading' scenario bytes
+  pub next : ℕ
+  pub states : List Parts
+  pub is_text : IsTextOf scenario next states bytes
+
 -- both inputs were read whole, and the text is the report onward from the checkpoint
 pub record MadeResumed (saved saved' reading reading' : Option (List ℕ)) (text : List ℕ) : Type 0 where
   pub scenario : ScenarioParts

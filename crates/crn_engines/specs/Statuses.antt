@@ -1,5 +1,6 @@
--- The statuses of the program, and the faults that each of its parts may answer.
-use Rattle.std.specs.Prelude.{ℕ, Bool, true, false, ◌||◌}
+-- The statuses of the program, and its words for the faults of its parts.
+use Rattle.std.specs.Prelude.{◌≡◌, ◌≢◌, ◌⊎◌, ℕ, Bool, true, false, alloc_error}
+use Rattle.std.specs.declared.alloc.AllocError.{AllocError}
 use Rattle.crn_command_line.specs.declared.fault.CommandLineFault.{CommandLineFault}
 use Rattle.crn_command_line.specs.declared.fault.CommandLineFault.TheVariants as words
 use Rattle.crn_run.specs.declared.fault.RunFault.{RunFault}
@@ -13,83 +14,28 @@ status_of (fault.Scenario _) = 3
 status_of (fault.Checkpoint _) = 4
 status_of (fault.Migration _) = 4
 status_of (fault.Schedule _) = 4
-status_of fault.Reading = 5
-status_of fault.Writing = 5
-status_of fault.Thread = 6
+status_of (fault.Reading _) = 5
+status_of (fault.Writing _) = 5
+status_of (fault.Thread _) = 6
 status_of fault.Gate = 6
-status_of fault.Memory = 7
+status_of (fault.Memory _) = 7
+
+-- whether a front of the output may have been written
+abbrev pub is_writing : Fault → Bool
+is_writing (fault.Writing _) = true
+is_writing _ = false
 
 -- the program's word for a fault of the run
 abbrev pub fault_of_run : RunFault → Fault
-fault_of_run run.Thread = fault.Thread
+fault_of_run (run.Thread f) = fault.Thread f
 fault_of_run run.Gate = fault.Gate
-fault_of_run run.Memory = fault.Memory
+fault_of_run (run.Memory refused) = fault.Memory refused
 
 -- the program's word for a fault of the command line
 abbrev pub fault_of_words : CommandLineFault → Fault
 fault_of_words words.Words = fault.CommandLine
-fault_of_words words.Memory = fault.Memory
+fault_of_words (words.Memory refused) = fault.Memory refused
 
--- ---- whether a part of the program may answer a fault
-
--- a run that has begun, under gates that always pass
-abbrev pub is_of_run : Fault → Bool
-is_of_run fault.Thread = true
-is_of_run fault.Memory = true
-is_of_run _ = false
-
--- an input as it is read
-abbrev pub is_of_input : Fault → Bool
-is_of_input fault.Reading = true
-is_of_input fault.Memory = true
-is_of_input _ = false
-
--- a text that is judged as a scenario
-abbrev pub is_of_scenario : Fault → Bool
-is_of_scenario (fault.Scenario _) = true
-is_of_scenario fault.Memory = true
-is_of_scenario _ = false
-
--- a text that is migrated
-abbrev pub is_of_migration : Fault → Bool
-is_of_migration (fault.Migration _) = true
-is_of_migration fault.Memory = true
-is_of_migration _ = false
-
--- a text that is judged as a schedule
-abbrev pub is_of_schedule : Fault → Bool
-is_of_schedule (fault.Schedule _) = true
-is_of_schedule fault.Memory = true
-is_of_schedule _ = false
-
--- ---- whether an engine may answer a fault
-
-abbrev pub is_of_words : Fault → Bool
-is_of_words fault.Writing = true
-is_of_words fault.Memory = true
-is_of_words _ = false
-
-abbrev pub is_of_simulation : Fault → Bool
-is_of_simulation fault.Writing = true
-is_of_simulation e = is_of_input e || is_of_scenario e || is_of_run e
-
-abbrev pub is_of_leg : Fault → Bool
-is_of_leg fault.CommandLine = true
-is_of_leg e = is_of_simulation e
-
-abbrev pub is_of_resume : Fault → Bool
-is_of_resume (fault.Checkpoint _) = true
-is_of_resume e = is_of_simulation e
-
-abbrev pub is_of_migrate : Fault → Bool
-is_of_migrate fault.Writing = true
-is_of_migrate e = is_of_input e || is_of_migration e
-
-abbrev pub is_of_replay : Fault → Bool
-is_of_replay fault.CommandLine = true
-is_of_replay fault.Writing = true
-is_of_replay e = is_of_input e || is_of_schedule e
-
-abbrev pub is_of_help : Fault → Bool
-is_of_help fault.Writing = true
-is_of_help _ = false
+-- the program's word for a fault of one of its parts: want of memory is a fault of its own, wherever it was met
+abbrev pub HandsOn : {Part : Type 0} → (AllocError → Part) → (Part → Fault) → Part → Fault → Type 0
+HandsOn Memory named e f = ((e ≡ Memory alloc_error) × (f ≡ fault.Memory alloc_error)) ⊎ ((e ≢ Memory alloc_error) × (f ≡ named e))

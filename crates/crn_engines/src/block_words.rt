@@ -1,8 +1,9 @@
-ghost use Rattle.std.specs.Prelude.{◌≡◌, ◌≢◌, true, IfErr, OnOk};
+ghost use Rattle.std.specs.Prelude.{◌≡◌, true, false, IfErr, OnOk};
 ghost use Rattle.std.specs.Io.KnownBytes.{Appends, Keeps};
 ghost use Rattle.crn_trace.specs.BlockWords.{words_text};
 ghost use Rattle.crn_engines.specs.Bytes.{AppendsFront};
-ghost use Rattle.crn_engines.specs.Statuses.{is_of_words};
+ghost use Rattle.crn_engines.specs.Refusals.{RefusesWords};
+ghost use Rattle.crn_engines.specs.Statuses.{is_writing};
 
 use crate::fault::Fault;
 use crate::steps::send;
@@ -23,9 +24,9 @@ pub fn write_words<W: Write>(
     writer: &mut W,
 ) -> Result<(), Fault>
     ensures wrote { OnOk result (Appends (W.contents writer.old) (W.contents writer.new) (words_text key n)) }
-    ensures kept { IfErr result (λ e. e ≢ Fault.Writing → Keeps (W.contents writer.old) (W.contents writer.new)) }
-    ensures others { IfErr result (λ e. is_of_words e ≡ true) }
-    ensures front { IfErr result (λ e. e ≡ Fault.Writing → AppendsFront (W.contents writer.old) (W.contents writer.new) (words_text key n)) }
+    ensures kept { IfErr result (λ e. is_writing e ≡ false → Keeps (W.contents writer.old) (W.contents writer.new)) }
+    ensures refused { IfErr result (λ e. RefusesWords e) }
+    ensures front { IfErr result (λ e. is_writing e ≡ true → AppendsFront (W.contents writer.old) (W.contents writer.new) (words_text key n)) }
 {
     let text = words_text(alloc, key, n)?;
     send(writer, text.as_slice())

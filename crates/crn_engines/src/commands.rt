@@ -1,8 +1,9 @@
 // The commands of the program.
 
-ghost use Rattle.std.specs.Prelude.{◌≡◌, ◌≢◌, ◌⊎◌, true, IfErr, OnOk};
+ghost use Rattle.std.specs.Prelude.{◌≡◌, ◌⊎◌, true, false, IfErr, OnOk, alloc_error};
 ghost use Rattle.std.specs.Io.KnownBytes.{Keeps};
-ghost use Rattle.crn_engines.specs.Commands.{Streams, Answered, AnsweredFront, is_of_command};
+ghost use Rattle.crn_engines.specs.Commands.{Streams, Answered, AnsweredFront, Refuses};
+ghost use Rattle.crn_engines.specs.Statuses.{is_writing};
 
 use crate::block_words::write_words;
 use crate::fault::Fault;
@@ -36,9 +37,9 @@ pub fn answer_command<H: Threads + Wait + Sync, C: Read, R: Read, W: Write>(
     writer: &mut W,
 ) -> Result<(), Fault>
     ensures wrote { OnOk result (Answered command.now (record { saved = C.remaining saved.old; reading = R.remaining reader.old; held = W.contents writer.old }) (record { saved = C.remaining saved.new; reading = R.remaining reader.new; held = W.contents writer.new })) }
-    ensures kept { IfErr result (λ e. e ≢ Fault.Writing → Keeps (W.contents writer.old) (W.contents writer.new)) }
-    ensures front { IfErr result (λ e. e ≡ Fault.Writing → AnsweredFront command.now (record { saved = C.remaining saved.old; reading = R.remaining reader.old; held = W.contents writer.old }) (record { saved = C.remaining saved.new; reading = R.remaining reader.new; held = W.contents writer.new })) }
-    ensures others { IfErr result (λ e. is_of_command command.now e ≡ true) }
+    ensures kept { IfErr result (λ e. is_writing e ≡ false → Keeps (W.contents writer.old) (W.contents writer.new)) }
+    ensures front { IfErr result (λ e. is_writing e ≡ true → AnsweredFront command.now (record { saved = C.remaining saved.old; reading = R.remaining reader.old; held = W.contents writer.old }) (record { saved = C.remaining saved.new; reading = R.remaining reader.new; held = W.contents writer.new })) }
+    ensures refused { IfErr result (λ e. Refuses command.now e (record { saved = C.remaining saved.old; reading = R.remaining reader.old; held = W.contents writer.old }) (record { saved = C.remaining saved.new; reading = R.remaining reader.new; held = W.contents writer.new })) }
 {
     match command {
         Command::Run => simulate(rt, alloc, reader, writer),
@@ -62,7 +63,7 @@ pub fn answer_command<H: Threads + Wait + Sync, C: Read, R: Read, W: Write>(
 /// - `CommandLine` if the words are refused.
 /// - `Memory` if an allocation fails.
 pub fn read_words(alloc: Global, words: &[String]) -> Result<Command, Fault>
-    ensures { IfErr result (λ e. (e ≡ Fault.CommandLine) ⊎ (e ≡ Fault.Memory)) }
+    ensures { IfErr result (λ e. (e ≡ Fault.CommandLine) ⊎ (e ≡ Fault.Memory alloc_error)) }
 {
     Ok(crn_command_line::read_words(alloc, words)?)
 }

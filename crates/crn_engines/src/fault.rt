@@ -1,16 +1,20 @@
 ghost use Rattle.std.specs.Prelude.{◌≡◌};
 ghost use Rattle.crn_engines.specs.Statuses.{status_of};
 
+use crate::input::ReadFault;
+use crate::output::WriteFault;
 use crn_checkpoint::{CheckpointFault, MigrateFault};
 use crn_command_line::CommandLineFault;
-use crn_run::RunFault;
+use crn_run::{RunFault, ThreadFault};
 use crn_scenario::ScenarioFault;
 use crn_trace::ScheduleFault;
 use std::alloc::AllocError;
 use thiserror::Error;
 
 /// Why the program gave no answer. Its text is the line that the program prints on standard error.
-#[derive(Clone, Copy, Debug, Drop, PartialEq, Eq, Error)]
+///
+/// A fault that the system is the cause of carries what reported it, and comes from nothing else.
+#[derive(Clone, Copy, Debug, Drop, Error)]
 pub enum Fault {
     /// The words after the program's name are refused, there is no such ring, or a leg is longer than the run.
     #[error("crnsim: command line")]
@@ -29,19 +33,19 @@ pub enum Fault {
     Schedule(ScheduleFault),
     /// A file was not opened, a read failed, or an input is over 1,048,576 bytes.
     #[error("crnsim: reading")]
-    Reading,
+    Reading(ReadFault),
     /// A write failed or took no byte.
     #[error("crnsim: writing")]
-    Writing,
+    Writing(WriteFault),
     /// A thread was refused.
     #[error("crnsim: thread")]
-    Thread,
+    Thread(ThreadFault),
     /// A gate answered false. The program's own gates never do.
     #[error("crnsim: gate")]
     Gate,
     /// A growth was refused.
     #[error("crnsim: memory")]
-    Memory,
+    Memory(AllocError),
 }
 
 impl Fault {
@@ -54,9 +58,9 @@ impl Fault {
             Fault::CommandLine => 2,
             Fault::Scenario(_) => 3,
             Fault::Checkpoint(_) | Fault::Migration(_) | Fault::Schedule(_) => 4,
-            Fault::Reading | Fault::Writing => 5,
-            Fault::Thread | Fault::Gate => 6,
-            Fault::Memory => 7,
+            Fault::Reading(_) | Fault::Writing(_) => 5,
+            Fault::Thread(_) | Fault::Gate => 6,
+            Fault::Memory(_) => 7,
         }
     }
 }
@@ -64,10 +68,80 @@ impl Fault {
 impl From<AllocError> for Fault {
     ghost use Rattle.crn_engines.specs.declared.fault.Fault.TheVariants.{Memory};
 
-    ghost from_gives = { λ _ f. f ≡ Memory };
+    ghost from_gives = { λ e f. f ≡ Memory e };
 
-    fn from(_refused: AllocError) -> Fault {
-        Self::Memory
+    fn from(refused: AllocError) -> Fault {
+        Self::Memory(refused)
+    }
+}
+
+impl From<WriteFault> for Fault {
+    ghost use Rattle.crn_engines.specs.declared.fault.Fault.TheVariants.{Writing};
+
+    ghost from_gives = { λ e f. f ≡ Writing e };
+
+    fn from(fault: WriteFault) -> Fault {
+        Fault::Writing(fault)
+    }
+}
+
+impl From<ScenarioFault> for Fault {
+    ghost use Rattle.crn_scenario.specs.declared.scenario_fault.ScenarioFault.TheVariants.{Memory};
+    ghost use Rattle.crn_engines.specs.declared.fault.Fault.TheVariants.{Scenario};
+    ghost use Rattle.crn_engines.specs.Statuses.{HandsOn};
+
+    ghost from_gives = { λ e f. HandsOn Memory Scenario e f };
+
+    fn from(fault: ScenarioFault) -> Fault {
+        match fault {
+            ScenarioFault::Memory(refused) => Fault::Memory(refused),
+            _ => Fault::Scenario(fault),
+        }
+    }
+}
+
+impl From<CheckpointFault> for Fault {
+    ghost use Rattle.crn_checkpoint.specs.declared.checkpoint_fault.CheckpointFault.TheVariants.{Memory};
+    ghost use Rattle.crn_engines.specs.declared.fault.Fault.TheVariants.{Checkpoint};
+    ghost use Rattle.crn_engines.specs.Statuses.{HandsOn};
+
+    ghost from_gives = { λ e f. HandsOn Memory Checkpoint e f };
+
+    fn from(fault: CheckpointFault) -> Fault {
+        match fault {
+            CheckpointFault::Memory(refused) => Fault::Memory(refused),
+            _ => Fault::Checkpoint(fault),
+        }
+    }
+}
+
+impl From<MigrateFault> for Fault {
+    ghost use Rattle.crn_checkpoint.specs.declared.migrate_fault.MigrateFault.TheVariants.{Memory};
+    ghost use Rattle.crn_engines.specs.declared.fault.Fault.TheVariants.{Migration};
+    ghost use Rattle.crn_engines.specs.Statuses.{HandsOn};
+
+    ghost from_gives = { λ e f. HandsOn Memory Migration e f };
+
+    fn from(fault: MigrateFault) -> Fault {
+        match fault {
+            MigrateFault::Memory(refused) => Fault::Memory(refused),
+            _ => Fault::Migration(fault),
+        }
+    }
+}
+
+impl From<ScheduleFault> for Fault {
+    ghost use Rattle.crn_trace.specs.declared.schedule_fault.ScheduleFault.TheVariants.{Memory};
+    ghost use Rattle.crn_engines.specs.declared.fault.Fault.TheVariants.{Schedule};
+    ghost use Rattle.crn_engines.specs.Statuses.{HandsOn};
+
+    ghost from_gives = { λ e f. HandsOn Memory Schedule e f };
+
+    fn from(fault: ScheduleFault) -> Fault {
+        match fault {
+            ScheduleFault::Memory(refused) => Fault::Memory(refused),
+            _ => Fault::Schedule(fault),
+        }
     }
 }
 
@@ -78,9 +152,9 @@ impl From<RunFault> for Fault {
 
     fn from(fault: RunFault) -> Fault {
         match fault {
-            RunFault::Thread => Fault::Thread,
+            RunFault::Thread(fault) => Fault::Thread(fault),
             RunFault::Gate => Fault::Gate,
-            RunFault::Memory => Fault::Memory,
+            RunFault::Memory(refused) => Fault::Memory(refused),
         }
     }
 }
@@ -93,7 +167,7 @@ impl From<CommandLineFault> for Fault {
     fn from(fault: CommandLineFault) -> Fault {
         match fault {
             CommandLineFault::Words => Fault::CommandLine,
-            CommandLineFault::Memory => Fault::Memory,
+            CommandLineFault::Memory(refused) => Fault::Memory(refused),
         }
     }
 }

@@ -1,8 +1,12 @@
-ghost use Rattle.std.specs.Prelude.{◌≡◌, ◌≢◌, IfOk, IfErr};
+ghost use Rattle.std.specs.Prelude.{◌≡◌, IfOk, IfErr};
 ghost use Rattle.crn_engines.specs.Bytes.{ReadAll};
-ghost use Rattle.crn_engines.specs.Inner.Bytes.{ReadMore, ReadTooMuch};
+ghost use Rattle.crn_engines.specs.Refusals.{RefusesInput};
+ghost use Rattle.crn_engines.specs.Inner.Bytes.{ReadMore};
+ghost use Rattle.crn_engines.specs.Inner.Refusals.{RefusesRead};
 
+use crate::fault::Fault;
 use std::alloc::Global;
+use std::io;
 use std::io::Read;
 
 /// The most bytes that an input may have.
@@ -11,35 +15,35 @@ pub const INPUT_LIMIT: usize = 1_048_576;
 const CHUNK: usize = 4_096;
 
 /// Why an input was not read.
-#[derive(Clone, Copy, Debug, PartialEq, Eq)]
-pub(crate) enum InputFault {
-    Failed,
+#[derive(Clone, Copy, Debug, Drop)]
+pub enum ReadFault {
+    /// A file was not opened or a read failed, with this error.
+    Failed(io::Error),
+    /// The input is over [`INPUT_LIMIT`] bytes.
     TooLong,
-    Memory,
 }
 
 // Appends what one read gives, and says whether the input goes on.
-fn read_some<R: Read>(reader: &mut R, input: &mut Vec<u8>) -> Result<bool, InputFault>
+fn read_some<R: Read>(reader: &mut R, input: &mut Vec<u8>) -> Result<bool, Fault>
     ensures grown { IfOk result (λ more. ReadMore (R.remaining reader.old) (R.remaining reader.new) input.old.items input.new.items more) }
-    ensures no_length { IfErr result (λ e. e ≢ InputFault.TooLong) }
+    ensures refused { IfErr result (λ e. RefusesRead e) }
 {
     let mut chunk = [0u8; CHUNK];
-    let Ok(count) = reader.read(&mut chunk) else {
-        return Err(InputFault::Failed);
+    let count = match reader.read(&mut chunk) {
+        Ok(count) => count,
+        Err(error) => return Err(Fault::Reading(ReadFault::Failed(error))),
     };
     if count == 0 {
         return Ok(false);
     }
-    match input.extend_from_slice(&chunk[..count]) {
-        Ok(()) => Ok(true),
-        Err(_) => Err(InputFault::Memory),
-    }
+    input.extend_from_slice(&chunk[..count])?;
+    Ok(true)
 }
 
 /// Reads to the end. Each turn reads once, so at most `INPUT_LIMIT + 1` reads succeed.
-pub(crate) fn read_input<R: Read>(alloc: Global, reader: &mut R) -> Result<Vec<u8>, InputFault>
+pub(crate) fn read_input<R: Read>(alloc: Global, reader: &mut R) -> Result<Vec<u8>, Fault>
     ensures all { IfOk result (λ input. ReadAll (R.remaining reader.old) (R.remaining reader.new) input.items) }
-    ensures long { IfErr result (λ e. e ≡ InputFault.TooLong → ReadTooMuch (R.remaining reader.old) (R.remaining reader.new)) }
+    ensures refused { IfErr result (λ e. RefusesInput e (R.remaining reader.old) (R.remaining reader.new)) }
 {
     let mut input = Vec::new(alloc);
     for _turn in 0..INPUT_LIMIT + 1 {
@@ -47,8 +51,8 @@ pub(crate) fn read_input<R: Read>(alloc: Global, reader: &mut R) -> Result<Vec<u
             return Ok(input);
         }
         if input.len() > INPUT_LIMIT {
-            return Err(InputFault::TooLong);
+            return Err(Fault::Reading(ReadFault::TooLong));
         }
     }
-    Err(InputFault::TooLong)
+    Err(Fault::Reading(ReadFault::TooLong))
 }

@@ -1,13 +1,12 @@
-ghost use Rattle.std.specs.Prelude.{◌≡◌, ◌≢◌, ◌⊎◌, ◌↔◌, ◌<◌, ◌≤◌, true, IsTrue, IfOk, IfErr, OnOk};
+ghost use Rattle.std.specs.Prelude.{◌≡◌, ◌↔◌, ◌≤◌, true, false, IsTrue, IfOk, IfErr, OnOk};
 ghost use Rattle.std.specs.Io.KnownBytes.{Keeps};
-ghost use Rattle.crn_scenario.specs.declared.scenario_fault.ScenarioFault.{ScenarioFault};
 ghost use Rattle.crn_stock.specs.Models.{total};
 ghost use Rattle.crn_sequential.specs.Runs.{IsCheckpointOf, EachAt};
 ghost use Rattle.crn_checkpoint.specs.Reading.{IsLegOf};
-ghost use Rattle.crn_engines.specs.Statuses.{is_of_leg, is_of_run};
-ghost use Rattle.crn_engines.specs.Inner.Statuses.{is_of_leg_run, is_of_leg_text};
-ghost use Rattle.crn_engines.specs.Inputs.{ReadRefused};
-ghost use Rattle.crn_engines.specs.Legs.{MadeLeg, WroteLeg, WroteLegFront, HasFewer, HasEnough};
+ghost use Rattle.crn_engines.specs.Legs.{MadeLeg, WroteLeg, WroteLegFront};
+ghost use Rattle.crn_engines.specs.Refusals.{RefusesLeg};
+ghost use Rattle.crn_engines.specs.Statuses.{is_writing};
+ghost use Rattle.crn_engines.specs.Inner.Refusals.{RefusesLegRun, RefusesRun};
 
 use crate::fault::Fault;
 use crate::steps::{run_to, scenario_from, send_made};
@@ -42,12 +41,9 @@ pub fn leg<H: Threads + Wait + Sync, R: Read, W: Write>(
     writer: &mut W,
 ) -> Result<(), Fault>
     ensures wrote { OnOk result (WroteLeg n (R.remaining reader.old) (R.remaining reader.new) (W.contents writer.old) (W.contents writer.new)) }
-    ensures kept { IfErr result (λ e. e ≢ Fault.Writing → Keeps (W.contents writer.old) (W.contents writer.new)) }
-    ensures front { IfErr result (λ e. e ≡ Fault.Writing → WroteLegFront n (R.remaining reader.old) (R.remaining reader.new) (W.contents writer.old) (W.contents writer.new)) }
-    ensures scenario { (f : ScenarioFault) → result ≡ Err (Fault.Scenario f) → (f ≢ ScenarioFault.Memory) × ReadRefused f (R.remaining reader.old) (R.remaining reader.new) }
-    ensures command_line { IfErr result (λ e. e ≡ Fault.CommandLine → HasFewer n (R.remaining reader.old) (R.remaining reader.new)) }
-    ensures threads { IfErr result (λ e. (e ≡ Fault.Thread) ⊎ (e ≡ Fault.Gate) → HasEnough n (R.remaining reader.old) (R.remaining reader.new)) }
-    ensures others { IfErr result (λ e. is_of_leg e ≡ true) }
+    ensures kept { IfErr result (λ e. is_writing e ≡ false → Keeps (W.contents writer.old) (W.contents writer.new)) }
+    ensures front { IfErr result (λ e. is_writing e ≡ true → WroteLegFront n (R.remaining reader.old) (R.remaining reader.new) (W.contents writer.old) (W.contents writer.new)) }
+    ensures refused { IfErr result (λ e. RefusesLeg n e (R.remaining reader.old) (R.remaining reader.new)) }
 {
     let text = leg_from(rt, alloc, n, reader)?;
     send_made(writer, text)
@@ -61,10 +57,8 @@ fn leg_from<H: Threads + Wait + Sync, R: Read>(
     reader: &mut R,
 ) -> Result<Vec<u8>, Fault>
     ensures made { IfOk result (λ text. MadeLeg n (R.remaining reader.old) (R.remaining reader.new) text.items) }
-    ensures scenario { (f : ScenarioFault) → result ≡ Err (Fault.Scenario f) → (f ≢ ScenarioFault.Memory) × ReadRefused f (R.remaining reader.old) (R.remaining reader.new) }
-    ensures command_line { IfErr result (λ e. e ≡ Fault.CommandLine → HasFewer n (R.remaining reader.old) (R.remaining reader.new)) }
-    ensures threads { IfErr result (λ e. (e ≡ Fault.Thread) ⊎ (e ≡ Fault.Gate) → HasEnough n (R.remaining reader.old) (R.remaining reader.new)) }
-    ensures faults { IfErr result (λ e. is_of_leg_text e ≡ true) }
+    ensures refused { IfErr result (λ e. RefusesLeg n e (R.remaining reader.old) (R.remaining reader.new)) }
+    ensures silent { IfErr result (λ e. is_writing e ≡ false) }
 {
     let scenario = scenario_from(alloc, reader)?;
     leg_text(rt, alloc, &scenario, n)
@@ -78,9 +72,7 @@ fn leg_text<H: Threads + Wait + Sync>(
     n: u64,
 ) -> Result<Vec<u8>, Fault>
     ensures leg { IfOk result (λ text. IsLegOf scenario.now n text.items) }
-    ensures command_line { IfErr result (λ e. e ≡ Fault.CommandLine → total scenario.now.model < n) }
-    ensures threads { IfErr result (λ e. (e ≡ Fault.Thread) ⊎ (e ≡ Fault.Gate) → n ≤ total scenario.now.model) }
-    ensures faults { IfErr result (λ e. is_of_leg_run e ≡ true) }
+    ensures refused { IfErr result (λ e. RefusesLegRun scenario.now n e) }
 {
     if !has_blocks(scenario, n) {
         return Err(Fault::CommandLine);
@@ -108,7 +100,7 @@ fn reached_at<H: Threads + Wait + Sync>(
     ensures next { IfOk result (λ c. c.next ≡ n) }
     ensures of { IfOk result (λ c. IsCheckpointOf scenario.now n c.states.items) }
     ensures at { IfOk result (λ c. EachAt scenario.now n c.states.items) }
-    ensures faults { IfErr result (λ e. is_of_run e ≡ true) }
+    ensures refused { IfErr result (λ e. RefusesRun e) }
 {
     let start = Checkpoint::start(alloc, scenario)?;
     run_to(rt, alloc, scenario, &start, n)

@@ -1,14 +1,15 @@
-ghost use Rattle.std.specs.Prelude.{◌≡◌, ◌≢◌, true, IfOk, IfErr, OnOk};
+ghost use Rattle.std.specs.Prelude.{◌≡◌, true, false, IfOk, IfErr, OnOk};
 ghost use Rattle.std.specs.Io.KnownBytes.{Keeps};
-ghost use Rattle.crn_checkpoint.specs.Migration.{IsMigrated, RefusesMigration};
-ghost use Rattle.crn_checkpoint.specs.declared.migrate_fault.MigrateFault.{MigrateFault};
-ghost use Rattle.crn_engines.specs.Statuses.{is_of_migrate, is_of_migration};
-ghost use Rattle.crn_engines.specs.Inner.Statuses.{is_of_migrated};
-ghost use Rattle.crn_engines.specs.Migration.{MadeMigrated, MigratesLegs, WroteMigrated, WroteMigratedFront, ReadRefusedMigration};
+ghost use Rattle.crn_checkpoint.specs.Migration.{IsMigrated};
+ghost use Rattle.crn_engines.specs.Migration.{MadeMigrated, MigratesLegs, WroteMigrated, WroteMigratedFront};
+ghost use Rattle.crn_engines.specs.Refusals.{RefusesMigrate};
+ghost use Rattle.crn_engines.specs.Statuses.{is_writing};
+ghost use Rattle.crn_engines.specs.Inner.Refusals.{RefusesOldText};
 
 use crate::fault::Fault;
-use crate::steps::{input_from, send_made};
-use crn_checkpoint::{MigrateFault, migrate_checkpoint};
+use crate::input::read_input;
+use crate::steps::send_made;
+use crn_checkpoint::migrate_checkpoint;
 use std::alloc::Global;
 use std::io::{Read, Write};
 
@@ -32,10 +33,9 @@ pub fn migrate<R: Read, W: Write>(
     writer: &mut W,
 ) -> Result<(), Fault>
     ensures wrote { OnOk result (WroteMigrated (R.remaining reader.old) (R.remaining reader.new) (W.contents writer.old) (W.contents writer.new)) }
-    ensures kept { IfErr result (λ e. e ≢ Fault.Writing → Keeps (W.contents writer.old) (W.contents writer.new)) }
-    ensures front { IfErr result (λ e. e ≡ Fault.Writing → WroteMigratedFront (R.remaining reader.old) (R.remaining reader.new) (W.contents writer.old) (W.contents writer.new)) }
-    ensures migration { (f : MigrateFault) → result ≡ Err (Fault.Migration f) → (f ≢ MigrateFault.Memory) × ReadRefusedMigration f (R.remaining reader.old) (R.remaining reader.new) }
-    ensures others { IfErr result (λ e. is_of_migrate e ≡ true) }
+    ensures kept { IfErr result (λ e. is_writing e ≡ false → Keeps (W.contents writer.old) (W.contents writer.new)) }
+    ensures front { IfErr result (λ e. is_writing e ≡ true → WroteMigratedFront (R.remaining reader.old) (R.remaining reader.new) (W.contents writer.old) (W.contents writer.new)) }
+    ensures refused { IfErr result (λ e. RefusesMigrate e (R.remaining reader.old) (R.remaining reader.new)) }
 {
     let text = migrated_from(alloc, reader)?;
     send_made(writer, text)
@@ -44,10 +44,10 @@ pub fn migrate<R: Read, W: Write>(
 // Reads a checkpoint of version 1, and makes its text in version 2.
 fn migrated_from<R: Read>(alloc: Global, reader: &mut R) -> Result<Vec<u8>, Fault>
     ensures made { IfOk result (λ text. MadeMigrated (R.remaining reader.old) (R.remaining reader.new) text.items) }
-    ensures migration { (f : MigrateFault) → result ≡ Err (Fault.Migration f) → (f ≢ MigrateFault.Memory) × ReadRefusedMigration f (R.remaining reader.old) (R.remaining reader.new) }
-    ensures faults { IfErr result (λ e. is_of_migrated e ≡ true) }
+    ensures refused { IfErr result (λ e. RefusesMigrate e (R.remaining reader.old) (R.remaining reader.new)) }
+    ensures silent { IfErr result (λ e. is_writing e ≡ false) }
 {
-    let bytes = input_from(alloc, reader)?;
+    let bytes = read_input(alloc, reader)?;
     migrated_text(alloc, bytes.as_slice())
 }
 
@@ -55,23 +55,8 @@ fn migrated_from<R: Read>(alloc: Global, reader: &mut R) -> Result<Vec<u8>, Faul
 fn migrated_text(alloc: Global, bytes: &[u8]) -> Result<Vec<u8>, Fault>
     ensures migrated { IfOk result (λ text. IsMigrated bytes.now text.items) }
     ensures legs { IfOk result (λ text. MigratesLegs bytes.now text.items) }
-    ensures migration { (f : MigrateFault) → result ≡ Err (Fault.Migration f) → (f ≢ MigrateFault.Memory) × RefusesMigration f bytes.now }
-    ensures faults { IfErr result (λ e. is_of_migration e ≡ true) }
+    ensures refused { IfErr result (λ e. RefusesOldText e bytes.now) }
 {
-    match migrate_checkpoint(alloc, bytes) {
-        Ok(text) => Ok(text),
-        Err(fault) => Err(migration_fault(fault)),
-    }
-}
-
-// Want of memory is a fault of its own, wherever it was met.
-fn migration_fault(fault: MigrateFault) -> Fault
-    ensures migration { (f : MigrateFault) → result ≡ Fault.Migration f → (f ≡ fault) × (f ≢ MigrateFault.Memory) }
-    ensures memory { result ≡ Fault.Memory → fault ≡ MigrateFault.Memory }
-    ensures faults { is_of_migration result ≡ true }
-{
-    match fault {
-        MigrateFault::Memory => Fault::Memory,
-        _ => Fault::Migration(fault),
-    }
+    let text = migrate_checkpoint(alloc, bytes)?;
+    Ok(text)
 }

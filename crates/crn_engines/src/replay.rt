@@ -1,18 +1,18 @@
-ghost use Rattle.std.specs.Prelude.{◌≡◌, ◌≢◌, ◌↔◌, ◌⊎◌, true, IfOk, IfErr, OnOk, IsErrOf};
+ghost use Rattle.std.specs.Prelude.{◌≡◌, ◌↔◌, ◌⊎◌, true, false, IfOk, IfErr, OnOk, IsErrOf, alloc_error};
 ghost use Rattle.std.specs.Io.KnownBytes.{Keeps};
 ghost use Rattle.crn_proto.specs.Machine.{open_machine};
-ghost use Rattle.crn_trace.specs.declared.schedule_fault.ScheduleFault.{ScheduleFault};
-ghost use Rattle.crn_trace.specs.Schedule.{RefusesSchedule};
-ghost use Rattle.crn_engines.specs.Statuses.{is_of_schedule, is_of_replay};
 ghost use Rattle.crn_proto.specs.Opening.{CanOpen};
-ghost use Rattle.crn_engines.specs.Inner.Statuses.{is_of_trace_text};
-ghost use Rattle.crn_engines.specs.Replay.{replayed, MadeTrace, IsTraceFor, WroteTrace, WroteTraceFront, ReadRefusedSchedule};
+ghost use Rattle.crn_engines.specs.Refusals.{RefusesReplay};
+ghost use Rattle.crn_engines.specs.Replay.{replayed, MadeTrace, IsTraceFor, WroteTrace, WroteTraceFront};
+ghost use Rattle.crn_engines.specs.Statuses.{is_writing};
+ghost use Rattle.crn_engines.specs.Inner.Refusals.{RefusesScheduleText, RefusesTrace};
 
 use crate::fault::Fault;
-use crate::steps::{input_from, send_made};
+use crate::input::read_input;
+use crate::steps::send_made;
 use crn_cipher::StreamId;
 use crn_proto::{Machine, RingFault, RingSpec};
-use crn_trace::{ScheduleFault, read_schedule, trace_text};
+use crn_trace::{read_schedule, trace_text};
 use std::alloc::Global;
 use std::io::{Read, Write};
 
@@ -38,12 +38,10 @@ pub fn replay_run<R: Read, W: Write>(
     writer: &mut W,
 ) -> Result<(), Fault>
     ensures wrote { OnOk result (WroteTrace (replayed size readers total) (R.remaining reader.old) (R.remaining reader.new) (W.contents writer.old) (W.contents writer.new)) }
-    ensures kept { IfErr result (λ e. e ≢ Fault.Writing → Keeps (W.contents writer.old) (W.contents writer.new)) }
-    ensures front { IfErr result (λ e. e ≡ Fault.Writing → WroteTraceFront (replayed size readers total) (R.remaining reader.old) (R.remaining reader.new) (W.contents writer.old) (W.contents writer.new)) }
-    ensures schedule { (f : ScheduleFault) → result ≡ Err (Fault.Schedule f) → (f ≢ ScheduleFault.Memory) × ReadRefusedSchedule readers f (R.remaining reader.old) (R.remaining reader.new) }
+    ensures kept { IfErr result (λ e. is_writing e ≡ false → Keeps (W.contents writer.old) (W.contents writer.new)) }
+    ensures front { IfErr result (λ e. is_writing e ≡ true → WroteTraceFront (replayed size readers total) (R.remaining reader.old) (R.remaining reader.new) (W.contents writer.old) (W.contents writer.new)) }
     ensures command_line { IsErrOf result Fault.CommandLine ↔ (¬ CanOpen (replayed size readers total)) }
-    ensures others { IfErr result (λ e. is_of_replay e ≡ true) }
-    ensures unread { IfErr result (λ e. e ≡ Fault.CommandLine → Keeps (R.remaining reader.old) (R.remaining reader.new)) }
+    ensures refused { IfErr result (λ e. RefusesReplay size readers total e (R.remaining reader.old) (R.remaining reader.new)) }
 {
     let machine = open_ring(alloc, size, readers, total)?;
     let text = trace_from(alloc, machine, reader)?;
@@ -54,10 +52,10 @@ pub fn replay_run<R: Read, W: Write>(
 fn trace_from<R: Read>(alloc: Global, machine: Machine, reader: &mut R) -> Result<Vec<u8>, Fault>
     requires { machine ≡ open_machine machine.spec }
     ensures made { IfOk result (λ text. MadeTrace machine.spec (R.remaining reader.old) (R.remaining reader.new) text.items) }
-    ensures schedule { (f : ScheduleFault) → result ≡ Err (Fault.Schedule f) → (f ≢ ScheduleFault.Memory) × ReadRefusedSchedule machine.spec.readers f (R.remaining reader.old) (R.remaining reader.new) }
-    ensures faults { IfErr result (λ e. is_of_trace_text e ≡ true) }
+    ensures refused { IfErr result (λ e. RefusesTrace machine.spec.readers e (R.remaining reader.old) (R.remaining reader.new)) }
+    ensures silent { IfErr result (λ e. is_writing e ≡ false) }
 {
-    let input = input_from(alloc, reader)?;
+    let input = read_input(alloc, reader)?;
     trace_for(alloc, machine, input.as_slice())
 }
 
@@ -65,7 +63,7 @@ fn trace_from<R: Read>(alloc: Global, machine: Machine, reader: &mut R) -> Resul
 fn open_ring(alloc: Global, size: u64, readers: u32, total: u64) -> Result<Machine, Fault>
     ensures opened { IfOk result (λ m. m ≡ open_machine (replayed size readers total)) }
     ensures command_line { IsErrOf result Fault.CommandLine ↔ (¬ CanOpen (replayed size readers total)) }
-    ensures faults { IfErr result (λ e. (e ≡ Fault.CommandLine) ⊎ (e ≡ Fault.Memory)) }
+    ensures refused { IfErr result (λ e. (e ≡ Fault.CommandLine) ⊎ (e ≡ Fault.Memory alloc_error)) }
 {
     let id = StreamId {
         key: [0; 4],
@@ -74,7 +72,7 @@ fn open_ring(alloc: Global, size: u64, readers: u32, total: u64) -> Result<Machi
     };
     match Machine::open(alloc, RingSpec { size, readers, id }) {
         Ok(machine) => Ok(machine),
-        Err(RingFault::Memory) => Err(Fault::Memory),
+        Err(RingFault::Memory(refused)) => Err(Fault::Memory(refused)),
         Err(_) => Err(Fault::CommandLine),
     }
 }
@@ -83,25 +81,9 @@ fn open_ring(alloc: Global, size: u64, readers: u32, total: u64) -> Result<Machi
 fn trace_for(alloc: Global, machine: Machine, input: &[u8]) -> Result<Vec<u8>, Fault>
     requires { machine ≡ open_machine machine.spec }
     ensures trace { IfOk result (λ text. IsTraceFor machine.spec input.now text.items) }
-    ensures schedule { (f : ScheduleFault) → result ≡ Err (Fault.Schedule f) → (f ≢ ScheduleFault.Memory) × RefusesSchedule machine.spec.readers f input.now }
-    ensures faults { IfErr result (λ e. is_of_schedule e ≡ true) }
+    ensures refused { IfErr result (λ e. RefusesScheduleText machine.spec.readers e input.now) }
 {
-    let actors = match read_schedule(alloc, machine.spec().readers, input) {
-        Ok(actors) => actors,
-        Err(fault) => return Err(schedule_fault(fault)),
-    };
+    let actors = read_schedule(alloc, machine.spec().readers, input)?;
     let text = trace_text(alloc, machine, actors.as_slice())?;
     Ok(text)
-}
-
-// Want of memory is a fault of its own, wherever it was met.
-fn schedule_fault(fault: ScheduleFault) -> Fault
-    ensures schedule { (f : ScheduleFault) → result ≡ Fault.Schedule f → (f ≡ fault) × (f ≢ ScheduleFault.Memory) }
-    ensures memory { result ≡ Fault.Memory → fault ≡ ScheduleFault.Memory }
-    ensures faults { is_of_schedule result ≡ true }
-{
-    match fault {
-        ScheduleFault::Memory => Fault::Memory,
-        _ => Fault::Schedule(fault),
-    }
 }

@@ -1,19 +1,18 @@
-ghost use Rattle.std.specs.Prelude.{◌≡◌, ◌≢◌, ◌||◌, ℕ, List, true, IfOk, IfErr, OnOk};
+ghost use Rattle.std.specs.Prelude.{◌≡◌, ℕ, List, true, false, IfOk, IfErr, OnOk};
 ghost use Rattle.std.specs.Io.KnownBytes.{Keeps};
-ghost use Rattle.crn_scenario.specs.declared.scenario_fault.ScenarioFault.{ScenarioFault};
 ghost use Rattle.crn_stock.specs.Parts.{Parts};
 ghost use Rattle.crn_stock.specs.Scenarios.{ScenarioParts};
-ghost use Rattle.crn_checkpoint.specs.Reading.{IsTextOf, IsAnyTextOf, IsSameButRing, RefusesCheckpoint};
-ghost use Rattle.crn_checkpoint.specs.declared.checkpoint_fault.CheckpointFault.{CheckpointFault};
-ghost use Rattle.crn_engines.specs.Statuses.{is_of_input, is_of_resume};
-ghost use Rattle.crn_engines.specs.Inner.Statuses.{is_of_checkpoint, is_of_onward_run, is_of_resumed};
-ghost use Rattle.crn_engines.specs.Inner.Onward.{MadeOnward, RefusedOnward};
-ghost use Rattle.crn_engines.specs.Inputs.{ReadRefused};
-ghost use Rattle.crn_engines.specs.Resumption.{MadeResumed, MadeLegsReport, IsResumedReport, ReportsLegs, WroteResumed, WroteResumedFront, WroteLegsReport, ReadRefusedCheckpoint};
+ghost use Rattle.crn_checkpoint.specs.Reading.{IsTextOf, IsAnyTextOf, IsSameButRing};
+ghost use Rattle.crn_engines.specs.Refusals.{RefusesResume};
+ghost use Rattle.crn_engines.specs.Resumption.{MadeResumed, MadeLegsReport, IsResumedReport, ReportsLegs, WroteResumed, WroteResumedFront, WroteLegsReport};
+ghost use Rattle.crn_engines.specs.Statuses.{is_writing};
+ghost use Rattle.crn_engines.specs.Inner.Onward.{MadeOnward};
+ghost use Rattle.crn_engines.specs.Inner.Refusals.{RefusesCheckpointText, RefusesOnward, RefusesOnwardRun};
 
 use crate::fault::Fault;
-use crate::steps::{input_from, run_and_report, scenario_from, send_made};
-use crn_checkpoint::{CheckpointFault, read_checkpoint};
+use crate::input::read_input;
+use crate::steps::{run_and_report, scenario_from, send_made};
+use crn_checkpoint::read_checkpoint;
 use crn_run::Checkpoint;
 use crn_stock::Scenario;
 use std::alloc::Global;
@@ -48,12 +47,9 @@ pub fn resume<H: Threads + Wait + Sync, C: Read, R: Read, W: Write>(
 ) -> Result<(), Fault>
     ensures wrote { OnOk result (WroteResumed (C.remaining checkpoint.old) (C.remaining checkpoint.new) (R.remaining reader.old) (R.remaining reader.new) (W.contents writer.old) (W.contents writer.new)) }
     ensures legs { OnOk result (WroteLegsReport (C.remaining checkpoint.old) (C.remaining checkpoint.new) (R.remaining reader.old) (R.remaining reader.new) (W.contents writer.old) (W.contents writer.new)) }
-    ensures kept { IfErr result (λ e. e ≢ Fault.Writing → Keeps (W.contents writer.old) (W.contents writer.new)) }
-    ensures front { IfErr result (λ e. e ≡ Fault.Writing → WroteResumedFront (C.remaining checkpoint.old) (C.remaining checkpoint.new) (R.remaining reader.old) (R.remaining reader.new) (W.contents writer.old) (W.contents writer.new)) }
-    ensures scenario { (f : ScenarioFault) → result ≡ Err (Fault.Scenario f) → (f ≢ ScenarioFault.Memory) × ReadRefused f (R.remaining reader.old) (R.remaining reader.new) }
-    ensures unread { (f : ScenarioFault) → result ≡ Err (Fault.Scenario f) → Keeps (C.remaining checkpoint.old) (C.remaining checkpoint.new) }
-    ensures checkpoint { (f : CheckpointFault) → result ≡ Err (Fault.Checkpoint f) → (f ≢ CheckpointFault.Memory) × ReadRefusedCheckpoint f (C.remaining checkpoint.old) (C.remaining checkpoint.new) (R.remaining reader.old) (R.remaining reader.new) }
-    ensures others { IfErr result (λ e. is_of_resume e ≡ true) }
+    ensures kept { IfErr result (λ e. is_writing e ≡ false → Keeps (W.contents writer.old) (W.contents writer.new)) }
+    ensures front { IfErr result (λ e. is_writing e ≡ true → WroteResumedFront (C.remaining checkpoint.old) (C.remaining checkpoint.new) (R.remaining reader.old) (R.remaining reader.new) (W.contents writer.old) (W.contents writer.new)) }
+    ensures refused { IfErr result (λ e. RefusesResume e (C.remaining checkpoint.old) (C.remaining checkpoint.new) (R.remaining reader.old) (R.remaining reader.new)) }
 {
     let text = report_from(rt, alloc, checkpoint, reader)?;
     send_made(writer, text)
@@ -68,10 +64,8 @@ fn report_from<H: Threads + Wait + Sync, C: Read, R: Read>(
 ) -> Result<Vec<u8>, Fault>
     ensures made { IfOk result (λ text. MadeResumed (C.remaining checkpoint.old) (C.remaining checkpoint.new) (R.remaining reader.old) (R.remaining reader.new) text.items) }
     ensures legs { IfOk result (λ text. MadeLegsReport (C.remaining checkpoint.old) (C.remaining checkpoint.new) (R.remaining reader.old) (R.remaining reader.new) text.items) }
-    ensures scenario { (f : ScenarioFault) → result ≡ Err (Fault.Scenario f) → (f ≢ ScenarioFault.Memory) × ReadRefused f (R.remaining reader.old) (R.remaining reader.new) }
-    ensures unread { (f : ScenarioFault) → result ≡ Err (Fault.Scenario f) → Keeps (C.remaining checkpoint.old) (C.remaining checkpoint.new) }
-    ensures checkpoint { (f : CheckpointFault) → result ≡ Err (Fault.Checkpoint f) → (f ≢ CheckpointFault.Memory) × ReadRefusedCheckpoint f (C.remaining checkpoint.old) (C.remaining checkpoint.new) (R.remaining reader.old) (R.remaining reader.new) }
-    ensures faults { IfErr result (λ e. is_of_resumed e ≡ true) }
+    ensures refused { IfErr result (λ e. RefusesResume e (C.remaining checkpoint.old) (C.remaining checkpoint.new) (R.remaining reader.old) (R.remaining reader.new)) }
+    ensures silent { IfErr result (λ e. is_writing e ≡ false) }
 {
     let scenario = scenario_from(alloc, reader)?;
     report_onward(rt, alloc, &scenario, checkpoint)
@@ -85,10 +79,9 @@ fn report_onward<H: Threads + Wait + Sync, C: Read>(
     checkpoint: &mut C,
 ) -> Result<Vec<u8>, Fault>
     ensures made { IfOk result (λ text. MadeOnward scenario.now (C.remaining checkpoint.old) (C.remaining checkpoint.new) text.items) }
-    ensures checkpoint { (f : CheckpointFault) → result ≡ Err (Fault.Checkpoint f) → (f ≢ CheckpointFault.Memory) × RefusedOnward scenario.now f (C.remaining checkpoint.old) (C.remaining checkpoint.new) }
-    ensures faults { IfErr result (λ e. is_of_input e || is_of_onward_run e ≡ true) }
+    ensures refused { IfErr result (λ e. RefusesOnward scenario.now e (C.remaining checkpoint.old) (C.remaining checkpoint.new)) }
 {
-    let bytes = input_from(alloc, checkpoint)?;
+    let bytes = read_input(alloc, checkpoint)?;
     resumed_text(rt, alloc, scenario, bytes.as_slice())
 }
 
@@ -101,8 +94,7 @@ fn resumed_text<H: Threads + Wait + Sync>(
 ) -> Result<Vec<u8>, Fault>
     ensures report { IfOk result (λ text. IsResumedReport scenario.now bytes.now text.items) }
     ensures legs { IfOk result (λ text. ReportsLegs scenario.now bytes.now text.items) }
-    ensures checkpoint { (f : CheckpointFault) → result ≡ Err (Fault.Checkpoint f) → (f ≢ CheckpointFault.Memory) × RefusesCheckpoint scenario.now f bytes.now }
-    ensures faults { IfErr result (λ e. is_of_onward_run e ≡ true) }
+    ensures refused { IfErr result (λ e. RefusesOnwardRun scenario.now e bytes.now) }
 {
     let start = checkpoint_of(alloc, scenario, bytes)?;
     run_and_report(rt, alloc, scenario, &start)
@@ -113,23 +105,8 @@ fn checkpoint_of(alloc: Global, scenario: &Scenario, bytes: &[u8]) -> Result<Che
     ensures is_text { IfOk result (λ c. IsTextOf scenario.now c.next c.states.items bytes.now) }
     ensures only { IfOk result (λ c. (s : ScenarioParts) (next : ℕ) (states : List Parts) → IsAnyTextOf s next states bytes.now
         → IsSameButRing s scenario.now × (next ≡ c.next) × (states ≡ c.states.items)) }
-    ensures checkpoint { (f : CheckpointFault) → result ≡ Err (Fault.Checkpoint f) → (f ≢ CheckpointFault.Memory) × RefusesCheckpoint scenario.now f bytes.now }
-    ensures faults { IfErr result (λ e. is_of_checkpoint e ≡ true) }
+    ensures refused { IfErr result (λ e. RefusesCheckpointText scenario.now e bytes.now) }
 {
-    match read_checkpoint(alloc, scenario, bytes) {
-        Ok(checkpoint) => Ok(checkpoint),
-        Err(fault) => Err(checkpoint_fault(fault)),
-    }
-}
-
-// Want of memory is a fault of its own, wherever it was met.
-fn checkpoint_fault(fault: CheckpointFault) -> Fault
-    ensures checkpoint { (f : CheckpointFault) → result ≡ Fault.Checkpoint f → (f ≡ fault) × (f ≢ CheckpointFault.Memory) }
-    ensures memory { result ≡ Fault.Memory → fault ≡ CheckpointFault.Memory }
-    ensures faults { is_of_checkpoint result ≡ true }
-{
-    match fault {
-        CheckpointFault::Memory => Fault::Memory,
-        _ => Fault::Checkpoint(fault),
-    }
+    let checkpoint = read_checkpoint(alloc, scenario, bytes)?;
+    Ok(checkpoint)
 }

@@ -1,10 +1,9 @@
-ghost use Rattle.std.specs.Prelude.{◌≡◌, ◌≢◌, true, IfOk, IfErr, OnOk};
+ghost use Rattle.std.specs.Prelude.{◌≡◌, true, false, IfOk, IfErr, OnOk};
 ghost use Rattle.std.specs.Io.KnownBytes.{Keeps};
-ghost use Rattle.crn_scenario.specs.declared.scenario_fault.ScenarioFault.{ScenarioFault};
 ghost use Rattle.crn_report.specs.Report.{IsReportOf};
-ghost use Rattle.crn_engines.specs.Statuses.{is_of_run, is_of_simulation};
-ghost use Rattle.crn_engines.specs.Inner.Statuses.{is_of_report};
-ghost use Rattle.crn_engines.specs.Inputs.{ReadRefused};
+ghost use Rattle.crn_engines.specs.Refusals.{RefusesSimulation};
+ghost use Rattle.crn_engines.specs.Statuses.{is_writing};
+ghost use Rattle.crn_engines.specs.Inner.Refusals.{RefusesRun};
 ghost use Rattle.crn_engines.specs.Simulation.{MadeReport, WroteReport, WroteFront};
 
 use crate::fault::Fault;
@@ -36,10 +35,9 @@ pub fn simulate<H: Threads + Wait + Sync, R: Read, W: Write>(
     writer: &mut W,
 ) -> Result<(), Fault>
     ensures wrote { OnOk result (WroteReport (R.remaining reader.old) (R.remaining reader.new) (W.contents writer.old) (W.contents writer.new)) }
-    ensures kept { IfErr result (λ e. e ≢ Fault.Writing → Keeps (W.contents writer.old) (W.contents writer.new)) }
-    ensures front { IfErr result (λ e. e ≡ Fault.Writing → WroteFront (R.remaining reader.old) (R.remaining reader.new) (W.contents writer.old) (W.contents writer.new)) }
-    ensures others { IfErr result (λ e. is_of_simulation e ≡ true) }
-    ensures scenario { (f : ScenarioFault) → result ≡ Err (Fault.Scenario f) → (f ≢ ScenarioFault.Memory) × ReadRefused f (R.remaining reader.old) (R.remaining reader.new) }
+    ensures kept { IfErr result (λ e. is_writing e ≡ false → Keeps (W.contents writer.old) (W.contents writer.new)) }
+    ensures front { IfErr result (λ e. is_writing e ≡ true → WroteFront (R.remaining reader.old) (R.remaining reader.new) (W.contents writer.old) (W.contents writer.new)) }
+    ensures refused { IfErr result (λ e. RefusesSimulation e (R.remaining reader.old) (R.remaining reader.new)) }
 {
     let text = report_from(rt, alloc, reader)?;
     send_made(writer, text)
@@ -52,8 +50,8 @@ fn report_from<H: Threads + Wait + Sync, R: Read>(
     reader: &mut R,
 ) -> Result<Vec<u8>, Fault>
     ensures made { IfOk result (λ text. MadeReport (R.remaining reader.old) (R.remaining reader.new) text.items) }
-    ensures scenario { (f : ScenarioFault) → result ≡ Err (Fault.Scenario f) → (f ≢ ScenarioFault.Memory) × ReadRefused f (R.remaining reader.old) (R.remaining reader.new) }
-    ensures faults { IfErr result (λ e. is_of_report e ≡ true) }
+    ensures refused { IfErr result (λ e. RefusesSimulation e (R.remaining reader.old) (R.remaining reader.new)) }
+    ensures silent { IfErr result (λ e. is_writing e ≡ false) }
 {
     let scenario = scenario_from(alloc, reader)?;
     report_of(rt, alloc, &scenario)
@@ -66,7 +64,7 @@ fn report_of<H: Threads + Wait + Sync>(
     scenario: &Scenario,
 ) -> Result<Vec<u8>, Fault>
     ensures report { IfOk result (λ text. IsReportOf scenario.now text.items) }
-    ensures faults { IfErr result (λ e. is_of_run e ≡ true) }
+    ensures refused { IfErr result (λ e. RefusesRun e) }
 {
     let start = Checkpoint::start(alloc, scenario)?;
     run_and_report(rt, alloc, scenario, &start)

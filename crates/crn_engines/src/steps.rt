@@ -1,22 +1,22 @@
 // The steps that the engines share.
 
-ghost use Rattle.std.specs.Prelude.{◌≡◌, ◌≤◌, ◌≢◌, ◌↔◌, ◌||◌, true, IfOk, IfErr, OnOk, OnErr};
+ghost use Rattle.std.specs.Prelude.{◌≡◌, ◌≤◌, IfOk, IfErr, OnOk, OnErr};
 ghost use Rattle.std.specs.Io.KnownBytes.{Appends};
-ghost use Rattle.crn_scenario.specs.declared.scenario_fault.ScenarioFault.{ScenarioFault};
 ghost use Rattle.crn_stock.specs.Models.{total};
 ghost use Rattle.crn_sequential.specs.Runs.{IsCheckpointOf, EachAt, EachOnward};
 ghost use Rattle.crn_report.specs.Report.{IsReportOf};
-ghost use Rattle.crn_engines.specs.Bytes.{AppendsFront, ReadAll};
-ghost use Rattle.crn_engines.specs.Inputs.{ReadScenario, ReadRefused};
+ghost use Rattle.crn_engines.specs.Bytes.{AppendsFront};
+ghost use Rattle.crn_engines.specs.Inputs.{ReadScenario};
+ghost use Rattle.crn_engines.specs.Refusals.{RefusesOutput, RefusesScenarioInput};
 ghost use Rattle.crn_engines.specs.Resumption.{IsReportOnward};
-ghost use Rattle.crn_engines.specs.Statuses.{is_of_input, is_of_run, is_of_scenario};
+ghost use Rattle.crn_engines.specs.Inner.Refusals.{RefusesRun};
 
 use crate::fault::Fault;
-use crate::input::{InputFault, read_input};
+use crate::input::read_input;
 use crate::output::write_text;
 use crn_report::report;
 use crn_run::{Checkpoint, OpenGate, run_all};
-use crn_scenario::{ScenarioFault, read_scenario};
+use crn_scenario::read_scenario;
 use crn_stock::Scenario;
 use std::alloc::Global;
 use std::io::{Read, Write};
@@ -26,51 +26,14 @@ use std::thread::Threads;
 // The most policies of a scenario.
 const POLICY_LIMIT: usize = 16;
 
-/// Reads an input to its end.
-pub(crate) fn input_from<R: Read>(alloc: Global, reader: &mut R) -> Result<Vec<u8>, Fault>
-    ensures all { IfOk result (λ input. ReadAll (R.remaining reader.old) (R.remaining reader.new) input.items) }
-    ensures faults { IfErr result (λ e. is_of_input e ≡ true) }
-{
-    match read_input(alloc, reader) {
-        Ok(input) => Ok(input),
-        Err(fault) => Err(input_fault(fault)),
-    }
-}
-
-// An input that can't be read is one fault, whatever the cause, but for want of memory.
-fn input_fault(fault: InputFault) -> Fault
-    ensures memory { (result ≡ Fault.Memory) ↔ (fault ≡ InputFault.Memory) }
-    ensures faults { is_of_input result ≡ true }
-{
-    match fault {
-        InputFault::Memory => Fault::Memory,
-        InputFault::Failed | InputFault::TooLong => Fault::Reading,
-    }
-}
-
 /// Reads an input to its end and judges it as a scenario.
 pub(crate) fn scenario_from<R: Read>(alloc: Global, reader: &mut R) -> Result<Scenario, Fault>
     ensures reads { IfOk result (λ s. ReadScenario (R.remaining reader.old) (R.remaining reader.new) s) }
-    ensures scenario { (f : ScenarioFault) → result ≡ Err (Fault.Scenario f) → (f ≢ ScenarioFault.Memory) × ReadRefused f (R.remaining reader.old) (R.remaining reader.new) }
-    ensures faults { IfErr result (λ e. is_of_input e || is_of_scenario e ≡ true) }
+    ensures refused { IfErr result (λ e. RefusesScenarioInput e (R.remaining reader.old) (R.remaining reader.new)) }
 {
-    let input = input_from(alloc, reader)?;
-    match read_scenario(alloc, input.as_slice()) {
-        Ok(scenario) => Ok(scenario),
-        Err(fault) => Err(scenario_fault(fault)),
-    }
-}
-
-// Want of memory is a fault of its own, wherever it was met.
-fn scenario_fault(fault: ScenarioFault) -> Fault
-    ensures scenario { (f : ScenarioFault) → result ≡ Fault.Scenario f → (f ≡ fault) × (f ≢ ScenarioFault.Memory) }
-    ensures memory { result ≡ Fault.Memory → fault ≡ ScenarioFault.Memory }
-    ensures faults { is_of_scenario result ≡ true }
-{
-    match fault {
-        ScenarioFault::Memory => Fault::Memory,
-        _ => Fault::Scenario(fault),
-    }
+    let input = read_input(alloc, reader)?;
+    let scenario = read_scenario(alloc, input.as_slice())?;
+    Ok(scenario)
 }
 
 /// Runs all policies from a checkpoint up to a block, each on a thread of its own.
@@ -88,7 +51,7 @@ pub(crate) fn run_to<H: Threads + Wait + Sync>(
     ensures of { IfOk result (λ c. IsCheckpointOf scenario.now upto c.states.items) }
     ensures at { IfOk result (λ c. EachAt scenario.now start.now.next start.now.states.items → EachAt scenario.now upto c.states.items) }
     ensures onward { IfOk result (λ c. EachOnward scenario.now start.now.states.items upto c.states.items) }
-    ensures faults { IfErr result (λ e. is_of_run e ≡ true) }
+    ensures refused { IfErr result (λ e. RefusesRun e) }
 {
     let mut gates = [OpenGate; POLICY_LIMIT];
     let gates = &mut gates[..scenario.policies().len()];
@@ -107,7 +70,7 @@ pub(crate) fn run_and_report<H: Threads + Wait + Sync>(
     requires within { start.now.next ≤ total scenario.now.model }
     ensures onward { IfOk result (λ text. IsReportOnward scenario.now start.now.states.items text.items) }
     ensures at { IfOk result (λ text. EachAt scenario.now start.now.next start.now.states.items → IsReportOf scenario.now text.items) }
-    ensures faults { IfErr result (λ e. is_of_run e ≡ true) }
+    ensures refused { IfErr result (λ e. RefusesRun e) }
 {
     let total = scenario.model().total();
     let end = run_to(rt, alloc, scenario, start, total)?;
@@ -119,7 +82,7 @@ pub(crate) fn run_and_report<H: Threads + Wait + Sync>(
 pub(crate) fn send_made<W: Write>(writer: &mut W, text: Vec<u8>) -> Result<(), Fault>
     ensures whole { OnOk result (Appends (W.contents writer.old) (W.contents writer.new) text.items) }
     ensures front { OnErr result (AppendsFront (W.contents writer.old) (W.contents writer.new) text.items) }
-    ensures fault { IfErr result (λ e. e ≡ Fault.Writing) }
+    ensures refused { IfErr result (λ e. RefusesOutput e) }
 {
     send(writer, text.as_slice())
 }
@@ -132,10 +95,7 @@ pub(crate) fn send_made<W: Write>(writer: &mut W, text: Vec<u8>) -> Result<(), F
 pub(crate) fn send<W: Write>(writer: &mut W, text: &[u8]) -> Result<(), Fault>
     ensures whole { OnOk result (Appends (W.contents writer.old) (W.contents writer.new) text.now) }
     ensures front { OnErr result (AppendsFront (W.contents writer.old) (W.contents writer.new) text.now) }
-    ensures fault { IfErr result (λ e. e ≡ Fault.Writing) }
+    ensures refused { IfErr result (λ e. RefusesOutput e) }
 {
-    match write_text(writer, text) {
-        Ok(()) => Ok(()),
-        Err(_) => Err(Fault::Writing),
-    }
+    Ok(write_text(writer, text)?)
 }

@@ -29,4 +29,4 @@ abbrev pub open_fault_number : RingFault → ℕ
 open_fault_number Size = 1
 open_fault_number Readers = 2
 open_fault_number Stream = 3
-open_fault_number Memory = 90
+open_fault_number (Memory _) = 90

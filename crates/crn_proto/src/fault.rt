@@ -13,7 +13,7 @@ pub enum RingFault {
     /// The stream's total is over 65,536 blocks, or its first block is over its total.
     Stream,
     /// A request for memory was refused. It is answered only where no other fault holds.
-    Memory,
+    Memory(AllocError),
 }
 
 impl RingFault {
@@ -25,7 +25,7 @@ impl RingFault {
             RingFault::Size => 1,
             RingFault::Readers => 2,
             RingFault::Stream => 3,
-            RingFault::Memory => 90,
+            RingFault::Memory(_) => 90,
         }
     }
 }
@@ -34,9 +34,9 @@ impl From<AllocError> for RingFault {
     ghost use Rattle.std.specs.Prelude.{◌≡◌};
     ghost use Rattle.crn_proto.specs.declared.fault.RingFault.TheVariants.{Memory};
 
-    ghost from_gives = { λ _ f. f ≡ Memory };
+    ghost from_gives = { λ e f. f ≡ Memory e };
 
-    fn from(_refused: AllocError) -> RingFault {
-        RingFault::Memory
+    fn from(refused: AllocError) -> RingFault {
+        RingFault::Memory(refused)
     }
 }

@@ -83,7 +83,7 @@ abbrev pub RefusesRing : RingSpec → RingFault → Type 0
 RefusesRing spec Size = ¬ (IsRingSize spec.size)
 RefusesRing spec Readers = IsRingSize spec.size × ¬ (IsReaderCount spec.readers)
 RefusesRing spec Stream = IsRingSize spec.size × IsReaderCount spec.readers × ¬ (IsStream spec.id)
-RefusesRing spec Memory = IsRingSize spec.size × IsReaderCount spec.readers × IsStream spec.id
+RefusesRing spec (Memory _) = IsRingSize spec.size × IsReaderCount spec.readers × IsStream spec.id
 
 -- The first `count` of these are the ring's blocks from n on.
 abbrev pub FollowOn : RingSpec → ℕ → ℕ → List Block → Type 0

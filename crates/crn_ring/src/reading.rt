@@ -72,6 +72,7 @@ impl Reader {
         ensures answer { AfterTake (spec_of ring.now) (reader_part self.old) (reader_part self.new) result }
         ensures within { (reader_part self.new).taken ≤ (spec_of ring.now).id.total }
     {
+        let number = self.taken;
         let cursor = ring.load_cursor(&mut self.seat);
         let published = cursor / 2;
         self.ended = cursor == 2 * self.taken + 1;
@@ -81,7 +82,6 @@ impl Reader {
         if published == self.taken {
             return Take::Empty { published };
         }
-        let number = self.taken;
         let words = ring.load_row(&mut self.seat, number);
         self.taken += 1;
         ring.store_taken(&mut self.seat, self.number, self.taken, 1);

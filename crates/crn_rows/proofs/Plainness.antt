@@ -1,46 +1,51 @@
 -- A row of plain fields is written as it is.
-use Rattle.std.proofs.Common.{◌≡◌, ℕ, ℤ, pos, negsuc, ◌+◌, ◌%◌, ◌<◌, ◌^◌, nat_le, nat_lt, true, false, List, [], ◌∷◌, ◌++◌, length, decimal, suc, refl, arith}
+use Rattle.std.proofs.Common.{◌≡◌, ℕ, ℤ, pos, negsuc, ◌+◌, ◌%◌, ◌<◌, ◌^◌, nat_le, nat_lt, Bool, true, false, List, [], ◌∷◌, ◌++◌, length, decimal, suc, refl, arith}
 use Rattle.std.proofs.lemmas.Bool.{and_parts}
 use Rattle.std.proofs.lemmas.Bool.Decides.{nat_tests}
 use Rattle.std.proofs.lemmas.Fmt.{decimal_by_steps_wide}
 use lib.Signed.{mag}
 use Rattle.std.specs.Fmt.{signed_decimal}
 use Rattle.std.specs.Prelude.{Result, Ok, Err}
-use Rattle.std.specs.Result.{OnOk, is_err}
+use Rattle.std.specs.Result.{IsErrAnd, MatchResult, OnOk, is_ok}
 use Rattle.csv.specs.Writing as csv
-use Rattle.csv.specs.Writing.{default_writer, needs_byte, needs_quotes, field_text, fields_text, is_blank}
+use Rattle.csv.specs.declared.writer.WriterBuilder.{WriterBuilder}
+use Rattle.csv.specs.Writing.{default_writer, with_flexible, needs_byte, needs_quotes, field_text, fields_text, is_blank}
 use Rattle.crn_rows.specs.Plain.{is_plain, is_plain_byte, are_plain, is_row}
 use Rattle.crn_rows.specs.Rows.{row_text, further}
 
-needs_none : (b : ℕ) → is_plain_byte b ≡ true → needs_byte default_writer b ≡ false
-needs_none b h = let (low, high) = and_parts (nat_le 45 b) (nat_lt b 128) h in grind (arith, nat_tests, low)
+-- a writer with the defaults, whether or not rows may differ in their number of fields
+abbrev writer : Bool → WriterBuilder
+writer flexible = with_flexible default_writer flexible
 
-no_quotes : (f : List ℕ) → is_plain f ≡ true → needs_quotes default_writer f ≡ false
-no_quotes [] h = refl
-no_quotes (b ∷ bs) h =
+needs_none : (flexible : Bool) (b : ℕ) → is_plain_byte b ≡ true → needs_byte (writer flexible) b ≡ false
+needs_none flexible b h = let (low, high) = and_parts (nat_le 45 b) (nat_lt b 128) h in grind (arith, nat_tests, low)
+
+no_quotes : (flexible : Bool) (f : List ℕ) → is_plain f ≡ true → needs_quotes (writer flexible) f ≡ false
+no_quotes flexible [] h = refl
+no_quotes flexible (b ∷ bs) h =
     let (here, more) = and_parts (is_plain_byte b) (is_plain bs) h in
-    rw (needs_none b here, no_quotes bs more)
+    rw (needs_none flexible b here, no_quotes flexible bs more)
 
-field_plain : (f : List ℕ) → is_plain f ≡ true → field_text default_writer f ≡ f
-field_plain f h = rw (no_quotes f h)
+field_plain : (flexible : Bool) (f : List ℕ) → is_plain f ≡ true → field_text (writer flexible) f ≡ f
+field_plain flexible f h = rw (no_quotes flexible f h)
 
-fields_plain : (fs : List (List ℕ)) → are_plain fs ≡ true → fields_text default_writer fs ≡ further fs
+fields_plain : (flexible : Bool) (fs : List (List ℕ)) → are_plain fs ≡ true → fields_text (writer flexible) fs ≡ further fs
 unfolding fields_text
-fields_plain [] h = refl
-fields_plain (f ∷ fs) h =
+fields_plain flexible [] h = refl
+fields_plain flexible (f ∷ fs) h =
     let (here, more) = and_parts (is_plain f) (are_plain fs) h in
-    rw (field_plain f here, fields_plain fs more)
+    rw (field_plain flexible f here, fields_plain flexible fs more)
 
-row_of_two : (f g : List ℕ) (fs : List (List ℕ)) → are_plain (f ∷ g ∷ fs) ≡ true → csv.row_text default_writer (f ∷ g ∷ fs) ≡ row_text (f ∷ g ∷ fs)
+row_of_two : (flexible : Bool) (f g : List ℕ) (fs : List (List ℕ)) → are_plain (f ∷ g ∷ fs) ≡ true → csv.row_text (writer flexible) (f ∷ g ∷ fs) ≡ row_text (f ∷ g ∷ fs)
 unfolding is_blank row_text
-row_of_two f g fs h =
+row_of_two flexible f g fs h =
     let (here, more) = and_parts (is_plain f) (are_plain (g ∷ fs)) h in
-    rw (field_plain f here, fields_plain (g ∷ fs) more)
+    rw (field_plain flexible f here, fields_plain flexible (g ∷ fs) more)
 
-pub row_plain : (fs : List (List ℕ)) → 1 < length fs → are_plain fs ≡ true → csv.row_text default_writer fs ≡ row_text fs
-row_plain [] several h = absurd (omega arith)
-row_plain (f ∷ []) several h = absurd (omega arith)
-row_plain (f ∷ g ∷ fs) several h = row_of_two f g fs h
+pub row_plain : (flexible : Bool) (fs : List (List ℕ)) → 1 < length fs → are_plain fs ≡ true → csv.row_text (writer flexible) fs ≡ row_text fs
+row_plain flexible [] several h = absurd (omega arith)
+row_plain flexible (f ∷ []) several h = absurd (omega arith)
+row_plain flexible (f ∷ g ∷ fs) several h = row_of_two flexible f g fs h
 
 -- ---- texts that are plain
 
@@ -67,11 +72,18 @@ row_parts fs h =
     let (several, plain) = and_parts (nat_lt 1 (length fs)) (are_plain fs) h in
     (grind (arith, nat_tests, several), plain)
 
-pub row_written : (fs : List (List ℕ)) → is_row fs ≡ true → csv.row_text default_writer fs ≡ row_text fs
-row_written fs h = let (several, plain) = row_parts fs h in row_plain fs several plain
+pub row_written : (flexible : Bool) (fs : List (List ℕ)) → is_row fs ≡ true → csv.row_text (with_flexible default_writer flexible) fs ≡ row_text fs
+row_written flexible fs h = let (several, plain) = row_parts fs h in row_plain flexible fs several plain
 
 -- ---- what an answer that is no error ensures
 
-pub ok_of : {T E P : Type 0} (r : Result T E) → is_err r ≡ false → OnOk r P → P
+pub ok_of : {T E P : Type 0} (r : Result T E) → is_ok r ≡ true → OnOk r P → P
 ok_of (Ok x) e h = h
 ok_of (Err x) e h = cc
+
+-- with another error in place of its own an answer keeps its value
+pub before_map : {T E D : Type 0} (r : Result T E) (mapped : Result T D) (x : T) (P : E → D → Type 0) → mapped ≡ Ok x
+    → MatchResult r (λ y. mapped ≡ Ok y) (λ e. IsErrAnd mapped (P e)) → r ≡ Ok x
+before_map (Ok y) mapped x P m h = cc
+before_map (Err e) (Ok y) x P m h = absurd h
+before_map (Err e) (Err d) x P m h = cc

@@ -1,5 +1,5 @@
 -- What `csv` reads of a text of plain rows are these rows.
-use Rattle.std.proofs.Common.{◌≡◌, ℕ, ◌<◌, nat_le, nat_lt, true, Option, Some, None, List, [], ◌∷◌, ◌++◌, map, refl, ap, sym, subst, ◌∙◌, arith}
+use Rattle.std.proofs.Common.{◌≡◌, ℕ, ◌<◌, nat_le, nat_lt, true, false, Option, Some, None, List, [], ◌∷◌, ◌++◌, map, refl, ap, sym, subst, ◌∙◌, arith}
 use Rattle.std.proofs.lemmas.Bool.{and_parts}
 use Rattle.std.proofs.lemmas.Bool.Decides.{nat_tests}
 use Rattle.csv.specs.Machine.{next_record, Read}
@@ -43,7 +43,7 @@ unfolding csv_proofs.rows_text
 written [] h = refl
 written (r ∷ rows) h =
     let (here, more) = and_parts (is_row r) (are_rows rows) h in
-    rw (row_written r here, written rows more)
+    rw (row_written false r here, written rows more)
 
 -- none of the rows is empty
 same_fields : (rows : List (List (List ℕ))) → are_rows rows ≡ true → map read_back rows ≡ rows

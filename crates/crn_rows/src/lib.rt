@@ -2,6 +2,7 @@
 #![tactic(auto)]
 
 mod reading;
+mod refusal;
 mod row;
 mod sheet;
 

@@ -6,12 +6,13 @@ ghost use Rattle.csv.specs.declared.parser.State.TheVariants as st;
 ghost use Rattle.crn_rows.specs.Plain.{are_rows};
 ghost use Rattle.crn_rows.specs.Rows.{rows_text};
 
+use crate::refusal::refusal_of;
 use crate::row::Row;
-use csv::{Error, ReaderBuilder};
+use csv::ReaderBuilder;
 use std::alloc::{AllocError, Global};
 
 // Every record of a text.
-fn records(alloc: Global, text: &[u8]) -> Result<Vec<Row>, Error>
+fn records(alloc: Global, text: &[u8]) -> Result<Vec<Row>, AllocError>
     ensures { IfOk result (λ v. AreRecords default_config st.StartRecord (strip_bom text.now) v.items) }
 {
     let reader = ReaderBuilder::new()
@@ -20,9 +21,7 @@ fn records(alloc: Global, text: &[u8]) -> Result<Vec<Row>, Error>
         .from_reader(alloc, text);
     let mut rows = Vec::new(alloc);
     for row in reader.into_byte_records() {
-        if rows.push(Row::from_record(row?)).is_err() {
-            return Err(Error::out_of_memory());
-        }
+        rows.push(Row::from_record(row.map_err(refusal_of)?))?;
     }
     Ok(rows)
 }
@@ -37,8 +36,5 @@ fn records(alloc: Global, text: &[u8]) -> Result<Vec<Row>, Error>
 pub fn read_rows(alloc: Global, text: &[u8]) -> Result<Vec<Row>, AllocError>
     ensures { (rows : List (List (List ℕ))) → are_rows rows ≡ true → text.now ≡ rows_text rows → IfOk result (λ v. v.items ≡ rows) }
 {
-    match records(alloc, text) {
-        Ok(rows) => Ok(rows),
-        Err(_) => Err(AllocError),
-    }
+    records(alloc, text)
 }

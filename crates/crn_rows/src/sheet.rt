@@ -4,13 +4,14 @@ ghost use Rattle.std.specs.Prelude.{◌≡◌, ◌++◌, [], IfOk, map, true};
 ghost use Rattle.crn_rows.specs.Plain.{is_row};
 ghost use Rattle.crn_rows.specs.Rows.{row_text};
 
+use crate::refusal::refusal_of;
 use csv::{Writer, WriterBuilder};
 use std::alloc::{AllocError, Global};
 
 /// A text of rows with one row after another, which contracts see as its bytes.
 ///
 /// The rows are written with `csv` and its defaults: fields are parted by commas, and each row is ended by a line feed.
-/// All rows have as many fields as the first.
+/// Rows may have different numbers of fields.
 #[derive(Drop)]
 pub struct Sheet {
     writer: Writer<Vec<u8>>,
@@ -33,8 +34,11 @@ impl Sheet {
     pub fn new(alloc: Global) -> Sheet
         ensures { result ≡ [] }
     {
+        // Flexible, so that a row of another length than the first is no error and only memory can be refused.
         Sheet {
-            writer: WriterBuilder::new().from_writer(Vec::new(alloc)),
+            writer: WriterBuilder::new()
+                .flexible(true)
+                .from_writer(Vec::new(alloc)),
         }
     }
 
@@ -46,16 +50,13 @@ impl Sheet {
     ///
     /// # Errors
     ///
-    /// `AllocError` where a growth was refused, or where the row has not as many fields as the first one: then the text
-    /// is lost.
+    /// `AllocError` if an allocation fails. The text is then lost.
     pub fn with_row(self, fields: &[&[u8]]) -> Result<Sheet, AllocError>
         requires { is_row (map (λ f. f.now) fields.now) ≡ true }
         ensures { IfOk result (λ sheet. sheet ≡ self ++ row_text (map (λ f. f.now) fields.now)) }
     {
         let Sheet { mut writer } = self;
-        if writer.write_fields(fields).is_err() {
-            return Err(AllocError);
-        }
+        writer.write_fields(fields).map_err(refusal_of)?;
         Ok(Sheet { writer })
     }
 
@@ -70,7 +71,7 @@ impl Sheet {
         let Sheet { writer } = self;
         match writer.into_inner() {
             Ok(text) => Ok(text),
-            Err(_) => Err(AllocError),
+            Err(failed) => Err(refusal_of(failed.into_error())),
         }
     }
 }

@@ -1,29 +1,35 @@
 -- The runs of all policies, as stacks: of their jobs, and of their ends.
-use Rattle.std.proofs.Common.{◌≡◌, ◌≢◌, Bool, ℕ, zero, suc, refl, ◌+◌, ◌<◌, ◌≤◌, List, [], ◌∷◌, ◌++◌, length, Some, slice_get, get_or, Result, Ok, Err, IfOk, OnOk, true, false, subst, sym, ap, ◌∙◌, arith, length-append}
+use Rattle.std.proofs.Common.{◌≡◌, ◌≢◌, Bool, ℕ, zero, suc, refl, ◌+◌, ◌<◌, ◌≤◌, List, [], ◌∷◌, ◌++◌, length, Some, slice_get, get_or, Result, Ok, Err, IfErr, IfOk, OnOk, true, false, subst, sym, ap, ◌∙◌, arith, length-append}
 use mathlib.Core.Logic.{dite}
 use native.Mathlib.Decide.{ℕ_discrete}
 use Rattle.std.proofs.lemmas.Bool.{false≢true}
+use Rattle.std.specs.Prelude.{IsErr, IsErrAnd, MatchResult}
 use Rattle.std.specs.List.{list_any}
 use Rattle.std.proofs.lemmas.Option.{slice_get_within, slice_get-get_or, get_or_from_slice_get}
 use Rattle.std.proofs.lemmas.List.Folds.{list_any_at}
 use Rattle.crn_stock.specs.Parts.{Parts}
 use Rattle.crn_stock.specs.Scenarios.{ScenarioParts}
 use Rattle.crn_proto.specs.declared.actor_parts.ReaderPart.{ReaderPart}
-use Rattle.crn_stock.specs.Draws.{At, OnwardAt}
+use Rattle.crn_stock.specs.Draws.{At, OnwardAt, next_block}
 use Rattle.crn_proto.specs.declared.spec.RingSpec.{RingSpec}
 use Rattle.crn_ring.specs.declared.ring.Ring.{Ring}
 use Rattle.crn_ring.specs.declared.reader_end.Reader.{Reader}
 use Rattle.crn_ring.specs.Calls.{IsFresh, reader_number, reader_part, spec_of}
 use Rattle.crn_run.specs.declared.fault.RunFault.{RunFault}
+use Rattle.crn_run.specs.declared.fault.RunFault.TheVariants.{Thread, Gate, Memory}
 use Rattle.crn_run.specs.declared.run.Finished.{Finished}
 use Rattle.crn_run.specs.declared.jobs.Job.{Job}
 use Rattle.crn_sequential.specs.Runs.{IsCheckpointOf, StandsBefore, EachAt, EachOnward}
 use Rattle.crn_run.specs.declared.worker.PolicyEnd.{PolicyEnd}
 use Rattle.crn_run.specs.declared.worker.PolicyEnd.TheVariants.{Reached, Short, Held}
 use Rattle.crn_run.specs.Ends.{EndsAs, HasReadAll, IsRun, is_held}
-use Rattle.crn_run.specs.Inner.Ends.{is_short}
-use Rattle.crn_run.specs.Jobs.{ring_spec}
-use Rattle.crn_run.specs.Inner.Jobs.{IsReady, AreEnds, AreJobs, Gathers, HasRun}
+use Rattle.crn_run.specs.Faults.{IsEnded}
+use Rattle.crn_run.specs.Gates.{AllPassed, PassedUpTo, SomeHeld, WasAsked}
+use Rattle.crn_run.specs.Inner.Ends.{AllReached, HasEarly, IsEarlyEnd, is_short}
+use Rattle.crn_run.specs.Jobs.{HasRefused, ring_spec}
+use Rattle.crn_run.specs.Inner.Jobs.{IsDone, IsReady, AreEnds, AreJobs, Gathers, HasRun}
+use Rattle.crn_run.specs.declared.fault.ThreadFault.{ThreadFault}
+use Rattle.crn_run.specs.Inner.Refusals.{RefusesEnds, RefusesRun}
 use Rattle.crn_sequential.proofs.Growing.{HoldsOfEach, each-grown, slice_get_front, slice_get_last}
 use Rattle.crn_sequential.proofs.Running.{same_of}
 
@@ -53,40 +59,57 @@ job_from s ring start from i r j checkpoint first fresh number place is_state =
       state = is_state;
     }
 
--- e is the end of the job at place i
-abbrev EndAt : ScenarioParts → Ring → List Job → ℕ → PolicyEnd → Type 0
-EndAt s ring jobs i e = (j : Job) → slice_get jobs i ≡ Some j → EndsAs s j.policy j.state ring j.policy e
+module _ {G : Type 0} (refused : G → Bool) (asked : G → ℕ → ℕ → Bool → G → Type 0) (s : ScenarioParts) (ring : Ring) where
+  -- e is what the job at place i comes to
+  abbrev EndAt : List Job → List G → ℕ → PolicyEnd → Type 0
+  EndAt jobs gates i e = (k : ℕ) (j : Job) (gate : G) → i + k + 1 ≡ length jobs → slice_get jobs i ≡ Some j → slice_get gates k ≡ Some gate → IsDone refused asked s ring j gate e
 
--- no job, no end
-pub no_ends : (s : ScenarioParts) (ring : Ring) (jobs : List Job) (ends : List PolicyEnd) → jobs ≡ [] → ends ≡ [] → AreEnds s ring jobs ends
-no_ends s ring jobs ends no_job no_end = record {
-  count = omega (arith, ap length no_job, ap length no_end);
-  each = λ i j e is is_end. absurd (omega (arith, slice_get_within jobs i j is, ap length no_job));
-}
+  -- no job, no end
+  pub no_ends : (jobs : List Job) (gates : List G) (ends : List PolicyEnd) → jobs ≡ [] → ends ≡ [] → length gates ≡ length jobs → AreEnds refused asked s ring jobs gates ends
+  no_ends jobs gates ends no_job no_end counts = record {
+    count = omega (arith, ap length no_job, ap length no_end);
+    gate_count = counts;
+    each = λ i k j gate e place is is_gate is_end. absurd (omega (arith, slice_get_within jobs i j is, ap length no_job));
+  }
 
--- one job and its end more
-pub one_more_end : (s : ScenarioParts) (ring : Ring) (jobs jobs' : List Job) (ends ends' : List PolicyEnd) (j : Job) (e : PolicyEnd) → jobs' ≡ jobs ++ j ∷ [] → ends' ≡ ends ++ e ∷ []
-    → AreEnds s ring jobs ends → EndsAs s j.policy j.state ring j.policy e → AreEnds s ring jobs' ends'
-one_more_end s ring jobs jobs' ends ends' j e more_jobs more_ends are last =
-    let place : slice_get jobs' (length jobs) ≡ Some j = subst (λ (l : List Job). slice_get l (length jobs) ≡ Some j) (sym more_jobs) (slice_get_last jobs j) in
-    let before : HoldsOfEach (EndAt s ring jobs') ends =
-    λ i x is_end k is_job.
-    let inside : i < length jobs = omega (arith, are.count, slice_get_within ends i x is_end) in
-    let d : slice_get jobs i ≡ Some (get_or jobs i k) = slice_get-get_or jobs i k inside in
-    let there : slice_get jobs' i ≡ Some (get_or jobs i k) =
-    subst (λ (l : List Job). slice_get l i ≡ Some (get_or jobs i k)) (sym more_jobs) (slice_get_front jobs j (get_or jobs i k) i d) in
-    let same : get_or jobs i k ≡ k = same_of (slice_get jobs' i) (get_or jobs i k) k there is_job in
-    subst (λ (q : Job). EndsAs s q.policy q.state ring q.policy x) same (are.each i (get_or jobs i k) x d is_end) in
-    let new : EndAt s ring jobs' (length ends) e =
-    λ k is_job.
-    let at_place : slice_get jobs' (length jobs) ≡ Some k = subst (λ (n : ℕ). slice_get jobs' n ≡ Some k) are.count is_job in
-    let same : j ≡ k = same_of (slice_get jobs' (length jobs)) j k place at_place in
-    subst (λ (q : Job). EndsAs s q.policy q.state ring q.policy e) same last in
-    let all : HoldsOfEach (EndAt s ring jobs') ends' = each-grown (EndAt s ring jobs') ends ends' e (length ends) more_ends (λ _. length ends) before new in
-    record {
-      count = omega (arith, are.count, ap length more_jobs, ap length more_ends, length-append jobs (j ∷ []), length-append ends (e ∷ []));
-      each = λ i k x is_job is_end. all i x is_end k is_job;
-    }
+  -- an end that stood before one job more came on top
+  older : (jobs : List Job) (gates : List G) (gate g : G) (i k : ℕ) (j : Job) (e : PolicyEnd) → EndAt jobs gates i e → i < length jobs → i + k + 1 ≡ length jobs + 1
+      → slice_get jobs i ≡ Some j → slice_get (gate ∷ gates) k ≡ Some g → IsDone refused asked s ring j g e
+  older jobs gates gate g i zero j e end inside place is is_gate = absurd (omega (arith, inside, place))
+  older jobs gates gate g i (suc k) j e end inside place is is_gate = end k j g (omega (arith, place)) is is_gate
+
+  newer : (gates : List G) (gate g : G) (k : ℕ) (j : Job) (e : PolicyEnd) → IsDone refused asked s ring j gate e → k ≡ 0 → slice_get (gate ∷ gates) k ≡ Some g → IsDone refused asked s ring j g e
+  newer gates gate g zero j e done place is_gate = subst (λ (x : G). IsDone refused asked s ring j x e) (same_of (Some gate) gate g refl is_gate) done
+  newer gates gate g (suc k) j e done place is_gate = absurd (omega (arith, place))
+
+  -- one job and its end more
+  pub one_more_end : (jobs jobs' : List Job) (gates gates' : List G) (ends ends' : List PolicyEnd) (j : Job) (gate : G) (e : PolicyEnd) → jobs' ≡ jobs ++ j ∷ [] → gates' ≡ gate ∷ gates → ends' ≡ ends ++ e ∷ []
+      → AreEnds refused asked s ring jobs gates ends → IsDone refused asked s ring j gate e → AreEnds refused asked s ring jobs' gates' ends'
+  one_more_end jobs jobs' gates gates' ends ends' j gate e more_jobs more_gates more_ends are last =
+      let longer : length jobs' ≡ length jobs + 1 = omega (arith, ap length more_jobs, length-append jobs (j ∷ [])) in
+      let place : slice_get jobs' (length jobs) ≡ Some j = subst (λ (l : List Job). slice_get l (length jobs) ≡ Some j) (sym more_jobs) (slice_get_last jobs j) in
+      let before : HoldsOfEach (EndAt jobs' gates') ends =
+      λ i x is_end k q g there is_job is_gate.
+      let inside : i < length jobs = omega (arith, are.count, slice_get_within ends i x is_end) in
+      let d : slice_get jobs i ≡ Some (get_or jobs i q) = slice_get-get_or jobs i q inside in
+      let at_place : slice_get jobs' i ≡ Some (get_or jobs i q) =
+      subst (λ (l : List Job). slice_get l i ≡ Some (get_or jobs i q)) (sym more_jobs) (slice_get_front jobs j (get_or jobs i q) i d) in
+      let same : get_or jobs i q ≡ q = same_of (slice_get jobs' i) (get_or jobs i q) q at_place is_job in
+      let was : slice_get jobs i ≡ Some q = subst (λ (y : Job). slice_get jobs i ≡ Some y) same d in
+      let its : slice_get (gate ∷ gates) k ≡ Some g = subst (λ (l : List G). slice_get l k ≡ Some g) more_gates is_gate in
+      older jobs gates gate g i k q x (λ k' j' gate' p is' is_gate'. are.each i k' j' gate' x p is' is_gate' is_end) inside (omega (arith, there, longer)) was its in
+      let new : EndAt jobs' gates' (length ends) e =
+      λ k q g there is_job is_gate.
+      let at_place : slice_get jobs' (length jobs) ≡ Some q = subst (λ (n : ℕ). slice_get jobs' n ≡ Some q) are.count is_job in
+      let same : j ≡ q = same_of (slice_get jobs' (length jobs)) j q place at_place in
+      let its : slice_get (gate ∷ gates) k ≡ Some g = subst (λ (l : List G). slice_get l k ≡ Some g) more_gates is_gate in
+      subst (λ (y : Job). IsDone refused asked s ring y g e) same (newer gates gate g k j e last (omega (arith, there, longer, are.count)) its) in
+      let all : HoldsOfEach (EndAt jobs' gates') ends' = each-grown (EndAt jobs' gates') ends ends' e (length ends) more_ends (λ _. length ends) before new in
+      record {
+        count = omega (arith, are.count, longer, ap length more_ends, length-append ends (e ∷ []));
+        gate_count = omega (arith, are.gate_count, longer, ap length more_gates);
+        each = λ i k q g x there is_job is_gate is_end. all i x is_end k q g there is_job is_gate;
+      }
 
 -- what follows where there is a value, and from one fact more
 pub with_value : {T E P L Q : Type 0} (r : Result T E) → (P → L → Q) → OnOk r P → L → OnOk r Q
@@ -130,35 +153,158 @@ pub record RunFrom (s : ScenarioParts) (start : List Parts) (upto k : ℕ) (w : 
   pub begins : slice_get start k ≡ Some begun
   pub run : IsRun s k begun upto w
 
-end_of : (s : ScenarioParts) (ring : Ring) (start : List Parts) (jobs : List Job) (ends : List PolicyEnd) (i k : ℕ) (e : PolicyEnd) → AreJobs s ring start jobs → AreEnds s ring jobs ends
-    → i + k + 1 ≡ length s.policies → slice_get ends i ≡ Some e → (v : Parts) × (slice_get start k ≡ Some v) × EndsAs s k v ring k e
-end_of s ring start jobs ends i k e are_jobs are_ends place is =
-    let there : (j : Job) × (slice_get jobs i ≡ Some j) = item_at jobs i (omega (arith, are_ends.count, slice_get_within ends i e is)) in
-    let j : Job = there.0 in
-    let same : j.policy ≡ k = omega (arith, are_jobs.policies i j there.1, place) in
-    let begins : slice_get start k ≡ Some j.state = subst (λ (n : ℕ). slice_get start n ≡ Some j.state) same (are_jobs.states i j there.1) in
-    let ends_as : EndsAs s k j.state ring k e = subst (λ (n : ℕ). EndsAs s n j.state ring n e) same (are_ends.each i j e there.1 is) in
-    (j.state, begins, ends_as)
+-- ---- how the runs have ended, all together
 
-pub run_from : (s : ScenarioParts) (ring : Ring) (start : List Parts) (upto : ℕ) (jobs : List Job) (ends : List PolicyEnd) (states : List Parts) (readers : List Reader) → (spec_of ring).id.total ≡ upto
-    → AreJobs s ring start jobs → AreEnds s ring jobs ends → Gathers ends states readers → (k : ℕ) (w : Parts) → slice_get states k ≡ Some w → RunFrom s start upto k w
-run_from s ring start upto jobs ends states readers total are_jobs are_ends gathers k w is =
-    let count : length ends ≡ length s.policies = are_ends.count ∙ are_jobs.count in
-    let where_to : (i : ℕ) × (i + k + 1 ≡ length s.policies) = place_of k (length s.policies) (omega (arith, count, gathers.state_count, slice_get_within states k w is)) in
-    let of_end : (x : Reader) × (slice_get ends where_to.0 ≡ Some (Reached w x)) = gathers.states_of k w is where_to.0 (where_to.1 ∙ sym count) in
-    let ended : (v : Parts) × (slice_get start k ≡ Some v) × EndsAs s k v ring k (Reached w of_end.0) =
-    end_of s ring start jobs ends where_to.0 k (Reached w of_end.0) are_jobs are_ends where_to.1 of_end.1 in
-    record { begun = ended.0; begins = ended.1; run = subst (λ (n : ℕ). IsRun s k ended.0 n w) total ended.2.0 }
+-- what holds of one end holds of some
+pub some_end : (test : PolicyEnd → Bool) (ends : List PolicyEnd) (i : ℕ) (e : PolicyEnd) → slice_get ends i ≡ Some e → test e ≡ true → list_any test ends ≡ true
+some_end test ends i e is holds = list_any_at test ends i e (slice_get_within ends i e is) (ap test (get_or_from_slice_get ends i e e is) ∙ holds)
 
-pub read_from : (s : ScenarioParts) (ring : Ring) (start : List Parts) (upto : ℕ) (jobs : List Job) (ends : List PolicyEnd) (states : List Parts) (readers : List Reader) → (spec_of ring).id.total ≡ upto
-    → AreJobs s ring start jobs → AreEnds s ring jobs ends → Gathers ends states readers → (k : ℕ) (x : Reader) → slice_get readers k ≡ Some x → HasReadAll ring k upto x
-read_from s ring start upto jobs ends states readers total are_jobs are_ends gathers k x is =
-    let count : length ends ≡ length s.policies = are_ends.count ∙ are_jobs.count in
-    let where_to : (i : ℕ) × (i + k + 1 ≡ length s.policies) = place_of k (length s.policies) (omega (arith, count, gathers.reader_count, slice_get_within readers k x is)) in
-    let of_end : (w : Parts) × (slice_get ends where_to.0 ≡ Some (Reached w x)) = gathers.readers_of k x is where_to.0 (where_to.1 ∙ sym count) in
-    let ended : (v : Parts) × (slice_get start k ≡ Some v) × EndsAs s k v ring k (Reached of_end.0 x) =
-    end_of s ring start jobs ends where_to.0 k (Reached of_end.0 x) are_jobs are_ends where_to.1 of_end.1 in
-    subst (λ (n : ℕ). HasReadAll ring k n x) total ended.2.1
+not_true : (b : Bool) → b ≢ true → b ≡ false
+not_true true other = absurd (other refl)
+not_true false other = refl
+
+-- what holds of none does not hold of one
+pub never_any : (test : PolicyEnd → Bool) (ends : List PolicyEnd) (i : ℕ) (e : PolicyEnd) → list_any test ends ≡ false → slice_get ends i ≡ Some e → test e ≡ false
+never_any test ends i e none is = not_true (test e) (λ holds. false≢true (sym none ∙ some_end test ends i e is holds))
+
+reached_one : (e : PolicyEnd) → is_short e ≡ false → is_held e ≡ false → (w : Parts) × (x : Reader) × (e ≡ Reached w x)
+reached_one (Reached w x) whole free = (w, x, refl)
+reached_one (Short n w x) whole free = absurd (false≢true (sym whole))
+reached_one (Held w x) whole free = absurd (false≢true (sym free))
+
+-- where all have reached the end, so has each
+pub reached_end : (ends : List PolicyEnd) (i : ℕ) (e : PolicyEnd) → AllReached ends → slice_get ends i ≡ Some e → (w : Parts) × (x : Reader) × (e ≡ Reached w x)
+reached_end ends i e all is = reached_one e (never_any is_short ends i e all.0 is) (never_any is_held ends i e all.1 is)
+
+-- one that a gate has held
+held_place : (ends : List PolicyEnd) → list_any is_held ends ≡ true → (i : ℕ) × (e : PolicyEnd) × (slice_get ends i ≡ Some e) × (is_held e ≡ true)
+held_place [] any = absurd (false≢true any)
+held_place (Reached w x ∷ ends) any = let rest = held_place ends any in (suc rest.0, rest.1, rest.2, rest.3)
+held_place (Short n w x ∷ ends) any = let rest = held_place ends any in (suc rest.0, rest.1, rest.2, rest.3)
+held_place (Held w x ∷ ends) any = (0, Held w x, refl, refl)
+
+-- e is the end of policy number k's run from its state of `start`, under its gate
+pub record EndOf {G : Type 0} (refused : G → Bool) (asked : G → ℕ → ℕ → Bool → G → Type 0) (s : ScenarioParts) (ring : Ring) (start : List Parts) (gates : List G) (k : ℕ) (e : PolicyEnd) : Type 0 where
+  pub job : Job
+  pub policy : job.policy ≡ k
+  pub begins : slice_get start k ≡ Some job.state
+  pub gate : G
+  pub is_gate : slice_get gates k ≡ Some gate
+  pub done : IsDone refused asked s ring job gate e
+
+module _ {G : Type 0} (refused : G → Bool) (asked : G → ℕ → ℕ → Bool → G → Type 0) (s : ScenarioParts) (ring : Ring) (start : List Parts) (jobs : List Job) (gates : List G) (ends : List PolicyEnd)
+    (are_jobs : AreJobs s ring start jobs) (are_ends : AreEnds refused asked s ring jobs gates ends) where
+  pub end_of : (i k : ℕ) (e : PolicyEnd) → i + k + 1 ≡ length s.policies → slice_get ends i ≡ Some e → EndOf refused asked s ring start gates k e
+  end_of i k e place is =
+      let there : (j : Job) × (slice_get jobs i ≡ Some j) = item_at jobs i (omega (arith, are_ends.count, slice_get_within ends i e is)) in
+      let j : Job = there.0 in
+      let same : j.policy ≡ k = omega (arith, are_jobs.policies i j there.1, place) in
+      let its : (g : G) × (slice_get gates k ≡ Some g) = item_at gates k (omega (arith, are_ends.gate_count, are_jobs.count, place)) in
+      record {
+        job = j;
+        policy = same;
+        begins = subst (λ (n : ℕ). slice_get start n ≡ Some j.state) same (are_jobs.states i j there.1);
+        gate = its.0;
+        is_gate = its.1;
+        done = are_ends.each i k j its.0 e (place ∙ sym are_jobs.count) there.1 its.1 is;
+      }
+
+  pub ends_as_told : (k : ℕ) (e : PolicyEnd) (o : EndOf refused asked s ring start gates k e) → EndsAs s k o.job.state ring k e
+  ends_as_told k e o = subst (λ (n : ℕ). EndsAs s n o.job.state ring n e) o.policy o.done.ends
+
+  -- the end of policy number k
+  policy_end : (k : ℕ) → k < length s.policies → (e : PolicyEnd) × (i : ℕ) × (slice_get ends i ≡ Some e) × (i + k + 1 ≡ length s.policies)
+  policy_end k lt =
+      let at : (i : ℕ) × (i + k + 1 ≡ length s.policies) = place_of k (length s.policies) lt in
+      let it : (e : PolicyEnd) × (slice_get ends at.0 ≡ Some e) = item_at ends at.0 (omega (arith, at.1, are_ends.count, are_jobs.count)) in
+      (it.0, at.0, it.1, at.1)
+
+  module _ (upto : ℕ) (total : (spec_of ring).id.total ≡ upto) where
+    pub run_from : (states : List Parts) (readers : List Reader) → Gathers ends states readers → (k : ℕ) (w : Parts) → slice_get states k ≡ Some w → RunFrom s start upto k w
+    run_from states readers gathers k w is =
+        let count : length ends ≡ length s.policies = are_ends.count ∙ are_jobs.count in
+        let where_to : (i : ℕ) × (i + k + 1 ≡ length s.policies) = place_of k (length s.policies) (omega (arith, count, gathers.state_count, slice_get_within states k w is)) in
+        let of_end : (x : Reader) × (slice_get ends where_to.0 ≡ Some (Reached w x)) = gathers.states_of k w is where_to.0 (where_to.1 ∙ sym count) in
+        let o : EndOf refused asked s ring start gates k (Reached w of_end.0) = end_of where_to.0 k (Reached w of_end.0) where_to.1 of_end.1 in
+        record { begun = o.job.state; begins = o.begins; run = subst (λ (n : ℕ). IsRun s k o.job.state n w) total (ends_as_told k (Reached w of_end.0) o).0 }
+
+    pub read_from : (states : List Parts) (readers : List Reader) → Gathers ends states readers → (k : ℕ) (x : Reader) → slice_get readers k ≡ Some x → HasReadAll ring k upto x
+    read_from states readers gathers k x is =
+        let count : length ends ≡ length s.policies = are_ends.count ∙ are_jobs.count in
+        let where_to : (i : ℕ) × (i + k + 1 ≡ length s.policies) = place_of k (length s.policies) (omega (arith, count, gathers.reader_count, slice_get_within readers k x is)) in
+        let of_end : (w : Parts) × (slice_get ends where_to.0 ≡ Some (Reached w x)) = gathers.readers_of k x is where_to.0 (where_to.1 ∙ sym count) in
+        let o : EndOf refused asked s ring start gates k (Reached of_end.0 x) = end_of where_to.0 k (Reached of_end.0 x) where_to.1 of_end.1 in
+        subst (λ (n : ℕ). HasReadAll ring k n x) total (ends_as_told k (Reached of_end.0 x) o).1
+
+    -- what its gate was asked, by the number of its first block
+    asked_from : (first k : ℕ) (e : PolicyEnd) → IsCheckpointOf s first start → (o : EndOf refused asked s ring start gates k e) → WasAsked asked k first e o.gate o.done.gate'
+    asked_from first k e checkpoint o =
+        let next : next_block o.job.state ≡ first = (checkpoint.stand k o.job.state o.begins).next in
+        subst (λ (n : ℕ). WasAsked asked k n e o.gate o.done.gate') next (subst (λ (n : ℕ). WasAsked asked n (next_block o.job.state) e o.gate o.done.gate') o.policy o.done.was_asked)
+
+    passed_to : (first k : ℕ) (e : PolicyEnd) → IsCheckpointOf s first start → EndOf refused asked s ring start gates k e → is_short e ≡ false → is_held e ≡ false
+        → (gate : G) → slice_get gates k ≡ Some gate → (gate' : G) × PassedUpTo asked k first upto gate gate'
+    passed_to first k (Reached w x) checkpoint o whole free gate is_gate =
+        let same : o.gate ≡ gate = same_of (slice_get gates k) o.gate gate o.is_gate is_gate in
+        let there : next_block w ≡ upto = (ends_as_told k (Reached w x) o).0.stands.next ∙ total in
+        let passed : PassedUpTo asked k first (next_block w) o.gate o.done.gate' = asked_from first k (Reached w x) checkpoint o in
+        (o.done.gate', subst (λ (g : G). PassedUpTo asked k first upto g o.done.gate') same (subst (λ (n : ℕ). PassedUpTo asked k first n o.gate o.done.gate') there passed))
+    passed_to first k (Short n w x) checkpoint o whole free gate is_gate = absurd (false≢true (sym whole))
+    passed_to first k (Held w x) checkpoint o whole free gate is_gate = absurd (false≢true (sym free))
+
+    -- where all have reached the end, each gate has passed all blocks
+    pub all_passed : (first : ℕ) → IsCheckpointOf s first start → AllReached ends → AllPassed asked first upto gates
+    all_passed first checkpoint reached k gate is_gate =
+        let at = policy_end k (omega (arith, are_ends.gate_count, are_jobs.count, slice_get_within gates k gate is_gate)) in
+        passed_to first k at.0 checkpoint (end_of at.1 k at.0 at.3 at.2) (never_any is_short ends at.1 at.0 reached.0 at.2) (never_any is_held ends at.1 at.0 reached.1 at.2) gate is_gate
+
+    -- an end that came early, of a reader of the ring
+    ended_of : (first k : ℕ) (f : ThreadFault) (e : PolicyEnd) → spec_of ring ≡ ring_spec s first upto → EndOf refused asked s ring start gates k e → IsEarlyEnd f e → IsEnded s first upto f.ended
+    ended_of first k f (Reached w x) opened o early = absurd early
+    ended_of first k f (Short n w x) opened o early =
+        let told = ends_as_told k (Short n w x) o in
+        subst (IsEnded s first upto) (sym early) (record {
+          ring = ring;
+          spec = opened;
+          number = k;
+          reader = x;
+          read = told.2;
+          early = subst (λ (m : ℕ). n < m) total told.0;
+        })
+    ended_of first k f (Held w x) opened o early = absurd early
+
+    pub some_early : (first : ℕ) (f : ThreadFault) → spec_of ring ≡ ring_spec s first upto → HasEarly f ends → IsEnded s first upto f.ended
+    some_early first f opened h =
+        let at : (k : ℕ) × (k + h.place + 1 ≡ length s.policies) = place_of h.place (length s.policies) (omega (arith, are_ends.count, are_jobs.count, slice_get_within ends h.place h.end h.is_end)) in
+        ended_of first at.0 f h.end opened (end_of h.place at.0 h.end (omega (arith, at.1)) h.is_end) h.early
+
+    held_of : (first k : ℕ) (e : PolicyEnd) → IsCheckpointOf s first start → EndOf refused asked s ring start gates k e → is_held e ≡ true → SomeHeld asked first upto gates × HasRefused refused
+    held_of first k (Reached w x) checkpoint o held = absurd (false≢true held)
+    held_of first k (Short n w x) checkpoint o held = absurd (false≢true held)
+    held_of first k (Held w x) checkpoint o held = (
+      record {
+        policy = k;
+        gate = o.gate;
+        gate' = o.done.gate';
+        is_gate = o.is_gate;
+        block = next_block w;
+        below = subst (λ (m : ℕ). next_block w < m) total (ends_as_told k (Held w x) o).0;
+        held = asked_from first k (Held w x) checkpoint o;
+      },
+      (o.done.gate', o.done.held),
+    )
+
+    pub some_held : (first : ℕ) → IsCheckpointOf s first start → list_any is_held ends ≡ true → SomeHeld asked first upto gates × HasRefused refused
+    some_held first checkpoint any =
+        let it : (i : ℕ) × (e : PolicyEnd) × (slice_get ends i ≡ Some e) × (is_held e ≡ true) = held_place ends any in
+        let at : (k : ℕ) × (k + it.0 + 1 ≡ length s.policies) = place_of it.0 (length s.policies) (omega (arith, are_ends.count, are_jobs.count, slice_get_within ends it.0 it.1 it.2)) in
+        held_of first at.0 it.1 checkpoint (end_of it.0 at.0 it.1 (omega (arith, at.1)) it.2) it.3
+
+    -- why the run has no result, by its ends
+    pub of_ends : (first : ℕ) (e : RunFault) → spec_of ring ≡ ring_spec s first upto → IsCheckpointOf s first start → RefusesEnds ends e → RefusesRun refused asked s first upto gates e
+    of_ends first (Thread f) opened checkpoint h = some_early first f opened h
+    of_ends first Gate opened checkpoint h = some_held first checkpoint h.1
+    of_ends first (Memory refused) opened checkpoint h = absurd h
 
 -- so the states are a checkpoint at `upto`, with the facts of each policy's run
 pub checkpoint_of : (s : ScenarioParts) (start states : List Parts) (upto : ℕ) → length states ≡ length s.policies → ((k : ℕ) (w : Parts) → slice_get states k ≡ Some w → RunFrom s start upto k w) → IsCheckpointOf s upto states
@@ -175,28 +321,14 @@ each_onward s start states upto each k p v w is_policy begins is =
     let r : RunFrom s start upto k w = each k w is in
     subst (λ (u : Parts). OnwardAt s.model p s.key u upto w) (same_of (slice_get start k) r.begun v r.begins begins) (r.run.onward p is_policy)
 
--- ---- how the runs have ended, all together
-
--- what holds of one end holds of some
-pub some_end : (test : PolicyEnd → Bool) (ends : List PolicyEnd) (i : ℕ) (e : PolicyEnd) → slice_get ends i ≡ Some e → test e ≡ true → list_any test ends ≡ true
-some_end test ends i e is holds = list_any_at test ends i e (slice_get_within ends i e is) (ap test (get_or_from_slice_get ends i e e is) ∙ holds)
-
--- one end more
-pub held_or_last : (ends : List PolicyEnd) (last : PolicyEnd) (P : Type 0) → (list_any is_held ends ≡ true → P) → (is_held last ≡ true → P) → list_any is_held (ends ++ last ∷ []) ≡ true → P
-held_or_last [] (Reached w x) P below here any = absurd (false≢true any)
-held_or_last [] (Short n w x) P below here any = absurd (false≢true any)
-held_or_last [] (Held w) P below here any = here refl
-held_or_last (Reached w x ∷ ends) last P below here any = held_or_last ends last P below here any
-held_or_last (Short n w x ∷ ends) last P below here any = held_or_last ends last P below here any
-held_or_last (Held w ∷ ends) last P below here any = below refl
-
 -- ---- the whole run
 
-pub has_run : (s : ScenarioParts) (ring : Ring) (start : List Parts) (first upto next : ℕ) (jobs : List Job) (ends : List PolicyEnd) (states : List Parts) (readers : List Reader)
-    → next ≡ upto → spec_of ring ≡ ring_spec s first upto → IsCheckpointOf s first start → AreJobs s ring start jobs → AreEnds s ring jobs ends → Gathers ends states readers → HasRun s first start upto next states readers
-has_run s ring start first upto next jobs ends states readers there opened checkpoint are_jobs are_ends gathers =
+pub has_run : {G : Type 0} (refused : G → Bool) (asked : G → ℕ → ℕ → Bool → G → Type 0) (s : ScenarioParts) (ring : Ring) (start : List Parts) (first upto next : ℕ) (jobs : List Job) (gates : List G)
+    (ends : List PolicyEnd) (states : List Parts) (readers : List Reader)
+    → next ≡ upto → spec_of ring ≡ ring_spec s first upto → IsCheckpointOf s first start → AreJobs s ring start jobs → AreEnds refused asked s ring jobs gates ends → Gathers ends states readers → HasRun s first start upto next states readers
+has_run refused asked s ring start first upto next jobs gates ends states readers there opened checkpoint are_jobs are_ends gathers =
     let total : (spec_of ring).id.total ≡ upto = ap (λ (r : RingSpec). r.id.total) opened in
-    let from = run_from s ring start upto jobs ends states readers total are_jobs are_ends gathers in record {
+    let from = run_from refused asked s ring start jobs gates ends are_jobs are_ends upto total states readers gathers in record {
       next_is = there;
       of_scenario = checkpoint_of s start states upto (gathers.state_count ∙ are_ends.count ∙ are_jobs.count) from;
       at = each_at s start states first upto checkpoint from;
@@ -205,7 +337,7 @@ has_run s ring start first upto next jobs ends states readers there opened check
         ring = ring;
         spec = opened;
         count = gathers.reader_count ∙ are_ends.count ∙ are_jobs.count;
-        each = read_from s ring start upto jobs ends states readers total are_jobs are_ends gathers;
+        each = read_from refused asked s ring start jobs gates ends are_jobs are_ends upto total states readers gathers;
       };
     }
 
@@ -223,3 +355,47 @@ ends_as s k v ring r n w x e run read within total early =
     dite (ℕ_discrete n (spec_of ring).id.total)
     (λ is. subst (EndsAs s k v ring r) (sym (total is)) (subst (λ (m : ℕ). IsRun s k v m w) is run, subst (λ (m : ℕ). HasReadAll ring r m x) is read))
     (λ not. subst (EndsAs s k v ring r) (sym (early not)) (omega (arith, within, not), run, read))
+
+-- what is told of an answer on either side
+pub on_ok : {T E : Type 0} (r : Result T E) (A : Type 0) (B : E → Type 0) → MatchResult r (λ _. A) B → OnOk r A
+on_ok (Ok x) A B h = h
+on_ok (Err e) A B h = tt
+
+pub on_err : {T E : Type 0} (r : Result T E) (A : T → Type 0) (B : E → Type 0) → MatchResult r A B → IfErr r B
+on_err (Ok x) A B h = tt
+on_err (Err e) A B h = h
+
+module _ {G : Type 0} (refused : G → Bool) (asked : G → ℕ → ℕ → Bool → G → Type 0) (s : ScenarioParts) (first upto : ℕ) (gates : List G) where
+  pub told_thread : {T : Type 0} (f : ThreadFault) (r : Result T RunFault) → r ≡ Err (Thread f) → IfErr r (λ e. RefusesRun refused asked s first upto gates e) → IsEnded s first upto f.ended
+  told_thread {T} f r is h = subst (λ (x : Result T RunFault). IfErr x (λ e. RefusesRun refused asked s first upto gates e)) is h
+
+  pub told_gate : (e : RunFault) → e ≡ Gate → RefusesRun refused asked s first upto gates e → SomeHeld asked first upto gates × HasRefused refused
+  told_gate e is h = subst (λ (x : RunFault). RefusesRun refused asked s first upto gates x) is h
+
+-- what the gate was asked in a run that its reader has seen the end of
+pub asked_whole : {G : Type 0} (asked : G → ℕ → ℕ → Bool → G → Type 0) (k from n all : ℕ) (g g' : G) (w : Parts) (x : Reader) (e : PolicyEnd) → (n ≡ all → e ≡ Reached w x) → (n ≢ all → e ≡ Short n w x)
+    → PassedUpTo asked k from (next_block w) g g' → WasAsked asked k from e g g'
+asked_whole {G} asked k from n all g g' w x e total early passed =
+    dite (ℕ_discrete n all)
+    (λ is. subst (λ (d : PolicyEnd). WasAsked asked k from d g g') (sym (total is)) passed)
+    (λ not. subst (λ (d : PolicyEnd). WasAsked asked k from d g g') (sym (early not)) passed)
+
+-- ---- ends that are looked at one by one
+
+pub none_further : (ends : List PolicyEnd) (i : ℕ) (end : PolicyEnd) → slice_get ends i ≡ Some end → is_short end ≡ false
+    → ((k : ℕ) (e : PolicyEnd) → k < i → slice_get ends k ≡ Some e → is_short e ≡ false) → (k : ℕ) (e : PolicyEnd) → k < i + 1 → slice_get ends k ≡ Some e → is_short e ≡ false
+none_further ends i end is whole before k e below at =
+    dite (ℕ_discrete k i)
+    (λ same. ap is_short (same_of (slice_get ends i) e end (subst (λ (n : ℕ). slice_get ends n ≡ Some e) same at) is) ∙ whole)
+    (λ other. before k e (omega (arith, below, other)) at)
+
+pub none_any : (ends : List PolicyEnd) → ((k : ℕ) (e : PolicyEnd) → slice_get ends k ≡ Some e → is_short e ≡ false) → list_any is_short ends ≡ false
+none_any [] none = refl
+none_any (Reached w x ∷ ends) none = none_any ends (λ k. none (suc k))
+none_any (Short n w x ∷ ends) none = absurd (false≢true (sym (none 0 (Short n w x) refl)))
+none_any (Held w x ∷ ends) none = none_any ends (λ k. none (suc k))
+
+-- a fault that is handed on
+pub handed_told : {T E : Type 0} (r : Result T E) (e : E) (A : T → Type 0) (P : E → Type 0) → IsErr r × IsErrAnd r (λ f. f ≡ e) → P e → MatchResult r A P
+handed_told (Ok x) e A P h holds = absurd (cc h.0)
+handed_told (Err f) e A P h holds = subst P (sym h.1) holds

@@ -1,3 +1,4 @@
 mod Advancing
+mod Asking
 mod Opening
 mod Ending

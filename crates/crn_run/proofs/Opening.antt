@@ -1,5 +1,5 @@
 -- A ring of a scenario is never refused but for want of memory.
-use Rattle.std.proofs.Common.{◌≡◌, ℕ, zero, suc, ◌^◌, ◌≤◌, refl, subst, sym, arith}
+use Rattle.std.proofs.Common.{◌≡◌, ℕ, zero, suc, ◌^◌, ◌≤◌, refl, subst, sym, arith, alloc_error}
 use Rattle.std.proofs.Math.Nat.{mul-le-mul_left}
 use Rattle.crn_stock.specs.Models.{ModelParts, IsModel, total, blocks_per_replication}
 use Rattle.crn_stock.specs.Scenarios as stock
@@ -34,14 +34,14 @@ few_blocks m h =
     let each : blocks_per_replication m.periods ≤ 256 = omega (arith, h.periods_high) in
     omega (arith, mul-le-mul_left m.replications each, h.replications_high)
 
-pub only_memory : (spec : RingSpec) (f : RingFault) → IsRingSize spec.size → IsReaderCount spec.readers → IsStream spec.id → RefusesRing spec f → f ≡ Memory
+pub only_memory : (spec : RingSpec) (f : RingFault) → IsRingSize spec.size → IsReaderCount spec.readers → IsStream spec.id → RefusesRing spec f → f ≡ Memory alloc_error
 only_memory spec Size size readers stream r = absurd (r size)
 only_memory spec Readers size readers stream r = absurd (r.1 readers)
 only_memory spec Stream size readers stream r = absurd (r.2 stream)
-only_memory spec Memory size readers stream r = refl
+only_memory spec (Memory _) size readers stream r = refl
 
 -- so none of the other faults is answered for a ring of the scenario
 pub never_refused : (spec : RingSpec) (f : RingFault) (m : ModelParts) → stock.IsScenarioRingSize spec.size → 1 ≤ spec.readers → spec.readers ≤ 16 → IsModel m → spec.id.first ≤ spec.id.total → spec.id.total ≤ total m
-    → RefusesRing spec f → f ≡ Memory
+    → RefusesRing spec f → f ≡ Memory alloc_error
 never_refused spec f m size some few ranges order below r =
     only_memory spec f (ring_size spec.size size) (some, few) (order, omega (arith, below, few_blocks m ranges)) r

@@ -6,7 +6,7 @@ use Rattle.crn_stock.specs.Draws.{At, OnwardAt, next_block}
 use Rattle.crn_stock.specs.declared.rules.Policy.{Policy}
 use Rattle.crn_ring.specs.declared.ring.Ring.{Ring}
 use Rattle.crn_ring.specs.declared.reader_end.Reader.{Reader}
-use Rattle.crn_ring.specs.Calls.{IsReaderOf, reader_number, reader_part, spec_of}
+use Rattle.crn_ring.specs.Calls.{HasLeft, IsReaderOf, reader_number, reader_part, spec_of}
 use Rattle.crn_sequential.specs.Runs.{StandsBefore}
 use Rattle.crn_run.specs.declared.worker.PolicyEnd.{PolicyEnd}
 use Rattle.crn_run.specs.declared.worker.PolicyEnd.TheVariants.{Reached, Short, Held}
@@ -28,10 +28,10 @@ pub record HasReadAll (ring : Ring) (r n : ℕ) (x : Reader) : Type 0 where
 abbrev pub EndsAs : ScenarioParts → ℕ → Parts → Ring → ℕ → PolicyEnd → Type 0
 EndsAs s k v ring r (Reached w x) = IsRun s k v (spec_of ring).id.total w × HasReadAll ring r (spec_of ring).id.total x
 EndsAs s k v ring r (Short n w x) = (n < (spec_of ring).id.total) × IsRun s k v n w × HasReadAll ring r n x
-EndsAs s k v ring r (Held w) = IsRun s k v (next_block w) w
+EndsAs s k v ring r (Held w x) = (next_block w < (spec_of ring).id.total) × IsRun s k v (next_block w) w × HasLeft ring r x
 
 -- whether the gate has held the run
 abbrev pub is_held : PolicyEnd → Bool
 is_held (Reached w x) = false
 is_held (Short n w x) = false
-is_held (Held w) = true
+is_held (Held w x) = true

@@ -1,28 +1,45 @@
 //! Why a run of all policies has no result.
-ghost use Rattle.std.specs.Prelude.{◌≡◌};
+ghost use Rattle.std.specs.Prelude.{◌≡◌, false, IfSome, IfNone};
+ghost use Rattle.crn_run.specs.Faults.{run_fault_number};
+ghost use Rattle.crn_run.specs.Inner.Ends.{is_short, IsEarlyEnd};
 
+use crate::worker::PolicyEnd;
 use std::alloc::AllocError;
 use std::error::Error;
 use std::fmt;
+use std::thread::SpawnError;
 
 /// Why [`run_all`](crate::run_all) has no result. Where several hold, the least by number is answered. The program's messages
 /// call them by words, and not by these numbers.
 #[derive(Clone, Copy, Debug, PartialEq, Eq)]
 pub enum RunFault {
-    /// A thread was refused.
-    Thread = 1,
-    /// A gate answered false.
-    Gate = 2,
-    /// A request for memory was refused, before any thread was started.
-    Memory = 90,
+    /// 1: a thread was refused, or a policy's thread found the end of the ring before its time.
+    Thread(ThreadFault),
+    /// 2: a gate answered false.
+    Gate,
+    /// 90: a request for memory was refused, before any thread was started. It carries the refusal.
+    Memory(AllocError),
+}
+
+impl RunFault {
+    /// The number of the fault: 1 for a thread, 2 for a gate, 90 for want of memory.
+    pub fn number(&self) -> u8
+        ensures { result ≡ run_fault_number self.now }
+    {
+        match self {
+            RunFault::Thread(_) => 1,
+            RunFault::Gate => 2,
+            RunFault::Memory(_) => 90,
+        }
+    }
 }
 
 impl fmt::Display for RunFault {
     fn fmt<W: fmt::Write>(&self, f: &mut fmt::Formatter<W>) -> fmt::Result {
         f.write_str(match self {
-            RunFault::Thread => "a thread was refused",
+            RunFault::Thread(_) => "a thread was refused",
             RunFault::Gate => "a gate has held a policy",
-            RunFault::Memory => "out of memory",
+            RunFault::Memory(_) => "out of memory",
         })
     }
 }
@@ -30,12 +47,65 @@ impl fmt::Display for RunFault {
 impl Error for RunFault {}
 
 impl From<AllocError> for RunFault {
-    ghost use Rattle.std.specs.Prelude.{◌≡◌};
     ghost use Rattle.crn_run.specs.declared.fault.RunFault.TheVariants.{Memory};
 
-    ghost from_gives = { λ _ f. f ≡ Memory };
+    ghost from_gives = { λ e f. f ≡ Memory e };
 
-    fn from(_refused: AllocError) -> RunFault {
-        RunFault::Memory
+    fn from(refused: AllocError) -> RunFault {
+        RunFault::Memory(refused)
+    }
+}
+
+/// What kept a policy's thread from running to the end of the ring. It is made of what reported it alone: of the refusal
+/// that `spawn` returned, or of the end that a reader has seen before the ring's total, which only a refused thread brings
+/// about.
+#[derive(Clone, Copy, Debug, PartialEq, Eq)]
+pub struct ThreadFault {
+    ended: Option<u64>,
+}
+
+impl ThreadFault {
+    /// The block before which a policy's reader found the end of the ring; none where a thread was refused.
+    pub fn ended(&self) -> Option<u64>
+        ensures { result ≡ self.now.ended }
+    {
+        self.ended
+    }
+
+    /// What the end of a policy's run tells: that the ring's end came early, or nothing.
+    pub(crate) fn of_end(end: &PolicyEnd) -> Option<ThreadFault>
+        ensures early { IfSome result (λ t. IsEarlyEnd t end.now) }
+        ensures whole { IfNone result (is_short end.now ≡ false) }
+    {
+        match end {
+            PolicyEnd::Short {
+                published,
+                state: _,
+                reader: _,
+            } => Some(ThreadFault {
+                ended: Some(*published),
+            }),
+            _ => None,
+        }
+    }
+}
+
+impl From<ThreadFault> for RunFault {
+    ghost use Rattle.crn_run.specs.declared.fault.RunFault.TheVariants.{Thread};
+
+    ghost from_gives = { λ e f. f ≡ Thread e };
+
+    fn from(fault: ThreadFault) -> RunFault {
+        RunFault::Thread(fault)
+    }
+}
+
+impl<F: Drop> From<SpawnError<F>> for ThreadFault {
+    ghost use Rattle.std.specs.Prelude.{None};
+
+    ghost from_gives = { λ _ f. f.ended ≡ None };
+
+    fn from(_refused: SpawnError<F>) -> ThreadFault {
+        ThreadFault { ended: None }
     }
 }

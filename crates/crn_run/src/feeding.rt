@@ -3,7 +3,7 @@ ghost use Rattle.std.specs.Prelude.{◌≡◌, ℕ, ◌+◌, ◌<◌, ◌≤◌,
 ghost use Rattle.crn_cipher.specs.declared.stream.Block.{Block};
 ghost use Rattle.crn_ring.specs.Calls.{FollowOn, IsProducerOf, producer_part, spec_of};
 
-use crate::BATCH;
+use crate::batch::{BATCH, room_for};
 use crate::waiting::Waiting;
 use crn_cipher::{Block, block};
 use crn_ring::{Producer, PublishMany, Ring};
@@ -26,7 +26,7 @@ pub fn feed<R: Wait>(rt: &R, ring: &Ring, producer: &mut Producer)
     ensures ended { (producer_part producer.new).ended ≡ true }
 {
     let id = ring.spec().id;
-    let mut blocks = [block(id.key, id.first); BATCH];
+    let mut blocks = room_for(id.key);
     let waiting = Waiting::of_producer(ring);
     for _ in rt.forever() {
         let n = producer.published();

@@ -1,9 +1,11 @@
 //! The runs of all policies that are still to start.
 ghost use Rattle.std.specs.Prelude.{◌≡◌, ◌<◌, ◌≤◌, false, length, slice_get, Some, IfOk, IfErr};
+ghost use Rattle.crn_stock.specs.Draws.{next_block};
 ghost use Rattle.crn_stock.specs.Models.{total};
 ghost use Rattle.crn_ring.specs.Calls.{AllFresh, IsOpened, reader_number, spec_of};
 ghost use Rattle.crn_sequential.specs.Runs.{IsCheckpointOf};
 ghost use Rattle.crn_run.specs.Ends.{EndsAs, is_held};
+ghost use Rattle.crn_run.specs.Gates.{WasAsked};
 ghost use Rattle.crn_run.specs.Jobs.{ring_spec};
 ghost use Rattle.crn_run.specs.Inner.Jobs.{AreJobs, CarriesFor, IsReady};
 
@@ -39,6 +41,7 @@ impl Job {
         requires gate { G.refused gate.old ≡ false }
         ensures end { EndsAs scenario.now self.policy self.state ring.now self.policy result }
         ensures held { G.refused gate.new ≡ is_held result }
+        ensures asked { WasAsked G.asked self.policy (next_block self.state) result gate.old gate.new }
     {
         let Job {
             policy,
@@ -71,10 +74,10 @@ pub(crate) fn open_ring(
     };
     match Ring::open(alloc, spec) {
         Ok(opened) => Ok(opened),
-        Err(fault) => {
-            prove!(matches!(fault, RingFault::Memory));
-            Err(AllocError)
-        }
+        Err(fault) => match fault {
+            RingFault::Memory(refused) => Err(refused),
+            _ => unreachable!(),
+        },
     }
 }
 

@@ -1,6 +1,7 @@
 //! Runs of all policies of a scenario over the blocks of its stream.
 #![tactic(auto)]
 
+mod batch;
 mod fault;
 mod feeding;
 mod gate;
@@ -12,11 +13,8 @@ mod waiting;
 mod worker;
 
 pub use crn_sequential::{Checkpoint, run_plain};
-pub use fault::RunFault;
+pub use fault::{RunFault, ThreadFault};
 pub use feeding::feed;
 pub use gate::{Gate, OpenGate};
 pub use run::{Finished, run_all};
 pub use worker::{PolicyEnd, run_policy};
-
-// The most blocks that are published, or taken, at once.
-const BATCH: usize = 16;

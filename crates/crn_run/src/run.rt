@@ -1,16 +1,20 @@
 //! The run of all policies, each on a thread of its own.
-ghost use Rattle.std.specs.Prelude.{◌≡◌, ◌≢◌, ℕ, ◌≤◌, true, false, length, All, List, IfOk, IfErr, vec_len, vec_capacity, []};
+ghost use Rattle.std.specs.Prelude.{◌≡◌, ℕ, ◌≤◌, false, length, All, List, IfOk, IfErr, IfNone, IfSome, OnOk, MatchResult, vec_len, vec_capacity, []};
+ghost use Rattle.std.specs.List.{list_any};
 ghost use Rattle.crn_stock.specs.Parts.{Parts};
 ghost use Rattle.crn_stock.specs.Models.{total};
 ghost use Rattle.crn_sequential.specs.Runs.{IsCheckpointOf, EachAt, EachOnward};
 ghost use Rattle.crn_ring.specs.Calls.{spec_of};
-ghost use Rattle.crn_run.specs.Jobs.{AreReaders, HasRefused, ring_spec};
-ghost use Rattle.crn_run.specs.Inner.Jobs.{AllReady, AreJobs, CarriesFor, Gathers, HasRun};
-ghost use Rattle.std.specs.List.{list_any};
 ghost use Rattle.crn_run.specs.Ends.{is_held};
-ghost use Rattle.crn_run.specs.Inner.Ends.{is_short};
+ghost use Rattle.crn_run.specs.Faults.{IsEnded};
+ghost use Rattle.crn_run.specs.Gates.{AllPassed, SomeHeld};
+ghost use Rattle.crn_run.specs.Jobs.{AreReaders, HasRefused, ring_spec};
+ghost use Rattle.crn_run.specs.declared.fault.ThreadFault.{ThreadFault};
+ghost use Rattle.crn_run.specs.Inner.Ends.{AllReached, HasEarly, is_short};
+ghost use Rattle.crn_run.specs.Inner.Jobs.{AllReady, AreJobs, CarriesFor, Gathers, HasRun};
+ghost use Rattle.crn_run.specs.Inner.Refusals.{RefusesEnds, RefusesRun};
 
-use crate::fault::RunFault;
+use crate::fault::{RunFault, ThreadFault};
 use crate::gate::Gate;
 use crate::prepared::{Prepared, prepare};
 use crate::threads::run_jobs;
@@ -46,12 +50,12 @@ pub struct Finished {
 /// # Errors
 ///
 /// The least that holds:
-/// - [`RunFault::Thread`]: a thread was refused, and the ring was ended with nothing published;
-/// - [`RunFault::Gate`]: a gate answered false, and so never where no gate can;
-/// - [`RunFault::Memory`]: a request for memory was refused.
+/// - [`RunFault::Thread`]: a thread was refused, and the ring was ended with nothing published. It carries the refusal, or
+///   where a policy's reader has found the end before `upto`, which only a refused thread brings about.
+/// - [`RunFault::Gate`]: a policy's gate was asked, as it was for each block before, and answered false.
+/// - [`RunFault::Memory`]: a request for memory was refused. It carries the refusal, and no thread was started.
 ///
-/// Of these, contracts learn only that `Gate` comes where some gate of this type can answer false. A gate that was asked
-/// keeps what it stored.
+/// Each comes from nothing else. A gate that was asked keeps what it stored.
 pub fn run_all<R: Threads + Wait + Sync, G: Gate + Send>(
     rt: &R,
     alloc: Global,
@@ -70,6 +74,9 @@ pub fn run_all<R: Threads + Wait + Sync, G: Gate + Send>(
     ensures at { IfOk result (λ f. EachAt scenario.now start.now.next start.now.states.items → EachAt scenario.now upto f.checkpoint.states.items) }
     ensures onward { IfOk result (λ f. EachOnward scenario.now start.now.states.items upto f.checkpoint.states.items) }
     ensures readers { IfOk result (λ f. AreReaders scenario.now start.now.next upto f.readers.items) }
+    ensures passed { OnOk result (AllPassed G.asked start.now.next upto gates.old) }
+    ensures thread { (f : ThreadFault) → result ≡ Err (RunFault.Thread f) → IsEnded scenario.now start.now.next upto f.ended }
+    ensures held { IfErr result (λ e. e ≡ RunFault.Gate → SomeHeld G.asked start.now.next upto gates.old) }
     ensures gate { IfErr result (λ e. e ≡ RunFault.Gate → HasRefused G.refused) }
 {
     let prepared = prepare(alloc, scenario, start, upto)?;
@@ -89,8 +96,8 @@ fn run_prepared<R: Threads + Wait + Sync, G: Gate + Send>(
     requires gates { All (λ g. G.refused g ≡ false) gates.old }
     ensures run { (first upto : ℕ) (start : List Parts) → spec_of prepared.ring ≡ ring_spec scenario.now first upto → IsCheckpointOf scenario.now first start → AreJobs scenario.now prepared.ring start prepared.jobs.items
         → IfOk result (λ f. HasRun scenario.now first start upto f.checkpoint.next f.checkpoint.states.items f.readers.items) }
-    ensures refused { IfErr result (λ e. e ≢ RunFault.Memory) }
-    ensures gate { IfErr result (λ e. e ≡ RunFault.Gate → HasRefused G.refused) }
+    ensures told { (first upto : ℕ) (start : List Parts) → spec_of prepared.ring ≡ ring_spec scenario.now first upto → IsCheckpointOf scenario.now first start → AreJobs scenario.now prepared.ring start prepared.jobs.items
+        → MatchResult result (λ _. AllPassed G.asked first upto gates.old) (λ e. RefusesRun G.refused G.asked scenario.now first upto gates.old e) }
 {
     let Prepared {
         ring,
@@ -101,26 +108,60 @@ fn run_prepared<R: Threads + Wait + Sync, G: Gate + Send>(
         readers,
     } = prepared;
     let ends = run_jobs(rt, &ring, scenario, producer, jobs, gates, ends)?;
+    check(ends.as_slice())?;
     let next = ring.spec().id.total;
-    let (states, readers) = gather(ends, states, readers)?;
+    let (states, readers) = gather(ends, states, readers);
     Ok(Finished {
         checkpoint: Checkpoint { next, states },
         readers,
     })
 }
 
-// The states and the readers of the ends, those of the last end first, where all of them reached the ring's total.
+// Refuses ends of which not all have reached the end of the ring. One that came early is told before one that was held.
+fn check(ends: &[PolicyEnd]) -> Result<(), RunFault>
+    ensures whole { OnOk result (AllReached ends.now) }
+    ensures refused { IfErr result (λ e. RefusesEnds ends.now e) }
+{
+    if let Some(fault) = early_end(ends) {
+        return Err(RunFault::Thread(fault));
+    }
+    if has_held(ends) {
+        return Err(RunFault::Gate);
+    }
+    Ok(())
+}
+
+// What the first end tells that came early.
+fn early_end(ends: &[PolicyEnd]) -> Option<ThreadFault>
+    ensures early { IfSome result (λ f. HasEarly f ends.now) }
+    ensures none { IfNone result (list_any is_short ends.now ≡ false) }
+{
+    for i in 0..ends.len() {
+        let end = &ends[i];
+        if let Some(fault) = ThreadFault::of_end(end) {
+            return Some(fault);
+        }
+    }
+    None
+}
+
+// Whether a gate has held one of the policies.
+fn has_held(ends: &[PolicyEnd]) -> bool
+    ensures { result ≡ list_any is_held ends.now }
+{
+    ends.iter().any(|end| matches!(end, PolicyEnd::Held(..)))
+}
+
+// The states and the readers of the ends, those of the last end first. All have reached the ring's total.
 fn gather(
     mut ends: Vec<PolicyEnd>,
     mut states: Vec<State>,
     mut readers: Vec<Reader>,
-) -> Result<(Vec<State>, Vec<Reader>), RunFault>
+) -> (Vec<State>, Vec<Reader>)
+    requires reached { AllReached ends.items }
     requires states { (states.items ≡ []) × (vec_len ends ≤ vec_capacity states) }
     requires readers { (readers.items ≡ []) × (vec_len ends ≤ vec_capacity readers) }
-    ensures all { IfOk result (λ lists. Gathers ends.items lists.0.items lists.1.items) }
-    ensures thread { IfErr result (λ e. e ≡ RunFault.Thread → list_any is_short ends.items ≡ true) }
-    ensures gate { IfErr result (λ e. e ≡ RunFault.Gate → list_any is_held ends.items ≡ true) }
-    ensures refused { IfErr result (λ e. e ≢ RunFault.Memory) }
+    ensures { Gathers ends.items result.0.items result.1.items }
 {
     while let Some(end) = ends.pop() {
         match end {
@@ -128,13 +169,8 @@ fn gather(
                 states.push_reserved(state);
                 readers.push_reserved(reader);
             }
-            PolicyEnd::Short {
-                published: _,
-                state: _,
-                reader: _,
-            } => return Err(RunFault::Thread),
-            PolicyEnd::Held(_) => return Err(RunFault::Gate),
+            _ => unreachable!(),
         }
     }
-    Ok((states, readers))
+    (states, readers)
 }

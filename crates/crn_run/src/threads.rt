@@ -1,40 +1,35 @@
 //! One thread for each policy.
-ghost use Rattle.std.specs.Prelude.{◌≡◌, ◌+◌, ◌≤◌, true, false, [], length, OnOk, OnErr, IfOk, All, vec_len, vec_capacity, IfErr};
+ghost use Rattle.std.specs.Prelude.{◌≡◌, ◌+◌, ◌≤◌, true, false, None, length, OnOk, OnErr, IfOk, All, vec_len, vec_capacity, IfErr};
 ghost use Rattle.std.specs.Slice.Iter.{iter_mut_rest};
 ghost use Rattle.crn_ring.specs.Calls.{IsProducerOf, producer_part};
-ghost use Rattle.crn_run.specs.Ends.{EndsAs, is_held};
-ghost use Rattle.crn_run.specs.Jobs.{HasRefused};
-ghost use Rattle.crn_run.specs.Inner.Jobs.{HeldByGates, AllReady, AreEnds, CarriesFor, IsReady};
+ghost use Rattle.crn_run.specs.Inner.Jobs.{AllReady, AreEnds, CarriesFor, IsDone, IsReady};
 
-use crate::fault::RunFault;
+use crate::fault::ThreadFault;
 use crate::feeding::feed;
 use crate::gate::Gate;
 use crate::jobs::Job;
 use crate::worker::PolicyEnd;
 use crn_ring::{Producer, Ring};
 use crn_stock::Scenario;
-use std::marker::PhantomData;
 use std::slice::IterMut;
 use std::snapshot::Snapshot;
 use std::sync::Wait;
 use std::thread;
 use std::thread::{Promise, PromisedHandle, Scope, Threads};
 
-// What a thread promises: the end of the job that it was given.
+// What a thread promises: the end of the job that it was given, under the gate as it was given.
 #[derive(Drop)]
 struct EndsJob<G> {
     ring: Snapshot<Ring>,
     scenario: Snapshot<Scenario>,
     job: Snapshot<Job>,
-    gate: PhantomData<G>,
+    gate: Snapshot<G>,
 }
 
 impl<G: Gate> Promise<PolicyEnd> for EndsJob<G> {
-    ghost use Rattle.std.specs.Prelude.{◌≡◌, true};
-    ghost use Rattle.crn_run.specs.Ends.{EndsAs, is_held};
-    ghost use Rattle.crn_run.specs.Jobs.{HasRefused};
+    ghost use Rattle.crn_run.specs.Inner.Jobs.{IsDone};
 
-    ghost kept_by = { λ p e. EndsAs p.scenario.value p.job.value.policy p.job.value.state p.ring.value p.job.value.policy e × (is_held e ≡ true → HasRefused G.refused) };
+    ghost kept_by = { λ p e. IsDone G.refused G.asked p.scenario.value p.ring.value p.job.value p.gate.value e };
 }
 
 // Starts a thread for a job.
@@ -45,28 +40,28 @@ fn start<'s, 'e: 's, 'g: 's, R: Wait + Sync, G: Gate + Send>(
     scenario: &'e Scenario,
     job: Job,
     gate: &'g mut G,
-) -> Result<PromisedHandle<PolicyEnd, EndsJob<G>>, RunFault>
+) -> Result<PromisedHandle<PolicyEnd, EndsJob<G>>, ThreadFault>
     requires job { IsReady scenario.now ring.now job }
     requires ring { CarriesFor scenario.now ring.now }
     requires gate { G.refused gate.now ≡ false }
-    ensures promise { IfOk result (λ h. (h.promise.ring.value ≡ ring.now) × (h.promise.scenario.value ≡ scenario.now) × (h.promise.job.value ≡ job)) }
-    ensures thread { IfErr result (λ e. e ≡ RunFault.Thread) }
+    ensures promise { IfOk result (λ h. (h.promise.ring.value ≡ ring.now) × (h.promise.scenario.value ≡ scenario.now) × (h.promise.job.value ≡ job) × (h.promise.gate.value ≡ gate.old)) }
+    ensures thread { IfErr result (λ f. f.ended ≡ None) }
 {
     let promise = EndsJob {
         ring: Snapshot::of(ring),
         scenario: Snapshot::of(scenario),
         job: Snapshot::of(&job),
-        gate: PhantomData::<G>,
+        gate: Snapshot::of(&*gate),
     };
     let work = move || -> PolicyEnd
         requires ready { IsReady scenario.now ring.now job }
         requires ring { CarriesFor scenario.now ring.now }
         requires gate { G.refused gate.now ≡ false }
-        ensures { EndsAs scenario.entry.now job.policy job.state ring.entry.now job.policy result × (is_held result ≡ true → HasRefused G.refused) }
+        ensures { IsDone G.refused G.asked scenario.entry.now ring.entry.now job gate.entry.now result }
     { job.run(rt, ring, scenario, gate) };
     match scope.spawn_with(promise, work) {
         Ok(child) => Ok(child),
-        Err(_refused) => Err(RunFault::Thread),
+        Err(refused) => Err(ThreadFault::from(refused)),
     }
 }
 
@@ -81,16 +76,15 @@ fn start_from<'s, 'e: 's, 'g: 's, R: Threads + Wait + Sync, G: Gate + Send>(
     jobs: &mut Vec<Job>,
     mut gates: IterMut<'g, G>,
     ends: &mut Vec<PolicyEnd>,
-) -> Result<(), RunFault>
+) -> Result<(), ThreadFault>
     requires count { length (iter_mut_rest gates) ≡ vec_len jobs.old }
     requires gates { All (λ g. G.refused g ≡ false) (iter_mut_rest gates) }
     requires producer { IsProducerOf ring.now producer.old × ((producer_part producer.old).ended ≡ false) }
     requires ring { CarriesFor scenario.now ring.now }
     requires jobs { AllReady scenario.now ring.now jobs.old.items }
     requires room { (vec_len ends.old ≡ 0) × (vec_len jobs.old ≤ vec_capacity ends.old) }
-    ensures ends { OnOk result (AreEnds scenario.now ring.now jobs.old.items ends.new.items) }
-    ensures held { OnOk result (HeldByGates G.refused ends.new.items) }
-    ensures thread { IfErr result (λ e. e ≡ RunFault.Thread) }
+    ensures ends { OnOk result (AreEnds G.refused G.asked scenario.now ring.now jobs.old.items (iter_mut_rest gates.entry) ends.new.items) }
+    ensures thread { IfErr result (λ f. f.ended ≡ None) }
     ensures capacity { vec_capacity ends.old ≤ vec_capacity ends.new }
     ensures ended { (producer_part producer.new).ended ≡ true }
     ensures refused { OnErr result ((producer_part producer.new).published ≡ (producer_part producer.old).published) }
@@ -127,31 +121,29 @@ pub(crate) fn run_jobs<'r, R: Threads + Wait + Sync, G: Gate + Send>(
     jobs: Vec<Job>,
     gates: &mut [G],
     ends: Vec<PolicyEnd>,
-) -> Result<Vec<PolicyEnd>, RunFault>
+) -> Result<Vec<PolicyEnd>, ThreadFault>
     requires count { length gates.old ≡ vec_len jobs }
     requires gates { All (λ g. G.refused g ≡ false) gates.old }
     requires producer { IsProducerOf ring.now producer × ((producer_part producer).ended ≡ false) }
     requires ring { CarriesFor scenario.now ring.now }
     requires jobs { AllReady scenario.now ring.now jobs.items }
     requires room { (vec_len ends ≡ 0) × (vec_len jobs ≤ vec_capacity ends) }
-    ensures ends { IfOk result (λ es. AreEnds scenario.now ring.now jobs.items es.items) }
-    ensures held { IfOk result (λ es. HeldByGates G.refused es.items) }
-    ensures thread { IfErr result (λ e. e ≡ RunFault.Thread) }
+    ensures ends { IfOk result (λ es. AreEnds G.refused G.asked scenario.now ring.now jobs.items gates.old es.items) }
+    ensures thread { IfErr result (λ f. f.ended ≡ None) }
 {
     let turns = gates.iter_mut();
     thread::scope(
         thread::scope_env(),
         rt,
-        |scope| -> Result<Vec<PolicyEnd>, RunFault>
+        |scope| -> Result<Vec<PolicyEnd>, ThreadFault>
             requires count { length (iter_mut_rest turns) ≡ vec_len jobs }
             requires gates { All (λ g. G.refused g ≡ false) (iter_mut_rest turns) }
             requires producer { IsProducerOf ring.now producer × ((producer_part producer).ended ≡ false) }
             requires ring { CarriesFor scenario.now ring.now }
             requires jobs { AllReady scenario.now ring.now jobs.items }
             requires room { (vec_len ends ≡ 0) × (vec_len jobs ≤ vec_capacity ends) }
-            ensures ends { IfOk result (λ es. AreEnds scenario.entry.now ring.entry.now jobs.items es.items) }
-            ensures held { IfOk result (λ es. HeldByGates G.refused es.items) }
-            ensures thread { IfErr result (λ e. e ≡ RunFault.Thread) }
+            ensures ends { IfOk result (λ es. AreEnds G.refused G.asked scenario.entry.now ring.entry.now jobs.items (iter_mut_rest turns.entry) es.items) }
+            ensures thread { IfErr result (λ f. f.ended ≡ None) }
         {
             let (mut producer, mut jobs, mut ends) = (producer, jobs, ends);
             start_from(

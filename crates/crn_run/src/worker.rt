@@ -1,18 +1,18 @@
 //! The run of one policy, on the thread that calls it.
-ghost use Rattle.std.specs.Prelude.{◌≡◌, ◌≢◌, ℕ, ◌+◌, ◌<◌, ◌≤◌, true, false, not, length, slice_get, Some, IfOk, IfErr, OnOk, OnErr};
-ghost use Rattle.crn_cipher.specs.declared.stream.Block.{Block};
+ghost use Rattle.std.specs.Prelude.{◌≡◌, ◌≢◌, ◌+◌, ◌<◌, ◌≤◌, true, false, not, length};
 ghost use Rattle.crn_stock.specs.Models.{IsPolicy, total};
 ghost use Rattle.crn_stock.specs.Draws.{next_block};
-ghost use Rattle.crn_ring.specs.Calls.{HasLeft, IsReaderOf, reader_number, reader_part, spec_of};
+ghost use Rattle.crn_ring.specs.Calls.{IsReaderOf, reader_number, reader_part, spec_of};
 ghost use Rattle.crn_sequential.specs.Runs.{StandsBefore};
-ghost use Rattle.crn_run.specs.declared.worker.PolicyEnd.TheVariants.{Held, Reached, Short};
+ghost use Rattle.crn_run.specs.declared.worker.PolicyEnd.TheVariants.{Reached, Short};
 ghost use Rattle.crn_run.specs.Ends.{EndsAs, is_held};
+ghost use Rattle.crn_run.specs.Gates.{HeldAt, PassedUpTo, WasAsked};
 ghost use Rattle.crn_run.specs.Inner.Ends.{Advances, FollowFrom};
 
-use crate::BATCH;
+use crate::batch::room_for;
 use crate::gate::{Gate, Permit, ask};
 use crate::waiting::Waiting;
-use crn_cipher::{Block, block};
+use crn_cipher::Block;
 use crn_ring::{Batch, LeftReader, Reader, Ring};
 use crn_stock::laws::onward_from_itself;
 use crn_stock::{Policy, Scenario, State};
@@ -37,9 +37,8 @@ pub enum PolicyEnd {
         /// The reader, which has seen the end.
         reader: Reader,
     },
-    /// The gate answered false: the state before the block that it was asked for. The reader has left the ring, which no
-    /// contract tells a caller.
-    Held(State),
+    /// The gate answered false: the state before the block that it was asked for, and the reader, which has left the ring.
+    Held(State, LeftReader),
 }
 
 /// Takes the ring's blocks by batches of 16 at most, and applies each to the state of policy number `policy`, from 0 on in
@@ -57,10 +56,10 @@ pub enum PolicyEnd {
 pub fn run_policy<R: Wait, G: Gate>(
     rt: &R,
     ring: &Ring,
-    reader: Reader,
+    mut reader: Reader,
     scenario: &Scenario,
     policy: u32,
-    state: State,
+    mut state: State,
     gate: &mut G,
 ) -> PolicyEnd
     requires policy { policy < length scenario.now.policies }
@@ -70,57 +69,22 @@ pub fn run_policy<R: Wait, G: Gate>(
     requires gate { G.refused gate.old ≡ false }
     ensures end { EndsAs scenario.now policy state ring.now (reader_number reader) result }
     ensures held { G.refused gate.new ≡ is_held result }
-{
-    match run_until_held(rt, ring, reader, scenario, policy, state, gate) {
-        Ok(end) => end,
-        Err(HeldRun { state, left: _ }) => PolicyEnd::Held(state),
-    }
-}
-
-// What is left of a run that its gate has held: the state before the block, and the reader that has left for it.
-#[derive(Drop)]
-struct HeldRun {
-    state: State,
-    left: LeftReader,
-}
-
-// As `run_policy`. A run that is held has its reader leave, since the producer would wait for it.
-fn run_until_held<R: Wait, G: Gate>(
-    rt: &R,
-    ring: &Ring,
-    mut reader: Reader,
-    scenario: &Scenario,
-    policy: u32,
-    mut state: State,
-    gate: &mut G,
-) -> Result<PolicyEnd, HeldRun>
-    requires policy { policy < length scenario.now.policies }
-    requires reader { IsReaderOf ring.now reader × ((reader_part reader).seen_end ≡ false) }
-    requires stands { StandsBefore scenario.now.model (reader_part reader).taken state }
-    requires ring { ((spec_of ring.now).id.key ≡ scenario.now.key) × ((spec_of ring.now).id.total ≤ total scenario.now.model) }
-    requires gate { G.refused gate.old ≡ false }
-    ensures end { IfOk result (λ end. EndsAs scenario.now policy state ring.now (reader_number reader) end) }
-    ensures not_held { IfOk result (λ end. is_held end ≡ false) }
-    ensures passed { OnOk result (G.refused gate.new ≡ false) }
-    ensures held { IfErr result (λ h. EndsAs scenario.now policy state ring.now (reader_number reader) (Held h.state)) }
-    ensures left { IfErr result (λ h. HasLeft ring.now (reader_number reader) h.left) }
-    ensures refused { OnErr result (G.refused gate.new ≡ true) }
+    ensures asked { WasAsked G.asked policy (next_block state) result gate.old gate.new }
 {
     let rules = &scenario.policies()[policy as usize];
     onward_from_itself(&state);
-    let mut blocks = [block(scenario.key(), 0); BATCH];
+    let mut blocks = room_for(scenario.key());
     let waiting = Waiting::of_reader(ring);
     for _ in rt.forever() {
         match reader.take_batch(ring, &mut blocks) {
             Batch::Got { count } => {
                 if !apply_all(scenario, rules, policy, &blocks, count, &mut state, gate) {
-                    let left = reader.into_left(ring);
-                    return Err(HeldRun { state, left });
+                    return PolicyEnd::Held(state, reader.into_left(ring));
                 }
                 waiting.reset();
             }
             Batch::Empty { published: _ } => waiting.wait(rt),
-            Batch::Ended { published } => return Ok(ended(ring, published, state, reader)),
+            Batch::Ended { published } => return ended(ring, published, state, reader),
         }
     }
     unreachable!()
@@ -162,6 +126,8 @@ fn apply_all<G: Gate>(
     ensures advances { Advances scenario.now.model rules.now scenario.now.key state.old state.new }
     ensures all { result ≡ true → next_block state.new ≡ next_block state.old + count }
     ensures gate { G.refused gate.new ≡ not result }
+    ensures passed { result ≡ true → PassedUpTo G.asked policy (next_block state.old) (next_block state.new) gate.old gate.new }
+    ensures held { result ≡ false → (next_block state.new < next_block state.old + count) × HeldAt G.asked policy (next_block state.old) (next_block state.new) gate.old gate.new }
 {
     for k in 0..count {
         let next = &blocks[k];

@@ -2,7 +2,7 @@
 use Rattle.std.proofs.Common.{◌≡◌, ◌≢◌, ℕ, ◌<◌, ◌≤◌, Bool, true, false, List, [], ◌∷◌, ◌++◌, Some, None, refl, subst, sym, arith, lit<}
 use Rattle.std.proofs.lemmas.Bool.{false≢true}
 use Rattle.std.proofs.lemmas.Bool.Decides.{nat_tests}
-use Rattle.std.specs.Prelude.{⊤, Result, Ok, Err, IfErr}
+use Rattle.std.specs.Prelude.{⊤, Result, Ok, Err, IfErr, alloc_error}
 use Rattle.std.specs.Result.{IsErr, IsErrAnd}
 use Rattle.toml.specs.Data.{Members}
 use Rattle.crn_scenario.specs.Faults.{holds_at, faults, IsLeast, HasNone}
@@ -66,7 +66,7 @@ least ms k e = record {
 }
 
 -- and it is what the document is refused for, want of memory aside
-pub refused : (f : ScenarioFault) (bytes : List ℕ) (ms : Members) → IsDocument bytes ms → (f ≢ fault.Memory → first_true (faults ms) ≡ Some (scenario_fault_number f)) → RefusesScenario f bytes
+pub refused : (f : ScenarioFault) (bytes : List ℕ) (ms : Members) → IsDocument bytes ms → (f ≢ fault.Memory alloc_error → first_true (faults ms) ≡ Some (scenario_fault_number f)) → RefusesScenario f bytes
 refused fault.NoDocument bytes ms d e = absurd (false≢true (first_at 1 (faults ms) (e (λ q. cc))))
 refused fault.Version bytes ms d e = record { tree = ms; document = d; least = least ms 2 (e (λ q. cc)) }
 refused fault.UnknownKey bytes ms d e = record { tree = ms; document = d; least = least ms 3 (e (λ q. cc)) }
@@ -80,7 +80,7 @@ refused fault.Levels bytes ms d e = record { tree = ms; document = d; least = le
 refused fault.Name bytes ms d e = record { tree = ms; document = d; least = least ms 11 (e (λ q. cc)) }
 refused fault.RingSize bytes ms d e = record { tree = ms; document = d; least = least ms 12 (e (λ q. cc)) }
 refused fault.PolicyCount bytes ms d e = record { tree = ms; document = d; least = least ms 13 (e (λ q. cc)) }
-refused fault.Memory bytes ms d e = tt
+refused (fault.Memory _) bytes ms d e = tt
 
 -- what holds of an error holds of the answer that hands it on
 pub handed_on : {T : Type 0} (r : Result T ScenarioFault) (e : ScenarioFault) (P : ScenarioFault → Type 0) → IsErr r × IsErrAnd r (λ f. f ≡ e) → P e → IfErr r P

@@ -107,7 +107,7 @@ scenario_fault_number fault.Levels = 10
 scenario_fault_number fault.Name = 11
 scenario_fault_number fault.RingSize = 12
 scenario_fault_number fault.PolicyCount = 13
-scenario_fault_number fault.Memory = 90
+scenario_fault_number (fault.Memory _) = 90
 
 -- the tree of a text
 pub record IsDocument (bytes : List ℕ) (ms : Members) : Type 0 where
@@ -134,5 +134,5 @@ pub record HasLeast (bytes : List ℕ) (k : ℕ) : Type 0 where
 -- what a refusal says of the bytes: want of memory says nothing
 abbrev pub RefusesScenario : ScenarioFault → List ℕ → Type 0
 RefusesScenario fault.NoDocument bytes = IsNoDocument bytes
-RefusesScenario fault.Memory bytes = ⊤
+RefusesScenario (fault.Memory _) bytes = ⊤
 RefusesScenario f bytes = HasLeast bytes (scenario_fault_number f)

@@ -1,6 +1,6 @@
 // The faults of a scenario's tree, each by itself, and the least of them.
 
-ghost use Rattle.std.specs.Prelude.{◌≡◌, ◌≢◌, ◌^◌, pos, ◌+ℤ◌, ◌≤ℤ◌, map, option_map, option_copied, codes, false, true, Some, None, IfOk, IfErr, OnOk};
+ghost use Rattle.std.specs.Prelude.{◌≡◌, ◌≢◌, ◌^◌, pos, ◌+ℤ◌, ◌≤ℤ◌, map, option_map, option_copied, codes, false, true, Some, None, IfOk, IfErr, OnOk, alloc_error};
 ghost use Rattle.std.specs.List.{list_all};
 ghost use Rattle.toml.specs.View.{view, table_view, array_view};
 ghost use Rattle.crn_spelling.specs.Names.{is_name};
@@ -426,7 +426,7 @@ fn judge_draws(table: &Table) -> Result<(), ScenarioFault>
 // Refuses a tree whose policies or ring have a fault, with the first of these.
 fn judge_policies(alloc: Global, table: &Table) -> Result<(), ScenarioFault>
     ensures sound { OnOk result (inner.first_true (inner.policy_faults (table_view table.now)) ≡ None) }
-    ensures fault { IfErr result (λ f. f ≢ ScenarioFault.Memory → inner.first_true (inner.policy_faults (table_view table.now)) ≡ Some (scenario_fault_number f)) }
+    ensures fault { IfErr result (λ f. f ≢ ScenarioFault.Memory alloc_error → inner.first_true (inner.policy_faults (table_view table.now)) ≡ Some (scenario_fault_number f)) }
 {
     refuse_where(has_low_above_high(table), ScenarioFault::Levels)?;
     refuse_where(has_bad_name(alloc, table)?, ScenarioFault::Name)?;
@@ -441,7 +441,7 @@ fn judge_policies(alloc: Global, table: &Table) -> Result<(), ScenarioFault>
 /// That fault, or `Memory` if an allocation fails.
 pub fn judge(alloc: Global, table: &Table) -> Result<(), ScenarioFault>
     ensures sound { OnOk result (inner.first_true (spec.faults (table_view table.now)) ≡ None) }
-    ensures fault { IfErr result (λ f. f ≢ ScenarioFault.Memory → inner.first_true (spec.faults (table_view table.now)) ≡ Some (scenario_fault_number f)) }
+    ensures fault { IfErr result (λ f. f ≢ ScenarioFault.Memory alloc_error → inner.first_true (spec.faults (table_view table.now)) ≡ Some (scenario_fault_number f)) }
 {
     judge_form(table)?;
     judge_draws(table)?;

@@ -1,13 +1,14 @@
 // Reads scenarios.
 
-ghost use Rattle.std.specs.Prelude.{IfOk, IfErr};
+ghost use Rattle.std.specs.Prelude.{◌≡◌, ◌↔◌, IfOk, IfErr, IsSome, alloc_error};
+ghost use Rattle.toml.specs.Errors.{IsMemory};
 ghost use Rattle.crn_scenario.specs.Reading as spec;
 
 use crate::faults::judge;
 use crate::scenario::scenario_of;
 use crate::scenario_fault::ScenarioFault;
 use crn_stock::Scenario;
-use std::alloc::Global;
+use std::alloc::{AllocError, Global};
 
 /// Reads a scenario from a TOML document: any spelling of the tree that it names.
 ///
@@ -43,13 +44,30 @@ pub fn read_scenario(alloc: Global, bytes: &[u8]) -> Result<Scenario, ScenarioFa
 {
     let table = match toml::table_from_slice(alloc, bytes) {
         Ok(table) => table,
-        Err(e) => {
-            if e.is_memory() {
-                return Err(ScenarioFault::Memory);
-            }
-            return Err(ScenarioFault::NoDocument);
-        }
+        Err(error) => return Err(document_fault(&error)),
     };
     judge(alloc, &table)?;
     Ok(scenario_of(alloc, &table)?)
+}
+
+// An error of `toml` is want of memory or tells that there is no document.
+fn document_fault(error: &toml::de::Error) -> ScenarioFault
+    ensures memory { IsMemory error.now → result ≡ ScenarioFault.Memory alloc_error }
+    ensures document { ¬ IsMemory error.now → result ≡ ScenarioFault.NoDocument }
+{
+    match refusal_of(error) {
+        Some(refused) => ScenarioFault::Memory(refused),
+        None => ScenarioFault::NoDocument,
+    }
+}
+
+// The refusal of memory that `toml` tells by a flag.
+fn refusal_of(error: &toml::de::Error) -> Option<AllocError>
+    ensures { IsSome result ↔ IsMemory error.now }
+{
+    if error.is_memory() {
+        Some(AllocError)
+    } else {
+        None
+    }
 }

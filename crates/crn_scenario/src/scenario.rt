@@ -75,7 +75,7 @@ fn weights_of(alloc: Global, table: Option<&Table>) -> Result<Weights, AllocErro
     let weights = naturals_in(alloc, table, "weights")?;
     match Weights::new(alloc, &values, &weights) {
         Ok(made) => Ok(made),
-        Err(DrawFault::Memory) => Err(AllocError),
+        Err(DrawFault::Memory(refused)) => Err(refused),
         Err(_) => unreachable!(),
     }
 }

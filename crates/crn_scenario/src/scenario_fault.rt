@@ -42,7 +42,7 @@ pub enum ScenarioFault {
     /// 13: there are fewer than 1 or more than 16 policies.
     PolicyCount,
     /// 90: a growth was refused. It says nothing of the text.
-    Memory,
+    Memory(AllocError),
 }
 
 impl ScenarioFault {
@@ -64,7 +64,7 @@ impl ScenarioFault {
             ScenarioFault::Name => 11,
             ScenarioFault::RingSize => 12,
             ScenarioFault::PolicyCount => 13,
-            ScenarioFault::Memory => 90,
+            ScenarioFault::Memory(_) => 90,
         }
     }
 }
@@ -73,9 +73,9 @@ impl From<AllocError> for ScenarioFault {
     ghost use Rattle.std.specs.Prelude.{◌≡◌};
     ghost use Rattle.crn_scenario.specs.declared.scenario_fault.ScenarioFault.TheVariants.{Memory};
 
-    ghost from_gives = { λ _ f. f ≡ Memory };
+    ghost from_gives = { λ e f. f ≡ Memory e };
 
-    fn from(_refused: AllocError) -> ScenarioFault {
-        ScenarioFault::Memory
+    fn from(refused: AllocError) -> ScenarioFault {
+        ScenarioFault::Memory(refused)
     }
 }

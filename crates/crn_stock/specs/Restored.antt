@@ -33,4 +33,4 @@ pub record CanRestore (m : ModelParts) (n : ℕ) (stock : ℤ) (due : List ℕ) 
 -- the number by which a fault is told
 abbrev pub restore_fault_number : RestoreFault → ℕ
 restore_fault_number Range = 1
-restore_fault_number Memory = 90
+restore_fault_number (Memory _) = 90

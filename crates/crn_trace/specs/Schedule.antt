@@ -52,10 +52,10 @@ pub record HasUnknownReader (readers : ℕ) (bytes : List ℕ) : Type 0 where
 abbrev pub RefusesSchedule : ℕ → ScheduleFault → List ℕ → Type 0
 RefusesSchedule readers fault.Line bytes = HasNoSchedule bytes
 RefusesSchedule readers fault.Reader bytes = HasUnknownReader readers bytes
-RefusesSchedule readers fault.Memory bytes = ⊤
+RefusesSchedule readers (fault.Memory _) bytes = ⊤
 
 -- the number by which a fault is told
 abbrev pub schedule_fault_number : ScheduleFault → ℕ
 schedule_fault_number fault.Line = 1
 schedule_fault_number fault.Reader = 2
-schedule_fault_number fault.Memory = 90
+schedule_fault_number (fault.Memory _) = 90

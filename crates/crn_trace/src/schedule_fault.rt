@@ -3,6 +3,8 @@
 ghost use Rattle.std.specs.Prelude.{◌≡◌};
 ghost use Rattle.crn_trace.specs.Schedule as spec;
 
+use std::alloc::AllocError;
+
 /// Why no schedule was read. A line that is refused comes before a reader that is refused, wherever they stand.
 #[derive(Clone, Copy, Debug, PartialEq, Eq)]
 pub enum ScheduleFault {
@@ -12,7 +14,7 @@ pub enum ScheduleFault {
     /// 2: a reader's number is not below the number of readers.
     Reader,
     /// 90: a growth was refused. It says nothing of the text.
-    Memory,
+    Memory(AllocError),
 }
 
 impl ScheduleFault {
@@ -23,7 +25,18 @@ impl ScheduleFault {
         match self {
             ScheduleFault::Line => 1,
             ScheduleFault::Reader => 2,
-            ScheduleFault::Memory => 90,
+            ScheduleFault::Memory(_) => 90,
         }
+    }
+}
+
+impl From<AllocError> for ScheduleFault {
+    ghost use Rattle.std.specs.Prelude.{◌≡◌};
+    ghost use Rattle.crn_trace.specs.declared.schedule_fault.ScheduleFault.TheVariants.{Memory};
+
+    ghost from_gives = { λ e f. f ≡ Memory e };
+
+    fn from(refused: AllocError) -> ScheduleFault {
+        ScheduleFault::Memory(refused)
     }
 }

@@ -1,6 +1,6 @@
 // Schedules from their texts.
 
-ghost use Rattle.std.specs.Prelude.{◌≡◌, ◌⊎◌, ℕ, ◌<◌, ◌^◌, Some, IfOk, IfErr, IfSome, decimal, true, length};
+ghost use Rattle.std.specs.Prelude.{◌≡◌, ◌⊎◌, ℕ, ◌<◌, ◌^◌, Some, IfOk, IfErr, IfSome, decimal, true, length, alloc_error};
 ghost use Rattle.crn_proto.specs.declared.schedule.Actor.{Actor};
 ghost use Rattle.crn_trace.specs.Schedule as spec;
 ghost use Rattle.crn_trace.specs.Inner.Schedule.{IsCut};
@@ -8,7 +8,7 @@ ghost use Rattle.crn_trace.specs.Inner.Schedule.{IsCut};
 use crate::schedule_fault::ScheduleFault;
 use crn_proto::Actor;
 use crn_spelling::decimal::number_of_text;
-use std::alloc::Global;
+use std::alloc::{AllocError, Global};
 
 // The first line without its line feed, and what follows it.
 fn cut_line<'a>(text: &'a [u8]) -> (&'a [u8], &'a [u8])
@@ -71,18 +71,14 @@ fn actor_of(line: &[u8]) -> Option<Actor>
 // The actors of all lines, whatever the readers' numbers are.
 fn read_lines(alloc: Global, bytes: &[u8]) -> Result<Vec<Actor>, ScheduleFault>
     ensures schedule { IfOk result (λ actors. spec.IsScheduleOf bytes.now actors.items) }
-    ensures refuses { IfErr result (λ f. (f ≡ ScheduleFault.Memory) ⊎ ((f ≡ ScheduleFault.Line) × spec.HasNoSchedule bytes.now)) }
+    ensures refuses { IfErr result (λ f. (f ≡ ScheduleFault.Memory alloc_error) ⊎ ((f ≡ ScheduleFault.Line) × spec.HasNoSchedule bytes.now)) }
 {
     let mut actors = Vec::new(alloc);
     let mut rest = bytes;
     while !rest.is_empty() {
         let (line, after) = cut_line(rest);
         match actor_of(line) {
-            Some(who) => {
-                if actors.push(who).is_err() {
-                    return Err(ScheduleFault::Memory);
-                }
-            }
+            Some(who) => actors.push(who).map_err(AllocError::from)?,
             None => return Err(ScheduleFault::Line),
         }
         rest = after;

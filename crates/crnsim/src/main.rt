@@ -3,10 +3,16 @@
 //! once it is migrated. It also writes the words of blocks, and replays schedules of the ring that carries them.
 #![tactic(auto)]
 
+ghost use Rattle.std.specs.Prelude.{◌≡◌, ◌≢◌, ◌↔◌, IsSome, alloc_error};
+ghost use Rattle.std.specs.IoError.{error_kind};
+ghost use Rattle.crn_engines.specs.declared.input.ReadFault.TheVariants.{Failed};
+
 pub use crn_command_line::Command;
 pub use crn_engines::{
-    Fault, answer_command, leg, migrate, read_words, replay_run, resume, simulate, write_words,
+    Fault, ReadFault, WriteFault, answer_command, leg, migrate, read_words, replay_run, resume,
+    simulate, write_words,
 };
+use std::alloc::AllocError;
 use std::fs::File;
 use std::io::{ErrorKind, Read, Stdin};
 use std::process::ExitCode;
@@ -83,7 +89,7 @@ fn answer_from<H: Threads + Wait + Sync, C: Read>(
 fn check_open(input: &mut Stdin) -> Result<(), Fault> {
     match input.read(&mut []) {
         Ok(_) => Ok(()),
-        Err(_) => Err(Fault::Reading),
+        Err(error) => Err(Fault::Reading(ReadFault::Failed(error))),
     }
 }
 
@@ -91,7 +97,18 @@ fn check_open(input: &mut Stdin) -> Result<(), Fault> {
 fn words_of(rt: &HostRuntime) -> Result<Vec<String>, Fault> {
     match env::args(rt) {
         Ok(words) => Ok(words.skip(1).collect(rt.alloc())?),
-        Err(e) => Err(fault_of(&e, Fault::CommandLine)),
+        Err(error) => Err(words_fault(&error)),
+    }
+}
+
+// Why there are no words: want of memory, or one that is no text.
+fn words_fault(error: &io::Error) -> Fault
+    ensures memory { error_kind error.now ≡ ErrorKind.OutOfMemory → result ≡ Fault.Memory alloc_error }
+    ensures words { error_kind error.now ≢ ErrorKind.OutOfMemory → result ≡ Fault.CommandLine }
+{
+    match refusal_of(error) {
+        Some(refused) => Fault::Memory(refused),
+        None => Fault::CommandLine,
     }
 }
 
@@ -99,14 +116,27 @@ fn words_of(rt: &HostRuntime) -> Result<Vec<String>, Fault> {
 fn opened(rt: &HostRuntime, name: &str) -> Result<File, Fault> {
     match File::open(rt, name) {
         Ok(file) => Ok(file),
-        Err(e) => Err(fault_of(&e, Fault::Reading)),
+        Err(error) => Err(opening_fault(error)),
     }
 }
 
-// Want of memory, or the fault that stands for any other error.
-fn fault_of(e: &io::Error, other: Fault) -> Fault {
-    match e.kind() {
-        ErrorKind::OutOfMemory => Fault::Memory,
-        _ => other,
+// Why a file was not opened: want of memory, or any other error.
+fn opening_fault(error: io::Error) -> Fault
+    ensures memory { error_kind error ≡ ErrorKind.OutOfMemory → result ≡ Fault.Memory alloc_error }
+    ensures reading { error_kind error ≢ ErrorKind.OutOfMemory → result ≡ Fault.Reading (Failed error) }
+{
+    match refusal_of(&error) {
+        Some(refused) => Fault::Memory(refused),
+        None => Fault::Reading(ReadFault::Failed(error)),
+    }
+}
+
+// The refusal of memory that an error of the system tells by a kind.
+fn refusal_of(error: &io::Error) -> Option<AllocError>
+    ensures { IsSome result ↔ (error_kind error.now ≡ ErrorKind.OutOfMemory) }
+{
+    match error.kind() {
+        ErrorKind::OutOfMemory => Some(AllocError),
+        _ => None,
     }
 }

@@ -1,6 +1,6 @@
 // A reader and a writer that fail at one call, counted from 1.
 
-use crn_engines::Fault;
+use crn_engines::{Fault, ReadFault, WriteFault};
 use std::alloc::Global;
 use std::io;
 use std::io::{ErrorKind, Read, Write};
@@ -43,7 +43,15 @@ impl Read for Trickle<'_> {
 pub fn tells_read(answer: Result<(), Fault>, out: &[u8], is_failed: bool, text: &str) -> bool {
     match answer {
         Ok(()) => !is_failed && out == text.as_bytes(),
-        Err(fault) => is_failed && fault == Fault::Reading && out.is_empty(),
+        Err(fault) => is_failed && is_of_read(fault) && out.is_empty(),
+    }
+}
+
+// Whether a fault carries the error of the read that failed.
+fn is_of_read(fault: Fault) -> bool {
+    match fault {
+        Fault::Reading(ReadFault::Failed(error)) => error.kind() == ErrorKind::Interrupted,
+        _ => false,
     }
 }
 
@@ -72,10 +80,21 @@ impl Narrow {
         let before = self.fails_at.saturating_sub(1) as usize;
         let is_told = match answer {
             Ok(()) => text.len() <= before,
-            Err(fault) => before < text.len() && fault == Fault::Writing,
+            Err(fault) => before < text.len() && self.is_of_write(fault),
         };
         let end = before.min(text.len());
         is_told && self.taken.as_slice() == &text.as_bytes()[..end]
+    }
+
+    // Whether a fault tells what the failing call has answered.
+    fn is_of_write(&self, fault: Fault) -> bool {
+        match fault {
+            Fault::Writing(WriteFault::NoByte) => self.takes_none,
+            Fault::Writing(WriteFault::Failed(error)) => {
+                !self.takes_none && error.kind() == ErrorKind::Interrupted
+            }
+            _ => false,
+        }
     }
 }
 

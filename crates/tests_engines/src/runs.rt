@@ -3,13 +3,14 @@
 
 use crate::fakes::{Narrow, Trickle, tells_read};
 use crn_checkpoint::{CheckpointFault, MigrateFault};
-use crn_engines::{Fault, simulate, write_words};
+use crn_engines::{Fault, ReadFault, WriteFault, simulate, write_words};
+use crn_run::ThreadFault;
 use crn_scenario::ScenarioFault;
 use crn_trace::ScheduleFault;
-use std::alloc::Global;
+use std::alloc::{AllocError, Global};
 use std::sync::Wait;
 use std::test::Fail;
-use std::thread::Threads;
+use std::thread::{SpawnError, Threads};
 
 // Four periods, demands of 1 to 4, lead times of 1.
 const ONE_POLICY: &str = "version = 1
@@ -36,6 +37,7 @@ returns 5539277864380943 86dc4496ff6c4bf6 b6a16a294c09b67c 3572aa99bcf71983
 
 #[test]
 fn lines_and_statuses(rt: HostRuntime) -> Result<(), Fail> {
+    let refused = ThreadFault::from(SpawnError { value: () });
     let table = [
         (Fault::CommandLine, "crnsim: command line", 2u8),
         (
@@ -63,11 +65,11 @@ fn lines_and_statuses(rt: HostRuntime) -> Result<(), Fail> {
             "crnsim: schedule 1",
             4,
         ),
-        (Fault::Reading, "crnsim: reading", 5),
-        (Fault::Writing, "crnsim: writing", 5),
-        (Fault::Thread, "crnsim: thread", 6),
+        (Fault::Reading(ReadFault::TooLong), "crnsim: reading", 5),
+        (Fault::Writing(WriteFault::NoByte), "crnsim: writing", 5),
+        (Fault::Thread(refused), "crnsim: thread", 6),
         (Fault::Gate, "crnsim: gate", 6),
-        (Fault::Memory, "crnsim: memory", 7),
+        (Fault::Memory(AllocError), "crnsim: memory", 7),
     ];
     for (fault, line, status) in table {
         let text = fault.to_string(rt.alloc())?;

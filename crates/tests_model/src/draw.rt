@@ -139,7 +139,7 @@ static FAULTS: [(DrawFault, u8, &str); 5] = [
         4,
         "the sum of the weights is 0 or over 65536",
     ),
-    (DrawFault::Memory, 90, "out of memory"),
+    (DrawFault::Memory(AllocError), 90, "out of memory"),
 ];
 
 // The first line whose fault has another number or is printed in another way.

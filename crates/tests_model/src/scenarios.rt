@@ -146,6 +146,10 @@ pub enum Slots {
     Two,
     /// 64 slots.
     SixtyFour,
+    /// 128 slots, the least of a large ring.
+    LeastLarge,
+    /// 1,024 slots, the most.
+    Most,
 }
 
 impl Slots {
@@ -157,6 +161,8 @@ impl Slots {
             Slots::One => 1,
             Slots::Two => 2,
             Slots::SixtyFour => 64,
+            Slots::LeastLarge => 128,
+            Slots::Most => 1_024,
         }
     }
 }

@@ -257,7 +257,14 @@ fn both_copy(alloc: Global, model: &Model) -> Result<bool, AllocError> {
     )
 }
 
-// Whether a state of these amounts can be restored at block 1, and ends with these costs.
+// Whether a copy of a state at block 1 shows these amounts.
+fn copy_shows(alloc: Global, state: &State, amounts: (i64, u64, u32)) -> Result<bool, AllocError> {
+    let (stock, running, arriving) = amounts;
+    let copy = state.copy(alloc)?;
+    Ok(shows(&copy, 1, stock, running, u64::from(arriving)))
+}
+
+// Whether a state of these amounts can be restored at block 1 and copied, and ends with these costs.
 fn resumes(
     alloc: Global,
     model: &Model,
@@ -274,6 +281,7 @@ fn resumes(
     match State::restore(alloc, model, 1, stock, &due, running, &[]) {
         Ok(state) => Ok(
             shows(&state, 1, stock, running, u64::from(arriving))
+                && copy_shows(alloc, &state, amounts)?
                 && ends(model, &policy, state, costs),
         ),
         Err(_) => Ok(false),
@@ -436,7 +444,7 @@ fn past_ranges(rt: HostRuntime) -> Result<(), Fail> {
 // The faults, with their numbers and their lines.
 static FAULTS: [(RestoreFault, u8, &str); 2] = [
     (RestoreFault::Range, 1, "an amount is outside its range"),
-    (RestoreFault::Memory, 90, "out of memory"),
+    (RestoreFault::Memory(AllocError), 90, "out of memory"),
 ];
 
 // The first line whose fault has another number or is printed in another way.

@@ -7,7 +7,7 @@ ghost use Rattle.crn_proto.specs.Machine.{IsActor};
 use crate::rings::ring_of;
 use crn_cipher::StreamId;
 use crn_proto::{Actor, Kind, LEFT, Machine, RingFault, RingSpec, Step, replay};
-use std::alloc::Global;
+use std::alloc::{AllocError, Global};
 use std::test::Fail;
 use tests_model::words::{ONES_BLOCK, ZERO_BLOCK};
 
@@ -433,7 +433,7 @@ fn numbers_of_faults(rt: HostRuntime) {
         RingFault::Size.number(),
         RingFault::Readers.number(),
         RingFault::Stream.number(),
-        RingFault::Memory.number(),
+        RingFault::Memory(AllocError).number(),
     ];
     assert_eq!(rt; numbers, [1, 2, 3, 90]);
 }

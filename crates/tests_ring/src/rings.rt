@@ -253,6 +253,10 @@ impl Two {
         true
     }
 
+    pub(crate) fn finish(&mut self) {
+        finish(&self.ring, &mut self.producer);
+    }
+
     // The ring with its second reader, once the first has left.
     pub(crate) fn without_first(self) -> One {
         let Two {

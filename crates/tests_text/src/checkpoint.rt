@@ -87,9 +87,9 @@ fn numbers_of_faults(rt: HostRuntime) -> Result<(), Fail> {
     assert_eq!(rt; CheckpointFault::NoCheckpoint.number(), 1);
     assert_eq!(rt; CheckpointFault::OtherScenario.number(), 2);
     assert_eq!(rt; CheckpointFault::OldVersion.number(), 4);
-    assert_eq!(rt; CheckpointFault::Memory.number(), 90);
+    assert_eq!(rt; CheckpointFault::Memory(AllocError).number(), 90);
     assert_eq!(rt; MigrateFault::NoCheckpoint.number(), 1);
     assert_eq!(rt; MigrateFault::NewVersion.number(), 5);
-    assert_eq!(rt; MigrateFault::Memory.number(), 90);
+    assert_eq!(rt; MigrateFault::Memory(AllocError).number(), 90);
     Ok(())
 }

@@ -1,17 +1,14 @@
 // The words of the command line.
 
 use crn_command_line::{Command, CommandLineFault, read_words};
+use std::alloc::AllocError;
 use std::test::Fail;
 
 fn command(rt: &HostRuntime, words: &[&str]) -> Result<Command, CommandLineFault> {
     let mut list = Vec::new(rt.alloc());
     for word in words {
-        let Ok(text) = word.to_string(rt.alloc()) else {
-            return Err(CommandLineFault::Memory);
-        };
-        if list.push(text).is_err() {
-            return Err(CommandLineFault::Memory);
-        }
+        let text = word.to_string(rt.alloc())?;
+        list.push(text).map_err(AllocError::from)?;
     }
     read_words(rt.alloc(), list.as_slice())
 }

@@ -10,10 +10,11 @@ fn written_as_they_are(rt: HostRuntime) -> Result<(), Fail> {
     assert_eq!(rt; sheet.into_text()?.as_slice(), b"".as_slice());
     let sheet = Sheet::new(rt.alloc())
         .with_row(&[b"state", b"-2", b"45"])?
-        .with_row(&[b"A_z-9", b"1/2", b""])?;
+        .with_row(&[b"A_z-9", b"1/2", b""])?
+        .with_row(&[b"end", b"5"])?;
     assert_eq!(rt;
         sheet.into_text()?.as_slice(),
-        b"state,-2,45\nA_z-9,1/2,\n".as_slice()
+        b"state,-2,45\nA_z-9,1/2,\nend,5\n".as_slice()
     );
     Ok(())
 }

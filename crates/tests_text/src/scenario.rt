@@ -4,7 +4,7 @@
 use crn_draw::Weights;
 use crn_scenario::{ScenarioFault, read_scenario};
 use crn_stock::{Model, Policy, Scenario};
-use std::alloc::Global;
+use std::alloc::{AllocError, Global};
 use std::test::Fail;
 
 const BASE: &str = "version = 1
@@ -132,7 +132,7 @@ fn numbers(rt: HostRuntime) -> Result<(), Fail> {
         (ScenarioFault::Name, 11),
         (ScenarioFault::RingSize, 12),
         (ScenarioFault::PolicyCount, 13),
-        (ScenarioFault::Memory, 90),
+        (ScenarioFault::Memory(AllocError), 90),
     ];
     for (fault, number) in table {
         assert_eq!(rt; fault.number(), number);

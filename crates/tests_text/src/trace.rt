@@ -3,6 +3,7 @@
 
 use crn_proto::Actor;
 use crn_trace::{ScheduleFault, read_schedule, words_text};
+use std::alloc::AllocError;
 use std::test::Fail;
 
 // The words of block 0 of the zero key, by Random123.
@@ -42,6 +43,6 @@ fn actors_of_a_schedule(rt: HostRuntime) -> Result<(), Fail> {
 fn numbers_of_faults(rt: HostRuntime) -> Result<(), Fail> {
     assert_eq!(rt; ScheduleFault::Line.number(), 1);
     assert_eq!(rt; ScheduleFault::Reader.number(), 2);
-    assert_eq!(rt; ScheduleFault::Memory.number(), 90);
+    assert_eq!(rt; ScheduleFault::Memory(AllocError).number(), 90);
     Ok(())
 }

@@ -12,4 +12,4 @@ abbrev pub IsRefusedFor : CheckpointFault → Version → ScenarioParts → Scen
 IsRefusedFor fault.NoCheckpoint v s t = ⊥
 IsRefusedFor fault.OtherScenario v s t = ¬ IsSameButRing s t
 IsRefusedFor fault.OldVersion v s t = (v ≡ version.First) × IsSameButRing s t
-IsRefusedFor fault.Memory v s t = ⊥
+IsRefusedFor (fault.Memory _) v s t = ⊥

@@ -1,7 +1,6 @@
--- What is read piece by piece, and what is too long to be read.
+-- What is read piece by piece.
 use Rattle.std.specs.Prelude.{◌≡◌, ℕ, ◌<◌, List, [], ◌++◌, length, Option, Bool, true, false}
 use Rattle.std.specs.Io.KnownBytes.{Consumes, IsAtEnd}
-use Rattle.crn_engines.specs.declared.input.TheConstants.{INPUT_LIMIT}
 
 -- one read whose bytes were appended to the input: some bytes where the input goes on, none where it has ended
 pub record ReadMore (old new : Option (List ℕ)) (input input' : List ℕ) (more : Bool) : Type 0 where
@@ -10,9 +9,3 @@ pub record ReadMore (old new : Option (List ℕ)) (input input' : List ℕ) (mor
   pub grown : input' ≡ input ++ bytes
   pub some : more ≡ true → 0 < length bytes
   pub none : more ≡ false → (bytes ≡ []) × IsAtEnd new
-
--- there was more than the limit
-pub record ReadTooMuch (old new : Option (List ℕ)) : Type 0 where
-  pub bytes : List ℕ
-  pub taken : Consumes old new bytes
-  pub long : INPUT_LIMIT < length bytes

@@ -1,7 +1,7 @@
 -- The runs of all policies over one ring, each by a reader and on a thread of its own.
-use Rattle.std.specs.Prelude.{◌≡◌, ℕ, ◌+◌, ◌<◌, ◌≤◌, Bool, true, false, List, Some, length, slice_get}
-use Rattle.std.specs.List.{list_any}
+use Rattle.std.specs.Prelude.{◌≡◌, ℕ, ◌+◌, ◌<◌, ◌≤◌, Bool, false, List, Some, length, slice_get}
 use Rattle.crn_stock.specs.Parts.{Parts}
+use Rattle.crn_stock.specs.Draws.{next_block}
 use Rattle.crn_stock.specs.Models.{total}
 use Rattle.crn_stock.specs.Scenarios.{ScenarioParts}
 use Rattle.crn_ring.specs.declared.ring.Ring.{Ring}
@@ -12,7 +12,8 @@ use Rattle.crn_run.specs.Ends.{EndsAs, is_held}
 use Rattle.crn_run.specs.declared.jobs.Job.{Job}
 use Rattle.crn_run.specs.declared.worker.PolicyEnd.{PolicyEnd}
 use Rattle.crn_run.specs.declared.worker.PolicyEnd.TheVariants.{Reached}
-use Rattle.crn_run.specs.Jobs.{AreReaders, HasRefused}
+use Rattle.crn_run.specs.Jobs.{AreReaders}
+use Rattle.crn_run.specs.Gates.{WasAsked}
 
 -- ---- what the threads are given, and give back
 
@@ -38,14 +39,19 @@ pub record AreJobs (s : ScenarioParts) (ring : Ring) (start : List Parts) (jobs 
   pub policies : (i : ℕ) (j : Job) → slice_get jobs i ≡ Some j → i + j.policy + 1 ≡ length s.policies
   pub states : (i : ℕ) (j : Job) → slice_get jobs i ≡ Some j → slice_get start j.policy ≡ Some j.state
 
--- each is the end of the job at its place
-pub record AreEnds (s : ScenarioParts) (ring : Ring) (jobs : List Job) (ends : List PolicyEnd) : Type 0 where
-  pub count : length ends ≡ length jobs
-  pub each : (i : ℕ) (j : Job) (e : PolicyEnd) → slice_get jobs i ≡ Some j → slice_get ends i ≡ Some e → EndsAs s j.policy j.state ring j.policy e
+-- what the job comes to under its gate: its end, and what the gate was asked
+pub record IsDone {Gate : Type 0} (refused : Gate → Bool) (asked : Gate → ℕ → ℕ → Bool → Gate → Type 0) (s : ScenarioParts) (ring : Ring) (j : Job) (gate : Gate) (e : PolicyEnd) : Type 0 where
+  pub ends : EndsAs s j.policy j.state ring j.policy e
+  pub gate' : Gate
+  pub was_asked : WasAsked asked j.policy (next_block j.state) e gate gate'
+  pub held : refused gate' ≡ is_held e
 
--- where a policy was held, a gate has answered false
-abbrev pub HeldByGates : {Gate : Type 0} → (Gate → Bool) → List PolicyEnd → Type 0
-HeldByGates refused ends = list_any is_held ends ≡ true → HasRefused refused
+-- each is what the job at its place comes to. The gates stand in the policies' order, so the last job's is the first
+pub record AreEnds {Gate : Type 0} (refused : Gate → Bool) (asked : Gate → ℕ → ℕ → Bool → Gate → Type 0) (s : ScenarioParts) (ring : Ring) (jobs : List Job) (gates : List Gate) (ends : List PolicyEnd) : Type 0 where
+  pub count : length ends ≡ length jobs
+  pub gate_count : length gates ≡ length jobs
+  pub each : (i k : ℕ) (j : Job) (gate : Gate) (e : PolicyEnd) → i + k + 1 ≡ length jobs → slice_get jobs i ≡ Some j → slice_get gates k ≡ Some gate → slice_get ends i ≡ Some e
+      → IsDone refused asked s ring j gate e
 
 -- the states and the readers of these ends, those of the last first
 pub record Gathers (ends : List PolicyEnd) (states : List Parts) (readers : List Reader) : Type 0 where

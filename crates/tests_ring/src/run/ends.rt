@@ -1,5 +1,5 @@
 // Runs of one policy on a ring that is filled beforehand.
-ghost use Rattle.std.specs.Prelude.{◌≡◌, ◌≤◌, ◌<◌, ◌∷◌, [], false, length, IfSome};
+ghost use Rattle.std.specs.Prelude.{◌≡◌, ◌≤◌, ◌<◌, ◌∷◌, ⊤, [], false, length, IfSome};
 ghost use Rattle.crn_proto.specs.Ring.{open_reader};
 ghost use Rattle.crn_stock.specs.Models.{total};
 ghost use Rattle.crn_ring.specs.Calls.{AllFresh, IsProducerOf, IsReaderOf, reader_part, spec_of};
@@ -106,7 +106,7 @@ fn an_early_end(rt: HostRuntime) -> Result<(), Fail> {
 
 fn is_held_before(end: &PolicyEnd, k: u64) -> bool {
     match end {
-        PolicyEnd::Held(state) => state.next_block() == k,
+        PolicyEnd::Held(state, _) => state.next_block() == k,
         _ => false,
     }
 }
@@ -220,6 +220,8 @@ struct Filling<'a> {
 
 impl<'a> Gate for Filling<'a> {
     ghost refused = { λ g. g.has_refused };
+
+    ghost asked = { λ _ _ _ _ _. ⊤ };
 
     fn pass(&mut self, _policy: u32, block: u64) -> bool {
         if block > 0 {

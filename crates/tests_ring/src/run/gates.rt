@@ -1,18 +1,18 @@
 // Gates that wait for each other, that hold a policy, and that count the blocks that they are asked for.
-ghost use Rattle.std.specs.Prelude.{◌≡◌, ◌≤◌, false, length, All, IfOk};
+ghost use Rattle.std.specs.Prelude.{◌≡◌, ◌≤◌, ⊤, false, length, All, IfOk};
 ghost use Rattle.crn_stock.specs.Models.{total};
 ghost use Rattle.crn_sequential.specs.Runs.{IsCheckpointOf};
 
-use super::runs::has_reached;
+use super::runs::{has_reached, have_read};
 use super::scenarios::steady;
-use crn_run::{Checkpoint, Finished, Gate, RunFault, run_all};
+use crn_run::{Checkpoint, Finished, Gate, RunFault, ThreadFault, run_all, run_plain};
 use crn_stock::Scenario;
 use std::alloc::{AllocError, Global};
 use std::sync::Wait;
 use std::sync::atomic::{AtomicBool, Ordering};
 use std::test::Fail;
 use std::thread;
-use std::thread::Threads;
+use std::thread::{SpawnError, Threads};
 use tests_model::scenarios::{Slots, base, prints};
 
 // Waits until a flag is set, for so many turns of 1,000 yields each.
@@ -70,6 +70,8 @@ struct Meeting<'a> {
 impl<'a> Gate for Meeting<'a> {
     ghost refused = { λ g. g.has_refused };
 
+    ghost asked = { λ _ _ _ _ _. ⊤ };
+
     fn pass(&mut self, _policy: u32, _block: u64) -> bool {
         self.own.store(true, Ordering::SeqCst);
         let passes = is_set_within(self.other, 5_000);
@@ -120,6 +122,8 @@ struct Late<'a> {
 
 impl<'a> Gate for Late<'a> {
     ghost refused = { λ g. g.has_refused };
+
+    ghost asked = { λ _ _ _ _ _. ⊤ };
 
     fn pass(&mut self, policy: u32, block: u64) -> bool {
         if policy == 0 && block >= 2 {
@@ -174,6 +178,8 @@ pub(super) struct HoldsAt {
 
 impl Gate for HoldsAt {
     ghost refused = { λ g. g.has_refused };
+
+    ghost asked = { λ _ _ _ _ _. ⊤ };
 
     fn pass(&mut self, policy: u32, block: u64) -> bool {
         let passes = policy != self.policy || block != self.block;
@@ -239,6 +245,8 @@ struct Counting {
 impl Gate for Counting {
     ghost refused = { λ _. false };
 
+    ghost asked = { λ _ _ _ _ _. ⊤ };
+
     fn pass(&mut self, policy: u32, block: u64) -> bool {
         self.calls = self.calls.saturating_add(1);
         if policy == self.policy && block == self.next && block < 1 << 32 {
@@ -281,17 +289,13 @@ fn each_block_is_asked_for_once(rt: HostRuntime) {
     assert_eq!(rt; counts(&rt, rt.alloc()), Ok([(256, 256), (256, 256)]));
 }
 
-// The faults, with their numbers and their lines.
-static FAULTS: [(RunFault, u8, &str); 3] = [
-    (RunFault::Thread, 1, "a thread was refused"),
-    (RunFault::Gate, 2, "a gate has held a policy"),
-    (RunFault::Memory, 90, "out of memory"),
-];
-
 // The first line whose fault has another number or is printed in another way.
-fn first_other_line(alloc: Global) -> Result<Option<&'static str>, AllocError> {
-    for (fault, number, line) in &FAULTS {
-        if *fault as u8 != *number || !prints(alloc, fault, line)? {
+fn first_other_line<'a>(
+    alloc: Global,
+    faults: &[(RunFault, u8, &'a str)],
+) -> Result<Option<&'a str>, AllocError> {
+    for (fault, number, line) in faults {
+        if fault.number() != *number || !prints(alloc, fault, line)? {
             return Ok(Some(line));
         }
     }
@@ -300,6 +304,105 @@ fn first_other_line(alloc: Global) -> Result<Option<&'static str>, AllocError> {
 
 #[test]
 fn numbers_and_lines_of_faults(rt: HostRuntime) -> Result<(), Fail> {
-    assert_eq!(rt; first_other_line(rt.alloc())?, None);
+    let refused = ThreadFault::from(SpawnError { value: () });
+    let faults = [
+        (RunFault::Thread(refused), 1, "a thread was refused"),
+        (RunFault::Gate, 2, "a gate has held a policy"),
+        (RunFault::Memory(AllocError), 90, "out of memory"),
+    ];
+    assert_eq!(rt; first_other_line(rt.alloc(), &faults)?, None);
+    Ok(())
+}
+
+#[test]
+fn a_refused_thread_has_no_end(rt: HostRuntime) {
+    assert_eq!(rt; ThreadFault::from(SpawnError { value: () }).ended(), None);
+}
+
+// Lets policy 1 begin late, whatever the others do.
+#[derive(Drop)]
+struct Slow<'a> {
+    never: &'a AtomicBool,
+}
+
+impl<'a> Gate for Slow<'a> {
+    ghost refused = { λ _. false };
+
+    ghost asked = { λ _ _ _ _ _. ⊤ };
+
+    fn pass(&mut self, policy: u32, block: u64) -> bool {
+        if policy == 1 && block == 0 {
+            let _ = is_set_within(self.never, 20);
+        }
+        true
+    }
+}
+
+// Whether a run of 2,048 blocks comes to its end if policy 1 begins late.
+fn waits_for_slow<R: Threads + Wait + Sync>(rt: &R, alloc: Global, scenario: &Scenario) -> bool
+    requires two { length scenario.now.policies ≡ 2 }
+{
+    let never = AtomicBool::new(false);
+    let mut gates = [Slow { never: &never }, Slow { never: &never }];
+    match run_under(rt, alloc, scenario, &mut gates) {
+        Ok(finished) => have_read(finished.readers.as_slice(), 2_048),
+        Err(_) => false,
+    }
+}
+
+// The same of eight replications of 1,024 periods.
+fn long_run_waits<R: Threads + Wait + Sync>(
+    rt: &R,
+    alloc: Global,
+    slots: Slots,
+) -> Result<bool, AllocError> {
+    let scenario = steady(alloc, slots, 1_024, 8)?;
+    Ok(waits_for_slow(rt, alloc, &scenario))
+}
+
+// The ring is full long before policy 1 begins, so the producer sleeps, and must wake by itself.
+#[test]
+fn sleepers_wake(rt: HostRuntime) -> Result<(), Fail> {
+    for slots in [Slots::LeastLarge, Slots::Most] {
+        assert!(rt; long_run_waits(&rt, rt.alloc(), slots)?);
+    }
+    Ok(())
+}
+
+// Whether a run from block 2 on fails if the gate answers false for policy 1 at its first block.
+fn fails_onward<R: Threads + Wait + Sync>(
+    rt: &R,
+    alloc: Global,
+    scenario: &Scenario,
+) -> Result<bool, AllocError>
+    requires two { length scenario.now.policies ≡ 2 }
+    requires blocks { 2 ≤ total scenario.now.model }
+{
+    let gate = HoldsAt {
+        policy: 1,
+        block: 2,
+        has_refused: false,
+    };
+    let mut gates = [gate; 2];
+    let start = Checkpoint::start(alloc, scenario)?;
+    let second = run_plain(alloc, scenario, &start, 2)?;
+    let all = scenario.model().total();
+    let answer = run_all(rt, alloc, scenario, &second, all, &mut gates);
+    Ok(matches!(answer, Err(RunFault::Gate)))
+}
+
+// The same of the steady model on a ring of one slot.
+fn steady_fails_onward<R: Threads + Wait + Sync>(
+    rt: &R,
+    alloc: Global,
+) -> Result<bool, AllocError> {
+    let scenario = steady(alloc, Slots::One, 5, 2)?;
+    fails_onward(rt, alloc, &scenario)
+}
+
+// The producer would wait for ever for a reader that stayed.
+#[test]
+fn a_second_leg_held_at_its_first_block(rt: HostRuntime) -> Result<(), Fail> {
+    assert!(rt; steady_fails_onward(&rt, rt.alloc())?);
     Ok(())
 }

@@ -26,8 +26,8 @@ fn is_at_start(state: &State) -> bool {
 // Whether two runs from the same start may return these. If an allocation of the first run failed, the second is right.
 fn are_allowed(first: &Result<Finished, RunFault>, second: &Result<Finished, RunFault>) -> bool {
     match first {
-        Err(RunFault::Memory) => is_right(second),
-        Err(RunFault::Thread) => is_right(second) || matches!(second, Err(RunFault::Thread)),
+        Err(RunFault::Memory(_)) => is_right(second),
+        Err(RunFault::Thread(_)) => is_right(second) || matches!(second, Err(RunFault::Thread(_))),
         Err(RunFault::Gate) => false,
         Ok(_) => is_right(first),
     }

@@ -45,7 +45,7 @@ pub(super) fn run_whole<R: Threads + Wait + Sync>(
 }
 
 // Whether the readers are 0 and 1, have taken the blocks below `upto` and have seen the end.
-fn have_read(readers: &[Reader], upto: u64) -> bool {
+pub(super) fn have_read(readers: &[Reader], upto: u64) -> bool {
     readers.len() == 2
         && (readers[0].number(), readers[0].taken(), readers[0].ended()) == (0, upto, true)
         && (readers[1].number(), readers[1].taken(), readers[1].ended()) == (1, upto, true)

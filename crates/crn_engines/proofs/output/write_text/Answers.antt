@@ -14,6 +14,3 @@ loop-sent-preserved g c =
 
 pub returns-in-Ok-eq0-clause-whole : goal.returns-in-Ok-eq0-clause-whole
 returns-in-Ok-eq0-clause-whole g c = search rules
-
-pub returns-in-Ok-eq0-2-clause-whole : goal.returns-in-Ok-eq0-2-clause-whole
-returns-in-Ok-eq0-2-clause-whole g c = search rules

@@ -1,13 +1,10 @@
-use Rattle.std.proofs.Common.{◌≡◌, ℕ, List, subst}
+use Rattle.std.proofs.Common.{subst}
 use Rattle.std.proofs.lemmas.Result.{IfOk-weaker}
 use Rattle.crn_stock.specs.Scenarios.{ScenarioParts}
 use Rattle.crn_engines.specs.Resumption.{ReportsLegs}
 use Rattle.crn_engines.proofs.LegStates.{reads_one}
-use Rattle.crn_engines.proofs.Sent.{handed_fault}
+use Rattle.crn_engines.proofs.Refused.{of_each, onward_of_resume, onward_silent}
 use Rattle.crn_engines.proofs.resumption.report_from.Goals as goal
-
-pub returns-in_err-scenario-clause-scenario : goal.returns-in_err-scenario-clause-scenario
-returns-in_err-scenario-clause-scenario g c f is = c.in_err-scenario.ensures.scenario f (handed_fault _ _ _ c.from_residual.ensures is)
 
 pub returns-clause-made : goal.returns-clause-made
 returns-clause-made g c =
@@ -31,14 +28,8 @@ returns-clause-legs g c =
       report = λ t reads. subst (λ (v : ScenarioParts). ReportsLegs v made.bytes text.items) (reads_one read.input s t read.reads reads) made.legs;
     }) c.report_onward.ensures.made
 
-pub returns-clause-checkpoint : goal.returns-clause-checkpoint
-returns-clause-checkpoint g c f is =
-    let h = c.report_onward.ensures.checkpoint f is in (
-      h.0,
-      record {
-        scenario = c.in_ok-scenario.scenario;
-        bytes = h.1.bytes;
-        read = record { scenario = c.in_ok-scenario.ensures.reads; checkpoint = h.1.read };
-        refused = h.1.refused;
-      },
-    )
+pub returns-clause-refused : goal.returns-clause-refused
+returns-clause-refused g c = of_each c.report_onward.result _ _ (λ e. onward_of_resume e c.in_ok-scenario.scenario _ _ _ _ c.in_ok-scenario.ensures.reads) c.report_onward.ensures.refused
+
+pub returns-clause-silent : goal.returns-clause-silent
+returns-clause-silent g c = of_each c.report_onward.result _ _ (λ e. onward_silent e c.in_ok-scenario.scenario _ _) c.report_onward.ensures.refused

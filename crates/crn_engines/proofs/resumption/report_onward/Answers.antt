@@ -1,7 +1,7 @@
 use Rattle.std.proofs.Common.{ℕ, List, subst}
-use Rattle.std.proofs.lemmas.Result.{IfOk-weaker}
-use Rattle.crn_checkpoint.specs.Reading.{RefusesCheckpoint}
 use Rattle.crn_engines.specs.Resumption.{IsResumedReport, ReportsLegs}
+use Rattle.crn_engines.specs.Inner.Refusals.{RefusesOnwardRun}
+use Rattle.crn_engines.proofs.Refused.{of_each, text_of_onward}
 use Rattle.crn_engines.proofs.Sent.{both_ok}
 use Rattle.crn_engines.proofs.resumption.report_onward.Goals as goal
 
@@ -16,8 +16,7 @@ returns-clause-made g c =
       legs = subst (λ (b : List ℕ). ReportsLegs s b text.items) c.as_slice.ensures.value legs;
     }) c.resumed_text.ensures.report c.resumed_text.ensures.legs
 
-pub returns-clause-checkpoint : goal.returns-clause-checkpoint
-returns-clause-checkpoint g c f is =
-    let h = c.resumed_text.ensures.checkpoint f is in
-    let refused = subst (λ (b : List ℕ). RefusesCheckpoint c.args.scenario.now f b) c.as_slice.ensures.value h.1 in
-    (h.0, record { bytes = c.in_ok-bytes.bytes.items; read = c.in_ok-bytes.ensures.all; refused = refused })
+pub returns-clause-refused : goal.returns-clause-refused
+returns-clause-refused g c =
+    let s = c.args.scenario.now in
+    of_each c.resumed_text.result _ _ (λ e h. text_of_onward e s _ _ c.in_ok-bytes.bytes.items c.in_ok-bytes.ensures.all (subst (RefusesOnwardRun s e) c.as_slice.ensures.value h)) c.resumed_text.ensures.refused

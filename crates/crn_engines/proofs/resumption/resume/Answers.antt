@@ -1,14 +1,6 @@
-use Rattle.crn_engines.proofs.Sent.{handed_fault, sent, sent_front}
+use Rattle.crn_engines.proofs.Refused.{checkpoint_of_report, of_each, output_of_resume}
+use Rattle.crn_engines.proofs.Sent.{sent, sent_front}
 use Rattle.crn_engines.proofs.resumption.resume.Goals as goal
-
-pub returns-in_err-text-clause-scenario : goal.returns-in_err-text-clause-scenario
-returns-in_err-text-clause-scenario g c f is = c.in_err-text.ensures.scenario f (handed_fault _ _ _ c.from_residual.ensures is)
-
-pub returns-in_err-text-clause-unread : goal.returns-in_err-text-clause-unread
-returns-in_err-text-clause-unread g c f is = c.in_err-text.ensures.unread f (handed_fault _ _ _ c.from_residual.ensures is)
-
-pub returns-in_err-text-clause-checkpoint : goal.returns-in_err-text-clause-checkpoint
-returns-in_err-text-clause-checkpoint g c f is = c.in_err-text.ensures.checkpoint f (handed_fault _ _ _ c.from_residual.ensures is)
 
 pub returns-clause-wrote : goal.returns-clause-wrote
 returns-clause-wrote g c = sent _ _ _ c.in_ok-text.text.items c.in_ok-text.ensures.made c.send_made.result c.send_made.ensures.whole
@@ -18,3 +10,6 @@ returns-clause-front g c = sent_front _ _ _ c.in_ok-text.text.items c.in_ok-text
 
 pub returns-clause-legs : goal.returns-clause-legs
 returns-clause-legs g c = sent _ _ _ c.in_ok-text.text.items c.in_ok-text.ensures.legs c.send_made.result c.send_made.ensures.whole
+
+pub returns-clause-refused : goal.returns-clause-refused
+returns-clause-refused g c = of_each c.send_made.result _ _ (λ e. output_of_resume e _ _ _ _ (checkpoint_of_report _ _ _ _ c.in_ok-text.text.items c.in_ok-text.ensures.made)) c.send_made.ensures.refused

@@ -4,6 +4,7 @@ use Rattle.csv.specs.Reading.{Reached, default_config, strip_bom}
 use Rattle.csv.specs.Records.{fields_of}
 use Rattle.csv.specs.declared.parser.State.TheVariants as st
 use Rattle.csv.proofs.ReadFacts.{rows-end, rows-more}
+use Rattle.crn_rows.proofs.Plainness.{before_map}
 use Rattle.crn_rows.proofs.reading.records.Goals as goal
 
 pub loop-row-init : goal.loop-row-init
@@ -26,10 +27,11 @@ loop-row-init c =
 pub loop-row-preserved : goal.loop-row-preserved
 loop-row-preserved c =
     let inv = c.loop-row.invariant in
-    let s = rw (c.in-Some.is, c.in_ok-row.was) at ((c.next.ensures.steps inv.2 inv.0).0 inv.1) in
+    let row = before_map c.in-Some.row c.map_err.result c.in_ok-map_err.field-0 _ c.in_ok-map_err.was c.map_err.ensures.cases in
+    let s = rw (c.in-Some.is, row) at ((c.next.ensures.steps inv.2 inv.0).0 inv.1) in
     let good : is_ok c.push.result ≡ true = search rules in
     let items = rw good at c.push.ensures.items in
-    let m = rows-more (λ (s : Bor (List ℕ)). Some s.now) c.loop-row.row-iterator.rdr c.next.new.self.rdr (fields_of c.in_ok-row.field-0) default_config st.StartRecord (strip_bom c.args.text.now) inv.4 c.loop-row.rows.items inv.3 inv.5 inv.6 s.0 in
+    let m = rows-more (λ (s : Bor (List ℕ)). Some s.now) c.loop-row.row-iterator.rdr c.next.new.self.rdr (fields_of c.in_ok-map_err.field-0) default_config st.StartRecord (strip_bom c.args.text.now) inv.4 c.loop-row.rows.items inv.3 inv.5 inv.6 s.0 in
     (s.0.3 ∙ inv.0, inl s.1, s.2, s.0.2 ∙ inv.3, m.0, m.1, rw (items, c.from_record.ensures) m.2)
 
 pub returns : goal.returns

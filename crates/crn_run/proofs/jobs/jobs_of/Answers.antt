@@ -1,4 +1,4 @@
-use Rattle.std.proofs.Common.{rules, ◌≡◌, ◌<◌, length, ◌+◌, List, [], ◌∷◌, ◌++◌, subst, sym, arith}
+use Rattle.std.proofs.Common.{rules, ◌≡◌, length, ◌+◌, List, [], ◌∷◌, ◌++◌, subst, sym, arith}
 use Rattle.std.proofs.lemmas.Grind.{common_steps}
 use Rattle.crn_ring.specs.declared.reader_end.Reader.{Reader}
 use Rattle.crn_ring.specs.Calls.{IsFresh, reader_number}

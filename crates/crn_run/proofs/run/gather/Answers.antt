@@ -3,10 +3,8 @@ use Rattle.crn_stock.specs.Parts.{Parts}
 use Rattle.crn_ring.specs.declared.reader_end.Reader.{Reader}
 use Rattle.crn_run.specs.declared.worker.PolicyEnd.{PolicyEnd}
 use Rattle.crn_run.specs.declared.worker.PolicyEnd.TheVariants.{Reached}
-use Rattle.crn_run.specs.Ends.{is_held}
-use Rattle.crn_run.specs.Inner.Ends.{is_short}
 use Rattle.crn_sequential.proofs.Growing.{each-front, each-grown, each-last}
-use Rattle.crn_run.proofs.Ending.{StateFrom, ReaderFrom, some_end, state_from, reader_from}
+use Rattle.crn_run.proofs.Ending.{StateFrom, ReaderFrom, reached_end, state_from, reader_from}
 use Rattle.crn_run.proofs.run.gather.Goals as goal
 
 pub loop-end-preserved : goal.loop-end-preserved
@@ -38,16 +36,10 @@ loop-end-preserved c =
       reader_room = search rules;
     }
 
-pub returns-in-Short-clause-thread : goal.returns-in-Short-clause-thread
-returns-in-Short-clause-thread c _ =
+pub unreachable-requires : goal.unreachable-requires
+unreachable-requires c =
     let front : List PolicyEnd = c.pop.new.self.items in
     let e : PolicyEnd = c.in-Some.end in
     let last : slice_get c.args.ends.items (length front) ≡ Some e = each-last (λ i d. slice_get c.args.ends.items i ≡ Some d) front c.loop-end.ends.items e c.in-Some.ensures.items c.loop-end.invariant.rest in
-    some_end is_short c.args.ends.items (length front) e last (ap is_short c.in-Short.is)
-
-pub returns-in-Held-clause-gate : goal.returns-in-Held-clause-gate
-returns-in-Held-clause-gate c _ =
-    let front : List PolicyEnd = c.pop.new.self.items in
-    let e : PolicyEnd = c.in-Some.end in
-    let last : slice_get c.args.ends.items (length front) ≡ Some e = each-last (λ i d. slice_get c.args.ends.items i ≡ Some d) front c.loop-end.ends.items e c.in-Some.ensures.items c.loop-end.invariant.rest in
-    some_end is_held c.args.ends.items (length front) e last (ap is_held c.in-Held.is)
+    let reached : (w : Parts) × (x : Reader) × (e ≡ Reached w x) = reached_end c.args.ends.items (length front) e c.requires.reached last in
+    search (rules, reached.2)

@@ -1,5 +1,6 @@
 use Rattle.std.proofs.Common.{rules}
-use Rattle.crn_run.proofs.Ending.{of_run}
+use Rattle.std.proofs.lemmas.Result.{IfErr-weaker}
+use Rattle.crn_run.proofs.Ending.{of_run, on_err, on_ok, told_gate, told_thread}
 use Rattle.crn_run.proofs.run.run_all.Goals as goal
 
 pub returns-clause-next : goal.returns-clause-next
@@ -21,3 +22,22 @@ returns-clause-onward g c = let start = c.args.start.now in
 pub returns-clause-readers : goal.returns-clause-readers
 returns-clause-readers g c = let start = c.args.start.now in
     of_run c.args.scenario.now start.next start.states.items c.args.upto _ _ (λ f h. h.read) (c.run_prepared.ensures.run start.next c.args.upto start.states.items (search rules) c.requires.of (search rules))
+
+pub returns-clause-passed : goal.returns-clause-passed
+returns-clause-passed g c = let start = c.args.start.now in
+    on_ok c.run_prepared.result _ _ (c.run_prepared.ensures.told start.next c.args.upto start.states.items (search rules) c.requires.of (search rules))
+
+pub returns-clause-thread : goal.returns-clause-thread
+returns-clause-thread g c f is = let start = c.args.start.now in
+    told_thread g.G.Gate.refused g.G.Gate.asked c.args.scenario.now start.next c.args.upto c.args.gates.now f c.run_prepared.result is
+    (on_err c.run_prepared.result _ _ (c.run_prepared.ensures.told start.next c.args.upto start.states.items (search rules) c.requires.of (search rules)))
+
+pub returns-clause-held : goal.returns-clause-held
+returns-clause-held g c = let start = c.args.start.now in
+    IfErr-weaker c.run_prepared.result _ _ (λ e h is. (told_gate g.G.Gate.refused g.G.Gate.asked c.args.scenario.now start.next c.args.upto c.args.gates.now e is h).0)
+    (on_err c.run_prepared.result _ _ (c.run_prepared.ensures.told start.next c.args.upto start.states.items (search rules) c.requires.of (search rules)))
+
+pub returns-clause-gate : goal.returns-clause-gate
+returns-clause-gate g c = let start = c.args.start.now in
+    IfErr-weaker c.run_prepared.result _ _ (λ e h is. (told_gate g.G.Gate.refused g.G.Gate.asked c.args.scenario.now start.next c.args.upto c.args.gates.now e is h).1)
+    (on_err c.run_prepared.result _ _ (c.run_prepared.ensures.told start.next c.args.upto start.states.items (search rules) c.requires.of (search rules)))

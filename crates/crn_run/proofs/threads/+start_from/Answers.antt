@@ -1,12 +1,10 @@
-use Rattle.std.proofs.Common.{rules, ◌≡◌, true, false, List, [], ◌∷◌, ◌++◌}
+use Rattle.std.proofs.Common.{rules, ◌≡◌, false, List, [], ◌∷◌, ◌++◌}
 use Rattle.std.specs.Slice.Iter.{iter_mut_rest}
 use Rattle.crn_run.specs.declared.jobs.Job.{Job}
 use Rattle.crn_run.specs.declared.worker.PolicyEnd.{PolicyEnd}
-use Rattle.crn_run.specs.Ends.{EndsAs, is_held}
-use Rattle.crn_run.specs.Jobs.{HasRefused}
-use Rattle.crn_run.specs.Inner.Jobs.{IsReady}
+use Rattle.crn_run.specs.Inner.Jobs.{IsDone, IsReady}
 use Rattle.crn_sequential.proofs.Growing.{all-head, all-tail, each-front, each-last}
-use Rattle.crn_run.proofs.Ending.{held_or_last, one_more_end, with_value}
+use Rattle.crn_run.proofs.Ending.{one_more_end, with_value}
 use Rattle.crn_run.proofs.threads.+start_from.Goals as goal
 
 pub start-requires-clause-job : goal.start-requires-clause-job
@@ -36,20 +34,13 @@ returns-in-Ok-clause-ends g t c =
     let front : List Job = c.pop.new.self.items in
     let below : List PolicyEnd = c.start_from-others.new.ends.items in
     let whole : c.args.jobs.now.items ≡ front ++ c.in-Some.job ∷ [] = search rules in
+    let split : iter_mut_rest c.args.gates ≡ c.in-Some-next.gate.now ∷ iter_mut_rest c.next.new.self = search rules in
     let grown : c.push_reserved.new.self.items ≡ below ++ c.join.result ∷ [] = search rules in
-    let last : EndsAs c.args.scenario.now c.in-Some.job.policy c.in-Some.job.state c.args.ring.now c.in-Some.job.policy c.join.result = search rules in
+    let last : IsDone g.G.Gate.refused g.G.Gate.asked c.args.scenario.now c.args.ring.now c.in-Some.job c.in-Some-next.gate.now c.join.result = search rules in
     with_value c.start_from-others.result
-    (one_more_end c.args.scenario.now c.args.ring.now front c.args.jobs.now.items below c.push_reserved.new.self.items c.in-Some.job c.join.result whole grown)
+    (one_more_end g.G.Gate.refused g.G.Gate.asked c.args.scenario.now c.args.ring.now front c.args.jobs.now.items (iter_mut_rest c.next.new.self) (iter_mut_rest c.args.gates) below c.push_reserved.new.self.items
+    c.in-Some.job c.in-Some-next.gate.now c.join.result whole split grown)
     c.start_from-others.ensures.ends last
-
-pub returns-in-Ok-clause-held : goal.returns-in-Ok-clause-held
-returns-in-Ok-clause-held g t c =
-    let below : List PolicyEnd = c.start_from-others.new.ends.items in
-    let grown : c.push_reserved.new.self.items ≡ below ++ c.join.result ∷ [] = search rules in
-    let last : is_held c.join.result ≡ true → HasRefused g.G.Gate.refused = search rules in
-    with_value c.start_from-others.result
-    (λ others end. rw grown (held_or_last below c.join.result (HasRefused g.G.Gate.refused) others end))
-    c.start_from-others.ensures.held last
 
 pub returns-in-Err-clause-thread : goal.returns-in-Err-clause-thread
 returns-in-Err-clause-thread g t c = search rules

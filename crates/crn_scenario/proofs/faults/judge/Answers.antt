@@ -1,5 +1,5 @@
 use Rattle.std.proofs.Common.{◌≡◌, ◌≢◌, ℕ, ◌++◌, Option, Some, None, sym, ◌∙◌, subst}
-use Rattle.std.specs.Prelude.{IfErr, OnOk}
+use Rattle.std.specs.Prelude.{IfErr, OnOk, alloc_error}
 use Rattle.toml.specs.View.{table_view}
 use Rattle.crn_scenario.specs.declared.scenario_fault.ScenarioFault.TheVariants.{Memory}
 use Rattle.crn_scenario.specs.Faults.{faults}
@@ -28,4 +28,4 @@ pub returns-clause-sound : goal.returns-clause-sound
 returns-clause-sound c = subst (λ (first : Option ℕ). OnOk c.judge_policies.result (first ≡ None)) (last c) c.judge_policies.ensures.sound
 
 pub returns-clause-fault : goal.returns-clause-fault
-returns-clause-fault c = subst (λ (first : Option ℕ). IfErr c.judge_policies.result (λ f. f ≢ Memory → first ≡ Some (scenario_fault_number f))) (last c) c.judge_policies.ensures.fault
+returns-clause-fault c = subst (λ (first : Option ℕ). IfErr c.judge_policies.result (λ f. f ≢ Memory alloc_error → first ≡ Some (scenario_fault_number f))) (last c) c.judge_policies.ensures.fault

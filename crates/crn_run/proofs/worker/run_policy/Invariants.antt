@@ -1,8 +1,9 @@
 use Rattle.std.proofs.Common.{◌≡◌, length, false}
 use Rattle.crn_stock.specs.Draws.{next_block}
 use Rattle.crn_ring.specs.Calls.{IsReaderOf, reader_number, reader_part}
+use Rattle.crn_run.specs.Gates.{PassedUpTo}
 use Rattle.crn_run.specs.Inner.Ends.{Advances}
-use Rattle.crn_run.proofs.worker.run_until_held.Given as goal
+use Rattle.crn_run.proofs.worker.run_policy.Given as goal
 
 abbrev pub invariant-loop : goal.invariant-loop
 invariant-loop g l = record {
@@ -13,4 +14,5 @@ invariant-loop g l = record {
   advances : Advances l.scenario.model l.rules l.scenario.key l.initial.state l.state;
   places : length l.blocks ≡ 16;
   gate : g.G.Gate.refused l.gate ≡ false;
+  passed : PassedUpTo g.G.Gate.asked l.policy (next_block l.initial.state) (next_block l.state) l.initial.gate l.gate;
 }

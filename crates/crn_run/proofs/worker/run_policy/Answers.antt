@@ -1,12 +1,13 @@
-use Rattle.std.proofs.Common.{rules, ◌≡◌, ◌+◌, ◌≤◌, length, slice_get, Some, refl, sym, ◌∙◌, arith}
+use Rattle.std.proofs.Common.{rules, ◌≡◌, ◌+◌, ◌<◌, ◌≤◌, length, slice_get, Some, refl, sym, ◌∙◌, arith}
 use Rattle.crn_stock.specs.Draws.{next_block}
 use Rattle.crn_ring.specs.Calls.{FollowOn, reader_number, reader_part, spec_of}
 use Rattle.crn_ring.specs.Parts.{Takes, SeesEnd}
 use Rattle.crn_run.specs.Inner.Ends.{Advances}
-use Rattle.crn_run.proofs.Ending.{ends_as}
+use Rattle.crn_run.proofs.Asking.{held_then, passed_then}
+use Rattle.crn_run.proofs.Ending.{asked_whole, ends_as}
 use Rattle.crn_run.proofs.Advancing.{advances_then, advanced, follow_from, taken_on}
 use Rattle.crn_sequential.proofs.Running.{read_policy}
-use Rattle.crn_run.proofs.worker.run_until_held.Goals as goal
+use Rattle.crn_run.proofs.worker.run_policy.Goals as goal
 
 pub apply_all-requires-clause-blocks : goal.apply_all-requires-clause-blocks
 apply_all-requires-clause-blocks g c =
@@ -16,14 +17,25 @@ apply_all-requires-clause-blocks g c =
       follow_from (spec_of c.args.ring.now) c.args.scenario.now.key (reader_part c.loop.reader).taken (next_block c.loop.state) c.in-Got.count c.take_batch.new.out c.requires.ring.0 c.loop.invariant.taken follow,
     )
 
-pub returns-then-not-apply_all-clause-held : goal.returns-then-not-apply_all-clause-held
-returns-then-not-apply_all-clause-held g c =
+pub returns-then-not-apply_all-clause-end : goal.returns-then-not-apply_all-clause-end
+returns-then-not-apply_all-clause-end g c =
     let s = c.args.scenario.now in
     let p = c.index-policies-policy.result in
     let is_policy : slice_get s.policies c.args.policy ≡ Some p = read_policy s.policies c.policies.result.now c.args.policy p c.policies.ensures.value (search rules) c.index-policies-policy.is in
     let all : Advances s.model p s.key c.args.state c.apply_all.new.state =
     advances_then s.model p s.key c.args.state c.loop.state c.apply_all.new.state c.loop.invariant.advances c.apply_all.ensures.advances in
-    advanced s c.args.policy p c.args.state c.apply_all.new.state (next_block c.apply_all.new.state) is_policy c.onward_from_itself.ensures all refl
+    let took : Takes (reader_part c.loop.reader) (reader_part c.take_batch.new.self) (length c.loop.blocks) c.in-Got.count = search rules in
+    let within : (reader_part c.take_batch.new.self).taken ≤ (spec_of c.args.ring.now).id.total = search rules in
+    let before : next_block c.apply_all.new.state < next_block c.loop.state + c.in-Got.count = (c.apply_all.ensures.held (search rules)).0 in (
+      omega (arith, before, within, took.taken, c.loop.invariant.taken),
+      advanced s c.args.policy p c.args.state c.apply_all.new.state (next_block c.apply_all.new.state) is_policy c.onward_from_itself.ensures all refl,
+      search rules,
+    )
+
+pub returns-then-not-apply_all-clause-asked : goal.returns-then-not-apply_all-clause-asked
+returns-then-not-apply_all-clause-asked g c =
+    held_then g.G.Gate.asked c.args.policy (next_block c.args.state) (next_block c.loop.state) (next_block c.apply_all.new.state) c.args.gate.now c.loop.gate c.apply_all.new.gate c.loop.invariant.passed
+    (c.apply_all.ensures.held (search rules)).1
 
 pub loop-preserved-in-Got : goal.loop-preserved-in-Got
 loop-preserved-in-Got g c =
@@ -39,6 +51,7 @@ loop-preserved-in-Got g c =
       advances = advances_then s.model p s.key c.args.state c.loop.state c.apply_all.new.state c.loop.invariant.advances c.apply_all.ensures.advances;
       places = search rules;
       gate = search rules;
+      passed = passed_then g.G.Gate.asked c.args.policy (next_block c.args.state) (next_block c.loop.state) (next_block c.apply_all.new.state) c.args.gate.now c.loop.gate c.apply_all.new.gate c.loop.invariant.passed (c.apply_all.ensures.passed (search rules));
     }
 
 pub returns-in-Ended-clause-end : goal.returns-in-Ended-clause-end
@@ -59,3 +72,8 @@ returns-in-Ended-clause-end g c =
       taken = saw.stays ∙ sym saw.all_taken;
     })
     below c.ended.ensures.total c.ended.ensures.early
+
+pub returns-in-Ended-clause-asked : goal.returns-in-Ended-clause-asked
+returns-in-Ended-clause-asked g c =
+    asked_whole g.G.Gate.asked c.args.policy (next_block c.args.state) c.in-Ended.published (spec_of c.args.ring.now).id.total c.args.gate.now c.loop.gate c.loop.state c.take_batch.new.self c.ended.result c.ended.ensures.total c.ended.ensures.early
+    c.loop.invariant.passed

@@ -1,0 +1,43 @@
+-- What a policy's gate was asked. `asked` is what the gate's type says of one call: of the value before, the policy, the
+-- block, the answer and the value after.
+use Rattle.std.specs.Prelude.{◌≡◌, ℕ, zero, suc, ◌+◌, ◌<◌, Bool, true, false, List, Some, slice_get}
+use Rattle.crn_stock.specs.Draws.{next_block}
+use Rattle.crn_run.specs.declared.worker.PolicyEnd.{PolicyEnd}
+use Rattle.crn_run.specs.declared.worker.PolicyEnd.TheVariants.{Reached, Short, Held}
+
+-- the gate was asked once for each of policy k's blocks from n on, `count` of them and in order, and has passed them all
+abbrev pub HasPassed : {Gate : Type 0} → (Gate → ℕ → ℕ → Bool → Gate → Type 0) → ℕ → ℕ → ℕ → Gate → Gate → Type 0
+HasPassed asked k n zero gate gate' = gate ≡ gate'
+HasPassed {Gate} asked k n (suc count) gate gate' = (between : Gate) × HasPassed asked k n count gate between × asked between k (n + count) true gate'
+
+-- so up to block m
+pub record PassedUpTo {Gate : Type 0} (asked : Gate → ℕ → ℕ → Bool → Gate → Type 0) (k n m : ℕ) (gate gate' : Gate) : Type 0 where
+  pub count : ℕ
+  pub place : m ≡ n + count
+  pub passed : HasPassed asked k n count gate gate'
+
+-- so up to block m, which it was asked for once and did not pass
+pub record HeldAt {Gate : Type 0} (asked : Gate → ℕ → ℕ → Bool → Gate → Type 0) (k n m : ℕ) (gate gate' : Gate) : Type 0 where
+  pub between : Gate
+  pub before : PassedUpTo asked k n m gate between
+  pub answer : asked between k m false gate'
+
+-- what the gate of policy k was asked in a run from block n on, by the run's end
+abbrev pub WasAsked : {Gate : Type 0} → (Gate → ℕ → ℕ → Bool → Gate → Type 0) → ℕ → ℕ → PolicyEnd → Gate → Gate → Type 0
+WasAsked asked k n (Reached w x) gate gate' = PassedUpTo asked k n (next_block w) gate gate'
+WasAsked asked k n (Short m w x) gate gate' = PassedUpTo asked k n (next_block w) gate gate'
+WasAsked asked k n (Held w x) gate gate' = HeldAt asked k n (next_block w) gate gate'
+
+-- each policy's gate was asked once for each of its blocks from `first` to upto - 1, in order, and has passed them all
+abbrev pub AllPassed : {Gate : Type 0} → (Gate → ℕ → ℕ → Bool → Gate → Type 0) → ℕ → ℕ → List Gate → Type 0
+AllPassed {Gate} asked first upto gates = (k : ℕ) (gate : Gate) → slice_get gates k ≡ Some gate → (gate' : Gate) × PassedUpTo asked k first upto gate gate'
+
+-- some policy's gate was asked so up to a block below `upto`, for which it answered false
+pub record SomeHeld {Gate : Type 0} (asked : Gate → ℕ → ℕ → Bool → Gate → Type 0) (first upto : ℕ) (gates : List Gate) : Type 0 where
+  pub policy : ℕ
+  pub gate : Gate
+  pub gate' : Gate
+  pub is_gate : slice_get gates policy ≡ Some gate
+  pub block : ℕ
+  pub below : block < upto
+  pub held : HeldAt asked policy first block gate gate'

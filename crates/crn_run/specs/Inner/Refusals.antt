@@ -1,0 +1,24 @@
+-- Why a run has no result, step by step.
+use Rattle.std.specs.Prelude.{◌≡◌, ℕ, Bool, true, false, List}
+use Rattle.std.specs.List.{list_any}
+use Rattle.crn_stock.specs.Scenarios.{ScenarioParts}
+use Rattle.crn_run.specs.declared.fault.RunFault.{RunFault}
+use Rattle.crn_run.specs.declared.fault.RunFault.TheVariants.{Thread, Gate, Memory}
+use Rattle.crn_run.specs.declared.worker.PolicyEnd.{PolicyEnd}
+use Rattle.crn_run.specs.Ends.{is_held}
+use Rattle.crn_run.specs.Faults.{IsEnded}
+use Rattle.crn_run.specs.Gates.{SomeHeld}
+use Rattle.crn_run.specs.Jobs.{HasRefused}
+use Rattle.crn_run.specs.Inner.Ends.{HasEarly, is_short}
+
+-- the ends of all policies' runs
+abbrev pub RefusesEnds : List PolicyEnd → RunFault → Type 0
+RefusesEnds ends (Thread f) = HasEarly f ends
+RefusesEnds ends Gate = (list_any is_short ends ≡ false) × (list_any is_held ends ≡ true)
+RefusesEnds ends (Memory _) = ⊥
+
+-- a run for which all memory stands
+abbrev pub RefusesRun : {G : Type 0} → (G → Bool) → (G → ℕ → ℕ → Bool → G → Type 0) → ScenarioParts → ℕ → ℕ → List G → RunFault → Type 0
+RefusesRun refused asked s first upto gates (Thread f) = IsEnded s first upto f.ended
+RefusesRun refused asked s first upto gates Gate = SomeHeld asked first upto gates × HasRefused refused
+RefusesRun refused asked s first upto gates (Memory _) = ⊥
