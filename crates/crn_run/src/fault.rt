@@ -22,7 +22,7 @@ pub enum RunFault {
 }
 
 impl RunFault {
-    /// The number of the fault: 1 for a thread, 2 for a gate, 90 for want of memory.
+    /// Returns the number of the fault: 1 for a thread, 2 for a gate, 90 for out of memory.
     pub fn number(&self) -> u8
         ensures { result ≡ run_fault_number self.now }
     {

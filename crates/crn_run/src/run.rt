@@ -117,7 +117,7 @@ fn run_prepared<R: Threads + Wait + Sync, G: Gate + Send>(
     })
 }
 
-// Refuses ends of which not all have reached the end of the ring. One that came early is told before one that was held.
+// Fails unless all runs have reached the end of the ring. A run that ended early is reported before one that was held.
 fn check(ends: &[PolicyEnd]) -> Result<(), RunFault>
     ensures whole { OnOk result (AllReached ends.now) }
     ensures refused { IfErr result (λ e. RefusesEnds ends.now e) }

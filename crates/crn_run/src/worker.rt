@@ -42,9 +42,9 @@ pub enum PolicyEnd {
 }
 
 /// Takes the ring's blocks by batches of 16 at most, and applies each to the state of policy number `policy`, from 0 on in
-/// the scenario's order, up to the end of the ring. Before each block the gate is asked, and where it answers false the state stands before that block,
-/// also where later ones were taken. Where the ring is empty it tries again. It returns only if the end is marked or
-/// the gate answers false. But for what the gate does it takes no memory.
+/// the scenario's order, up to the end of the ring. Before each block the gate is asked, and where it answers false the
+/// state stands before that block, also where later ones were taken. Where the ring is empty it tries again. It returns
+/// only if the end is marked or the gate answers false. But for what the gate does it takes no memory.
 ///
 /// # Asks
 ///

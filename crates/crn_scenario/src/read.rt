@@ -50,7 +50,7 @@ pub fn read_scenario(alloc: Global, bytes: &[u8]) -> Result<Scenario, ScenarioFa
     Ok(scenario_of(alloc, &table)?)
 }
 
-// An error of `toml` is want of memory or tells that there is no document.
+// An error of `toml` means out of memory, or that the text is no document.
 fn document_fault(error: &toml::de::Error) -> ScenarioFault
     ensures memory { IsMemory error.now → result ≡ ScenarioFault.Memory alloc_error }
     ensures document { ¬ IsMemory error.now → result ≡ ScenarioFault.NoDocument }

@@ -101,7 +101,7 @@ fn words_of(rt: &HostRuntime) -> Result<Vec<String>, Fault> {
     }
 }
 
-// Why there are no words: want of memory, or one that is no text.
+// Why there are no words: out of memory, or a word that is not UTF-8.
 fn words_fault(error: &io::Error) -> Fault
     ensures memory { error_kind error.now ≡ ErrorKind.OutOfMemory → result ≡ Fault.Memory alloc_error }
     ensures words { error_kind error.now ≢ ErrorKind.OutOfMemory → result ≡ Fault.CommandLine }
@@ -120,7 +120,7 @@ fn opened(rt: &HostRuntime, name: &str) -> Result<File, Fault> {
     }
 }
 
-// Why a file was not opened: want of memory, or any other error.
+// Why a file was not opened: out of memory, or any other error.
 fn opening_fault(error: io::Error) -> Fault
     ensures memory { error_kind error ≡ ErrorKind.OutOfMemory → result ≡ Fault.Memory alloc_error }
     ensures reading { error_kind error ≢ ErrorKind.OutOfMemory → result ≡ Fault.Reading (Failed error) }
