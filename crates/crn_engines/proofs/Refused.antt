@@ -1,7 +1,5 @@
 -- What a fault tells, handed on from one step of an engine to the next.
-use Rattle.std.proofs.Common.{◌≡◌, ◌≢◌, ◌≤◌, ℕ, List, Option, Result, Ok, Err, IfErr, true, false, inl, inr, refl, subst, sym, alloc_error}
-use Rattle.std.specs.Io.KnownBytes.{Keeps}
-use Rattle.std.specs.declared.alloc.AllocError.{AllocError}
+use Rattle.std.proofs.Common.{◌≡◌, ◌≢◌, ℕ, List, Option, Result, Ok, Err, IfErr, false, inr, refl, subst}
 use Rattle.crn_stock.specs.Models.{total}
 use Rattle.crn_stock.specs.Parts.{Parts}
 use Rattle.crn_stock.specs.Scenarios.{ScenarioParts}
@@ -12,17 +10,11 @@ use Rattle.crn_checkpoint.specs.Reading.{IsTextOf}
 use Rattle.crn_engines.specs.Bytes.{ReadAll}
 use Rattle.crn_engines.specs.Inputs.{HasScenario, ReadScenario}
 use Rattle.crn_engines.specs.Legs.{HasEnough, MadeLeg}
-use Rattle.crn_engines.specs.Refusals.{RefusesInput, RefusesLeg, RefusesMigrate, RefusesOutput, RefusesReplay, RefusesResume, RefusesScenarioInput, RefusesSimulation, RefusesWords}
+use Rattle.crn_engines.specs.Refusals.{RefusesLeg, RefusesMigrate, RefusesOutput, RefusesReplay, RefusesResume, RefusesScenarioInput, RefusesSimulation}
 use Rattle.crn_engines.specs.Resumption.{HasCheckpoint, MadeResumed}
 use Rattle.crn_engines.specs.Simulation.{MadeReport}
-use Rattle.crn_engines.specs.Statuses.{HandsOn, is_writing}
-use Rattle.crn_engines.specs.Inner.Refusals.{RefusesCheckpointText, RefusesLegRun, RefusesOldText, RefusesOnward, RefusesOnwardRun, RefusesRun, RefusesScheduleText, RefusesTrace}
-
--- what holds of the program's word for a fault of one of its parts
-pub hands_on : {Part : Type 0} (Memory : AllocError → Part) (named : Part → Fault) (e : Part) (f : Fault) (P : Fault → Type 0) → HandsOn Memory named e f
-    → P (fault.Memory alloc_error) → (e ≢ Memory alloc_error → P (named e)) → P f
-hands_on Memory named e f P (inl h) memory other = subst P (sym h.1) memory
-hands_on Memory named e f P (inr h) memory other = subst P (sym h.1) (other h.0)
+use Rattle.crn_engines.specs.Statuses.{is_writing}
+use Rattle.crn_engines.specs.Inner.Refusals.{RefusesLegRun, RefusesOldText, RefusesOnward, RefusesOnwardRun, RefusesRun, RefusesScheduleText, RefusesTrace}
 
 -- what follows of each fault of an answer
 pub of_each : {T E : Type 0} (r : Result T E) (P Q : E → Type 0) → ((e : E) → P e → Q e) → IfErr r P → IfErr r Q
@@ -43,26 +35,8 @@ no_write (fault.Thread t) never = refl
 no_write fault.Gate never = refl
 no_write (fault.Memory m) never = refl
 
-pub input_silent : (e : Fault) (a b : Option (List ℕ)) → RefusesInput e a b → is_writing e ≡ false
-input_silent e a b h = no_write e (λ w is. subst (λ (x : Fault). RefusesInput x a b) is h)
-
-pub scenario_silent : (e : Fault) (a b : Option (List ℕ)) → RefusesScenarioInput e a b → is_writing e ≡ false
-scenario_silent e a b h = no_write e (λ w is. subst (λ (x : Fault). RefusesScenarioInput x a b) is h)
-
 pub run_silent : (e : Fault) → RefusesRun e → is_writing e ≡ false
 run_silent e h = no_write e (λ w is. subst RefusesRun is h)
-
-pub output_told : (e : Fault) → RefusesOutput e → is_writing e ≡ true
-output_told fault.CommandLine h = absurd h
-output_told (fault.Scenario f) h = absurd h
-output_told (fault.Checkpoint f) h = absurd h
-output_told (fault.Migration f) h = absurd h
-output_told (fault.Schedule f) h = absurd h
-output_told (fault.Reading r) h = absurd h
-output_told (fault.Writing w) h = refl
-output_told (fault.Thread t) h = absurd h
-output_told fault.Gate h = absurd h
-output_told (fault.Memory m) h = absurd h
 
 -- ---- from a step to the engine
 
@@ -91,18 +65,6 @@ to_leg (fault.Thread t) n a b h = absurd h
 to_leg fault.Gate n a b h = h
 to_leg (fault.Memory m) n a b h = h
 
-pub to_resume : (e : Fault) (s s' a b : Option (List ℕ)) → Keeps s s' → RefusesScenarioInput e a b → RefusesResume e s s' a b
-to_resume fault.CommandLine s s' a b keeps h = inl (keeps, h)
-to_resume (fault.Scenario f) s s' a b keeps h = inl (keeps, h)
-to_resume (fault.Checkpoint f) s s' a b keeps h = absurd h
-to_resume (fault.Migration f) s s' a b keeps h = inl (keeps, h)
-to_resume (fault.Schedule f) s s' a b keeps h = inl (keeps, h)
-to_resume (fault.Reading r) s s' a b keeps h = inl (keeps, h)
-to_resume (fault.Writing w) s s' a b keeps h = absurd h
-to_resume (fault.Thread t) s s' a b keeps h = absurd h
-to_resume fault.Gate s s' a b keeps h = inl (keeps, h)
-to_resume (fault.Memory m) s s' a b keeps h = inl (keeps, h)
-
 -- a run of the scenario that was read
 pub run_to_simulation : (e : Fault) (a b : Option (List ℕ)) → HasScenario a b → RefusesRun e → RefusesSimulation e a b
 run_to_simulation fault.CommandLine a b read h = absurd h
@@ -127,18 +89,6 @@ run_to_leg (fault.Writing w) s n a b read h = absurd h
 run_to_leg (fault.Thread t) s n a b read h = record { scenario = s; read = read; enough = h }
 run_to_leg fault.Gate s n a b read h = absurd h
 run_to_leg (fault.Memory m) s n a b read h = tt
-
-pub run_of_leg : (e : Fault) (s : ScenarioParts) (n : ℕ) → n ≤ total s.model → RefusesRun e → RefusesLegRun s n e
-run_of_leg fault.CommandLine s n within h = absurd h
-run_of_leg (fault.Scenario f) s n within h = absurd h
-run_of_leg (fault.Checkpoint f) s n within h = absurd h
-run_of_leg (fault.Migration f) s n within h = absurd h
-run_of_leg (fault.Schedule f) s n within h = absurd h
-run_of_leg (fault.Reading r) s n within h = absurd h
-run_of_leg (fault.Writing w) s n within h = absurd h
-run_of_leg (fault.Thread t) s n within h = within
-run_of_leg fault.Gate s n within h = absurd h
-run_of_leg (fault.Memory m) s n within h = tt
 
 -- ---- what was read before anything is written
 
@@ -224,18 +174,6 @@ output_of_replay (fault.Thread t) size readers total a b h = absurd h
 output_of_replay fault.Gate size readers total a b h = absurd h
 output_of_replay (fault.Memory m) size readers total a b h = absurd h
 
-pub output_of_words : (e : Fault) → RefusesOutput e → RefusesWords e
-output_of_words fault.CommandLine h = absurd h
-output_of_words (fault.Scenario f) h = absurd h
-output_of_words (fault.Checkpoint f) h = absurd h
-output_of_words (fault.Migration f) h = absurd h
-output_of_words (fault.Schedule f) h = absurd h
-output_of_words (fault.Reading r) h = absurd h
-output_of_words (fault.Writing w) h = tt
-output_of_words (fault.Thread t) h = absurd h
-output_of_words fault.Gate h = absurd h
-output_of_words (fault.Memory m) h = absurd h
-
 -- ---- a checkpoint that is read after the scenario
 
 pub onward_of_resume : (e : Fault) (s : ScenarioParts) (p q a b : Option (List ℕ)) → ReadScenario a b s → RefusesOnward s e p q → RefusesResume e p q a b
@@ -273,30 +211,6 @@ text_of_onward (fault.Writing w) s p q bytes read h = absurd h
 text_of_onward (fault.Thread t) s p q bytes read h = record { bytes = bytes; read = read; next = h.0; states = h.1; is_text = h.2 }
 text_of_onward fault.Gate s p q bytes read h = absurd h
 text_of_onward (fault.Memory m) s p q bytes read h = tt
-
-pub input_of_onward : (e : Fault) (s : ScenarioParts) (p q : Option (List ℕ)) → RefusesInput e p q → RefusesOnward s e p q
-input_of_onward fault.CommandLine s p q h = h
-input_of_onward (fault.Scenario f) s p q h = h
-input_of_onward (fault.Checkpoint f) s p q h = absurd h
-input_of_onward (fault.Migration f) s p q h = h
-input_of_onward (fault.Schedule f) s p q h = h
-input_of_onward (fault.Reading r) s p q h = h
-input_of_onward (fault.Writing w) s p q h = h
-input_of_onward (fault.Thread t) s p q h = absurd h
-input_of_onward fault.Gate s p q h = h
-input_of_onward (fault.Memory m) s p q h = h
-
-pub text_of_run : (e : Fault) (s : ScenarioParts) (bytes : List ℕ) → RefusesCheckpointText s e bytes → RefusesOnwardRun s e bytes
-text_of_run fault.CommandLine s bytes h = h
-text_of_run (fault.Scenario f) s bytes h = h
-text_of_run (fault.Checkpoint f) s bytes h = h
-text_of_run (fault.Migration f) s bytes h = h
-text_of_run (fault.Schedule f) s bytes h = h
-text_of_run (fault.Reading r) s bytes h = h
-text_of_run (fault.Writing w) s bytes h = h
-text_of_run (fault.Thread t) s bytes h = absurd h
-text_of_run fault.Gate s bytes h = h
-text_of_run (fault.Memory m) s bytes h = h
 
 pub run_onward : (e : Fault) (s : ScenarioParts) (next : ℕ) (states : List Parts) (bytes : List ℕ) → IsTextOf s next states bytes → RefusesRun e → RefusesOnwardRun s e bytes
 run_onward fault.CommandLine s next states bytes is_text h = absurd h
@@ -336,18 +250,6 @@ old_silent (fault.Thread t) bytes h = refl
 old_silent fault.Gate bytes h = refl
 old_silent (fault.Memory m) bytes h = refl
 
-pub input_of_migrate : (e : Fault) (a b : Option (List ℕ)) → RefusesInput e a b → RefusesMigrate e a b
-input_of_migrate fault.CommandLine a b h = h
-input_of_migrate (fault.Scenario f) a b h = h
-input_of_migrate (fault.Checkpoint f) a b h = h
-input_of_migrate (fault.Migration f) a b h = absurd h
-input_of_migrate (fault.Schedule f) a b h = h
-input_of_migrate (fault.Reading r) a b h = h
-input_of_migrate (fault.Writing w) a b h = absurd h
-input_of_migrate (fault.Thread t) a b h = h
-input_of_migrate fault.Gate a b h = h
-input_of_migrate (fault.Memory m) a b h = h
-
 pub text_of_trace : (e : Fault) (n : ℕ) (a b : Option (List ℕ)) (bytes : List ℕ) → ReadAll a b bytes → RefusesScheduleText n e bytes → RefusesTrace n e a b
 text_of_trace fault.CommandLine n a b bytes read h = absurd h
 text_of_trace (fault.Scenario f) n a b bytes read h = absurd h
@@ -371,18 +273,6 @@ schedule_silent (fault.Writing w) n bytes h = absurd h
 schedule_silent (fault.Thread t) n bytes h = refl
 schedule_silent fault.Gate n bytes h = refl
 schedule_silent (fault.Memory m) n bytes h = refl
-
-pub input_of_trace : (e : Fault) (n : ℕ) (a b : Option (List ℕ)) → RefusesInput e a b → RefusesTrace n e a b
-input_of_trace fault.CommandLine n a b h = h
-input_of_trace (fault.Scenario f) n a b h = h
-input_of_trace (fault.Checkpoint f) n a b h = h
-input_of_trace (fault.Migration f) n a b h = h
-input_of_trace (fault.Schedule f) n a b h = absurd h
-input_of_trace (fault.Reading r) n a b h = h
-input_of_trace (fault.Writing w) n a b h = h
-input_of_trace (fault.Thread t) n a b h = h
-input_of_trace fault.Gate n a b h = h
-input_of_trace (fault.Memory m) n a b h = h
 
 pub trace_of_replay : (e : Fault) (size readers total : ℕ) (a b : Option (List ℕ)) → RefusesTrace readers e a b → RefusesReplay size readers total e a b
 trace_of_replay fault.CommandLine size readers total a b h = absurd h
