@@ -8,8 +8,15 @@ is far from both: two seconds. On a busy machine the small ring is the slowest, 
 compared with it: beside four busy processes on one processor the run took 19 seconds on 64 slots, 3 to 5 on 128, and less
 than one on 512 and 1,024. A ring of one slot is no measure: it takes 3 seconds on an idle machine, so that even the
 eight would be within the bound.
+
+On the small ring a thread that waits yields. If it spun, it would use up its turn on the processor while the others have
+nothing to run on. So the run is also made on one processor, where it takes 0.1 processor seconds on either ring, idle or
+busy, and 20 and more with threads that spin.
 """
+import os
+import resource
 import subprocess
+import threading
 import time
 
 from scenarios import on_ring
@@ -19,8 +26,8 @@ SMALL, LARGE = 64, (128, 512, 1024)
 ROUNDS = 3
 # A run may take so many times as long as on the small ring, and so many seconds more.
 TIMES, MORE = 8, 1.0
-# After so long a run is ended.
-SECONDS = 60
+# After so long a run is ended, and after so many seconds of processor time.
+SECONDS, PROCESSOR_SECONDS = 60, 20
 
 
 def seconds_of(program, text):
@@ -47,7 +54,33 @@ def is_within_bound(program, text, size):
     return large <= TIMES * small + MORE
 
 
+def processor_seconds_of(program, text):
+    """Returns how many processor seconds a run takes on one processor."""
+
+    def prepare():
+        os.sched_setaffinity(0, {min(os.sched_getaffinity(0))})
+        resource.setrlimit(resource.RLIMIT_CPU, (PROCESSOR_SECONDS, PROCESSOR_SECONDS))
+
+    with subprocess.Popen([program], stdin=subprocess.PIPE, stdout=subprocess.DEVNULL, stderr=subprocess.DEVNULL,
+                          preexec_fn=prepare) as process:
+        timer = threading.Timer(SECONDS, process.kill)
+        timer.start()
+        process.stdin.write(text)
+        process.stdin.close()
+        _, status, used = os.wait4(process.pid, 0)
+        process.returncode = os.waitstatus_to_exitcode(status)
+        timer.cancel()
+    return used.ru_utime + used.ru_stime if process.returncode == 0 else float("inf")
+
+
+def yields_on_small_ring(program, text):
+    """Returns whether a run on the small ring takes little more processor time than one on the largest."""
+    small, large = (processor_seconds_of(program, on_ring(text, size)) for size in (SMALL, max(LARGE)))
+    return small <= TIMES * large + MORE
+
+
 def tries(program, text):
-    """Times a scenario on each large ring."""
+    """Times a scenario on each large ring, and on the small one by processor time."""
+    yield f"the processor seconds of a run on a ring of {SMALL} slots", lambda: yields_on_small_ring(program, text)
     for size in LARGE:
         yield f"the seconds of a run on a ring of {size} slots", lambda: is_within_bound(program, text, size)
