@@ -1,53 +1,82 @@
-"""How long a run takes on rings where waiting threads sleep, compared with a ring where they yield.
+"""How the threads of the longest run wait for one another: how long they sleep, and whether they spin.
 
-On a ring of 128 slots or more a thread that waits sleeps for some microseconds. If it slept for as many milliseconds, the
-longest run would take eight seconds on each of these rings, since all sleeps together last as long whatever the size.
+On a ring of 128 slots or more a thread that waits sleeps for some microseconds. All sleeps of the producer together last 0.03
+to 0.2 seconds, on an idle machine and on a busy one. If a sleep took as many milliseconds, they would last 8 seconds on each of
+these rings, since a larger ring needs fewer of them. What a thread waits for a processor does not count: the system reports it
+beside the time that the thread runs. Where the system reports neither, all of the run counts as sleep.
 
-On an idle machine the run takes 0.1 to 0.3 seconds on each ring from 64 slots up, on one processor and on two. The bound
-is far from both: two seconds. On a busy machine the small ring is the slowest, so the bound rises faster than what is
-compared with it: beside four busy processes on one processor the run took 19 seconds on 64 slots, 3 to 5 on 128, and less
-than one on 512 and 1,024. A ring of one slot is no measure: it takes 3 seconds on an idle machine, so that even the
-eight would be within the bound.
+On a ring of 64 slots a thread that waits yields. If it spun, it would use up its turn on the processor while the others have
+nothing to run on. So the run is also made on one processor, where it takes 0.1 processor seconds on either ring, on an idle
+machine and on a busy one, and 20 and more with threads that spin.
 """
+import os
+import resource
 import subprocess
+import threading
 import time
 
 from scenarios import on_ring
 
-# The size of the small ring, and the sizes that are compared with it.
+# The size of the ring on which threads yield, and the sizes on which they sleep.
 SMALL, LARGE = 64, (128, 512, 1024)
-ROUNDS = 3
-# A run may take so many times as long as on the small ring, and so many seconds more.
+# The sleeps of a run may last so many seconds. A host that takes the processors away wakes threads late, so the shortest of
+# some runs counts.
+MOST_ASLEEP, ROUNDS = 4, 3
+# A run that yields may take so many times the processor time of one that sleeps, and so many seconds more.
 TIMES, MORE = 8, 1.0
-# After so long a run is ended.
-SECONDS = 60
+# After so long a run is ended, and after so many seconds of processor time.
+SECONDS, PROCESSOR_SECONDS = 60, 20
 
 
-def seconds_of(program, text):
-    """Returns how many seconds a run takes."""
+def ended(program, text, prepare=None):
+    """Runs the program on a text to its end, and returns its process, which is still to be waited for."""
+    process = subprocess.Popen([program], stdin=subprocess.PIPE, stdout=subprocess.DEVNULL, stderr=subprocess.DEVNULL,
+                               preexec_fn=prepare)
+    timer = threading.Timer(SECONDS, process.kill)
+    timer.start()
+    process.stdin.write(text)
+    process.stdin.close()
+    os.waitid(os.P_PID, process.pid, os.WEXITED | os.WNOWAIT)
+    timer.cancel()
+    return process
+
+
+def seconds_asleep_of(program, text):
+    """Returns how many seconds the producer, the first thread of a run, neither runs nor waits for a processor."""
     begun = time.perf_counter()
-    try:
-        subprocess.run([program], input=text, stdout=subprocess.DEVNULL, stderr=subprocess.DEVNULL, timeout=SECONDS)
-    except subprocess.TimeoutExpired:
-        return float("inf")
-    return time.perf_counter() - begun
+    with ended(program, text) as process:
+        wall = time.perf_counter() - begun
+        with open(f"/proc/{process.pid}/schedstat", encoding="ascii") as file:
+            runs, waits, _ = map(int, file.read().split())
+    return wall - (runs + waits) / 1e9 if process.returncode == 0 else float("inf")
 
 
-def is_within_bound(program, text, size):
-    """Returns whether the shortest of some runs on a large ring is within the bound, by the shortest on the small one.
+def processor_seconds_of(program, text):
+    """Returns how many processor seconds a run takes on one processor."""
 
-    A run within the seconds that are allowed on any machine settles it alone.
-    """
-    small = large = float("inf")
-    for _ in range(ROUNDS):
-        large = min(large, seconds_of(program, on_ring(text, size)))
-        if large <= MORE:
-            return True
-        small = min(small, seconds_of(program, on_ring(text, SMALL)))
-    return large <= TIMES * small + MORE
+    def prepare():
+        os.sched_setaffinity(0, {min(os.sched_getaffinity(0))})
+        resource.setrlimit(resource.RLIMIT_CPU, (PROCESSOR_SECONDS, PROCESSOR_SECONDS))
+
+    with ended(program, text, prepare) as process:
+        _, status, used = os.wait4(process.pid, 0)
+        process.returncode = os.waitstatus_to_exitcode(status)
+    return used.ru_utime + used.ru_stime if process.returncode == 0 else float("inf")
+
+
+def sleeps_shortly(program, text):
+    """Returns whether the sleeps of a run are within the bound."""
+    return any(seconds_asleep_of(program, text) <= MOST_ASLEEP for _ in range(ROUNDS))
+
+
+def yields_on_small_ring(program, text):
+    """Returns whether a run on the small ring takes little more processor time than one on the largest."""
+    small, large = (processor_seconds_of(program, on_ring(text, size)) for size in (SMALL, max(LARGE)))
+    return small <= TIMES * large + MORE
 
 
 def tries(program, text):
-    """Times a scenario on each large ring."""
+    """Runs a scenario on each ring."""
+    yield f"the processor seconds of a run on a ring of {SMALL} slots", lambda: yields_on_small_ring(program, text)
     for size in LARGE:
-        yield f"the seconds of a run on a ring of {size} slots", lambda: is_within_bound(program, text, size)
+        yield f"the seconds asleep in a run on a ring of {size} slots", lambda: sleeps_shortly(program, on_ring(text, size))

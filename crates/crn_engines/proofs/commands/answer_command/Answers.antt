@@ -1,12 +1,6 @@
 use Rattle.std.proofs.Common.{rules}
 use Rattle.crn_engines.proofs.commands.answer_command.Goals as goal
 
-pub returns-in-Run-clause-wrote : goal.returns-in-Run-clause-wrote
-returns-in-Run-clause-wrote g c = search rules
-
-pub returns-in-Run-clause-front : goal.returns-in-Run-clause-front
-returns-in-Run-clause-front g c = search rules
-
 pub returns-in-Words-clause-wrote : goal.returns-in-Words-clause-wrote
 returns-in-Words-clause-wrote g c = search rules
 
