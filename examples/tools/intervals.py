@@ -17,6 +17,7 @@ from grid import HEADER as HEADING
 from values import name_faults, shown
 
 HEADER = HEADING.split(",")
+MOST_REPLICATIONS = 256
 WHOLE = re.compile("-?[0-9]{1,40}")
 FRACTION = re.compile("-?[0-9]{1,60}/[1-9][0-9]{0,59}")
 # The kind of each column's cells, and how a message names it. `-` stands for no figure with one replication.
@@ -97,7 +98,7 @@ def own_variance(row, base, replications):
 def is_of(row, base, replications):
     """Returns whether a row is of a report with this number of replications and this base."""
     periods, of_base = periods_of(row, replications), periods_of(base, replications)
-    if replications < 1 or row["diff_mean"] * replications != row["diff_total"]:
+    if not 1 <= replications <= MOST_REPLICATIONS or row["diff_mean"] * replications != row["diff_total"]:
         return False
     if row["total"] - base["total"] != row["diff_total"] or row["total"] < 0:
         return False
