@@ -3,8 +3,8 @@ import importlib
 
 from tries import HERE, run, text_of, tool, write
 
-# Demand of examples/two_policies.toml 10% up and down, by hand. As an example 3 becomes 3.3: 3 with weight 2 * 7, 4 with
-# weight 2 * 3.
+# Demand of examples/two_policies.toml 10% up and down, by hand. As an example 3 becomes 3.3, that is 3 with weight 2 * 7
+# and 4 with weight 2 * 3.
 UP = "values = [1, 2, 3, 4, 5]\nweights = [9, 17, 18, 12, 4]"
 DOWN = "values = [0, 1, 2, 3, 4]\nweights = [1, 13, 22, 18, 6]"
 DEMAND = "values = [1, 2, 3, 4]\nweights = [1, 2, 2, 1]"
@@ -15,13 +15,15 @@ CHANGES = [("periods = 4", "periods = 50"), ("replications = 1", "replications =
 # Each case with the change of the scenario, and by what all costs are multiplied there.
 CASES = [("base", "", "", 1), ("demand_up", DEMAND, UP, 1), ("demand_down", DEMAND, DOWN, 1),
          ("lead_plus_1", LEAD, LEAD.replace("values = [1]", "values = [2]"), 1),
-         ("backlog_half", "setup = 32\nunit = 3\nholding = 1\nbacklog = 7", "setup = 64\nunit = 6\nholding = 2\nbacklog = 7", 2),
+         ("backlog_half", "setup = 32\nunit = 3\nholding = 1\nbacklog = 7",
+          "setup = 64\nunit = 6\nholding = 2\nbacklog = 7", 2),
          ("backlog_double", "backlog = 7", "backlog = 14", 1)]
 # By hand: a tenth of the weights 9, 262137, 294903, 98307 and 4 is rounded to 1, 26214, 29490, 9831 and 0, of which the
 # mean is 180223 / 65536; it was 2.5.
 NOTES = [("values = [1, 2, 3, 4]", "values = [1, 2, 3, 9100]", "demand 10% up is left out: a demand would be 10,010,"),
          (LEAD, "values = [32]\nweights = [1]", "lead time plus 1 is left out: a lead time would be 33,"),
-         ("weights = [1, 2, 2, 1]", "weights = [1, 32767, 32767, 1]", "demand 10% up: by rounded weights the mean is +9.9994%")]
+         ("weights = [1, 2, 2, 1]", "weights = [1, 32767, 32767, 1]",
+          "demand 10% up: by rounded weights the mean is +9.9994%")]
 REFUSED = [("missing.toml", "No such file"), ("examples/checks/tries.toml", "fault 2: "),
            ("examples/two_policies.toml --program /missing/program", "/missing/program: No such file")]
 

@@ -10,7 +10,8 @@ BY_HAND = {"A": [(0, 1, 59, 59), (0, 2, 57, 57), (0, 2, 55, 55), (0, 4, 51, 51)]
 PERIODS = 40
 REFUSED = [("two_policies.toml C", "there is no policy 'C'; the scenario has A, B"),
            ("two_policies.toml A A", "give 1 to 8 policies, each once"),
-           ("case/scenario.toml today level_20 level_25 level_36 point_8 point_10 point_12 point_18 both_8_25", "1 to 8"),
+           ("case/scenario.toml today level_20 level_25 level_36 point_8 point_10 point_12 point_18 both_8_25",
+            "give 1 to 8 policies, each once"),
            ("two_policies.toml A --periods 0", "the scenario has 1 to 4 periods"),
            ("two_policies.toml A --periods 5", "the scenario has 1 to 4 periods"),
            ("mail_order.toml today --periods 209 --out it.svg", "a picture has room for 208 periods"),

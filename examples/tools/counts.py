@@ -1,7 +1,7 @@
 """Runs crnsim on changes of a scenario, and counts what one cost is paid for.
 
-It is no program of its own: trajectory.py and sensitivity.py call it. Costs do not steer orders. So a run with one cost
-at 1 and the others at 0 counts orders (`setup`), items ordered (`unit`), items in stock at the ends of periods
+It is no program of its own: trajectory.py and sensitivity.py call it. Costs do not steer orders. So a run with one
+cost at 1 and the others at 0 counts orders (`setup`), items ordered (`unit`), items in stock at the ends of periods
 (`holding`) or items owed (`backlog`).
 
 This is not proved; crnsim's figures are.
@@ -21,7 +21,7 @@ def counting(tree, cost):
 
 
 def totals_of(program, tree):
-    """Returns the total of each policy of a scenario's tree, in its order; `Refused` if the program writes no report."""
+    """Returns the total of each policy of a scenario's tree, in order; `Refused` if the program writes no report."""
     scenario = Scenario(0, tree["policy"], scenario_text(tree, tree["policy"]))
     status, report, errors = run_program(program, scenario.text)
     rows = rows_of(scenario, report) if status == 0 else None

@@ -4,19 +4,19 @@
     decide.py REPORT.csv [--scenario SCENARIO.toml [--sweep]] [--replications R] [--level 0.95] [--all] [--csv]
               [--plot FILE.png] [--map FILE.png]
 
-The first policy of the report is the base. Each other policy gets a paired-t interval for its `diff_mean`, from `low` to
-`high`, with R - 1 degrees of freedom. All these intervals together hold at the level, by Bonferroni over the comparisons
-(Law, Simulation Modeling and Analysis, chapter 10). `percent` is `diff_mean` in percent of the base's cost. From
-`cost_low` to `cost_high` is an interval for the policy's own cost per period. These hold at the level one by one, not
-together. The policies are ranked by `diff_total`. At most 20 are listed, the base always; --all lists them all, and
---csv prints all of them as CSV.
+The first policy of the report is the base. Each other policy gets a paired-t interval for its `diff_mean`, from `low`
+to `high`, with R - 1 degrees of freedom. All these intervals together hold at the level, by Bonferroni over the
+comparisons (Law, Simulation Modeling and Analysis, chapter 10). `percent` is `diff_mean` in percent of the base's
+cost. From `cost_low` to `cost_high` is an interval for the policy's own cost per period. These hold at the level one
+by one, not together. The policies are ranked by `diff_total`. At most 20 are listed, the base always; --all lists
+them all, and --csv prints all of them as CSV.
 
 The number of replications R comes from the scenario or from --replications. With --scenario the report must have the
-scenario's policies: the same names, s and S in the same order. With --sweep it is a table of sweep.py, of which only the
-first policy is compared. With the scenario, a warning says how much the cost `unit` favours policies that end a
-replication with little stock. --plot draws the differences with their intervals, --map the cost over s and S; the file's
-ending, .png or .svg, says which kind of picture. Pictures need matplotlib. If the report cannot be used, one line says
-why, and the exit status is 2.
+scenario's policies: the same names, s and S in the same order. With --sweep it is a table of sweep.py, of which only
+the first policy is compared. With the scenario, a warning says how much the cost `unit` favours policies that end a
+replication with little stock. --plot draws the differences with their intervals, --map the cost over s and S; the
+file's ending, .png or .svg, says which kind of picture. Pictures need matplotlib. If the report cannot be used, one
+line says why, and the exit status is 2.
 
 This tool is not proved; crnsim's figures are, and the decimals here are rounded.
 """
@@ -84,10 +84,11 @@ def decision_text(rows, base, replications, level, names):
     lines = ["", f"replications: {replications}, comparisons with {base}: {comparisons}, joint level: {level:g}"]
     if replications == 1:
         lines.append("one replication tells nothing of spread, so there are no intervals")
-    else:
+    elif comparisons:
         lines.append(f"low to high: the interval of diff_mean; all {comparisons} hold together at the joint level")
-        lines.append(f"cost_low to cost_high: the interval of a policy's own cost, each at {level:g} by itself; to compare "
-                     "policies use low and high")
+    if replications > 1:
+        lines.append(f"cost_low to cost_high: the interval of a policy's own cost, each at {level:g} by itself; to "
+                     "compare policies use low and high")
     for verdict, words in VERDICTS:
         found = [row["policy"] for row in rows if row["verdict"] == verdict]
         lines.append(f"{words.format(base)}: {named(found, names)}")
@@ -104,12 +105,13 @@ def end_warning(tree, given):
     effects = end_effects(tree, [(row["s"], row["S"]) for row in given])
     if effects is None:
         return f"{start} How much that favours policies that end with little stock is not known here.\n{advice}\n"
-    (least, low), (most, high) = (pick(zip(effects, (row["policy"] for row in given))) for pick in (min, max))
+    named_effects = list(zip(effects, (row["policy"] for row in given)))
+    (least, low), (most, high) = min(named_effects), max(named_effects)
     place = min(range(len(given)), key=lambda it: given[it]["diff_total"])
-    cheapest = "" if place == 0 else (f"For the cheapest, {given[place]['policy']}, it is about {effects[place]:,.0f} of "
-                                      f"{float(given[place]['diff_mean']):,.0f}.\n")
+    mean = float(given[place]["diff_mean"])
+    cheapest = f"For the cheapest, {given[place]['policy']}, it is about {effects[place]:,.0f} of {mean:,.0f}.\n"
     return (f"{start}\nBy this alone diff_mean is from about {least:,.0f} ({low}) to {most:,.0f} ({high}), by long-run "
-            f"means.\nIt favours policies that end with less stock than {base}.\n{cheapest}{advice}\n")
+            f"means.\nIt favours policies that end with less stock than {base}.\n{cheapest * (place > 0)}{advice}\n")
 
 
 def print_text(rows, base, replications, asked, warning):

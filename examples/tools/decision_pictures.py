@@ -11,6 +11,8 @@ STYLES = {"better": ("#08458c", "o", True), "undecided": ("#777777", "D", False)
           "base": ("black", "|", True)}
 # A legend between the title and the axes, at the left.
 ABOVE = {"loc": "lower left", "bbox_to_anchor": (0, 1), "borderaxespad": 0.2, "borderpad": 0.2, "frameon": False}
+TITLE = {"x": 0.01, "ha": "left", "fontsize": 12}
+NUMBER = "{x:,.10g}"
 NARROW_CELLS = 14  # More cells in a row have no room for figures.
 
 
@@ -40,7 +42,7 @@ def draw_legend(axes, rows, pyplot):
 def draw_differences(pyplot, rows, base, sample, path):
     """Draws `diff_mean` of each row with its interval. `sample` has the replications, the comparisons and the level."""
     replications, comparisons, level = sample
-    figure, axes = pyplot.subplots(figsize=(9, 1.9 + 0.3 * len(rows)), layout="constrained")
+    figure, axes = pyplot.subplots(figsize=(9, 2.3 + 0.3 * len(rows)), layout="constrained")
     axes.axvline(0, color="black", linewidth=0.8)
     for place, row in enumerate(rows):
         draw_row(axes, place, row)
@@ -49,7 +51,7 @@ def draw_differences(pyplot, rows, base, sample, path):
     axes.grid(axis="y", color="#dddddd", linewidth=0.6)
     axes.set_axisbelow(True)
     axes.ticklabel_format(axis="x", style="plain", useOffset=False)
-    axes.xaxis.set_major_formatter("{x:,.6g}")
+    axes.xaxis.set_major_formatter(NUMBER)
     axes.locator_params(axis="x", nbins=7)
     if base["total"]:
         right = axes.secondary_yaxis("right")
@@ -57,10 +59,10 @@ def draw_differences(pyplot, rows, base, sample, path):
         right.tick_params(length=0)
         right.spines["right"].set_visible(False)
     spread = "one replication: no intervals" if replications == 1 else f"joint level {100 * level:g}%"
-    axes.set_xlabel(f"cost of a replication less that of {base['policy']}, in the scenario's money; {spread}")
+    axes.set_xlabel(f"cost of a replication less that of {base['policy']}\nin the scenario's money; {spread}")
     counted = "1 replication" if replications == 1 else f"{replications} replications"
     left_out = "" if comparisons + 1 == len(rows) else f", {len(rows)} of {comparisons + 1} policies shown"
-    axes.set_title(f"Policies compared with {label_of(base)}, {counted}{left_out}", pad=28)
+    figure.suptitle(f"Policies compared with {label_of(base)}\n{counted}{left_out}", **TITLE)
     draw_legend(axes, rows, pyplot)
     save(pyplot, figure, path)
 
@@ -86,7 +88,8 @@ def draw_cells(axes, rows, widths, shades, pyplot):
                                         edgecolor="white", linewidth=0.4))
         if has_room:
             grey = 0.3 * colour[0] + 0.59 * colour[1] + 0.11 * colour[2]
-            axes.text(row["s"], row["S"], f"{cost:,.5g}", ha="center", va="center", fontsize=7,
+            digits = 0 if cost >= 10_000 else 1 if cost >= 1_000 else 2
+            axes.text(row["s"], row["S"], f"{cost:,.{digits}f}", ha="center", va="center", fontsize=7,
                       color="black" if grey > 0.5 else "white")
 
 
@@ -119,11 +122,13 @@ def draw_map(pyplot, rows, base, path):
     for name, width, limit in (("s", widths[0], axes.set_xlim), ("S", widths[1], axes.set_ylim)):
         numbers = [row[name] for row in rows]
         limit(min(numbers) - 0.8 * width, max(numbers) + 0.8 * width)
-    axes.locator_params(integer=True)
+    for axis in (axes.xaxis, axes.yaxis):
+        axis.set_major_locator(matplotlib.ticker.MaxNLocator(8, integer=True, min_n_ticks=1))
+        axis.set_major_formatter(NUMBER)
     axes.set_xlabel("reorder point s, in items")
     axes.set_ylabel("order-up-to level S, in items")
-    axes.set_title(f"Cost per period of {len(rows)} policies", pad=46)
+    figure.suptitle("Cost per period over reorder point and order-up-to level", **TITLE)
     bar = figure.colorbar(shades, ax=axes, label="cost per period, in the scenario's money (dark is cheap)")
     bar.set_ticks([tick for tick in bar.get_ticks() if norm.vmin <= tick <= norm.vmax], minor=False)
-    bar.ax.yaxis.set_major_formatter("{x:,.6g}")
+    bar.ax.yaxis.set_major_formatter(NUMBER)
     save(pyplot, figure, path)

@@ -1,17 +1,17 @@
 """Estimates how much the cost `unit` favours policies that end a replication with little stock.
 
-It is no program of its own: decide.py and sensitivity.py call `end_effects`. `unit` is paid for each item ordered, also
-for those that are left when a replication ends. The items ordered are the net demand (demand less returns) and what the
-inventory position has risen by since the start. So the unit cost of two policies differs by `unit` times the difference
-of their final positions. Here final positions are replaced by means over the long run.
+It is no program of its own: decide.py and sensitivity.py call `end_effects`. `unit` is paid for each item ordered,
+also for those that are left when a replication ends. The items ordered are the net demand (demand less returns) and
+what the inventory position has risen by since the start. So the unit cost of two policies differs by `unit` times the
+difference of their final positions. Here final positions are replaced by means over the long run.
 
 Counted down from S, the position is a random walk that starts anew with each order. Only its lows matter: an order is
-placed at the first low below s. With l(j) for the chance that S - j is a low, the mean position at the end of a period is
-S less the mean of j up to S - s with the weights l(j), plus a number that is the same for all policies. This follows from
-the means of the position and of its square, which a period leaves as they are in the long run (compare Veinott and
-Wagner, Computing optimal (s,S) inventory policies, 1965; Feller, An Introduction to Probability Theory and Its
-Applications, volume II, chapter XII, on lows). Large numbers are counted in steps of several items; a value between two
-steps is shared so that means stay.
+placed at the first low below s. With l(j) for the chance that S - j is a low, the mean position at the end of a
+period is S less the mean of j up to S - s with the weights l(j), plus a number that is the same for all policies.
+This follows from the means of the position and of its square, which a period leaves as they are in the long run
+(compare Veinott and Wagner, Computing optimal (s,S) inventory policies, 1965; Feller, An Introduction to Probability
+Theory and Its Applications, volume II, chapter XII, on lows). Large numbers are counted in steps of several items; a
+value between two steps is shared so that means stay.
 
 This is not proved, and all that is computed here is rounded.
 """

@@ -32,7 +32,9 @@ class Refused(Exception):
 
 
 def central_probability(angle, degrees):
-    """Returns P(|T| < t) of Student's t, tan(angle) = t / sqrt(degrees): the finite sums of Abramowitz and Stegun, 26.7."""
+    """Returns P(|T| < t) of Student's t, tan(angle) = t / sqrt(degrees).
+
+    These are the finite sums of Abramowitz and Stegun, Handbook of Mathematical Functions, 26.7."""
     cosine, term, total = math.cos(angle), 1.0, 0.0
     odd = degrees % 2
     for power in range(odd, degrees - 1, 2):
@@ -110,8 +112,9 @@ def is_of(row, base, replications):
 
 
 def rows_of(path, replications):
-    """Returns the rows of a report, in its order, with numbers for texts. `Refused` if it is not a report of this number
-    of replications."""
+    """Returns the rows of a report, in its order, with numbers for texts.
+
+    `Refused` if it is not a report of this number of replications."""
     rows = [row_of(cells, f"{path}: line {line}") for line, cells in enumerate(lines_of(path), 2)]
     if rows[0]["diff_total"] != 0:
         raise Refused(f"{path}: line 2: the first policy is not the base, whose differences are 0")

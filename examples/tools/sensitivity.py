@@ -3,19 +3,20 @@
 
     sensitivity.py SCENARIO.toml [--program PATH] [--csv]
 
-The cases are the scenario itself (`base`); demand 10% up and down; every lead time one period longer; the cost `backlog`
-halved and doubled. All else stays as it is, the key too. The regret of a policy in a case is its cost per period less
-that of the case's cheapest policy of the scenario, also in percent of the latter. The last column has the greatest
-regret of each policy over all cases, and the policies are ranked by it, the least first.
+The cases are the scenario itself (`base`); demand 10% up and down; every lead time one period longer; the cost
+`backlog` halved and doubled. All else stays as it is, the key too. The regret of a policy in a case is its cost per
+period less that of the case's cheapest policy of the scenario, also in percent of the latter. The last column has the
+greatest regret of each policy over all cases, and the policies are ranked by it, the least first.
 
-Demand 10% up: a demand d becomes 1.1 d, and if that is not whole, it becomes the whole numbers below and above, with d's
-weight shared so that the mean is 1.1 d. Weights are multiplied by 10 for this. If they then come to more than 65,536 they
-are scaled down and rounded, and a line says what the mean has become. Demand 10% down goes by 0.9 d in the same way.
-Returns do not change. Costs with another `backlog` follow exactly from the items owed, which one run counts. A case whose
-numbers are out of range, a demand over 10,000 or a lead time over 32, is left out, and a line says so.
+Demand 10% up: a demand d becomes 1.1 d, and if that is not whole, it becomes the whole numbers below and above, with
+d's weight shared so that the mean is 1.1 d. Weights are multiplied by 10 for this. If they then come to more than
+65,536 they are scaled down and rounded, and a line says what the mean has become. Demand 10% down goes by 0.9 d in
+the same way. Returns do not change. Costs with another `backlog` follow exactly from the items owed, which one run
+counts. A case whose numbers are out of range, a demand over 10,000 or a lead time over 32, is left out, and a line
+says so.
 
-Regrets are means of one sample, without intervals, and contain the end effect of the cost `unit` (decide.py warns of it).
-If the scenario cannot be used, one line says why, and the exit status is 2.
+Regrets are means of one sample, without intervals, and contain the end effect of the cost `unit` (decide.py warns of
+it). If the scenario cannot be used, one line says why, and the exit status is 2.
 
 This tool is not proved; crnsim's figures are, and the decimals here are rounded.
 """
@@ -45,7 +46,7 @@ class Case(NamedTuple):
     costs: list
 
     def regrets(self):
-        """Returns the regret of each policy, in money per period and in percent; `None` for percent if the least is 0."""
+        """Returns the regret of each policy, in money per period and in percent; no percentage if the least is 0."""
         least = min(self.costs)
         return [(cost - least, 100 * (cost - least) / least if least else None) for cost in self.costs]
 
@@ -56,8 +57,9 @@ def mean_of(weights):
 
 
 def scaled_down(weights):
-    """Returns weights that come to 65,536 at most: divided by what all have in common, or else rounded so that their sum
-    stays right."""
+    """Returns weights that come to 65,536 at most.
+
+    They are divided by their common divisor, or else scaled to 65,536 and rounded so that their sum stays right."""
     common = math.gcd(*weights.values())
     weights = {value: weight // common for value, weight in weights.items()}
     total = sum(weights.values())
@@ -92,7 +94,8 @@ def demand_trees(tree, notes):
         before, after = mean_of(weights), mean_of(changed)
         if after != before * tenths / 10:
             notes.append(f"{words}: by rounded weights the mean is {float(after / before) - 1:+.4%}")
-        trees[name] = {**tree, "demand": {"values": sorted(changed), "weights": [changed[it] for it in sorted(changed)]}}
+        values = sorted(changed)
+        trees[name] = {**tree, "demand": {"values": values, "weights": [changed[it] for it in values]}}
     return trees
 
 
@@ -100,7 +103,7 @@ def lead_trees(tree, notes):
     """Returns the tree of the case with longer lead times; a note says if it is left out."""
     lead = {value + 1: weight for value, weight in zip(tree["lead"]["values"], tree["lead"]["weights"]) if weight}
     if max(lead) > MOST_LEAD:
-        notes.append(f"lead time plus 1 is left out: a lead time would be {max(lead)}, which is over {MOST_LEAD} periods")
+        notes.append(f"lead time plus 1 is left out: a lead time would be {max(lead)}, which is over {MOST_LEAD}")
         return {}
     return {"lead_plus_1": {**tree, "lead": {"values": list(lead), "weights": list(lead.values())}}}
 
@@ -118,7 +121,9 @@ def cases_of(program, tree):
 
 
 def ranked(tree, cases):
-    """Returns for each policy its regrets in all cases and its greatest one, with the name of that case; the least first."""
+    """Returns for each policy its regrets in all cases and its greatest one, with the name of that case.
+
+    The policy with the least greatest regret comes first."""
     rows = []
     for policy, *regrets in zip(tree["policy"], *(case.regrets() for case in cases)):
         place = max(range(len(cases)), key=lambda it: regrets[it][0])

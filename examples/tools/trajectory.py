@@ -3,16 +3,17 @@
 
     trajectory.py SCENARIO.toml POLICY.. [--periods N] [--program PATH] [--out FILE.png] [--csv]
 
-It shows replication 0, up to eight policies and the first N periods: at most 208 in a picture, and as many if N is not
-given. Periods are numbered from 0. `ordered` is the order of a period's review, `net_demand` its demand less what
-customers return, `stock` and `position` (stock and all that is on order) are those at its end. Without --out a table goes
-to standard output, with --csv as CSV. With --out a picture is drawn, as PNG or SVG by the file's ending, which needs
-matplotlib; with --out and --csv both are made.
+It shows replication 0, up to eight policies and the first N periods: at most 208 in a picture, and as many if N is
+not given. Periods are numbered from 0. `ordered` is the order of a period's review, `net_demand` its demand less what
+customers return, `stock` and `position` (stock and all that is on order) are those at its end. Without --out a table
+goes to standard output, with --csv as CSV. With --out a picture is drawn, as PNG or SVG by the file's ending, which
+needs matplotlib; with --out and --csv both are made.
 
-The numbers are exact and come from the program. It runs the scenario cut to 1, 2, .. periods with one cost at 1 and the
-others at 0, and the difference of two totals is what the last period has counted. Net demand is seen from a policy with
-so much stock that it never orders. Replication 0 keeps its random numbers if the number of periods changes; the others
-do not, so they cannot be shown. If the scenario cannot be used, one line says why, and the exit status is 2.
+The numbers are exact and come from the program. It runs the scenario cut to 1, 2, .. periods with one cost at 1 and
+the others at 0, and the difference of two totals is what the last period has counted. Net demand is seen from a
+policy with so much stock that it never orders. Replication 0 keeps its random numbers if the number of periods
+changes; the others do not, so they cannot be shown. If the scenario cannot be used, one line says why, and the exit
+status is 2.
 
 This tool is not proved; crnsim's figures are.
 """
@@ -74,9 +75,10 @@ def steps_of(totals):
 
 
 def net_demands(counts):
-    """Returns the net demand of each period, from the items that the ample policy has in stock at the ends of periods."""
+    """Returns the net demand of each period, from what the ample policy has in stock at the ends of periods."""
     if min(counts) <= 0:
-        raise Refused(f"the demand of {counts.index(min(counts)) + 1} periods is over {MOST_ITEMS:,} items; give fewer --periods")
+        periods = counts.index(min(counts)) + 1
+        raise Refused(f"the demand of {periods} periods is over {MOST_ITEMS:,} items; give fewer --periods")
     return [before - after for before, after in zip([MOST_ITEMS, *counts], counts)]
 
 
