@@ -3,8 +3,8 @@ import importlib
 
 from tries import HERE, run, text_of, tool, write
 
-# Demand of examples/two_policies.toml 10% up and down, by hand. As an example 3 becomes 3.3, that is 3 with weight 2 * 7
-# and 4 with weight 2 * 3.
+# Demand of examples/two_policies.toml 10% up and down, by hand. For example 3 becomes 3.3: 3 with weight 2 * 7 and 4
+# with weight 2 * 3.
 UP = "values = [1, 2, 3, 4, 5]\nweights = [9, 17, 18, 12, 4]"
 DOWN = "values = [0, 1, 2, 3, 4]\nweights = [1, 13, 22, 18, 6]"
 DEMAND = "values = [1, 2, 3, 4]\nweights = [1, 2, 2, 1]"
