@@ -143,7 +143,7 @@ def warning_tries(room, end_effect):
     write(f"{room}/free.toml", text_of(f"{HERE}/spare_part.toml").replace("unit = 5", "unit = 0"))
     shown = tool(room, "decide.py", "examples/spare_part.csv", "--scenario", "free.toml")
     yield "decide.py: no warning without unit", shown[0] == 0 and "WARNING" not in shown[1] + shown[2]
-    more = text_of(f"{HERE}/mail_order.toml").replace("values = [0, 1, 2, 3, 4, 6]", "values = [10, 11, 12, 13, 14, 16]")
+    more = text_of(f"{HERE}/mail_order.toml").replace("[0, 1, 2, 3, 4, 6]", "[10, 11, 12, 13, 14, 16]")
     write(f"{room}/more_back.csv", run(room, [f"{room}/crates/crnsim/out/crnsim"], more)[1])
     write(f"{room}/more_back.toml", more)
     shown = tool(room, "decide.py", "more_back.csv", "--scenario", "more_back.toml")

@@ -20,7 +20,7 @@ def draw_position(axes, periods, initial):
     axes.plot([*times, len(periods)], [*heights, position], color=POSITION, linewidth=1, label="inventory position")
     orders = [number for number, period in enumerate(periods) if period.ordered]
     axes.plot(orders, [heights[2 * it] for it in orders], "^", color="black", markersize=6, linestyle="none",
-              label="an order is placed", zorder=4)
+              label="an order is placed", zorder=4, clip_on=False)
 
 
 def draw_levels(axes, policy, last):
