@@ -1,10 +1,10 @@
-"""Tries of the worked case, the reports and the tools but sweep.py, for examples/check.
+"""Tries of the worked case, the reports and some of the tools, for examples/check.
 
 Each part takes a room, which is a folder with a copy of the examples and the program, and what tries.toml has. It
 answers the name of each try and how it went: True, None where it was skipped, and else what went wrong.
 """
 import contextlib
-import importlib.util
+import importlib
 import io
 import os
 import subprocess
@@ -42,14 +42,19 @@ def write(path, text):
         file.write(text)
 
 
-def python_with_numpy():
-    """Returns a Python of this machine that has numpy; None where there is none."""
+def python_with(package):
+    """Returns a Python of this machine that has a package; None where there is none."""
     for python in dict.fromkeys([DEBIAN_PYTHON, sys.executable, *(f"{it}/python3" for it in os.get_exec_path())]):
         if os.access(python, os.X_OK):
-            ran = subprocess.run([python, "-c", "import numpy, tomllib"], capture_output=True, timeout=60)
+            ran = subprocess.run([python, "-c", f"import {package}, tomllib"], capture_output=True, timeout=60)
             if ran.returncode == 0:
                 return python
     return None
+
+
+def python_with_numpy():
+    """Returns a Python of this machine that has numpy; None where there is none."""
+    return python_with("numpy")
 
 
 def case_tries(room, _):
@@ -73,31 +78,11 @@ def case_tries(room, _):
             text_of(f"{room}/examples/case/{name}") == text_of(f"{HERE}/case/{name}")
 
 
-def report_tries(room, tries):
-    """The report of each example, what decide.py makes of reports, and the quantiles that it stands on."""
+def report_tries(room, _):
+    """The report of each example."""
     for name in sorted(name.removesuffix(".toml") for name in os.listdir(HERE) if name.endswith(".toml")):
         shown = run(room, [f"{room}/crates/crnsim/out/crnsim"], text_of(f"{HERE}/{name}.toml"))
         yield f"examples/{name}.csv", shown == (0, text_of(f"{HERE}/{name}.csv"), "")
-    heading, *rows = text_of(f"{HERE}/spare_part.csv").splitlines(keepends=True)
-    write(f"{room}/turned.csv", "".join([heading, *reversed(rows)]))
-    for words, *wanted in tries["decisions"]:
-        status, output, errors = tool(room, "decide.py", *words.split())
-        yield f"decide.py {words}", status == wanted[0] and wanted[1] in output + errors or output + errors
-    t_quantile = importlib.import_module("intervals").t_quantile
-    for probability, degrees, wanted in tries["quantiles"]:
-        yield f"t {probability} {degrees}", f"{t_quantile(probability, degrees):.3f}" == wanted
-
-
-def picture_tries(room, _):
-    """The picture, where matplotlib is there."""
-    words = ["examples/spare_part.csv", "--replications", "64", "--plot", "picture.svg"]
-    status, _, errors = tool(room, "decide.py", *words)
-    if importlib.util.find_spec("matplotlib") is None:
-        yield "decide.py --plot without matplotlib", status == 2 and "needs matplotlib" in errors
-        yield "decide.py --plot", None
-    else:
-        picture = text_of(f"{room}/picture.svg")
-        yield "decide.py --plot", status == 0 and "</svg>" in picture and "smaller (10, 20)" in picture
 
 
 def why_answer(path):
