@@ -111,13 +111,15 @@ def raw_rows(path, text, delimiter, most=None):
 
 def fit_of(text, delimiter, wanted):
     """Returns how well a delimiter fits, to compare: the wanted columns that the heading has, whether it has several
-    columns, and the share of rows with as many cells as the heading."""
-    try:
-        heading, *rows = [row.texts for row in raw_rows("", text, delimiter, SAMPLE_ROWS)] or [[]]
-    except Refused:
-        return 0, False, 0
-    alike = sum(len(row) == len(heading) for row in rows)
-    return sum(name in heading for name in wanted), len(heading) > 1, alike / max(1, len(rows))
+    columns, and the share of rows with as many cells as the heading. If a row can't be read, the heading decides."""
+    for most in (SAMPLE_ROWS, 1):
+        try:
+            heading, *rows = [row.texts for row in raw_rows("", text, delimiter, most)] or [[]]
+        except Refused:
+            continue
+        alike = sum(len(row) == len(heading) for row in rows)
+        return sum(name in heading for name in wanted), len(heading) > 1, alike / max(1, len(rows))
+    return 0, False, 0
 
 
 def delimiter_of(path, text, wanted):
