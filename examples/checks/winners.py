@@ -147,11 +147,20 @@ def run_tries(room):
         yield f"check.py: {count} keys, again", again == (0, output, "") or str(again)
 
 
+def drawn_tries(room):
+    """Two checks without a key draw two keys."""
+    words = [f"{HERE}/spare_part.toml", "both", "--program", f"{room}/crates/crnsim/out/crnsim"]
+    lines = [answer_of("check", words)[1].split("\n")[0] for _ in range(2)]
+    yield "check.py: drawn keys", all(re.fullmatch("--key( [0-9a-f]{16}){4}", it) for it in lines) and \
+        lines[0] != lines[1] or str(lines)
+
+
 def check_tries(room, _):
     """All tests of check.py."""
     yield from canned_tries(room)
     yield from direct_tries(room)
     yield from run_tries(room)
+    yield from drawn_tries(room)
     write(f"{room}/two_lines", TWO_LINES)
     os.chmod(f"{room}/two_lines", 0o755)
     text = text_of(f"{HERE}/spare_part.toml")
