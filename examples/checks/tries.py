@@ -105,12 +105,3 @@ def edit_tries(room, tries):
             wanted = (3, f"crnsim: scenario {number}\n", f"fault {number}: ") if number else (0, "", "no fault\n")
             right = (status, errors) == wanted[:2] and told == wanted[0] and said.startswith(wanted[2])
             yield f"{name}.toml, {number}: {pairs}", right or errors + said
-
-
-def history_tries(room, tries):
-    """Histories, good and bad."""
-    for text, copies, words, *wanted in tries["histories"]:
-        write(f"{room}/FILE", text * copies)
-        status, output, errors = tool(room, "history_to_scenario.py", "FILE", *words.split())
-        shown, other = (errors, output) if wanted[0] else (output, errors)
-        yield f"{text[:40]!r} {words}", status == wanted[0] and wanted[1] in shown and not other or output + errors

@@ -70,6 +70,11 @@ def table_of(rows):
     return [COLUMNS, *(name + cell + [row["verdict"]] for name, cell, row in zip(names, cells, rows))]
 
 
+def table_text(rows):
+    """Returns the table with its columns in line."""
+    return aligned(table_of(rows), (0, len(COLUMNS) - 1))
+
+
 def listed(rows, every):
     """Returns the rows to show: the first ones by rank, and always the base."""
     if every or len(rows) <= MOST_ROWS:
@@ -117,7 +122,7 @@ def end_warning(tree, given):
 def print_text(rows, base, replications, asked, warning):
     """Prints the table, what is left out of it, the decision and the warning."""
     shown = listed(rows, asked.all)
-    print(aligned(table_of(shown), (0, len(COLUMNS) - 1)), end="")
+    print(table_text(shown), end="")
     if len(shown) < len(rows):
         print(f"{len(rows) - len(shown)} more policies are not listed; --all lists them")
     print(decision_text(rows, base, replications, asked.level, len(rows) if asked.all else MOST_ROWS), end="")

@@ -29,7 +29,7 @@ from fractions import Fraction
 from typing import NamedTuple
 
 from columns import aligned
-from counts import all_totals, counting
+from cost_counts import all_totals, counting
 from grid import Refused
 from history_to_scenario import MOST_DEMAND, MOST_LEAD
 from suggest import scenario_of

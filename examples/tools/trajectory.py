@@ -25,7 +25,7 @@ import sys
 from typing import NamedTuple
 
 from columns import aligned
-from counts import all_totals, counting
+from cost_counts import all_totals, counting
 from grid import MOST_ITEMS, Refused
 from pictures import NoPicture, open_pyplot, picture_path
 from suggest import scenario_of
