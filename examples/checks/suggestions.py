@@ -15,7 +15,7 @@ REFUSED = [("the cost holding is 0, so there is no best policy", "holding = 5", 
            ("no item is ever asked for", DEMAND, "values = [0]\nweights = [1]"),
            ("too far apart", DEMAND, "values = [0, 1]\nweights = [30000, 30001]",
             RETURNS, "values = [0, 1]\nweights = [1, 1]"),
-           ("fault 6: the document, key initial: -1 is not from 0 to 1,000,000", "initial = 60", "initial = -1"),
+           ("fault 6: line 8: the document, key initial: -1 is not from 0 to 1,000,000", "initial = 60", "initial = -1"),
            ("fault 1: line ", "[returns]", "returns")]
 LARGE = ("version = 1\nkey = [\"{0}\", \"{0}\", \"{0}\", \"{0}\"]\nperiods = 1\nreplications = 1\ninitial = 0\nring = 1\n"
          "costs = {{ setup = {1}, unit = 1, holding = 1, backlog = 10000 }}\n"

@@ -26,10 +26,9 @@ import argparse
 import itertools
 import sys
 
-from document import MARK, read_document
-from faults import faults_of
+from document import text_of_document
 from grid import GRID_POLICIES, MOST_ITEMS, lines_of, scenario_text
-from why import MOST_BYTES
+from why import MOST_BYTES, reported_faults
 
 NO_NUMPY = ("numpy is missing here; on Debian: apt-get install python3-numpy, and then /usr/bin/python3 {path} "
             "SCENARIO.toml")
@@ -130,10 +129,10 @@ def scenario_of(path):
         data = file.read(MOST_BYTES + 1)
     if len(data) > MOST_BYTES:
         raise ValueError(f"{path}: crnsim reads no scenario of more than {MOST_BYTES:,} bytes")
-    tree, faults = read_document(data)
-    for number, place, reason in faults or faults_of(tree):
-        raise ValueError(f"{path}: fault {number}: {place}: {reason} (why.py says all faults)")
-    lines = data.removeprefix(MARK).decode("utf-8").replace("\r\n", "\n").splitlines(keepends=True)
+    tree, faults = reported_faults(data)
+    if faults:
+        raise ValueError(f"{path}: {faults[0]}; why.py says all faults")
+    lines = text_of_document(data).splitlines(keepends=True)
     return tree, "".join(itertools.takewhile(lambda line: line.startswith("#"), lines))
 
 
