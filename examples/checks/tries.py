@@ -3,13 +3,10 @@
 Each part takes a room, which is a folder with a copy of the examples and the program, and what tries.toml has. It
 answers the name of each try and how it went: True, None where it was skipped, and else what went wrong.
 """
-import contextlib
 import importlib.util
-import io
 import os
 import subprocess
 import sys
-import unittest.mock
 
 HERE = os.path.dirname(os.path.dirname(os.path.abspath(__file__)))
 sys.path.append(f"{HERE}/tools")
@@ -98,28 +95,6 @@ def picture_tries(room, _):
     else:
         picture = text_of(f"{room}/picture.svg")
         yield "decide.py --plot", status == 0 and "</svg>" in picture and "smaller (10, 20)" in picture
-
-
-def why_answer(path):
-    """What why.py does with a file, without a process of its own: its status, and what it prints."""
-    why = importlib.import_module("why")
-    with contextlib.redirect_stdout(io.StringIO()) as output, unittest.mock.patch("sys.argv", ["why.py", path]):
-        return why.main(), output.getvalue()
-
-
-def edit_tries(room, tries):
-    """Edits of scenarios: the number that is wanted is the program's, and the first that why.py says."""
-    for name, edits in tries["edits"].items():
-        for number, *pairs in edits:
-            text = text_of(f"{HERE}/{name}.toml")
-            for old, new in zip(pairs[::2], pairs[1::2]):
-                text = text.replace(old, new) if old in text else None
-            write(f"{room}/edited.toml", text)
-            status, _, errors = run(room, [f"{room}/crates/crnsim/out/crnsim"], text)
-            told, said = why_answer(f"{room}/edited.toml")
-            wanted = (3, f"crnsim: scenario {number}\n", f"fault {number}: ") if number else (0, "", "no fault\n")
-            right = (status, errors) == wanted[:2] and told == wanted[0] and said.startswith(wanted[2])
-            yield f"{name}.toml, {number}: {pairs}", right or errors + said
 
 
 def history_tries(room, tries):

@@ -9,6 +9,7 @@ import re
 from characters import odd_advice, odd_character
 from newer import TOKEN
 
+APOSTROPHES = re.compile(r"(?<![\w'\"])[0-9]{1,3}(?:'[0-9]{3})+(?![\w'])")
 NUMBER = r"(?:^|[=\[,])\s*[+-]?"
 # What a line has, outside of texts and comments, and what to do.
 HABITS = [
@@ -17,7 +18,6 @@ HABITS = [
     (NUMBER + r"[0-9]{1,3}(?:,[0-9]{3})+\s*$", "no comma within a number: {plain} or {grouped}"),
     (r"=\s*[0-9]+,[0-9]+\s*$", "no comma within a number; where it is a decimal comma, count in a smaller unit"),
     (NUMBER + r"[0-9]{1,3}(?: [0-9]{3})+(?![0-9])", "no space within a number: {plain} or {grouped}"),
-    (NUMBER + r"[0-9]{1,3}(?:'[0-9]{3})+(?![0-9])", "no ' within a number: {plain} or {grouped}"),
     (NUMBER + r"[0-9]{1,3}(?:\.[0-9]{3}){2,}(?![0-9])", "no point within a number: {plain} or {grouped}"),
     (NUMBER + r"0[0-9_]*[0-9](?![0-9.xob:-])", "no leading zeros: write {bare}"),
     (r"=\s*[+-]?[0-9_.]+ *[A-Za-z%$]", "write the number alone, without a unit or a currency"),
@@ -77,7 +77,11 @@ def usual_cause(text, offset, message):
     code = plain_parts(text[start:start + len(line)])
     odd = odd_character(code)
     if odd is not None:
-        return f"in column {odd + 1} {odd_advice(code)}"
-    if "policy" in message and "twice" in message:
+        return f"column {odd + 1}: {odd_advice(code)}"
+    if message.startswith("Cannot declare"):
         return message_cause(message)
+    if message == "Invalid value" and re.match(r"\s*\[\[?[A-Za-z]+\]", code):
+        return "the list above this line does not end: write ] at its end"
+    if found := APOSTROPHES.search(line):
+        return f"no ' within a number: {found[0].replace(chr(39), '')} or {found[0].replace(chr(39), '_')}"
     return habit_cause(code) or message_cause(message)

@@ -17,9 +17,9 @@ FULL_WIDTH = range(0xff01, 0xff5f)
 
 
 def name_of_character(character):
-    """Returns the name of a character, with its number."""
+    """Returns the number of a character, with its name."""
     name = NAMES.get(character) or unicodedata.name(character, "unnamed character").lower()
-    return f"{name} (U+{ord(character):04X})"
+    return f"U+{ord(character):04X} ({name})"
 
 
 def advice_on(character):
@@ -41,6 +41,4 @@ def odd_character(text):
 def odd_advice(text):
     """Returns a hint on the first character of a text that is not ASCII; the empty text if there is none."""
     place = odd_character(text)
-    if place is None:
-        return ""
-    return f"there is a {name_of_character(text[place])}: {advice_on(text[place])}"
+    return "" if place is None else f"it has {name_of_character(text[place])}: {advice_on(text[place])}"
