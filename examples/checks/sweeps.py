@@ -139,7 +139,8 @@ def cluster_tries(room, _):
     write(f"{room}/base.toml", text)
     alone = [sys.executable, "-E", "-S", "examples/tools/sweep.py", "base.toml", *WIDE_GRID, "--cluster", LOOPBACK]
     status, output, errors = run(room, alone)
-    yield "sweep: no distributed", (status, output) == (2, "") and "needs distributed" in errors or output + errors
+    right = (status, output) == (2, "") and "and then /usr/bin/python3 examples/tools/sweep.py ..\n" in errors
+    yield "sweep: no distributed", right and "needs distributed" in errors or output + errors
     python = python_with_distributed()
     if python is None:
         yield "sweep: a cluster, since no python3 has distributed (Debian's python3-distributed)", None
