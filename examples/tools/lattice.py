@@ -14,7 +14,7 @@ import numpy as np
 from grid import MOST_ITEMS
 from laws import Law, law_of, reflected, sum_of
 from longrun import DIGITS, OneLead, SeveralLeads, decay_of, gap_grid
-from overtaking import FEW_STEPS, TRANSFORM_PRODUCTS
+from overtaking import FEW_STEPS, OTHER_PRODUCTS, TRANSFORM_PRODUCTS
 
 MOST_PRODUCTS = 300_000_000  # of cells of levels and of gaps
 MOST_CELLS = 60_000  # of a law
@@ -104,7 +104,8 @@ def chain_cost(shape, step, gap):
     orders = min(shape.lead, late / (gap + 1))
     amounts = min(late, 1 + orders * (orders + 1) / 2 * high)
     steps = min(high, shape.values if step == 1 else 2 * shape.values)
-    return (width + high) * amounts * shape.lead * (steps if steps <= FEW_STEPS else TRANSFORM_PRODUCTS)
+    return (width + high) * amounts * shape.lead * (
+        OTHER_PRODUCTS + (steps if steps <= FEW_STEPS else TRANSFORM_PRODUCTS))
 
 
 def is_small(shape, step, today):

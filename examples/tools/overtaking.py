@@ -16,6 +16,7 @@ import numpy as np
 from laws import Law, room_for, scaled
 
 FEW_STEPS = 24
+OTHER_PRODUCTS = 8  # What a pass takes for each place beside its steps, in products.
 TRANSFORM_PRODUCTS = 40  # What a transform takes for each place, in products.
 
 
