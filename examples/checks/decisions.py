@@ -30,7 +30,7 @@ def cases():
         return tomllib.load(file)
 
 
-def decision_tries(room, _):
+def decision_tries(room):
     """What decide.py prints of good reports, and what it refuses: in one line, and with nothing on standard output."""
     rows = text_of(f"{HERE}/spare_part.csv").splitlines(keepends=True)
     for name, changed in PARTS.items():
@@ -57,7 +57,7 @@ def costs_of(room):
     return costs
 
 
-def interval_tries(room, _):
+def interval_tries(room):
     """Quantiles as tables have them, and intervals of policies' own costs from the costs of all replications."""
     t_quantile = importlib.import_module("intervals").t_quantile
     for probability, degrees, wanted in cases()["quantiles"]:
@@ -88,7 +88,7 @@ def chain_mean(demand, back, point, level):
     return mean
 
 
-def end_effect_tries(room, _):
+def end_effect_tries(room):
     """What `unit` adds by final stock: by theory, by a chain, and by the program; and how decide.py warns of it."""
     end_effect = importlib.import_module("end_effect")
     for demand, back, policies in cases()["chains"]:
@@ -165,7 +165,7 @@ def no_matplotlib_tries(room):
         yield f"decide.py {option}: no matplotlib", right or str(told)
 
 
-def picture_tries(room, _):
+def picture_tries(room):
     """Pictures as PNG and SVG, where a Python has matplotlib."""
     yield from no_matplotlib_tries(room)
     python = python_with("matplotlib")

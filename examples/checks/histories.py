@@ -45,7 +45,7 @@ def cases_of(tries):
         yield text, ["--demand", "d", "--orders", "FILE", *words.split()], status, parts
 
 
-def history_tries(room, _):
+def history_tries(room):
     """All cases, and two of them as a process of its own. Orders come beside a history of one row."""
     with open(f"{HERE}/checks/histories.toml", "rb") as file:
         tries = tomllib.load(file)

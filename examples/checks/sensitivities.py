@@ -24,7 +24,7 @@ NOTES = [("values = [1, 2, 3, 4]", "values = [1, 2, 3, 9100]", "demand 10% up is
          (LEAD, "values = [32]\nweights = [1]", "lead time plus 1 is left out: a lead time would be 33,"),
          ("weights = [1, 2, 2, 1]", "weights = [1, 32767, 32767, 1]",
           "demand 10% up: by rounded weights the mean is +9.9994%")]
-REFUSED = [("missing.toml", "No such file"), ("examples/checks/tries.toml", "fault 2: "),
+REFUSED = [("missing.toml", "No such file"), ("examples/checks/decisions.toml", "fault 2: "),
            ("examples/two_policies.toml --program /missing/program", "/missing/program: No such file")]
 
 
@@ -63,7 +63,7 @@ def regret_tries(room):
     yield "sensitivity.py: its ranks", list(rows) == sorted(rows, key=greatest.get) or str(greatest)
 
 
-def sensitivity_tries(room, _):
+def sensitivity_tries(room):
     """All checks of sensitivity.py."""
     yield from regret_tries(room)
     demand = {"values": [1, 2, 3, 4], "weights": [1, 2, 2, 1]}

@@ -1,4 +1,5 @@
 """Tries of suggest.py, for examples/check: the scenarios that it writes, what it refuses, and its theory (theory.py)."""
+import os
 import subprocess
 import sys
 import tomllib
@@ -15,8 +16,9 @@ REFUSED = [("the cost holding is 0, so there is no best policy", "holding = 5", 
            ("no item is ever asked for", DEMAND, "values = [0]\nweights = [1]"),
            ("too far apart", DEMAND, "values = [0, 1]\nweights = [30000, 30001]",
             RETURNS, "values = [0, 1]\nweights = [1, 1]"),
-           ("fault 6: the document, key initial: -1 is not from 0 to 1,000,000", "initial = 60", "initial = -1"),
+           ("fault 6: line 8: the document, key initial: -1 is not from 0 to 1,000,000", "initial = 60", "initial = -1"),
            ("fault 1: line ", "[returns]", "returns")]
+MOST_SECONDS, MOST_KILOBYTES = 20, 1_000_000
 LARGE = ("version = 1\nkey = [\"{0}\", \"{0}\", \"{0}\", \"{0}\"]\nperiods = 1\nreplications = 1\ninitial = 0\nring = 1\n"
          "costs = {{ setup = {1}, unit = 1, holding = 1, backlog = 10000 }}\n"
          "demand = {{ values = {2}, weights = {3} }}\nlead = {{ values = {4}, weights = {5} }}\n"
@@ -68,6 +70,40 @@ def refused_tries(room, python):
     yield "suggest.py: a missing file", (status, output) == (2, "") and "No such file" in errors or errors
 
 
+def run_tries(room, python):
+    """The proposed start of a run, and a run without the cost of an item: by the options they are written.
+
+    By a chain of all positions, solved by itself, the mean position is 39.7746."""
+    text = text_of(f"{HERE}/mail_order.toml").replace("initial = 60", "initial = 700")
+    write(f"{room}/asked.toml", text)
+    for words, initial, unit in (([], 700, 20), (["--initial"], 40, 20), (["--unit-zero"], 700, 0),
+                                 (["--initial", "--unit-zero"], 40, 0)):
+        status, output, errors = run(room, [python, "examples/tools/suggest.py", "asked.toml", *words])
+        tree, wanted = tomllib.loads(output or "a = 1"), tomllib.loads(text)
+        wanted["initial"], wanted["costs"]["unit"] = initial, unit
+        wanted["policy"] = tree.get("policy")
+        said = "today's initial = 700 is 660.2 above it" in errors and "\nunit: " in errors
+        yield f"suggest.py: {words}", (status, tree) == (0, wanted) and said or errors
+    write(f"{room}/asked.toml", text.replace("unit = 20", "unit = 0"))
+    errors = run(room, [python, "examples/tools/suggest.py", "asked.toml"])[2]
+    yield "suggest.py: no line on unit = 0", "\nunit: " not in errors and "\ninitial: " in errors or errors
+
+
+def costly_tries(room, python):
+    """The scenarios that took longest of some seventy hostile ones: CPU seconds and memory of each."""
+    for name, text in (("two lead times", LARGE.format("0" * 16, 10**8, list(range(1001)), [10] * 1001, [1, 2], [1, 1])),
+                       ("32 lead times", LARGE.format("0" * 16, 10**8, list(range(11)), [10] * 11,
+                                                      list(range(1, 33)), [1] * 32))):
+        write(f"{room}/asked.toml", text)
+        words = [python, "examples/tools/suggest.py", "asked.toml"]
+        with subprocess.Popen(words, cwd=room, stdout=subprocess.DEVNULL, stderr=subprocess.DEVNULL) as process:
+            _, status, usage = os.wait4(process.pid, 0)
+            process.returncode = os.waitstatus_to_exitcode(status)
+        seconds = usage.ru_utime + usage.ru_stime
+        right = status == 0 and seconds < MOST_SECONDS and usage.ru_maxrss < MOST_KILOBYTES
+        yield f"suggest.py: time and memory, {name}", right or f"{status}, {seconds} s, {usage.ru_maxrss} KB"
+
+
 def theory_lines(python):
     """The lines of theory.py."""
     ran = subprocess.run([python, f"{HERE}/checks/theory.py"], capture_output=True, text=True, timeout=300)
@@ -77,7 +113,7 @@ def theory_lines(python):
     yield "theory: all tries are made", ran.returncode == 0 or ran.stderr[-500:]
 
 
-def suggestion_tries(room, _):
+def suggestion_tries(room):
     """All tries of suggest.py. Without numpy it says how to get on."""
     write(f"{room}/asked.toml", text_of(f"{HERE}/spare_part.toml"))
     told = run(room, [sys.executable, "-E", "-S", "examples/tools/suggest.py", "asked.toml"])
@@ -89,4 +125,6 @@ def suggestion_tries(room, _):
         return
     yield from suggested_tries(room, python)
     yield from refused_tries(room, python)
+    yield from run_tries(room, python)
+    yield from costly_tries(room, python)
     yield from theory_lines(python)

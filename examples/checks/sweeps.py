@@ -28,7 +28,7 @@ exit $status
 """
 
 
-def sweep_tries(room, _):
+def sweep_tries(room):
     """A sweep, and one that is cut off and goes on: the same table, and only what is missing is run."""
     base, folder = f"{room}/base.toml", f"{room}/kept"
     text = text_of(f"{HERE}/two_policies.toml")
@@ -55,7 +55,7 @@ def sweep_tries(room, _):
         yield f"sweep: {cut} cut, setup {setup}", right and len(text_of(f"{room}/runs")) - before == runs or errors
 
 
-def refused_sweep_tries(room, _):
+def refused_sweep_tries(room):
     """Sweeps that end without a table: a base with a fault, reports that can't be of one base, a failing program."""
     text = text_of(f"{HERE}/two_policies.toml")
     write(f"{room}/base.toml", text.replace("initial = 60", "initial = -1"))
@@ -132,14 +132,15 @@ def scheduler_tries(cluster, room):
         yield f"sweep: a cluster, {name}", right or output + errors
 
 
-def cluster_tries(room, _):
+def cluster_tries(room):
     """Sweeps over a cluster of two workers: one worker ends, there is a fault, the scheduler ends, it is not there. All
     are skipped where no Python has distributed; without it a sweep over a cluster says so."""
     text = text_of(f"{HERE}/two_policies.toml")
     write(f"{room}/base.toml", text)
     alone = [sys.executable, "-E", "-S", "examples/tools/sweep.py", "base.toml", *WIDE_GRID, "--cluster", LOOPBACK]
     status, output, errors = run(room, alone)
-    yield "sweep: no distributed", (status, output) == (2, "") and "needs distributed" in errors or output + errors
+    right = (status, output) == (2, "") and "and then /usr/bin/python3 examples/tools/sweep.py ..\n" in errors
+    yield "sweep: no distributed", right and "needs distributed" in errors or output + errors
     python = python_with_distributed()
     if python is None:
         yield "sweep: a cluster, since no python3 has distributed (Debian's python3-distributed)", None

@@ -53,7 +53,8 @@ def draws_of(tree):
 
 def period(state, tree, demand, lead, back):
     """Returns what a period makes of a state (the stock, and what is due in the next periods), and what is counted:
-    orders, stock, items owed, demand that is met at once, and whether items are owed at the end."""
+    orders, stock, items owed, demand that is met at once, whether items are owed at the end, and the position before the
+    review."""
     stock, due = state[0] + state[1], list(state[2:]) + [0]
     levels, position = tree["policy"][0], stock + sum(due)
     order = levels["S"] - position if position < levels["s"] else 0
@@ -61,15 +62,16 @@ def period(state, tree, demand, lead, back):
     stock += back
     met = min(max(stock, 0), demand)
     stock -= demand
-    return (stock, *due), np.array([order > 0, max(stock, 0), max(-stock, 0), met, stock < 0], float)
+    return (stock, *due), np.array([order > 0, max(stock, 0), max(-stock, 0), met, stock < 0, position], float)
 
 
 def by_chain(tree):
-    """Returns the figures of the first policy by the chain's law, from one period to the next until it stays."""
+    """Returns the figures of the first policy and its mean position by the chain's law, from one period to the next until
+    it stays."""
     draws, longest = draws_of(tree), max(tree["lead"]["values"])
-    law, before = {(tree["policy"][0]["S"], *[0] * longest): 1.0}, np.zeros(5)
+    law, before = {(tree["policy"][0]["S"], *[0] * longest): 1.0}, np.zeros(6)
     for _ in range(ROUNDS):
-        after, counted = {}, np.zeros(5)
+        after, counted = {}, np.zeros(6)
         for state, chance in law.items():
             for *drawn, share in draws:
                 to, counts = period(state, tree, *drawn)
@@ -79,16 +81,18 @@ def by_chain(tree):
         if abs(counted - before).max() < 1e-11:
             break
         before = counted
-    orders, stock, owed, met, short = counted
+    orders, stock, owed, met, short, position = counted
     costs, mean = tree["costs"], sum(demand * share for demand, _, _, share in draws)
-    return [costs["setup"] * orders + costs["holding"] * stock + costs["backlog"] * owed, met / mean, short, stock, orders]
+    return [costs["setup"] * orders + costs["holding"] * stock + costs["backlog"] * owed, met / mean, short, stock, orders,
+            position]
 
 
 def chain_tries():
     """Figures beside those of the chain."""
     for demand, lead, back, levels in CHAINS:
         tree = tree_of(demand, lead, back, levels=levels)
-        told, wanted = theories_of(tree, tree["policy"][0])[0].figures(*levels), by_chain(tree)
+        theory, wanted = theories_of(tree, tree["policy"][0])[0], by_chain(tree)
+        told = [*theory.figures(*levels), theory.mean_position(*levels)]
         right = bool(max(abs(a - b) for a, b in zip(told, wanted)) < 1e-7)
         yield f"theory: demands {demand}, lead times {lead}, returns {back}", right or f"{told}, and by a chain {wanted}"
 

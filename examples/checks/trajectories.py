@@ -17,7 +17,7 @@ REFUSED = [("two_policies.toml C", "there is no policy 'C'; the scenario has A, 
            ("mail_order.toml today --periods 209 --out it.svg", "a picture has room for 208 periods"),
            ("two_policies.toml A --out it.pdf", "does not end with .png or .svg"),
            ("two_policies.toml A --program /missing/program", "/missing/program: No such file"),
-           ("missing.toml A", "No such file"), ("checks/tries.toml A", "fault 2: ")]
+           ("missing.toml A", "No such file"), ("checks/decisions.toml A", "fault 2: ")]
 
 
 def rows_of(output):
@@ -72,7 +72,7 @@ def refused_tries(room):
     yield "trajectory.py: no matplotlib", right and told[2].count("\n") == 1 or str(told)
 
 
-def trajectory_tries(room, _):
+def trajectory_tries(room):
     """All checks of trajectory.py."""
     yield from number_tries(room)
     yield from refused_tries(room)

@@ -1,15 +1,11 @@
 """Tries of the worked case, the reports and some of the tools, for examples/check.
 
-Each part takes a room, which is a folder with a copy of the examples and the program, and what tries.toml has. It
-answers the name of each try and how it went: True, None where it was skipped, and else what went wrong.
+Each part takes a room, which is a folder with a copy of the examples and the program. It returns the name of each try
+and how it went: True, None if it was skipped, and else what went wrong.
 """
-import contextlib
-import importlib
-import io
 import os
 import subprocess
 import sys
-import unittest.mock
 
 HERE = os.path.dirname(os.path.dirname(os.path.abspath(__file__)))
 sys.path.append(f"{HERE}/tools")
@@ -57,7 +53,7 @@ def python_with_numpy():
     return python_with("numpy")
 
 
-def case_tries(room, _):
+def case_tries(room):
     """Each command of the worked case, and each file that they write. Where no Python has numpy, those of suggest.py are
     skipped."""
     python = python_with_numpy()
@@ -78,30 +74,8 @@ def case_tries(room, _):
             text_of(f"{room}/examples/case/{name}") == text_of(f"{HERE}/case/{name}")
 
 
-def report_tries(room, _):
+def report_tries(room):
     """The report of each example."""
     for name in sorted(name.removesuffix(".toml") for name in os.listdir(HERE) if name.endswith(".toml")):
         shown = run(room, [f"{room}/crates/crnsim/out/crnsim"], text_of(f"{HERE}/{name}.toml"))
         yield f"examples/{name}.csv", shown == (0, text_of(f"{HERE}/{name}.csv"), "")
-
-
-def why_answer(path):
-    """What why.py does with a file, without a process of its own: its status, and what it prints."""
-    why = importlib.import_module("why")
-    with contextlib.redirect_stdout(io.StringIO()) as output, unittest.mock.patch("sys.argv", ["why.py", path]):
-        return why.main(), output.getvalue()
-
-
-def edit_tries(room, tries):
-    """Edits of scenarios: the number that is wanted is the program's, and the first that why.py says."""
-    for name, edits in tries["edits"].items():
-        for number, *pairs in edits:
-            text = text_of(f"{HERE}/{name}.toml")
-            for old, new in zip(pairs[::2], pairs[1::2]):
-                text = text.replace(old, new) if old in text else None
-            write(f"{room}/edited.toml", text)
-            status, _, errors = run(room, [f"{room}/crates/crnsim/out/crnsim"], text)
-            told, said = why_answer(f"{room}/edited.toml")
-            wanted = (3, f"crnsim: scenario {number}\n", f"fault {number}: ") if number else (0, "", "no fault\n")
-            right = (status, errors) == wanted[:2] and told == wanted[0] and said.startswith(wanted[2])
-            yield f"{name}.toml, {number}: {pairs}", right or errors + said

@@ -155,7 +155,7 @@ def drawn_tries(room):
         lines[0] != lines[1] or str(lines)
 
 
-def check_tries(room, _):
+def check_tries(room):
     """All tests of check.py."""
     yield from canned_tries(room)
     yield from direct_tries(room)

@@ -14,7 +14,7 @@ import numpy as np
 from grid import MOST_ITEMS
 from laws import Law, law_of, reflected, sum_of
 from longrun import DIGITS, OneLead, SeveralLeads, decay_of, gap_grid
-from overtaking import FEW_STEPS
+from overtaking import FEW_STEPS, OTHER_PRODUCTS, TRANSFORM_PRODUCTS
 
 MOST_PRODUCTS = 300_000_000  # of cells of levels and of gaps
 MOST_CELLS = 60_000  # of a law
@@ -22,6 +22,7 @@ MOST_TRANSFORM = 1 << 20  # cells of a transform
 MOST_CHAIN = 2_500_000_000  # products of all passes over late orders
 CELLS_OF_SHAPE = 400  # in which a scenario's shape is looked at
 LEAST_CELLS = 8  # of the largest net demand or order
+COARSER = 1.2  # by how much a step may grow if more values then lie on the lattice
 
 
 class Refused(Exception):
@@ -102,7 +103,9 @@ def chain_cost(shape, step, gap):
     late = gap + shape.lead * shape.mean / step + 10 * math.sqrt(shape.lead) * shape.deviation / step + 2 * high
     orders = min(shape.lead, late / (gap + 1))
     amounts = min(late, 1 + orders * (orders + 1) / 2 * high)
-    return (width + high) * amounts * shape.lead * min(FEW_STEPS, shape.values if step == 1 else 2 * shape.values)
+    steps = min(high, shape.values if step == 1 else 2 * shape.values)
+    return (width + high) * amounts * shape.lead * (
+        OTHER_PRODUCTS + (steps if steps <= FEW_STEPS else TRANSFORM_PRODUCTS))
 
 
 def is_small(shape, step, today):
@@ -116,8 +119,19 @@ def is_small(shape, step, today):
     return 2 * sum(passes) <= MOST_CHAIN
 
 
-def lattice_of(shape, values, today):
-    """Returns the step of the lattice, and whether it is exact."""
+def blur(tree, step):
+    """Returns the variance that a lattice adds to the demand and the returns of a period."""
+    total = 0.0
+    for name in {"demand", "returns"} & tree.keys():
+        values, weights = (np.array(tree[name][key], float) for key in ("values", "weights"))
+        total += weights @ (values % step * (step - values % step)) / weights.sum()
+    return total
+
+
+def lattice_of(tree, shape, values, today):
+    """Returns the step of the lattice, and whether it is exact.
+
+    If it is not exact, some coarser steps are looked at too: the one that adds the least variance is taken."""
     base = math.gcd(*values)
     times = 1
     while not is_small(shape, base * times, today):
@@ -125,7 +139,9 @@ def lattice_of(shape, values, today):
         if base * times * LEAST_CELLS > max(shape.high, shape.order):
             raise Refused("the numbers of this scenario are too far apart for the theory's tables: what comes back is "
                           "nearly what is asked for, or one order lasts for far too long")
-    return base * times, times == 1
+    if times == 1:
+        return base, True
+    return min((base * it for it in range(times, int(COARSER * times) + 1)), key=lambda step: blur(tree, step)), False
 
 
 def theory_on(tree, shape, step, exact):
@@ -142,5 +158,5 @@ def theories_of(tree, today):
     `today` is the policy that is compared with others.
     """
     shape, (values, _) = shape_of(tree), values_of(tree)
-    step, exact = lattice_of(shape, values, today["S"] - today["s"])
+    step, exact = lattice_of(tree, shape, values, today["S"] - today["s"])
     return theory_on(tree, shape, step, exact), None if exact else theory_on(tree, shape, 2 * step, False)

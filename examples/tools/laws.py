@@ -61,12 +61,17 @@ def reflected(law):
     return Law(-law.high, law.chances[::-1])
 
 
+def room_for(size):
+    """Returns a number from `size` on for which a transform is fast: a power of two, or 3 or 5 times one."""
+    return min(odd << max(0, (-(-size // odd) - 1).bit_length()) for odd in (1, 3, 5))
+
+
 def convolved(left, right):
     """Returns the sums of products of two lists, as the product of two polynomials has them."""
     size = len(left) + len(right) - 1
     if len(left) * len(right) <= MOST_PRODUCTS:
         return np.convolve(left, right)
-    room = 1 << (size - 1).bit_length()
+    room = room_for(size)
     return np.fft.irfft(np.fft.rfft(left, room) * np.fft.rfft(right, room), room)[:size]
 
 

@@ -171,6 +171,14 @@ class LongRun:
         """Returns the mean number of periods from one order to the next."""
         return self.span * float(self.lows_of(gap).sum())
 
+    def positions(self, gap):
+        """Returns the law of how far the position after a review is below S."""
+        return sum_of(scaled(0, self.lows_of(gap)), self.above_low)
+
+    def mean_position(self, point, level):
+        """Returns the mean position at the beginning of a period, in items: after a review, less a net demand."""
+        return level - self.step * (self.positions(self.gap_of(point, level)).mean + self.net.mean)
+
     def laws(self, gap):
         """Returns the laws of how far the stock is below S at the end of a period, and just before its demand."""
         raise NotImplementedError
@@ -324,6 +332,5 @@ class SeveralLeads(LongRun):
 
     def laws(self, gap):
         """Returns the laws of how far the stock is below S at the end of a period, and just before its demand."""
-        positions = sum_of(scaled(0, self.lows_of(gap)), self.above_low)
-        short = shortfall(positions, gap, self.net, self.chances)
+        short = shortfall(self.positions(gap), gap, self.net, self.chances)
         return sum_of(short, self.net), sum_of(short, reflected(self.back))

@@ -13,9 +13,11 @@ This is not proved; crnsim's figures are, and all that is computed here is round
 """
 import numpy as np
 
-from laws import Law, scaled
+from laws import Law, room_for, scaled
 
 FEW_STEPS = 24
+OTHER_PRODUCTS = 8  # What a pass takes for each place beside its steps, in products.
+TRANSFORM_PRODUCTS = 40  # What a transform takes for each place, in products.
 
 
 def late_amounts(gap, net, last):
@@ -34,7 +36,7 @@ def moved(state, net):
     rows, steps = len(state), np.flatnonzero(net.chances)
     longer = rows + len(net.chances) - 1
     if len(steps) > FEW_STEPS:
-        room = 1 << (longer - 1).bit_length()
+        room = room_for(longer)
         transformed = np.fft.rfft(state, room, axis=0) * np.fft.rfft(net.chances, room)[:, None]
         return np.clip(np.fft.irfft(transformed, room, axis=0)[:longer], 0, None)
     after = np.zeros((longer, state.shape[1]))

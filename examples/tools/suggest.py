@@ -1,7 +1,7 @@
 #!/usr/bin/env python3
 """Suggests policies for a scenario: the best (s,S) by theory, and good alternatives, beside today's.
 
-    suggest.py SCENARIO.toml > SUGGESTED.toml
+    suggest.py SCENARIO.toml [--initial] [--unit-zero] > SUGGESTED.toml
 
 The first policy of SCENARIO.toml is today's. The same scenario goes to standard output with today's policy and up to 15
 others, each with its reason as a comment: the best; today's s with its best S, and today's S with its best s; the
@@ -20,16 +20,21 @@ sample that begins elsewhere: so run the suggested scenario.
 It needs numpy (on Debian python3-numpy). A scenario for which nothing can be suggested is told in one line, and the exit
 status is 2.
 
+Two lines on standard error are about the run. A start far from the long run biases costs by an amount that falls only as
+1 over `periods`: the mean inventory position of the best policy at the beginning of a period is proposed as `initial`,
+since nothing is on order then. And `unit` charges the items that are left at the end too, which favours policies that end
+with little stock. With --initial and --unit-zero the scenario is written with this `initial`, and with `unit = 0`; else
+both stay as they are.
+
 This tool is not proved; crnsim's figures are.
 """
 import argparse
 import itertools
 import sys
 
-from document import MARK, read_document
-from faults import faults_of
+from document import text_of_document
 from grid import GRID_POLICIES, MOST_ITEMS, lines_of, scenario_text
-from why import MOST_BYTES
+from why import MOST_BYTES, reported_faults
 
 NO_NUMPY = ("numpy is missing here; on Debian: apt-get install python3-numpy, and then /usr/bin/python3 {path} "
             "SCENARIO.toml")
@@ -37,6 +42,7 @@ FILLS = [("fill_95", 0.95), ("fill_98", 0.98), ("fill_99", 0.99), ("fill_995", 0
 ORDERS = [("fewer_orders", 1.5, "fewer orders"), ("more_orders", 0.65, "more orders, and less stock"),
           ("fewest_orders", 2.2, "far fewer orders"), ("most_orders", 0.4, "far more orders")]
 NEIGHBOURS = [(1, "higher"), (-1, "lower"), (2, "higher_2"), (-2, "lower_2"), (3, "higher_3"), (-3, "lower_3")]
+ROUGH = 0.05
 HEADING = ["policy", "s", "S", "cost", "fill", "short", "stock", "orders"]
 
 
@@ -61,9 +67,9 @@ class Suggestions:
             self.names[levels], self.reasons[levels] = name, [reason]
 
 
-def suggest(theory, today):
-    """Returns the suggested policies of a theory."""
-    chosen, best = Suggestions(today), theory.best()
+def suggest(theory, best, today):
+    """Returns the suggested policies of a theory, of which the best is known."""
+    chosen = Suggestions(today)
     chosen.add("best", best, "the best")
     chosen.add("same_s", theory.best_with_point(today["s"]), "today's s with its best S")
     chosen.add("same_S", theory.best_with_level(today["S"]), "today's S with its best s")
@@ -99,8 +105,28 @@ def error_text(theory, coarse, chosen, figures):
         return "exact but for rounding"
     costs = [(it.cost, coarse.figures(*levels).cost) for levels, it in zip(chosen.names, figures)]
     error = max(abs(other - cost) / cost for cost, other in costs)
+    rough = "; that is a rough guide, so compare the policies by runs" if error > ROUGH else ""
     return (f"counted in steps of {theory.step} items: costs are right to about {max(error, 1e-4):.2%}, by which steps "
-            f"of {2 * theory.step} change them at most")
+            f"of {2 * theory.step} change them at most{rough}")
+
+
+def initial_of(theory, best):
+    """Returns the whole number in range that is nearest to the best policy's mean position at the beginning of a period,
+    and that mean."""
+    mean = theory.mean_position(best.point, best.level)
+    return min(max(round(mean), 0), MOST_ITEMS), mean
+
+
+def run_text(tree, proposed, mean):
+    """Returns the lines on the run: its start, and what `unit` charges at its end."""
+    today, unit = tree["initial"], tree["costs"]["unit"]
+    text = (f"initial: the best policy's mean position at the beginning of a period is {mean:.1f}; today's initial = "
+            f"{today} is {abs(today - mean):.1f} {'above' if today > mean else 'below'} it (--initial writes "
+            f"initial = {proposed})\n")
+    if unit > 0:
+        text += ("unit: a run also pays it for items in stock at its end, which favours policies that end with little "
+                 "stock; take unit = 0 unless the item is given up then (--unit-zero writes it)\n")
+    return text
 
 
 def notes_text(tree, theory, error):
@@ -130,10 +156,10 @@ def scenario_of(path):
         data = file.read(MOST_BYTES + 1)
     if len(data) > MOST_BYTES:
         raise ValueError(f"{path}: crnsim reads no scenario of more than {MOST_BYTES:,} bytes")
-    tree, faults = read_document(data)
-    for number, place, reason in faults or faults_of(tree):
-        raise ValueError(f"{path}: fault {number}: {place}: {reason} (why.py says all faults)")
-    lines = data.removeprefix(MARK).decode("utf-8").replace("\r\n", "\n").splitlines(keepends=True)
+    tree, faults = reported_faults(data)
+    if faults:
+        raise ValueError(f"{path}: {faults[0]}; why.py says all faults")
+    lines = text_of_document(data).splitlines(keepends=True)
     return tree, "".join(itertools.takewhile(lambda line: line.startswith("#"), lines))
 
 
@@ -141,6 +167,8 @@ def main():
     """Prints the suggested scenario and its table."""
     words = argparse.ArgumentParser(description=__doc__, formatter_class=argparse.RawDescriptionHelpFormatter)
     words.add_argument("scenario", metavar="SCENARIO.toml")
+    words.add_argument("--initial", action="store_true", help="write the proposed initial")
+    words.add_argument("--unit-zero", action="store_true", help="write unit = 0")
     asked = words.parse_args()
     try:
         from lattice import Refused, theories_of
@@ -153,10 +181,15 @@ def main():
     except (OSError, ValueError, Refused) as why:
         print(f"suggest.py: {why}", file=sys.stderr)
         return 2
-    chosen = suggest(theory, tree["policy"][0])
+    best = theory.best()
+    chosen = suggest(theory, best, tree["policy"][0])
     figures = [theory.figures(*levels) for levels in chosen.names]
     error = error_text(theory, coarse, chosen, figures)
-    print(table_text(chosen, figures) + notes_text(tree, theory, error), end="", file=sys.stderr)
+    proposed, mean = initial_of(theory, best)
+    print(table_text(chosen, figures) + notes_text(tree, theory, error) + run_text(tree, proposed, mean), end="",
+          file=sys.stderr)
+    tree["initial"] = proposed if asked.initial else tree["initial"]
+    tree["costs"]["unit"] *= not asked.unit_zero
     print(suggested_text(tree, head, chosen, figures), end="")
     return 0
 

@@ -9,6 +9,9 @@ goes to standard output, as a report: the base first, and then the grid by `diff
 each report is kept in FOLDER, and the same sweep begun again runs only what is not there. With --cluster the scenarios
 go to the Dask scheduler at ADDRESS; its workers need the program at PATH and nothing else.
 
+How many scenarios are done goes to standard error: on a terminal as a bar, if Python has tqdm, and else as a counter; in
+a log as some ten lines.
+
 This tool is not proved; crnsim's figures are, and each row is as crnsim has written it.
 """
 import argparse
@@ -18,7 +21,10 @@ from concurrent import futures
 
 from document import tree_of
 from grid import HEADER, Refused, keep, kept_rows, rows_of, scenarios_of
+from progress import progress_of
 
+NO_DISTRIBUTED = ("--cluster needs distributed, which is missing here; on Debian: apt-get install python3-distributed, and "
+                  "then /usr/bin/python3 {path} ..")
 PROGRAM = os.path.join(os.path.dirname(os.path.abspath(__file__)), "../../crates/crnsim/out/crnsim")
 
 
@@ -48,7 +54,7 @@ def answers_of_cluster(address, program, scenarios):
     try:
         import distributed
     except ImportError as fault:
-        raise Refused("--cluster needs distributed (on Debian python3-distributed), which is missing here") from fault
+        raise Refused(NO_DISTRIBUTED.format(path=sys.argv[0])) from fault
     try:
         with distributed.Client(address, timeout=10) as client:
             running = [client.submit(run_program, program, scenario.text, pure=False) for scenario in scenarios]
@@ -66,9 +72,8 @@ def sweep(scenarios, asked):
     rows = {} if asked.out is None else {it.number: kept_rows(asked.out, it) for it in scenarios}
     rows = {number: kept for number, kept in rows.items() if kept is not None}
     wanted = [it for it in scenarios if it.number not in rows]
-    progress = f"{len(scenarios)} scenarios ({len(rows)} kept)"
     answers, where = (answers_of_cluster, asked.cluster) if asked.cluster and wanted else (answers_here, asked.jobs)
-    print(f"{len(rows)} of {progress}", end="", file=sys.stderr, flush=True)
+    progress = progress_of(len(scenarios), len(rows))
     try:
         for scenario, (status, report, errors) in answers(where, asked.program, wanted):
             rows[scenario.number] = rows_of(scenario, report) if status == 0 else None
@@ -76,9 +81,9 @@ def sweep(scenarios, asked):
                 raise Refused(errors + " (why.py says why)" * (status == 3) or f"no report, status {status}")
             if asked.out is not None:
                 keep(asked.out, scenario, report)
-            print(f"\r{len(rows)} of {progress}", end="", file=sys.stderr, flush=True)
+            progress.show(len(rows))
     finally:
-        print(file=sys.stderr)
+        progress.close()
     return rows
 
 

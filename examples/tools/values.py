@@ -1,11 +1,13 @@
 """The faults of single values of a scenario: what stands at a key, and which values it may have.
 
-It is no program of its own: faults.py calls these rules for each key. A fault is (number, place, reason), with the
-numbers of docs/FORMATS.md, "Refused scenarios".
+It is no program of its own: faults.py calls these rules for each key. A fault is (number, path, reason), with the
+numbers of docs/FORMATS.md, "Refused scenarios". A path is a tuple of keys and of entry numbers, counted from 1.
 
-This is not proved; which number crnsim tells is.
+This is not proved; which number crnsim reports is.
 """
 import re
+
+from characters import odd_advice
 
 WEIGHTS = ("numbers", 0, 65_536)
 COSTS = {"setup": ("number", 0, 100_000_000), "unit": ("number", 0, 10_000), "holding": ("number", 0, 10_000),
@@ -20,70 +22,134 @@ DOCUMENT = {"version": ("version",), "key": ("key",), "periods": ("number", 1, 1
 WITH_RETURNS = {**DOCUMENT, "returns": ("draws", DEMAND)}
 KINDS = {bool: "true or false", int: "a whole number", float: "a number with a point", str: "a text", list: "a list",
          dict: "a table"}
+# What to do about a value of the wrong kind, by what should stand there.
+WRITE = {"a whole number": "write digits alone, as 60", "a text": 'write it in double quotes, as "A"',
+         "a list of whole numbers": "write [ ] around it, as [1]", "a list of four texts": "write four texts in [ ]",
+         "a text of 16 digits of 0-9a-f": "write it in double quotes", "a table": "write the keys of this table below a "
+         "line with its name in [ ]", "a list of tables": "begin each policy with a line [[policy]]"}
+# What to do about a number above its range, by its key.
+LESS = {"values": "count in boxes of several items", "initial": "count in boxes of several items",
+        "s": "count in boxes of several items", "S": "count in boxes of several items",
+        "replications": "make more runs, each with another key", "periods": "take longer periods, or more replications",
+        "weights": "divide all weights by the same number", "setup": "take a larger coin for all costs",
+        "unit": "take a larger coin for all costs", "holding": "take a larger coin for all costs",
+        "backlog": "take a larger coin for all costs"}
+
+
+class SpeltFloat(float):
+    """A number with a point that keeps its spelling."""
+
+    def __new__(cls, spelt):
+        """Makes the number of a spelling."""
+        value = super().__new__(cls, spelt)
+        value.spelt = spelt
+        return value
+
+
+def kind_of(value):
+    """Returns the kind of a value in words."""
+    return "a number with a point" if isinstance(value, float) else KINDS.get(type(value), "a date or a time")
 
 
 def shown(value):
-    """A value, cut where it is long."""
+    """Returns a value as text, cut if it is long."""
     if type(value) is int and value.bit_length() >= 1000:
         return "with some hundreds of digits"
-    text = ascii(value) if type(value) in (str, list, dict) else str(value).lower()
+    text = ascii(value) if type(value) in (str, list, dict) else getattr(value, "spelt", str(value).lower())
     return text if len(text) <= 40 else f"{text[:40]}..."
 
 
-def wrong_kind(place, value, wanted):
-    """Fault 5, with what it usually comes from."""
-    reason = f"{shown(value)} is {KINDS.get(type(value), 'a date or a time')}; {wanted} should stand here"
+def advice_on_kind(value, wanted):
+    """Returns what to do about a value of the wrong kind."""
     if "whole number" in wanted and isinstance(value, float):
-        reason += " (count in a smaller unit, cents for example, or round)"
-    if wanted == "a whole number" and isinstance(value, str) and value.strip().isdigit():
-        reason += " (write it without the quotes)"
+        thousands = re.fullmatch(r"[+-]?[1-9][0-9]{0,2}\.[0-9]{3}", getattr(value, "spelt", ""))
+        either = f"write {value.spelt.replace('.', '')} for thousands; else " if thousands else ""
+        return f"{either}count in a smaller unit, cents for example, or round"
+    if wanted == "a whole number" and isinstance(value, str):
+        return odd_advice(value) or "write it without the quotes" * value.strip().isdigit() or WRITE[wanted]
     if wanted == "a list of tables" and isinstance(value, dict):
-        reason += " (write [[policy]] in place of [policy])"
-    return [(5, place, reason)]
+        return "write [[policy]] in place of [policy]"
+    return WRITE[wanted]
 
 
-def number_faults(place, value, least, greatest):
-    """The faults of a number with a range."""
+def wrong_kind(path, value, wanted):
+    """Returns fault 5, with what to do."""
+    return [(5, path, f"{shown(value)} is {kind_of(value)}; {wanted} should stand here ({advice_on_kind(value, wanted)})")]
+
+
+def number_faults(path, value, least, greatest):
+    """Returns the faults of a number with a range."""
     if type(value) is not int:
-        return wrong_kind(place, value, "a whole number")
-    within = least <= value <= greatest
-    return [] if within else [(6, place, f"{value} is not from {least:,} to {greatest:,}")]
+        return wrong_kind(path, value, "a whole number")
+    if least <= value <= greatest:
+        return []
+    key = next(part for part in reversed(path) if isinstance(part, str))
+    less = "an order arrives after 32 periods at most: take longer periods" if greatest == 32 else LESS[key]
+    advice = less if value > greatest else f"write {least} or more"
+    return [(6, path, f"{shown(value)} is not from {least:,} to {greatest:,} ({advice})")]
 
 
-def numbers_faults(place, value, least, greatest):
-    """The faults of a list of numbers."""
+def once_each(faults, kinds):
+    """Returns the first fault of each kind in a list; its reason says how many others there are.
+
+    `kinds` has the kind of each fault.
+    """
+    firsts, counts = {}, {}
+    for fault, kind in zip(faults, kinds):
+        firsts.setdefault(kind, fault)
+        counts[kind] = counts.get(kind, 0) + 1
+    return [(number, path, reason + f"; {counts[kind] - 1} more in this list" * (counts[kind] > 1))
+            for kind, (number, path, reason) in firsts.items()]
+
+
+def numbers_faults(path, value, least, greatest):
+    """Returns the faults of a list of numbers, each kind of fault once."""
     if not isinstance(value, list):
-        return wrong_kind(place, value, "a list of whole numbers")
+        return wrong_kind(path, value, "a list of whole numbers")
     if not value:
-        return [(6, place, "the list is empty")]
-    entries = [number_faults(f"{place}, entry {it}", entry, least, greatest) for it, entry in enumerate(value, 1)]
-    return sum(entries, [])
+        return [(6, path, "the list is empty (write at least one number)")]
+    faults, kinds = [], []
+    for place, entry in enumerate(value, 1):
+        found = number_faults((*path, place), entry, least, greatest)
+        faults += found
+        kinds += [kind_of(entry) if type(entry) is not int else entry < least] * len(found)
+    return once_each(faults, kinds)
 
 
-def key_faults(place, value):
-    """The faults of the key of the random stream."""
+def word_faults(path, word):
+    """Returns the faults of one word of the key."""
+    if not isinstance(word, str):
+        return wrong_kind(path, word, "a text of 16 digits of 0-9a-f")
+    if re.fullmatch("[0-9a-f]{16}", word):
+        return []
+    advice = "write a-f in lower case" if re.fullmatch("[0-9a-f]{16}", word.lower()) else odd_advice(word)
+    advice = advice or (f"it has {len(word)} characters" if len(word) != 16 else "write digits of 0-9a-f alone")
+    return [(6, path, f"{shown(word)} is not 16 digits of 0-9a-f ({advice})")]
+
+
+def key_faults(path, value):
+    """Returns the faults of the key of the random stream, each kind of fault once."""
     if not isinstance(value, list):
-        return wrong_kind(place, value, "a list of four texts")
-    faults = [] if len(value) == 4 else [(6, place, f"there are {len(value)} texts, not 4")]
-    for entry, word in enumerate(value, 1):
-        if not isinstance(word, str):
-            faults += wrong_kind(f"{place}, entry {entry}", word, "a text of 16 digits of 0-9a-f")
-        elif not re.fullmatch("[0-9a-f]{16}", word):
-            capitals = " (write a-f in lower case)" if re.fullmatch("[0-9a-f]{16}", word.lower()) else ""
-            faults.append((6, f"{place}, entry {entry}", f"{shown(word)} is not 16 digits of 0-9a-f{capitals}"))
-    return faults
+        return wrong_kind(path, value, "a list of four texts")
+    count = [] if len(value) == 4 else [(6, path, f"there are {len(value)} texts, not 4 (write four, each of 16 digits)")]
+    faults = [fault for place, word in enumerate(value, 1) for fault in word_faults((*path, place), word)]
+    return count + once_each(faults, [reason.partition("(")[2] if number == 6 else number for number, _, reason in faults])
 
 
-def ring_faults(place, value):
-    """The faults of the size of the ring."""
+def ring_faults(path, value):
+    """Returns the faults of the size of the ring."""
     if type(value) is not int:
-        return wrong_kind(place, value, "a whole number")
-    return [] if value in [2**it for it in range(11)] else [(12, place, f"{value} is not one of 1, 2, 4, 8, .., 1,024")]
+        return wrong_kind(path, value, "a whole number")
+    good = value in [2**it for it in range(11)]
+    return [] if good else [(12, path, f"{shown(value)} is not one of 1, 2, 4, 8, .., 1,024 (write ring = 1024)")]
 
 
-def name_faults(place, value):
-    """The faults of a policy's name by itself."""
+def name_faults(path, value):
+    """Returns the faults of a policy's name by itself."""
     if not isinstance(value, str):
-        return wrong_kind(place, value, "a text")
-    good = re.fullmatch("[A-Za-z0-9_-]{1,16}", value)
-    return [] if good else [(11, place, f"{shown(value)} is not 1 to 16 of A-Z a-z 0-9 _ -")]
+        return wrong_kind(path, value, "a text")
+    if re.fullmatch("[A-Za-z0-9_-]{1,16}", value):
+        return []
+    advice = odd_advice(value) or (f"it has {len(value)} characters: write 1 to 16" if not 1 <= len(value) <= 16 else
+                                   "write letters, digits, _ and - alone")
+    return [(11, path, f"{shown(value)} is not 1 to 16 of A-Z a-z 0-9 _ - ({advice})")]

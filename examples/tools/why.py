@@ -3,46 +3,51 @@
 
     why.py SCENARIO.toml
 
-One line for each fault: its number as in docs/FORMATS.md ("Refused scenarios"), the table, key and entry, counted from
-1, and the reason, with what it usually comes from. The least number comes first: that is the one which crnsim tells.
-The exit status is 0 and the line `no fault` where there is none, 3 where there are faults, 2 where the file can't be
-read.
+Prints one line for each fault: its number as in docs/FORMATS.md ("Refused scenarios"), the line of the file, the table,
+key and entry, counted from 1, what is wrong, and what to do. The least number comes first: that is the one which crnsim
+reports. Entries of one list with the same fault have one line, which says how many they are. The exit status is 0 if
+there is no fault, with the line `no fault`; 3 if there are faults; 2 if the file can't be read.
 
-This tool is not proved; which scenarios crnsim takes, and the number that it tells, are.
+This tool is not proved; which scenarios crnsim takes, and the number that it reports, are.
 """
 import argparse
 import sys
 
-from document import read_document
-from faults import faults_of
+from document import read_document, text_of_document
+from faults import faults_of, place_text
+from lines import lines_of
 
 MOST_BYTES = 1_048_576
 
 
-def scenario_faults(data):
-    """All faults of a scenario's bytes, the least number first."""
+def reported_faults(data):
+    """Returns the tree of a scenario's bytes, and a line on each of its faults, the least number first."""
     tree, faults = read_document(data)
-    return faults or faults_of(tree)
+    if faults:
+        return tree, [f"fault {number}: {place}: {reason}" for number, place, reason in faults]
+    faults = faults_of(tree)
+    lines = lines_of(text_of_document(data), tree) if faults else {}
+    where = [f"line {lines[path]}: " if path in lines else "" for _, path, _ in faults]
+    return tree, [f"fault {number}: {line}{place_text(path, tree)}: {reason}"
+                  for line, (number, path, reason) in zip(where, faults)]
 
 
 def main():
     """Prints the faults of the scenario that the command line names."""
     words = argparse.ArgumentParser(description=__doc__, formatter_class=argparse.RawDescriptionHelpFormatter)
     words.add_argument("scenario", metavar="SCENARIO.toml")
+    path = words.parse_args().scenario
     try:
-        with open(words.parse_args().scenario, "rb") as file:
+        with open(path, "rb") as file:
             data = file.read(MOST_BYTES + 1)
     except OSError as fault:
-        print(f"why.py: {fault.filename}: {fault.strerror}", file=sys.stderr)
+        print(f"why.py: {path}: {fault.strerror}", file=sys.stderr)
         return 2
     if len(data) > MOST_BYTES:
-        print(f"why.py: crnsim reads no scenario of more than {MOST_BYTES:,} bytes", file=sys.stderr)
+        print(f"why.py: {path}: crnsim reads no scenario of more than {MOST_BYTES:,} bytes (leave out comments)", file=sys.stderr)
         return 2
-    faults = scenario_faults(data)
-    for number, place, reason in faults:
-        print(f"fault {number}: {place}: {reason}")
-    if not faults:
-        print("no fault")
+    faults = reported_faults(data)[1]
+    print("\n".join(faults or ["no fault"]))
     return 3 if faults else 0
 
 

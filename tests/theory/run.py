@@ -1,5 +1,5 @@
 #!/usr/bin/env python3
-"""Compares the program with the theory of inventories: tests/theory/run.py PROGRAM.
+"""Compares the program with the theory of inventories: tests/theory/run.py PROGRAM [--picture FILE].
 
 Each setting of settings.py is run with fixed keys. The mean cost of each policy, and its mean difference from the first
 policy, are compared with what they are expected to be over the same periods from the same stock (expected.py). The
@@ -10,9 +10,14 @@ words.
 
 The theory itself is compared with sums over all draws of small scenarios, with tests/program/oracle.py for each, and
 with published optima. There is a line for each failure, and a last line that counts.
+
+With --picture nothing is tested: the same runs are drawn into FILE, which ends in .svg or .png. That needs matplotlib.
+The stored picture, docs/theory.svg, must say the figures of the run.
 """
+import argparse
 import copy
 import csv
+import importlib.util
 import itertools
 import math
 import os
@@ -27,9 +32,13 @@ sys.path += [os.path.dirname(HERE) + "/program", os.path.dirname(os.path.dirname
 import oracle
 from expected import Expected, best_policy, chances_of
 from grid import scenario_text
-from settings import settings
+from picture import caption_of, draw
+from settings import DEMANDS, settings
 
 KEYS = 8
+STORED = os.path.join(os.path.dirname(os.path.dirname(HERE)), "docs/theory.svg")
+NO_MATPLOTLIB = ("tests/theory/run.py: --picture needs matplotlib; on Debian: apt-get install python3-matplotlib, and then "
+                 "/usr/bin/python3 tests/theory/run.py PROGRAM --picture FILE")
 MOST_Z, MOST_MEAN, LEAST_DEVIATION, MOST_DEVIATION = 4, 0.15, 0.85, 1.15
 # Settings on which the wrong theories are compared.
 FEW = slice(3, None, 4)
@@ -121,12 +130,25 @@ def compared(samples, costs):
             yield f"{name}: {rule}", kept
 
 
-def setting_tries(program):
-    """The program beside the theory, and beside wrong theories."""
+def measured(program):
+    """Returns the settings, the samples of each with all its keys, and the expected costs of each."""
     made = settings()
     samples = [[list(sample_of(rows_of(program, tree, key), tree["replications"]))
                 for key in range(KEYS * number, KEYS * (number + 1))] for number, (_, tree) in enumerate(made)]
-    costs = [expected_costs(tree) for _, tree in made]
+    return made, samples, [expected_costs(tree) for _, tree in made]
+
+
+def level_zs(samples, costs):
+    """Returns the z of each policy's mean cost with each key, of all settings."""
+    return [z for sample, cost in zip(samples, costs) for z in zs_of(sample, cost)[0]]
+
+
+def setting_tries(program):
+    """The program beside the theory, and beside wrong theories; and the stored picture."""
+    made, samples, costs = measured(program)
+    caption = caption_of(level_zs(samples, costs))
+    with open(STORED, encoding="utf-8") as file:
+        yield "docs/theory.svg says the figures of the run", caption in file.read() or f"{caption}; draw it anew (--picture)"
     for (name, _), sample, cost in zip(made, samples, costs):
         for kind, zs in zip(("costs", "differences"), zs_of(sample, cost)):
             yield f"{name}: {kind}", max(map(abs, zs)) < MOST_Z or f"z goes up to {max(map(abs, zs)):.2f}"
@@ -187,11 +209,37 @@ def theory_tries(_):
         yield f"the published optimum of mean {mean}", right or f"it is {told}"
 
 
-def main(program):
-    """Tries all."""
+def draw_picture(program, path):
+    """Draws the picture into a file, and prints its caption."""
+    if not path.endswith((".svg", ".png")):
+        print(f"tests/theory/run.py: {path}: give a file that ends in .svg or .png", file=sys.stderr)
+        return 2
+    if importlib.util.find_spec("matplotlib") is None:
+        print(NO_MATPLOTLIB, file=sys.stderr)
+        return 2
+    _, samples, costs = measured(program)
+    zs = level_zs(samples, costs)
+    try:
+        draw(path, samples, costs, list(DEMANDS), zs)
+    except OSError as fault:
+        print(f"tests/theory/run.py: {path}: {fault.strerror}", file=sys.stderr)
+        return 2
+    print(caption_of(zs))
+    return 0
+
+
+def main():
+    """Runs all tests, or draws the picture."""
+    words = argparse.ArgumentParser(description=__doc__, formatter_class=argparse.RawDescriptionHelpFormatter)
+    words.add_argument("program", metavar="PROGRAM", type=os.path.abspath)
+    words.add_argument("--picture", metavar="FILE", help="draw the runs, and test nothing")
+    asked = words.parse_args()
+    program = asked.program
     if not os.access(program, os.X_OK):
         print(f"FAILED {program}: there is no such program\n0 passed, 1 failed")
         return 1
+    if asked.picture is not None:
+        return draw_picture(program, asked.picture)
     counts = {True: 0, False: 0}
     for part in (theory_tries, setting_tries):
         try:
@@ -207,4 +255,4 @@ def main(program):
 
 
 if __name__ == "__main__":
-    sys.exit(main(os.path.abspath(sys.argv[1])) if len(sys.argv) == 2 else __doc__)
+    sys.exit(main())
