@@ -30,12 +30,12 @@ import tempfile
 import grid
 import intervals
 from decide import decision_text, level_of, table_text
+from intervals import MOST_KEYS, MOST_REPLICATIONS
 from pooling import pooled_text
 from suggest import scenario_of
 from sweep import PROGRAM, run_program
 
-MOST_KEYS = 64
-LEAST_REPLICATIONS, MOST_REPLICATIONS = 2, 256
+LEAST_REPLICATIONS = 2
 
 
 class Refused(Exception):

@@ -17,7 +17,8 @@ from grid import HEADER as HEADING
 from values import name_faults, shown
 
 HEADER = HEADING.split(",")
-MOST_REPLICATIONS = 256
+# Replications of a run, and the keys whose runs check.py pools into one report.
+MOST_REPLICATIONS, MOST_KEYS = 256, 64
 WHOLE = re.compile("-?[0-9]{1,40}")
 FRACTION = re.compile("-?[0-9]{1,60}/[1-9][0-9]{0,59}")
 # The kind of each column's cells, and how a message names it. `-` stands for no figure with one replication.
@@ -100,7 +101,7 @@ def own_variance(row, base, replications):
 def is_of(row, base, replications):
     """Returns whether a row is of a report with this number of replications and this base."""
     periods, of_base = periods_of(row, replications), periods_of(base, replications)
-    if not 1 <= replications <= MOST_REPLICATIONS or row["diff_mean"] * replications != row["diff_total"]:
+    if not 1 <= replications <= MOST_REPLICATIONS * MOST_KEYS or row["diff_mean"] * replications != row["diff_total"]:
         return False
     if row["total"] - base["total"] != row["diff_total"] or row["total"] < 0:
         return False
