@@ -1,4 +1,5 @@
 """Checks decide.py, for examples/check: what it prints and refuses, its intervals, its warning and its pictures."""
+import csv
 import importlib
 import os
 import statistics
@@ -6,20 +7,21 @@ import sys
 import tomllib
 import unittest.mock
 import xml.etree.ElementTree
+from fractions import Fraction
 
-from tries import HERE, python_with, run, text_of, tool, write
+from tries import HERE, changed, priced, python_with, run, text_of, tool, write
 
 PNG = "\u0089PNG\r\n\u001a\n"
 PUBLISHED_T = 1.998  # 63 degrees of freedom, 0.975
 REPLICATIONS, PERIODS, BLOCKS = 64, 104, 26
-PARTS = {"longer": lambda rows: [*rows, rows[4].replace("both", "more")], "shorter": lambda rows: rows[:4],
+PARTS = {"longer": lambda rows: [*rows, changed(rows[4], "both", "more")], "shorter": lambda rows: rows[:4],
          "turned": lambda rows: [rows[0], *reversed(rows[1:])],
          "turned_end": lambda rows: [*rows[:3], rows[4], rows[3]],
          "another_s": lambda rows: [it.replace("lower,7", "lower,8") for it in rows],
          "another_name": lambda rows: [it.replace("both", "each") for it in rows],
          "no_fraction": lambda rows: [*rows[:2], rows[2].rsplit(",", 1)[0] + ",1e9\n"],
          "one_alone": lambda rows: rows[:2],
-         "huge": lambda rows: [*rows[:2], rows[2].replace("298230", "9" * 5000)],
+         "huge": lambda rows: [*rows[:2], changed(rows[2], "202390", "9" * 5000)],
          "no_bytes": lambda rows: [*rows[:2], "\u00ff\n"], "empty": lambda rows: [],
          "free": lambda rows: [rows[0], "today,1,2,0,0/1,0,0/1,0/1,0/1\n"]}
 
@@ -30,11 +32,18 @@ def cases():
         return tomllib.load(file)
 
 
+def write_priced(room, name, text):
+    """Writes a scenario and its report into the room."""
+    write(f"{room}/{name}.toml", text)
+    write(f"{room}/{name}.csv", run(room, [f"{room}/crates/crnsim/out/crnsim"], text)[1])
+
+
 def decision_tries(room):
     """What decide.py prints of good reports, and what it refuses: in one line, and with nothing on standard output."""
     rows = text_of(f"{HERE}/spare_part.csv").splitlines(keepends=True)
-    for name, changed in PARTS.items():
-        write(f"{room}/{name}.csv", "".join(changed(rows)))
+    for name, part in PARTS.items():
+        write(f"{room}/{name}.csv", "".join(part(rows)))
+    write_priced(room, "priced", priced("spare_part", 5))
     for words, status, part in cases()["decisions"]:
         told, output, errors = tool(room, "decide.py", *words.replace("SPARE", "examples/spare_part").split())
         silent = told == 0 or not output and (errors.count("\n") == 1 or errors.startswith("usage: "))
@@ -127,25 +136,24 @@ def counted_effects(room, tree, text):
 
 def warning_tries(room, end_effect):
     """Effects compared with items ordered by the program, and the warning with and without `unit`."""
-    for name in ("spare_part", "mail_order"):
-        text = text_of(f"{HERE}/{name}.toml")
+    for name, unit in (("spare_part", 5), ("mail_order", 20)):
+        text = priced(name, unit)
         tree = tomllib.loads(text)
+        write_priced(room, f"priced_{name}", text)
         told = end_effect.end_effects({**tree, "costs": {"unit": 1}}, [(it["s"], it["S"]) for it in tree["policy"]])
         counted = list(counted_effects(room, tree, text))
         right = len(counted) == len(told) == 4 and counted[1][0] < 0
         right = right and all(abs(effect - mean) <= 4 * error for effect, (mean, error) in zip(told, counted))
         yield f"end effects: {name}", right or f"{told} {counted}"
-        low, unit = min(told), tree["costs"]["unit"]
+        low = min(told)
         for words, place in ((["--csv"], 2), ([], 1)):
-            shown = tool(room, "decide.py", f"examples/{name}.csv", "--scenario", f"examples/{name}.toml", *words)
+            shown = tool(room, "decide.py", f"priced_{name}.csv", "--scenario", f"priced_{name}.toml", *words)
             warned = f"By this alone diff_mean is from about {unit * low:,.0f} (" in shown[place]
             yield f"decide.py: the warning for {name} {words}", warned and "WARNING" not in shown[3 - place]
-    write(f"{room}/free.toml", text_of(f"{HERE}/spare_part.toml").replace("unit = 5", "unit = 0"))
-    shown = tool(room, "decide.py", "examples/spare_part.csv", "--scenario", "free.toml")
+    shown = tool(room, "decide.py", "examples/spare_part.csv", "--scenario", "examples/spare_part.toml")
     yield "decide.py: no warning without unit", shown[0] == 0 and "WARNING" not in shown[1] + shown[2]
-    more = text_of(f"{HERE}/mail_order.toml").replace("[0, 1, 2, 3, 4, 6]", "[10, 11, 12, 13, 14, 16]")
-    write(f"{room}/more_back.csv", run(room, [f"{room}/crates/crnsim/out/crnsim"], more)[1])
-    write(f"{room}/more_back.toml", more)
+    more = changed(priced("mail_order", 20), "[0, 1, 2, 3, 4, 6]", "[10, 11, 12, 13, 14, 16]")
+    write_priced(room, "more_back", more)
     shown = tool(room, "decide.py", "more_back.csv", "--scenario", "more_back.toml")
     yield "decide.py: a warning without a number", "is not known here.\n" in shown[1] or str(shown)
 
@@ -181,12 +189,15 @@ def picture_tries(room):
         right = all(text_of(f"{room}/{name}{end}.png").startswith(PNG) for end in ("", "_map"))
         yield f"decide.py: the PNG files of {name}", right
     few, many = ([texts_of(f"{room}/{name}{end}.svg") for end in ("", "_map")] for name in ("few", "many"))
-    wanted = ["both (7, 20)", "today (10, 26)", "-4.07%", "better", "base", "cost of a replication less that of today",
+    wanted = ["both (7, 20)", "today (10, 26)", "-5.33%", "better", "base", "cost of a replication less that of today",
               "in the scenario's money; joint level 95%", "Policies compared with today (10, 26)", "64 replications"]
     yield "decide.py --plot: its texts", set(wanted) <= set(few[0]) or str(few[0])
     labels = [it for it in many[0] if it.startswith("s") and it.endswith(")")]
     yield "decide.py --plot: 20 rows", len(labels) == 19 and "today (15, 30)" in many[0] or str(many[0])
-    wanted = ["best: s11_S28 (11, 28), 3,857.470 a period", "base: today (15, 30), 3,994.102 a period",
+    base, *others = csv.DictReader(text_of(f"{HERE}/case/sweep.csv").splitlines())
+    best = min(others, key=lambda row: int(row["total"]))
+    wanted = [*(f"{word}: {row['policy']} ({row['s']}, {row['S']}), {float(Fraction(row['per_period'])):,.3f} a period"
+                for word, row in (("best", best), ("base", base))),
               "cost per period, in the scenario's money (dark is cheap)", "reorder point s, in items"]
     yield "decide.py --map: its texts", set(wanted) <= set(many[1]) or str(many[1])
     told = run(room, [python, "examples/tools/decide.py", *sweep, "--plot", "no_folder/it.png"])

@@ -9,7 +9,7 @@ import re
 import tomllib
 import unittest.mock
 
-from tries import HERE, run, text_of, tool, write
+from tries import HERE, changed, run, text_of, tool, write
 
 
 def cases_of(table):
@@ -30,19 +30,25 @@ def has_line(said):
     return bool(re.match("fault [0-9]+: (line [0-9]+|the document: )|no fault", said))
 
 
+def edit_result(room, name, number, pairs):
+    """Returns how an edited scenario went: the number is the program's, and the first that why.py says."""
+    try:
+        text = changed(text_of(f"{HERE}/{name}.toml"), *pairs)
+    except ValueError as fault:
+        return str(fault)
+    write(f"{room}/edited.toml", text)
+    status, _, errors = run(room, [f"{room}/crates/crnsim/out/crnsim"], text)
+    told, said = why_answer(f"{room}/edited.toml")
+    wanted = (3, f"crnsim: scenario {number}\n", f"fault {number}: ") if number else (0, "", "no fault\n")
+    right = (status, errors) == wanted[:2] and told == wanted[0] and said.startswith(wanted[2])
+    return right and (number == 1 or has_line(said)) or errors + said
+
+
 def edit_tries(room):
-    """Edited scenarios: the number is the program's, and the first that why.py says."""
+    """All edited scenarios."""
     for name, edits in cases_of("edits").items():
         for number, *pairs in edits:
-            text = text_of(f"{HERE}/{name}.toml")
-            for old, new in zip(pairs[::2], pairs[1::2]):
-                text = text.replace(old, new) if old in text else None
-            write(f"{room}/edited.toml", text)
-            status, _, errors = run(room, [f"{room}/crates/crnsim/out/crnsim"], text)
-            told, said = why_answer(f"{room}/edited.toml")
-            wanted = (3, f"crnsim: scenario {number}\n", f"fault {number}: ") if number else (0, "", "no fault\n")
-            right = (status, errors) == wanted[:2] and told == wanted[0] and said.startswith(wanted[2])
-            yield f"{name}.toml, {number}: {pairs}", right and (number == 1 or has_line(said)) or errors + said
+            yield f"{name}.toml, {number}: {pairs}", edit_result(room, name, number, pairs)
 
 
 def message_tries(room):

@@ -1,7 +1,7 @@
 """Checks sensitivity.py, for examples/check: its regrets compared with runs of scenarios that are changed by hand."""
 import importlib
 
-from tries import HERE, run, text_of, tool, write
+from tries import HERE, changed, run, text_of, tool, write
 
 # Demand of examples/two_policies.toml 10% up and down, by hand. For example 3 becomes 3.3: 3 with weight 2 * 7 and 4
 # with weight 2 * 3.
@@ -9,9 +9,10 @@ UP = "values = [1, 2, 3, 4, 5]\nweights = [9, 17, 18, 12, 4]"
 DOWN = "values = [0, 1, 2, 3, 4]\nweights = [1, 13, 22, 18, 6]"
 DEMAND = "values = [1, 2, 3, 4]\nweights = [1, 2, 2, 1]"
 LEAD = "values = [1]\nweights = [1]"
-# More periods, and policies that owe items.
-CHANGES = [("periods = 4", "periods = 50"), ("replications = 1", "replications = 32"), ("initial = 60", "initial = 6"),
-           ("s = 20\nS = 40", "s = 2\nS = 9"), ("s = 60\nS = 80", "s = 5\nS = 11"), ("backlog = 5", "backlog = 7")]
+# More periods, policies that owe items, and a price of the item; pairs of an old and a new text.
+CHANGES = ["periods = 4", "periods = 50", "replications = 1", "replications = 32", "initial = 60", "initial = 6",
+           "s = 20\nS = 40", "s = 2\nS = 9", "s = 60\nS = 80", "s = 5\nS = 11", "backlog = 5", "backlog = 7",
+           "unit = 0", "unit = 3"]
 # Each case with the change of the scenario, and by what all costs are multiplied there.
 CASES = [("base", "", "", 1), ("demand_up", DEMAND, UP, 1), ("demand_down", DEMAND, DOWN, 1),
          ("lead_plus_1", LEAD, LEAD.replace("values = [1]", "values = [2]"), 1),
@@ -31,9 +32,7 @@ REFUSED = [("missing.toml", "No such file"), ("examples/checks/decisions.toml", 
 def regrets_by_runs(room, text):
     """Returns for each case the regret of both policies per period, from runs of the changed scenario."""
     for name, old, new, times in CASES:
-        if old not in text:
-            raise ValueError(f"{name}: the scenario has no {old}")
-        report = run(room, [f"{room}/crates/crnsim/out/crnsim"], text.replace(old, new) if old else text)[1]
+        report = run(room, [f"{room}/crates/crnsim/out/crnsim"], changed(text, old, new) if old else text)[1]
         totals = [int(line.split(",")[3]) / times / (50 * 32) for line in report.splitlines()[1:]]
         yield name, totals
 
@@ -41,13 +40,14 @@ def regrets_by_runs(room, text):
 def regret_tries(room):
     """The regrets, compared with runs of the changed scenarios and with an example by hand."""
     text = text_of(f"{HERE}/two_policies.toml")
-    # By hand: B's order for 21 items comes a period later, so the period before ends with 55 in place of 76 in stock.
+    # By hand: the demands are 1, 2, 2 and 4 in all cases. A never orders and costs 222. B's one order costs 32, and its 21
+    # items are in stock at the ends of two periods: (32 + 2 * 21) / 4. With a lead time of 2 they come a period later, so
+    # they are in stock at the end of one: (32 + 21) / 4.
     told = tool(room, "sensitivity.py", "examples/two_policies.toml")[1]
     row = next(line for line in told.splitlines() if line.startswith("B "))
-    wanted = "B 60 80 34.250 (61.71%) 34.250 (61.71%) 34.250 (61.71%) 29.000 (52.25%) 34.250 (61.71%) 34.250 (61.71%)"
+    wanted = "B 60 80 18.500 (33.33%) 18.500 (33.33%) 18.500 (33.33%) 13.250 (23.87%) 18.500 (33.33%) 18.500 (33.33%)"
     yield "sensitivity.py: by hand", " ".join(row.split()).startswith(wanted) or told
-    for old, new in CHANGES:
-        text = text.replace(old, new)
+    text = changed(text, *CHANGES)
     write(f"{room}/owing.toml", text)
     heading, *rows = (line.split(",") for line in tool(room, "sensitivity.py", "owing.toml", "--csv")[1].splitlines())
     rows, greatest = {row[0]: dict(zip(heading, row)) for row in rows}, {"A": 0.0, "B": 0.0}
@@ -67,13 +67,13 @@ def sensitivity_tries(room):
     """All checks of sensitivity.py."""
     yield from regret_tries(room)
     demand = {"values": [1, 2, 3, 4], "weights": [1, 2, 2, 1]}
-    changed = importlib.import_module("sensitivity").changed_demand
+    changed_demand = importlib.import_module("sensitivity").changed_demand
     for tenths, wanted in ((11, {1: 9, 2: 17, 3: 18, 4: 12, 5: 4}), (9, {0: 1, 1: 13, 2: 22, 3: 18, 4: 6})):
-        yield f"sensitivity.py: {tenths} tenths", changed(demand, tenths) == wanted
-    large = changed({"values": [1, 2, 3], "weights": [1, 40_000, 25_535]}, 11)
+        yield f"sensitivity.py: {tenths} tenths", changed_demand(demand, tenths) == wanted
+    large = changed_demand({"values": [1, 2, 3], "weights": [1, 40_000, 25_535]}, 11)
     yield "sensitivity.py: weights", sum(large.values()) == 65_536 and min(large.values()) >= 0 or str(large)
     for old, new, note in NOTES:
-        write(f"{room}/noted.toml", text_of(f"{HERE}/two_policies.toml").replace(old, new))
+        write(f"{room}/noted.toml", changed(text_of(f"{HERE}/two_policies.toml"), old, new))
         status, output, errors = tool(room, "sensitivity.py", "noted.toml")
         yield f"sensitivity.py: {note}", status == 0 and note in output and not errors or output + errors
         told = tool(room, "sensitivity.py", "noted.toml", "--csv")

@@ -4,7 +4,7 @@ import subprocess
 import sys
 import tomllib
 
-from tries import HERE, python_with_numpy, run, text_of, write
+from tries import HERE, changed, priced, python_with_numpy, run, text_of, write
 
 EXAMPLES = ["two_policies", "spare_part", "mail_order", "case/scenario"]
 DEMAND = "values = [0, 1, 2, 3, 4, 5, 6, 7, 8, 10, 12]\nweights = [4, 8, 13, 17, 18, 15, 10, 7, 4, 3, 1]"
@@ -59,10 +59,7 @@ def suggested_tries(room, python):
 def refused_tries(room, python):
     """Scenarios for which nothing can be suggested, and files that are none."""
     for said, *pairs in REFUSED:
-        text = text_of(f"{HERE}/mail_order.toml")
-        for old, new in zip(pairs[::2], pairs[1::2]):
-            text = text.replace(old, new)
-        write(f"{room}/asked.toml", text)
+        write(f"{room}/asked.toml", changed(text_of(f"{HERE}/mail_order.toml"), *pairs))
         status, output, errors = run(room, [python, "examples/tools/suggest.py", "asked.toml"])
         right = (status, output, errors.count("\n")) == (2, "", 1) and said in errors and errors.startswith("suggest.py: ")
         yield f"suggest.py: {said}", right or errors
@@ -74,7 +71,7 @@ def run_tries(room, python):
     """The proposed start of a run, and a run without the cost of an item: by the options they are written.
 
     By a chain of all positions, solved by itself, the mean position is 39.7746."""
-    text = text_of(f"{HERE}/mail_order.toml").replace("initial = 60", "initial = 700")
+    text = changed(priced("mail_order", 20), "initial = 60", "initial = 700")
     write(f"{room}/asked.toml", text)
     for words, initial, unit in (([], 700, 20), (["--initial"], 40, 20), (["--unit-zero"], 700, 0),
                                  (["--initial", "--unit-zero"], 40, 0)):
@@ -84,7 +81,7 @@ def run_tries(room, python):
         wanted["policy"] = tree.get("policy")
         said = "today's initial = 700 is 660.2 above it" in errors and "\nunit: " in errors
         yield f"suggest.py: {words}", (status, tree) == (0, wanted) and said or errors
-    write(f"{room}/asked.toml", text.replace("unit = 20", "unit = 0"))
+    write(f"{room}/asked.toml", changed(text, "unit = 20", "unit = 0"))
     errors = run(room, [python, "examples/tools/suggest.py", "asked.toml"])[2]
     yield "suggest.py: no line on unit = 0", "\nunit: " not in errors and "\ninitial: " in errors or errors
 

@@ -3,7 +3,7 @@ import os
 import sys
 
 from clusters import LOOPBACK, WORKERS, Cluster, python_with_distributed
-from tries import HERE, run, text_of, tool, write
+from tries import changed, priced, run, text_of, tool, write
 
 COUNTING = '#!/bin/sh\necho >> "{room}/runs"\nexec "{room}/crates/crnsim/out/crnsim"\n'
 # A file of a sweep's folder, how much of it is left (0: it is removed) and what is put behind; how many runs the sweep
@@ -31,7 +31,7 @@ exit $status
 def sweep_tries(room):
     """A sweep, and one that is cut off and goes on: the same table, and only what is missing is run."""
     base, folder = f"{room}/base.toml", f"{room}/kept"
-    text = text_of(f"{HERE}/two_policies.toml")
+    text = priced("two_policies", 3)
     write(f"{room}/counting", COUNTING.format(room=room))
     os.chmod(f"{room}/counting", 0o755)
     write(base, text)
@@ -40,7 +40,7 @@ def sweep_tries(room):
     pairs = [(s, S) for s in range(10, 61, 10) for S in range(40, 91, 10) if s <= S and (s, S) != (20, 40)]
     yield "sweep: its pairs", sorted((int(row[1]), int(row[2])) for row in rows[1:]) == pairs and rows[0][0] == "A"
     yield "sweep: its ranks", [int(row[5]) for row in rows[1:]] == sorted(int(row[5]) for row in rows[1:])
-    one = text.replace('name = "B"\ns = 60\nS = 80', 'name = "s60_S60"\ns = 60\nS = 60')
+    one = changed(text, 'name = "B"\ns = 60\nS = 80', 'name = "s60_S60"\ns = 60\nS = 60')
     alone = run(room, ["./counting"], one)[1].splitlines()
     yield "sweep: its rows", set(alone) < set(table.splitlines()) and len(alone) == 3
     for cut, left, behind, runs, setup in CUTS:
@@ -57,13 +57,13 @@ def sweep_tries(room):
 
 def refused_sweep_tries(room):
     """Sweeps that end without a table: a base with a fault, reports that can't be of one base, a failing program."""
-    text = text_of(f"{HERE}/two_policies.toml")
+    text = priced("two_policies", 3)
     write(f"{room}/base.toml", text.replace("initial = 60", "initial = -1"))
     status, output, errors = tool(room, "sweep.py", "base.toml", *GRID)
     yield "sweep: a fault", (status, output) == (2, "") and "crnsim: scenario 6" in errors
     write(f"{room}/base.toml", text)
     other = f"{room}/kept/00001.csv"
-    write(other, text_of(other).replace("A,20,40,222,", "A,20,40,223,"))
+    write(other, changed(text_of(other), "A,20,40,222,", "A,20,40,223,"))
     status, output, errors = tool(room, "sweep.py", "base.toml", *GRID, "--out", "kept")
     yield "sweep: another base", (status, output) == (2, "") and "not the same row" in errors
     write(f"{room}/counting", COUNTING.format(room=room).replace("exec ", "") + "exit 5\n")
@@ -135,7 +135,7 @@ def scheduler_tries(cluster, room):
 def cluster_tries(room):
     """Sweeps over a cluster of two workers: one worker ends, there is a fault, the scheduler ends, it is not there. All
     are skipped where no Python has distributed; without it a sweep over a cluster says so."""
-    text = text_of(f"{HERE}/two_policies.toml")
+    text = priced("two_policies", 3)
     write(f"{room}/base.toml", text)
     alone = [sys.executable, "-E", "-S", "examples/tools/sweep.py", "base.toml", *WIDE_GRID, "--cluster", LOOPBACK]
     status, output, errors = run(room, alone)

@@ -49,7 +49,7 @@ def number_tries(room):
     told = tool(room, "trajectory.py", "examples/two_policies.toml", "B", "--periods", "2")
     lines = [line.split() for line in told[1].splitlines()]
     yield "trajectory.py: a table", lines[1:] == ["B 0 0 1 59 59".split(), "B 1 21 2 57 78".split()] or str(told)
-    for name, policies in (("spare_part", ["today", "both", "smaller", "lower"]), ("mail_order", ["both", "today"])):
+    for name, policies in (("spare_part", ["today", "both", "smaller", "lower"]), ("mail_order", ["best", "today"])):
         words = [f"examples/{name}.toml", *policies, "--csv", "--periods", str(PERIODS)]
         found = rows_of(tool(room, "trajectory.py", *words)[1])
         for block in range(1, PERIODS // 4 + 1):

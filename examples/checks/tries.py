@@ -9,7 +9,8 @@ import sys
 
 HERE = os.path.dirname(os.path.dirname(os.path.abspath(__file__)))
 sys.path.append(f"{HERE}/tools")
-STORED = ["scenario.toml", "report.csv", "decision.txt", "sweep.csv", "why.txt", "suggested.toml", "suggested.txt"]
+STORED = ["scenario.toml", "report.csv", "decision.txt", "sweep.csv", "why.txt", "suggested.toml", "suggested.txt",
+          "check.txt"]
 DEBIAN_PYTHON = "/usr/bin/python3"
 
 
@@ -36,6 +37,20 @@ def write(path, text):
     """Writes a file, byte for byte."""
     with open(path, "w", encoding="latin-1", newline="") as file:
         file.write(text)
+
+
+def changed(text, *pairs):
+    """Returns a text with each old text replaced by the new one behind it. ValueError if an old text is not there."""
+    for old, new in zip(pairs[::2], pairs[1::2]):
+        if old not in text:
+            raise ValueError(f"the text that should be replaced is not there: {old!r}")
+        text = text.replace(old, new)
+    return text
+
+
+def priced(name, unit):
+    """Returns an example, which leaves the price of an item out, with a price."""
+    return changed(text_of(f"{HERE}/{name}.toml"), "\nunit = 0\n", f"\nunit = {unit}\n")
 
 
 def python_with(package):

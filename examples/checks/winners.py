@@ -8,7 +8,7 @@ from fractions import Fraction
 from itertools import combinations
 
 from histories import answer_of
-from tries import HERE, run, text_of, tool, write
+from tries import HERE, changed, priced, run, text_of, tool, write
 
 KEYS = ["00000000000000a1", "00000000000000a2"]
 # A program that writes two reports, worked by hand. Costs of A and B in two replications: 10 and 11, 12 and 15 with the
@@ -32,11 +32,14 @@ POOLED = """policy,s,S,total,per_period,diff_total,diff_mean,diff_var,cov
 A,20,40,62,31/8,0,0/1,0/1,83/3
 B,60,80,78,39/8,16,4/1,5/3,121/3
 """
-# The standard error is the root of 5/3, 1.29099. Tables have 3.18245 for 0.975 and 2.35336 for 0.95 with 3 degrees of
-# freedom: 4 -+ 4.10852 and 4 -+ 3.03818.
-VERDICTS = [("0.95", "4.000      1.291  -0.109  8.109  undecided",
+# The difference is 16 of 62, 25.81%. Its standard error is the root of 5/3, 1.29099. Tables have 3.18245 for 0.975 and
+# 2.35336 for 0.95 with 3 degrees of freedom: 4 -+ 4.10852 and 4 -+ 3.03818. The squares of B's costs about 39/2 sum to 179,
+# so the standard error of its mean is the root of 179/3/4, 3.86221. By period it costs 39/8 -+ 12.29129/4 and
+# 39/8 -+ 9.08917/4.
+VERDICTS = [("0.95", "B 60 80 4.875 1.802 7.948 4.000 25.81 1.291 -0.109 8.109 undecided",
              "A holds: no policy is better; B can't be told apart from A."),
-            ("0.9", "4.000      1.291  0.962  7.038  worse", "A holds: no policy is better; B is worse.")]
+            ("0.9", "B 60 80 4.875 2.603 7.147 4.000 25.81 1.291 0.962 7.038 worse",
+             "A holds: no policy is better; B is worse.")]
 # What is said of words that are rejected, of a copy of examples/spare_part.toml with an old and a new text.
 TWO_LINES = "#!/bin/sh\necho first >&2\necho second >&2\nexit 7\n"
 OWN = "5eed000000000001 0000000000000000 0000000000000000 0000000000000000"
@@ -55,7 +58,7 @@ REFUSED = [
     ("--replications 257: there can be 2 to 256", "both --replications 257", "", ""),
     ("--replications 1: there can be 2 to 256", "both --replications 1", "", ""),
     ("a level is between 0 and 1", "both --level 1", "", ""),
-    ("asked.toml: fault 6: the document, key initial: -1 is not from 0", "both", "initial = 12", "initial = -1"),
+    ("asked.toml: fault 6: line 8: the document, key initial: -1 is not from 0", "both", "initial = 12", "initial = -1"),
     ("asked.toml: fault 1: line ", "both", "initial = 12", "initial = 1,200"),
     ("the scenario has one policy", "only", "[[policy]]", "[[other]]"),
     ("no_program: No such file or directory; build crnsim, or name it with --program",
@@ -89,13 +92,14 @@ def key_text(key):
 
 def direct_tries(room):
     """Two keys of five replications against the ten replications one by one, in the report and in the table."""
-    text, count = text_of(f"{HERE}/spare_part.toml"), 10
+    text, count = text_of(f"{room}/priced_part.toml"), 10
     parts = [costs_of(room, text, key, count // 2) for key in KEYS]
     costs = {name: parts[0][name] + parts[1][name] for name in parts[0]}
     words = ["--key", KEYS[0], "--key", KEYS[1], "--replications", "5", "--level", "0.85", "--out", "direct"]
-    status, output, errors = tool(room, "check.py", "examples/spare_part.toml", "both", *words)
+    status, output, errors = tool(room, "check.py", "priced_part.toml", "both", *words)
     yield "check.py: two keys, status", status == 0 or errors
     rows = {row["policy"]: row for row in csv.DictReader(text_of(f"{room}/direct/pooled.csv").splitlines())}
+    heading, *lines = (line.split() for line in output.splitlines() if line and not line.startswith("--key "))
     yield "check.py: two keys, policies", list(rows) == ["both", "today", "lower", "smaller"]
     for name, row in rows.items():
         base, own = costs["both"], costs[name]
@@ -107,9 +111,9 @@ def direct_tries(room):
         yield f"check.py: two keys, {name}", shown == wanted or f"{shown} and not {wanted}"
         # Three intervals at 0.85 together: 0.975 on each side, for which tables have 2.26216 with 9 degrees of freedom.
         half = 2.26216 * math.sqrt(wanted[4])
-        line = next(line.split() for line in output.splitlines() if line.startswith(f"{name} "))
-        near = name == "both" or all(abs(float(cell) - end) < 0.0006 + 1e-5 * half for cell, end in
-                                     zip(line[6:8], (float(wanted[3]) - half, float(wanted[3]) + half)))
+        line = dict(zip(heading, next(line for line in lines if line[0] == name)))
+        near = name == "both" or all(abs(float(line[cell]) - end) < 0.0006 + 1e-5 * half for cell, end in
+                                     (("low", float(wanted[3]) - half), ("high", float(wanted[3]) + half)))
         yield f"check.py: two keys, the interval of {name}", near or str(line)
 
 
@@ -121,14 +125,15 @@ def canned_tries(room):
         folder = f"{room}/canned_{level}"
         words = ["--key", KEYS[0], "--key", KEYS[1], "--replications", "2", "--level", level, "--out", folder]
         answer = answer_of("check", [f"{HERE}/two_policies.toml", "A", *words, "--program", f"{room}/canned"])
-        right = answer[0] == 0 and row in answer[1] and answer[1].endswith(f"\nOn these new histories {sentence}\n")
+        rows = [line.split() for line in answer[1].splitlines()]
+        right = answer[0] == 0 and row.split() in rows and answer[1].endswith(f"\nOn these new histories {sentence}\n")
         yield f"check.py: by hand, {level}", right or str(answer)
         yield f"check.py: by hand, pooled, {level}", text_of(f"{folder}/pooled.csv") == POOLED
 
 
 def run_tries(room):
     """What is run: the scenario but for its key, replications and order. Its own key gives another report."""
-    program, path = f"{room}/crates/crnsim/out/crnsim", f"{HERE}/spare_part.toml"
+    program, path = f"{room}/crates/crnsim/out/crnsim", f"{room}/priced_part.toml"
     tree, words = tomllib.loads(text_of(path)), [path, "both", "--program", program]
     for count, given, folder in ((1, [], "one"), (3, ["--keys", "3", "--key", KEYS[0]], "three")):
         status, output, errors = answer_of("check", [*words, *given, "--out", f"{room}/{folder}"])
@@ -143,6 +148,9 @@ def run_tries(room):
         own = run(room, [program], text.replace(key_text(keys[-1]), key_text(tree["key"])))
         right = own[0] == 0 and own[1] != report and key_text(keys[-1]) in text
         yield f"check.py: {count} keys, its own key", right or own[2]
+        kept = f"{folder}/{'pooled' if count > 1 else 'key_1'}.csv"
+        decided = tool(room, "decide.py", kept, "--replications", str(256 * count))
+        yield f"check.py: {count} keys, read by decide.py", decided[0] == 0 and decided[1] in output or str(decided)
         again = answer_of("check", [*words, *(word for key in keys for word in ["--key", *key])])
         yield f"check.py: {count} keys, again", again == (0, output, "") or str(again)
 
@@ -157,6 +165,7 @@ def drawn_tries(room):
 
 def check_tries(room):
     """All tests of check.py."""
+    write(f"{room}/priced_part.toml", priced("spare_part", 5))
     yield from canned_tries(room)
     yield from direct_tries(room)
     yield from run_tries(room)
@@ -166,7 +175,7 @@ def check_tries(room):
     text = text_of(f"{HERE}/spare_part.toml")
     only = "".join(text.partition("[[policy]]")[:2]) + '\nname = "only"\ns = 1\nS = 2\n'
     for part, words, old, new in REFUSED:
-        write(f"{room}/asked.toml", only if words == "only" else text.replace(old, new))
+        write(f"{room}/asked.toml", only if words == "only" else changed(text, old, new))
         status, output, errors = tool(room, "check.py", "asked.toml", *words.split())
         alone = errors.count("\n") == 1 or errors.startswith("usage: ")
         yield f"check.py: {part}", (status, output, alone) == (2, "", True) and part in errors or output + errors
