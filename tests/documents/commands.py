@@ -24,8 +24,13 @@ NOT_RUN = {
         ("it reads all crates first", "crates/crnsim/out/crnsim < examples/two_policies.toml"),
     ".ci/run": ("it is the gate, of which this is a part", None),
     "apt-get install python3-pandas": ("it changes the machine", None),
+    "apt-get install python3-matplotlib": ("it changes the machine", None),
     "apt-get install python3-numpy": ("it changes the machine", None),
     "apt-get install r-base-core": ("it changes the machine", None),
+    "dask-scheduler --host 127.0.0.1 --port 8786 --no-dashboard &": ("it does not end", None),
+    "dask-worker tcp://127.0.0.1:8786 --nworkers 2 --nthreads 1 --no-dashboard &": ("it does not end", None),
+    "/usr/bin/python3 examples/tools/sweep.py examples/spare_part.toml --s 3 11 1 --S 14 26 2 --cluster "
+    "tcp://127.0.0.1:8786 > cluster.csv": ("examples/check runs a cluster of its own", None),
 }
 # Blocks without a kind that no command prints: a page and how the block begins, and what it is.
 NOT_PRINTED = {

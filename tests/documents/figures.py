@@ -67,14 +67,6 @@ def count_tries(program):
     for policy, *cells in shown:
         wanted = [rounded(it) for it in counts.get(policy, [])]
         yield f"{GUIDE}: the counts of {policy}", cells == wanted or f"they should be {wanted}"
-    rates = [int(re.search(rf"^{it} = ([0-9]+)", text, re.MULTILINE)[1]) for it in COSTS]
-    parts = " + ".join(f"{rate} * {rounded(it)}" for rate, it in zip(rates, counts["today"]))
-    total = sum(rate * it for rate, it in zip(rates, counts["today"]))
-    (_, _, today, owed_today), (_, _, both, owed_both) = counts["today"], counts["both"]
-    yield from sentence_tries([
-        f"for `today` {parts} = {rounded(total)}.",
-        f"`both` has {rounded(both / 6656, 1)} items in stock at the end of a week in place of "
-        f"{rounded(today / 6656, 1)}, and owes {rounded(owed_both)} item-weeks in place of {rounded(owed_today)}."])
 
 
 def sentence_tries(sentences, page=GUIDE):

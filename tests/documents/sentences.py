@@ -12,13 +12,10 @@ SENTENCES = {
         "compares up to {policies} such policies", "{policies} policies over {blocks} blocks with `ring = {ring:d}`",
         "That no text of {bytes} bytes takes more"],
     "docs/GUIDE.md": [
-        "Weights need not come to 100, only to {weights} at most.", "A demand of more than {demand} in a period",
-        "a stock of more than {items}", "are whole periods, at least {lead_least}:",
-        "**More replications**, up to {replications}:", "**More than {replications} replications** come from",
-        "For t take the row of {replications} replications", "**More than {policies} policies.**",
-        "into scenarios of {policies} policies",
-        "{policies} policies over {replications} replications of {periods} periods", "Write `ring = {ring:d}`.",
-        "a demand over {demand} (count in boxes)", "of more than {letters} letters, or empty",
+        "only to {weights} at most.", "asks for more than {demand} items, or the stock is above {items}",
+        "are whole periods, at least {lead_least}:", "One run has at most {replications}.",
+        "**More than {policies} policies without a grid.**", "into scenarios of {policies} policies",
+        "Write `ring = {ring:d}`.", "a demand over {demand} (count in boxes)", "of more than {letters} letters, or empty",
         "or another number of digits than {digits};", "or more than {weights} in all",
         "more than {policies} policies ([split"],
     "docs/FORMATS.md": [

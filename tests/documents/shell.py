@@ -14,6 +14,8 @@ TOOLS = [("GNU parallel", r"^parallel ", [(["parallel", "--version"], SHELL)]),
          ("pandas", r"^import pandas$", [([it, "-c", "import pandas"], [it, "-c"])
                                          for it in ("python3", "/usr/bin/python3")]),
          ("R", r"\bread\.csv\(", [(["Rscript", "--version"], RUNNERS["r"])]),
+         ("matplotlib (Debian's python3-matplotlib)", r" --(plot|map|out) \S+\.(png|svg)\b",
+          [(["/usr/bin/python3", "-c", "import matplotlib"], SHELL)]),
          ("numpy (Debian's python3-numpy)", r"suggest", [(["/usr/bin/python3", "-c", "import numpy"], SHELL)])]
 # A script for a scheduler's array is run as this task of it.
 TASK = {"SLURM_ARRAY_TASK_ID": "3"}
