@@ -40,9 +40,9 @@ def regrets_by_runs(room, text):
 def regret_tries(room):
     """The regrets, compared with runs of the changed scenarios and with an example by hand."""
     text = text_of(f"{HERE}/two_policies.toml")
-    # By hand: the demands are 1, 2, 2 and 4 in all cases. A never orders and costs 222. B's one order costs 32, and its 21
-    # items are in stock at the ends of two periods: (32 + 2 * 21) / 4. With a lead time of 2 they come a period later, so
-    # they are in stock at the end of one: (32 + 21) / 4.
+    # By hand: the demands are 1, 2, 2 and 4 in all cases. A never orders and costs 222. B's one order costs 32, and its
+    # 21 items are in stock at the ends of two periods: (32 + 2 * 21) / 4. With a lead time of 2 they come a period
+    # later, so they are in stock at the end of one: (32 + 21) / 4.
     told = tool(room, "sensitivity.py", "examples/two_policies.toml")[1]
     row = next(line for line in told.splitlines() if line.startswith("B "))
     wanted = "B 60 80 18.500 (33.33%) 18.500 (33.33%) 18.500 (33.33%) 13.250 (23.87%) 18.500 (33.33%) 18.500 (33.33%)"

@@ -33,9 +33,9 @@ A,20,40,62,31/8,0,0/1,0/1,83/3
 B,60,80,78,39/8,16,4/1,5/3,121/3
 """
 # The difference is 16 of 62, 25.81%. Its standard error is the root of 5/3, 1.29099. Tables have 3.18245 for 0.975 and
-# 2.35336 for 0.95 with 3 degrees of freedom: 4 -+ 4.10852 and 4 -+ 3.03818. The squares of B's costs about 39/2 sum to 179,
-# so the standard error of its mean is the root of 179/3/4, 3.86221. By period it costs 39/8 -+ 12.29129/4 and
-# 39/8 -+ 9.08917/4.
+# 2.35336 for 0.95 with 3 degrees of freedom: 4 -+ 4.10852 and 4 -+ 3.03818. The squares of B's costs about 39/2 sum to
+# 179, so the standard error of its mean is the root of 179/3/4, 3.86221. A replication has four periods, so B costs
+# 39/8 -+ 12.29129/4 and 39/8 -+ 9.08917/4 a period.
 VERDICTS = [("0.95", "B 60 80 4.875 1.802 7.948 4.000 25.81 1.291 -0.109 8.109 undecided",
              "A holds: no policy is better; B can't be told apart from A."),
             ("0.9", "B 60 80 4.875 2.603 7.147 4.000 25.81 1.291 0.962 7.038 worse",
@@ -58,7 +58,8 @@ REFUSED = [
     ("--replications 257: there can be 2 to 256", "both --replications 257", "", ""),
     ("--replications 1: there can be 2 to 256", "both --replications 1", "", ""),
     ("a level is between 0 and 1", "both --level 1", "", ""),
-    ("asked.toml: fault 6: line 8: the document, key initial: -1 is not from 0", "both", "initial = 12", "initial = -1"),
+    ("asked.toml: fault 6: line 8: the document, key initial: -1 is not from 0", "both", "initial = 12",
+     "initial = -1"),
     ("asked.toml: fault 1: line ", "both", "initial = 12", "initial = 1,200"),
     ("the scenario has one policy", "only", "[[policy]]", "[[other]]"),
     ("no_program: No such file or directory; build crnsim, or name it with --program",
