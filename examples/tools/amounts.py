@@ -1,6 +1,6 @@
 """Reads the whole numbers of cells as people write them: 3, 3.0, 1,234, 1 234, 1'234, -5.
 
-It is no program of its own: history_to_scenario.py reads amounts with `amount_of`. A number that could mean two
+Not run by itself: history_to_scenario.py reads amounts with `amount_of`. A number that could mean two
 things is rejected, never guessed.
 
 This is not proved; crnsim's figures are.

@@ -1,6 +1,6 @@
 """Says what a text that is no TOML document usually comes from, and what to do.
 
-It is no program of its own: document.py calls `usual_cause`.
+Not run by itself: document.py calls `usual_cause`.
 
 This is not proved; which scenarios crnsim takes is.
 """

@@ -1,6 +1,6 @@
 """Reads the cells of a CSV file: its encoding, its delimiter, its heading and its rows.
 
-It is no program of its own: history_to_scenario.py reads its files with `sheet_of`. A `Refused` says in one line
+Not run by itself: history_to_scenario.py reads its files with `sheet_of`. A `Refused` says in one line
 what is wrong, with file, line and column, and what to do.
 
 This is not proved; crnsim's figures are.

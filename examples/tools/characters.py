@@ -1,6 +1,6 @@
 """Names characters that look like others or like nothing, and says what to write in their place.
 
-It is no program of its own: causes.py and values.py call `odd_character`.
+Not run by itself: causes.py and values.py call `odd_character`.
 
 This is not proved; which scenarios crnsim takes is.
 """

@@ -1,6 +1,6 @@
 """Lays out a table as text with its columns in line, for decide.py, sensitivity.py and trajectory.py.
 
-It is no program of its own, and it is not proved.
+Not run by itself, and it is not proved.
 """
 
 

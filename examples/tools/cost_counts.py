@@ -1,6 +1,6 @@
 """Runs crnsim on changes of a scenario, and counts what one cost is paid for.
 
-It is no program of its own: trajectory.py and sensitivity.py call it. Costs do not steer orders. So a run with one
+Not run by itself: trajectory.py and sensitivity.py call it. Costs do not steer orders. So a run with one
 cost at 1 and the others at 0 counts orders (`setup`), items ordered (`unit`), items in stock at the ends of periods
 (`holding`) or items owed (`backlog`).
 

@@ -1,6 +1,6 @@
 """Counts the items of each period and the periods of each lead time, from the cells of histories and orders.
 
-It is no program of its own: history_to_scenario.py calls `history_counts`, `lead_counts` and `order_counts` with
+Not run by itself: history_to_scenario.py calls `history_counts`, `lead_counts` and `order_counts` with
 the words of its command line, and with a function that takes notes.
 
 This is not proved; crnsim's figures are.

@@ -1,6 +1,6 @@
 """Reads the dates of cells, and numbers the days, ISO weeks and months in which they fall.
 
-It is no program of its own: history_to_scenario.py reads dates with `dates_of` and numbers periods with `period_of`. A
+Not run by itself: history_to_scenario.py reads dates with `dates_of` and numbers periods with `period_of`. A
 date that could be two days is rejected, never guessed. The time of day and its zone are read over.
 
 This is not proved; crnsim's figures are.

@@ -1,6 +1,6 @@
 """Draws what decide.py has computed: the differences from the base, and the cost over s and S.
 
-It is no program of its own, and it needs matplotlib (pictures.py). Both pictures can be read in grey.
+Not run by itself, and it needs matplotlib (pictures.py). Both pictures can be read in grey.
 
 This is not proved.
 """

@@ -1,6 +1,6 @@
 """Reads a TOML document and reports fault 1: what is no document, where, and what to do.
 
-It is no program of its own: why.py calls `read_document`, which returns a tree and its faults. Python's tomllib takes
+Not run by itself: why.py calls `read_document`, which returns a tree and its faults. Python's tomllib takes
 some documents that crnsim refuses, and the other way round; what is known of that is put right here.
 
 This is not proved; which scenarios crnsim takes is.

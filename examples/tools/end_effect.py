@@ -1,6 +1,6 @@
 """Estimates how much the cost `unit` favours policies that end a replication with little stock.
 
-It is no program of its own: decide.py and sensitivity.py call `end_effects`. `unit` is paid for each item ordered,
+Not run by itself: decide.py and sensitivity.py call `end_effects`. `unit` is paid for each item ordered,
 also for those that are left when a replication ends. The items ordered are the net demand (demand less returns) and
 what the inventory position has risen by since the start. So the unit cost of two policies differs by `unit` times the
 difference of their final positions. Here final positions are replaced by means over the long run.

@@ -1,6 +1,6 @@
 """The faults 2 to 13 of a scenario's tree, all of them: the rules of tables, lists of draws and policies.
 
-It is no program of its own: why.py calls `faults_of`. A fault is (number, path, reason), with the numbers of
+Not run by itself: why.py calls `faults_of`. A fault is (number, path, reason), with the numbers of
 docs/FORMATS.md, "Refused scenarios". A path is a tuple of keys and of entry numbers, counted from 1; `place_text` says
 it in words.
 

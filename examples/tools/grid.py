@@ -1,6 +1,6 @@
 """The scenarios of a grid of (s,S) policies, and the reports that are kept of them: the parts of sweep.py.
 
-It is no program of its own: sweep.py splits a grid, and keeps reports and reads them again, by these functions.
+Not run by itself: sweep.py splits a grid, and keeps reports and reads them again, by these functions.
 
 This is not proved; crnsim's figures are.
 """

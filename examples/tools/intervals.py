@@ -1,6 +1,6 @@
 """Reads a report of crnsim and computes paired-t intervals: the arithmetic of decide.py.
 
-It is no program of its own: decide.py calls `rows_of` and `with_intervals`. The base is the first policy of a report.
+Not run by itself: decide.py calls `rows_of` and `with_intervals`. The base is the first policy of a report.
 
 A report has no variance of a policy's own costs, but it follows exactly. With R replications, the variance of the
 difference of two costs is R * diff_var. It equals the sum of both variances less twice their covariance `cov`, and the

@@ -1,6 +1,6 @@
 """Chooses the lattice on which longrun.py counts a scenario: as fine as its time allows.
 
-It is no program of its own: suggest.py calls `theories_of`. It needs numpy. Where all demands and returns are multiples
+Not run by itself: suggest.py calls `theories_of`. It needs numpy. Where all demands and returns are multiples
 of a step, and the tables of that step are small enough, the lattice is exact. Else values are shared between the two
 cells beside them, so that means stay; the same scenario on a lattice twice as coarse then shows how much that matters.
 

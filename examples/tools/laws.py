@@ -1,6 +1,6 @@
 """Computes with the laws (probability distributions) of whole numbers: sums, tails and expected surpluses.
 
-It is no program of its own: longrun.py and overtaking.py stand on it. It needs numpy. A law is counted in cells of
+Not run by itself: longrun.py and overtaking.py stand on it. It needs numpy. A law is counted in cells of
 `step` items; levels of stock are counted in items.
 
 This is not proved; crnsim's figures are, and all that is computed here is rounded.

@@ -1,6 +1,6 @@
 """Finds the lines of a scenario's text on which its tables, keys and entries stand.
 
-It is no program of its own: why.py calls `lines_of`. A path is a tuple of keys and of entry numbers, counted from 1, as
+Not run by itself: why.py calls `lines_of`. A path is a tuple of keys and of entry numbers, counted from 1, as
 `("policy", 3, "s")`. The scan reads only documents that tomllib has read already, and it reads no values but texts in
 keys. If it finds other paths than the document's tree has, no line is returned: none is better than a wrong one.
 

@@ -1,6 +1,6 @@
 """Computes what each (s,S) policy of a scenario costs in the long run: the theory of suggest.py.
 
-It is no program of its own: suggest.py calls `theory_of`. It needs numpy. The order of events is that of docs/FORMATS.md,
+Not run by itself: suggest.py calls `theory_of`. It needs numpy. The order of events is that of docs/FORMATS.md,
 "What happens in a period". All demand is met in the end (full backlog), and demands, returns and lead times are
 independent and each of one law.
 

@@ -1,6 +1,6 @@
 """Computes how far the stock is below S where orders may overtake one another.
 
-It is no program of its own: longrun.py calls `shortfall`. It needs numpy.
+Not run by itself: longrun.py calls `shortfall`. It needs numpy.
 
 Let m be the longest lead time. All that was ordered up to period t is there in period t + m. So the stock after the
 arrivals of period t + m is S less two numbers: how far the position after that period's review is below S, and what was

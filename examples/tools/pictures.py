@@ -1,6 +1,6 @@
 """Opens matplotlib and saves pictures as PNG or SVG, for decide.py and trajectory.py.
 
-It is no program of its own. matplotlib is loaded only if a picture is asked for.
+Not run by itself. matplotlib is loaded only if a picture is asked for.
 
 This is not proved.
 """

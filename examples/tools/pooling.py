@@ -1,6 +1,6 @@
 """Pools reports of one scenario under several keys into the report of all their replications.
 
-It is no program of its own: check.py joins reports with `pooled_text`.
+Not run by itself: check.py joins reports with `pooled_text`.
 
 The replications of different keys are independent, and each report has the exact sums of its own R replications. With
 differences d = a - b, D the sum of d, V the variance of their mean, A and B the sums of a and b, and C their

@@ -1,6 +1,6 @@
 """Shows how many scenarios of a sweep are done: a bar or a counter on a terminal, a few lines in a log.
 
-It is no program of its own: sweep.py calls `progress_of`. All goes to standard error.
+Not run by itself: sweep.py calls `progress_of`. All goes to standard error.
 
 This is not proved; crnsim's figures are.
 """

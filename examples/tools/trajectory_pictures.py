@@ -1,6 +1,6 @@
 """Draws what trajectory.py has counted: a part for each policy, one below another, with a common axis of periods.
 
-It is no program of its own, and it needs matplotlib (pictures.py). The picture can be read in grey.
+Not run by itself, and it needs matplotlib (pictures.py). The picture can be read in grey.
 
 This is not proved.
 """

@@ -1,6 +1,6 @@
 """The faults of single values of a scenario: what stands at a key, and which values it may have.
 
-It is no program of its own: faults.py calls these rules for each key. A fault is (number, path, reason), with the
+Not run by itself: faults.py calls these rules for each key. A fault is (number, path, reason), with the
 numbers of docs/FORMATS.md, "Refused scenarios". A path is a tuple of keys and of entry numbers, counted from 1.
 
 This is not proved; which number crnsim reports is.
