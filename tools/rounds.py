@@ -134,13 +134,18 @@ class Prover:
 
 
 def read(lines):
-    """What a check says of each item, and the errors of each function's proof files."""
-    verdicts, errors = {}, collections.defaultdict(list)
+    """What a check says of each item, and the errors of each function's proof files. An error may take several lines."""
+    verdicts, errors, told = {}, collections.defaultdict(list), None
     for line in lines:
+        if line.startswith("  ") and told:
+            told[-1] += line
+            continue
+        told = None
         if found := LINE.fullmatch(line):
             verdicts[found[1].partition("::")[2]] = found[2]
         elif found := ERROR.match(line):
-            errors[found[1].replace("/", "::").replace("+", "")].append(found[2])
+            told = errors[found[1].replace("/", "::").replace("+", "")]
+            told.append(found[2])
     return verdicts, errors
 
 

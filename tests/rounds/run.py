@@ -88,6 +88,16 @@ returns c = omega (arith, first_is c)
 # Provers that give no verdict: one that crashes, one that does not end, one that ends with no last line.
 CRASHES = "#!/bin/sh\nkill -SEGV $$\n"
 HANGS = "#!/bin/sh\nexec sleep 600\n"
+# An error of a proof file that says in its next line that a name is gone.
+TELLS_IN_TWO_LINES = """#!/bin/sh
+cat << END
+./proofs/above/Answers.antt:3:5: error: \\`returns\\`: module \\`Rattle.tiny.proofs.above.Goals\\`
+  has no \\`returns\\` that can be named from here
+fn tiny::above: no proof: expected answers in ./proofs/above/Answers.antt
+logic=not-proved
+END
+exit 1
+"""
 IS_SILENT = "#!/bin/sh\necho 'fn tiny::next: not proved'\nexit 1\n"
 
 # Each edit: the function that is to refuse it, the old text and the new one.
@@ -125,6 +135,8 @@ CASES = [
      {"up": "", "stay": "it is not refused: moved is still proved", "other": "no goal of the arm Stay of moved is open"}, None),
     ("edits that are hidden by one that does not compile", {"type": NO_TYPE, "next": TWO_MORE, "above": ANOTHER_SUM},
      {"type": "its check ended with status", "next": "", "above": ""}, None),
+    ("a name that is gone, which the second line of an error says", {"above": ANOTHER_SUM},
+     {"above": "above is refused only because its proof file names what the edit took away"}, TELLS_IN_TWO_LINES),
     ("a prover that crashes", {"next": TWO_MORE}, {"next": "its check was killed by signal 11"}, CRASHES),
     ("a prover that is cut off", {"next": TWO_MORE}, {"next": "its check was killed by signal 9"}, HANGS),
     ("a prover that ends without a verdict", {"next": TWO_MORE}, {"next": "and no verdict"}, IS_SILENT),
