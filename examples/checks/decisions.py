@@ -1,15 +1,15 @@
 """Checks decide.py, for examples/check: what it prints and refuses, its intervals, its warning and its pictures."""
 import csv
 import importlib
+import json
 import os
 import statistics
 import sys
 import tomllib
-import unittest.mock
 import xml.etree.ElementTree
 from fractions import Fraction
 
-from tries import HERE, changed, priced, python_with, run, text_of, tool, write
+from tries import HERE, changed, priced, python_with, python_with_numpy, run, text_of, tool, write
 
 PNG = "\u0089PNG\r\n\u001a\n"
 PUBLISHED_T = 1.998  # 63 degrees of freedom, 0.975
@@ -80,48 +80,6 @@ def interval_tries(room):
         yield f"decide.py: the interval of {name}", len(costs) == 64 and max(wrong) < 0.002 or f"{told[name]}, {half}"
 
 
-def chain_mean(demand, back, point, level):
-    """Returns the mean position at the end of a period, by the law of the position from one period to the next."""
-    draws = [(up - down, weight * share / (sum(demand[1]) * sum(back[1]))) for down, weight in zip(*demand)
-             for up, share in zip(*back)]
-    law, before, mean = {level: 1.0}, None, 0.0
-    while before is None or abs(mean - before) > 1e-10:
-        for _ in range(20):
-            after = {}
-            for position, chance in law.items():
-                reviewed = level if position < point else position
-                for change, share in draws:
-                    after[reviewed + change] = after.get(reviewed + change, 0.0) + chance * share
-            law = {position: chance for position, chance in after.items() if chance > 1e-15}
-        before, mean = mean, sum(position * chance for position, chance in law.items())
-    return mean
-
-
-def end_effect_tries(room):
-    """What `unit` adds by final stock: by theory, by a chain, and by the program; and how decide.py warns of it."""
-    end_effect = importlib.import_module("end_effect")
-    for demand, back, policies in cases()["chains"]:
-        tree = {"demand": dict(zip(("values", "weights"), demand)), "costs": {"unit": 10}}
-        tree |= {"returns": dict(zip(("values", "weights"), back))} if back[0] != [0] else {}
-        means = [chain_mean(demand, back, *policy) for policy in policies]
-        told = end_effect.end_effects(tree, policies)
-        wrong = max(abs(effect - 10 * (mean - means[0])) for effect, mean in zip(told, means))
-        yield f"end effects: {demand} {back}", wrong < 1e-4 or f"{told}, and by a chain {means}"
-    yield from warning_tries(room, end_effect)
-    wide = {"costs": {"unit": 1}, "demand": {"values": list(range(0, 10_001, 5)), "weights": [1] * 2001}}
-    told = end_effect.end_effects(wide, [(0, 20_000), (0, 60_000), (30_000, 70_000)])
-    # Far below S the lows are evenly spread, so the mean depth grows by half of what S - s grows by.
-    yield "end effects: large numbers", max(abs(told[1] - 20_000), abs(told[2] - 40_000)) < 150 or str(told)
-    middle = {"demand": {"values": list(range(0, 501, 3)), "weights": [1 + it % 4 for it in range(167)]}}
-    exact = end_effect.mean_positions(middle, policies := [(0, 3000), (0, 1500), (900, 1000), (700, 700)])
-    with unittest.mock.patch.object(end_effect, "MOST_PRODUCTS", 30_000):
-        told = end_effect.mean_positions(middle, policies)
-    wrong = max(abs(its - right) for its, right in zip(told, exact))
-    yield "end effects: in steps of several items", 1e-9 < wrong < 1 or f"{told}, {exact}"
-    equal = {"costs": {"unit": 1}, **{name: {"values": [1], "weights": [1]} for name in ("demand", "returns")}}
-    yield "end effects: nothing to order", end_effect.end_effects(equal, [(1, 2), (3, 4)]) is None
-
-
 def counted_effects(room, tree, text):
     """Returns how many more items each policy orders than the first in a long replication, and the standard error."""
     for name, rate in tree["costs"].items():
@@ -134,28 +92,52 @@ def counted_effects(room, tree, text):
         yield mean, variance**0.5
 
 
-def warning_tries(room, end_effect):
-    """Effects compared with items ordered by the program, and the warning with and without `unit`."""
+def effects_of(room, python, tree):
+    """Returns what decide.py has for the end effects of a scenario whose `unit` is 1."""
+    script = ("import json, sys\nsys.path.append('examples/tools')\nfrom end_effect import end_effects\n"
+              "tree = json.load(sys.stdin)\n"
+              "print(json.dumps(end_effects(tree, [(it['s'], it['S']) for it in tree['policy']])))")
+    return json.loads(run(room, [python, "-c", script], json.dumps({**tree, "costs": {"unit": 1}}))[1])
+
+
+def end_effect_tries(room):
+    """Compares effects with items ordered by the program, and checks how decide.py warns of them; theory.py has the other
+    tests. All are skipped if no Python has numpy."""
+    python = python_with_numpy()
+    if python is None:
+        yield "end effects, since no python3 has numpy", None
+        return
     for name, unit in (("spare_part", 5), ("mail_order", 20)):
         text = priced(name, unit)
         tree = tomllib.loads(text)
         write_priced(room, f"priced_{name}", text)
-        told = end_effect.end_effects({**tree, "costs": {"unit": 1}}, [(it["s"], it["S"]) for it in tree["policy"]])
-        counted = list(counted_effects(room, tree, text))
+        told, counted = effects_of(room, python, tree), list(counted_effects(room, tree, text))
         right = len(counted) == len(told) == 4 and counted[1][0] < 0
         right = right and all(abs(effect - mean) <= 4 * error for effect, (mean, error) in zip(told, counted))
         yield f"end effects: {name}", right or f"{told} {counted}"
-        low = min(told)
         for words, place in ((["--csv"], 2), ([], 1)):
-            shown = tool(room, "decide.py", f"priced_{name}.csv", "--scenario", f"priced_{name}.toml", *words)
-            warned = f"By this alone diff_mean is from about {unit * low:,.0f} (" in shown[place]
+            shown = decided(room, [python], f"priced_{name}", *words)
+            warned = f"By this alone diff_mean is from about {unit * min(told):,.0f} (" in shown[place]
             yield f"decide.py: the warning for {name} {words}", warned and "WARNING" not in shown[3 - place]
-    shown = tool(room, "decide.py", "examples/spare_part.csv", "--scenario", "examples/spare_part.toml")
+    yield from other_warning_tries(room, python)
+
+
+def decided(room, python, name, *words):
+    """Returns what decide.py does for a report with its scenario."""
+    return run(room, [*python, "examples/tools/decide.py", f"{name}.csv", "--scenario", f"{name}.toml", *words])
+
+
+def other_warning_tries(room, python):
+    """Checks that there is no warning without `unit`, and that a warning has no number if there is none, or no numpy."""
+    shown = decided(room, [python], "examples/spare_part")
     yield "decide.py: no warning without unit", shown[0] == 0 and "WARNING" not in shown[1] + shown[2]
     more = changed(priced("mail_order", 20), "[0, 1, 2, 3, 4, 6]", "[10, 11, 12, 13, 14, 16]")
     write_priced(room, "more_back", more)
-    shown = tool(room, "decide.py", "more_back.csv", "--scenario", "more_back.toml")
+    shown = decided(room, [python], "more_back")
     yield "decide.py: a warning without a number", "is not known here.\n" in shown[1] or str(shown)
+    shown = decided(room, [sys.executable, "-E", "-S"], "priced_spare_part")
+    right = shown[0] == 0 and "is not known here: numpy is missing" in shown[1]
+    yield "decide.py: a warning without numpy", right or str(shown)
 
 
 def texts_of(path):

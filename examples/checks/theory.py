@@ -8,12 +8,15 @@ lattices with itself where it is exact.
 import math
 import os
 import sys
+import unittest.mock
 
 sys.dont_write_bytecode = True
 sys.path.append(os.path.join(os.path.dirname(os.path.dirname(os.path.abspath(__file__))), "tools"))
 import numpy as np
 
-from lattice import shape_of, theories_of, theory_on
+import lattice
+from end_effect import end_effects
+from lattice import shape_of, theories_of, theory_on, walk_of
 from laws import Law, law_of, reflected, sum_of
 from longrun import OneLead, ladder
 
@@ -28,6 +31,11 @@ CHAINS = [(([0, 1, 3], [3, 2, 1]), ([1], [1]), None, (2, 5)), (([0, 2], [1, 1]),
 PUBLISHED = [(10, 6, 40, "35.022"), (15, 10, 49, "42.698"), (20, 14, 62, "49.173"), (25, 19, 56, "54.262")]
 # The first has a gap of less than a cell.
 LATTICE_POLICIES = [(90, 92), (100, 260), (131, 294), (160, 223), (140, 249), (150, 301)]
+# Demands and returns, and policies whose mean positions are compared with a chain.
+END_CHAINS = [(([0, 1, 2, 3, 5], [8, 14, 22, 4, 1]), ([0], [1]), [(10, 26), (7, 26), (10, 20), (7, 20), (9, 9)]),
+              (([1, 4, 7], [3, 1, 2]), ([0], [1]), [(0, 0), (3, 30), (5, 6), (1, 12)]),
+              (([0, 1, 2, 4], [3, 3, 2, 2]), ([0, 1, 3], [6, 3, 1]), [(4, 12), (2, 12), (6, 6), (0, 25)]),
+              (([0, 3], [1, 1]), ([0, 1, 2], [1, 1, 1]), [(5, 9), (5, 30), (8, 9)])]
 ROUNDS, LEAST_CHANCE = 4000, 1e-13
 
 
@@ -155,9 +163,53 @@ def lattice_tries():
         yield f"theory: the best on {name}", best.cost == fine.figures(best.point, best.level).cost or str(best)
 
 
+def chain_mean(demand, back, point, level):
+    """Returns the mean position at the end of a period, by the law of the position from one period to the next."""
+    draws = [(up - down, weight * share / (sum(demand[1]) * sum(back[1]))) for down, weight in zip(*demand)
+             for up, share in zip(*back)]
+    law, before, mean = {level: 1.0}, None, 0.0
+    while before is None or abs(mean - before) > 1e-10:
+        for _ in range(20):
+            after = {}
+            for position, chance in law.items():
+                reviewed = level if position < point else position
+                for change, share in draws:
+                    after[reviewed + change] = after.get(reviewed + change, 0.0) + chance * share
+            law = {position: chance for position, chance in after.items() if chance > 1e-15}
+        before, mean = mean, sum(position * chance for position, chance in law.items())
+    return mean
+
+
+def end_effect_tries():
+    """Compares what `unit` adds by final stock with a chain, for large numbers and in steps of several items; also tries
+    scenarios without a long run."""
+    for demand, back, policies in END_CHAINS:
+        tree = {"demand": table(*demand), "costs": {"unit": 10}} | ({"returns": table(*back)} if back[0] != [0] else {})
+        means = [chain_mean(demand, back, *policy) for policy in policies]
+        told = end_effects(tree, policies)
+        wrong = max(abs(effect - 10 * (mean - means[0])) for effect, mean in zip(told, means))
+        yield f"end effects: {demand} {back}", bool(wrong < 1e-4) or f"{told}, and by a chain {means}"
+    wide = {"costs": {"unit": 1}, "demand": table(list(range(0, 10_001, 5)), [1] * 2001)}
+    told = end_effects(wide, [(0, 20_000), (0, 60_000), (30_000, 70_000)])
+    # Far below S the lows are evenly spread, so the mean depth grows by half of what S - s grows by.
+    yield "end effects: large numbers", bool(max(abs(told[1] - 20_000), abs(told[2] - 40_000)) < 150) or str(told)
+    middle = {"demand": table(list(range(0, 501, 3)), [1 + it % 4 for it in range(167)])}
+    policies = [(0, 3000), (0, 1500), (900, 1000), (700, 700)]
+    exact = [walk_of(middle, 3000).mean_position(*it) for it in policies]
+    with unittest.mock.patch.object(lattice, "MOST_PRODUCTS", 30_000):
+        walk = walk_of(middle, 3000)
+    told = [walk.mean_position(*it) for it in policies]
+    wrong = max(abs(it - told[0] - right + exact[0]) for it, right in zip(told, exact))
+    yield "end effects: in steps of several items", bool(1e-9 < wrong < 1) or f"{told}, {exact}"
+    equal = {"costs": {"unit": 1}, **{name: table([1], [1]) for name in ("demand", "returns")}}
+    near = {"costs": {"unit": 1}, "demand": table([0, 1], [30_000, 30_001]), "returns": table([0, 1], [1, 1])}
+    for name, tree in (("nothing to order", equal), ("hardly anything to order", near)):
+        yield f"end effects: {name}", end_effects(tree, [(1, 2), (3, 4)]) is None
+
+
 def main():
     """Prints how all tries went."""
-    for part in (chain_tries, ladder_tries, published_tries, lattice_tries):
+    for part in (chain_tries, ladder_tries, published_tries, lattice_tries, end_effect_tries):
         for name, right in part():
             print(f"{name}\t{'right' if right is True else right or 'wrong'}", flush=True)
 

@@ -7,8 +7,6 @@ This is not proved; crnsim's figures are.
 """
 import re
 
-from cells import Refused
-
 DECIMALS = (".", ",")
 # Between groups of three digits: blanks (also no-break, thin and narrow no-break), apostrophes, and the other sign.
 GROUPS = " \u00a0\u2009\u202f'\u2019"

@@ -12,15 +12,12 @@ import itertools
 from typing import NamedTuple
 
 from document import place_of
+from refused import Refused
 
 MOST_BYTES = 100_000_000
 SAMPLE_ROWS = 1_000
 DELIMITERS = {",": ",", ";": ";", "tab": "\t", "\t": "\t"}
 MARKS = [(codecs.BOM_UTF8, "utf-8-sig"), (codecs.BOM_UTF16_LE, "utf-16"), (codecs.BOM_UTF16_BE, "utf-16")]
-
-
-class Refused(Exception):
-    """A history that is rejected; its text says why."""
 
 
 class Cell(NamedTuple):

@@ -22,29 +22,26 @@ This tool is not proved; crnsim's figures are, and the decimals here are rounded
 import argparse
 import csv
 import os
-import re
 import secrets
 import sys
 import tempfile
 
+import formats
 import grid
 import intervals
 from decide import decision_text, level_of, table_text
 from intervals import MOST_KEYS, MOST_REPLICATIONS
 from pooling import pooled_text
+from refused import Refused
 from suggest import scenario_of
 from sweep import PROGRAM, run_program
 
 LEAST_REPLICATIONS = 2
 
 
-class Refused(Exception):
-    """A check that can't be done; its text says why."""
-
-
 def key_of(words, own):
     """Returns the key that `--key` has: four words, or one that replaces the first of the scenario's own."""
-    wrong = next((word for word in words if not re.fullmatch("[0-9a-f]{16}", word)), None)
+    wrong = next((word for word in words if not formats.WORD.fullmatch(word)), None)
     if wrong is not None:
         raise Refused(f"--key: {wrong!r} is not 16 digits of 0-9a-f (in lower case)")
     if len(words) not in (1, 4):
@@ -174,7 +171,7 @@ def main():
             raise Refused(f"--replications {asked.replications}: there can be {LEAST_REPLICATIONS} to "
                           f"{MOST_REPLICATIONS} for each key; more come from more keys (--keys)")
         print(check_in(asked), end="")
-    except (OSError, ValueError, ZeroDivisionError, csv.Error, Refused, grid.Refused, intervals.Refused) as why:
+    except (OSError, ValueError, ZeroDivisionError, csv.Error, Refused) as why:
         print(f"check.py: {why}", file=sys.stderr)
         return 2
     return 0

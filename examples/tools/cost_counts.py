@@ -8,11 +8,13 @@ This is not proved; crnsim's figures are.
 """
 from concurrent import futures
 
-from grid import Refused, Scenario, rows_of, scenario_text
+import formats
+from grid import Scenario, rows_of, scenario_text
+from refused import Refused
 from sweep import run_program
 
 JOBS = 4
-NO_COSTS = {"setup": 0, "unit": 0, "holding": 0, "backlog": 0}
+NO_COSTS = dict.fromkeys(formats.COSTS, 0)
 
 
 def counting(tree, cost):

@@ -8,11 +8,14 @@ This is not proved; crnsim's figures are.
 import collections
 from typing import NamedTuple
 
+import formats
 from amounts import amount_of, grouped_note
-from cells import Cell, Refused, sheet_of
+from cells import Cell, sheet_of
 from dates import dates_of, period_name, period_of
+from refused import Refused
 
-MOST_ROWS = 65_536
+# Each row counts 1, so the rows are at most what the weights of a table may come to.
+MOST_ROWS = formats.WEIGHT_SUMS[1]
 NO_DEMAND = "write 0 where nothing was asked for"
 NO_LEAD = "write the lead time in periods, or leave the row out"
 

@@ -8,7 +8,7 @@ This is not proved; crnsim's figures are.
 import datetime
 import re
 
-from cells import Refused
+from refused import Refused
 
 EVERY = ("day", "week", "month")
 FIRST_YEAR, LAST_YEAR = 1980, 2199

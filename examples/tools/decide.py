@@ -26,9 +26,9 @@ import sys
 
 from columns import aligned, named
 from decision_pictures import draw_differences, draw_map
-from end_effect import end_effects
-from intervals import Refused, rows_of, with_intervals
+from intervals import rows_of, with_intervals
 from pictures import NoPicture, open_pyplot, picture_path
+from refused import Refused
 from suggest import scenario_of
 
 FIGURES = {"per_period": 3, "cost_low": 3, "cost_high": 3, "diff_mean": 3, "percent": 2, "std_error": 3, "low": 3,
@@ -107,9 +107,14 @@ def end_warning(tree, given):
         return ""
     start = f"WARNING: unit = {unit} is paid for each item ordered, also for those left when a replication ends."
     advice = "More replications or another key do not change it. Compare with unit = 0 too, which leaves it out."
+    unknown = f"{start} How much that favours policies that end with little stock is not known here{{}}.\n{advice}\n"
+    try:
+        from end_effect import end_effects
+    except ImportError:
+        return unknown.format(": numpy is missing (on Debian python3-numpy)")
     effects = end_effects(tree, [(row["s"], row["S"]) for row in given])
     if effects is None:
-        return f"{start} How much that favours policies that end with little stock is not known here.\n{advice}\n"
+        return unknown.format("")
     named_effects = list(zip(effects, (row["policy"] for row in given)))
     (least, low), (most, high) = min(named_effects), max(named_effects)
     place = min(range(len(given)), key=lambda it: given[it]["diff_total"])

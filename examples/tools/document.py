@@ -10,7 +10,7 @@ import re
 import tomllib
 
 from causes import usual_cause
-from newer import TooDeep, older_text
+from newer import MOST_DEPTH, TooDeep, older_text
 from values import SpeltFloat, shown
 
 MARK = b"\xef\xbb\xbf"
@@ -89,8 +89,8 @@ def read_document(data):
     except OverflowError as fault:
         return {}, [(1, "the document", f"the number {str(fault)[:40]} is too great (write a number within its range)")]
     except (TooDeep, RecursionError):
-        return {}, [(1, "the document", "lists and tables within each other, or parts of a key, are more than 80 (a "
-                     "scenario needs three)")]
+        return {}, [(1, "the document", f"lists and tables within each other, or parts of a key, are more than {MOST_DEPTH} "
+                     "(a scenario needs three)")]
     except ValueError:
         return {}, [(1, "the document", "an integer is beyond 64 bits (write a number within its range)")]
 

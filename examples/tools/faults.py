@@ -8,14 +8,24 @@ This is not proved; which number crnsim reports is.
 """
 from difflib import get_close_matches
 
+import formats
 from characters import odd_advice
-from values import (COSTS, DEMAND, DOCUMENT, POLICY, WITH_RETURNS, key_faults, name_faults, number_faults,
-                    numbers_faults, once_each, ring_faults, shown, wrong_kind)
+from values import (key_faults, name_faults, number_faults, numbers_faults, once_each, ring_faults, shown, wrong_kind)
 
-HOMES = {**{key: "[[policy]]" for key in POLICY}, **{key: "[demand], [lead] or [returns]" for key in DEMAND},
-         **{key: "[costs]" for key in COSTS}, **{key: "the document, above its first table" for key in DOCUMENT}}
-TABLES = ("costs", "demand", "lead", "policy", "returns")
+NEWEST = formats.SHAPES[formats.VERSIONS[-1]]
+TABLES = [name for name, (kind, *_) in NEWEST.items() if kind in ("table", "draws", "policies")]
 LONGEST_NAME = 20
+
+
+def homes():
+    """Returns where each key belongs, in words."""
+    *draws, last = (f"[{name}]" for name in formats.DRAWS)
+    words = {"": "the document, above its first table", "policy": "[[policy]]",
+             **dict.fromkeys(formats.DRAWS, f"{', '.join(draws)} or {last}")}
+    return {key.name: words.get(key.table, f"[{key.table}]") for key in formats.KEYS}
+
+
+HOMES = homes()
 
 
 def place_text(path, tree):
@@ -42,11 +52,11 @@ def version_faults(_path, _value):
 
 def advice_on_key(path, key, known):
     """Returns what to do about a key that should not be there."""
-    if key == "returns" and not path:
-        return "write version = 2, which has returns"
-    if key in HOMES and key not in TABLES:
+    if not path and key in NEWEST and key not in known:
+        return f"write version = {formats.version_with([key])}, which has {key}"
+    if key in HOMES:
         return f"it belongs to {HOMES[key]}: move this line there"
-    close = [it for it in HOMES if it.lower() == key.lower()] or get_close_matches(key, known, 1)
+    close = [it for it in [*HOMES, *TABLES] if it.lower() == key.lower()] or get_close_matches(key, known, 1)
     return odd_advice(key) or (f"write {close[0]}" if close else "remove it")
 
 
@@ -92,10 +102,11 @@ def draws_faults(path, table, keys):
                        "value)"))
     if isinstance(values, list) and all(type(it) is int for it in values):
         faults += order_faults((*path, "values"), values)
-    if isinstance(weights, list) and all(type(it) is int for it in weights) and not 1 <= sum(weights) <= 65_536:
+    least, most = formats.WEIGHT_SUMS
+    if isinstance(weights, list) and all(type(it) is int for it in weights) and not least <= sum(weights) <= most:
         advice = "divide all weights by the same number" if sum(weights) > 0 else "give some value a weight above 0"
-        faults.append((9, (*path, "weights"), f"they come to {shown(sum(weights))}, which is not from 1 to 65,536 "
-                       f"({advice})"))
+        faults.append((9, (*path, "weights"), f"they come to {shown(sum(weights))}, which is not from {least:,} to "
+                       f"{most:,} ({advice})"))
     return faults
 
 
@@ -104,9 +115,10 @@ def policies_faults(path, policies, keys):
     if not isinstance(policies, list):
         return wrong_kind(path, policies, "a list of tables")
     faults, seen = [], {}
-    if not 1 <= len(policies) <= 16:
+    least, most = formats.POLICIES
+    if not least <= len(policies) <= most:
         advice = "split them over several scenarios, with the same first policy" if policies else "write one at least"
-        faults.append((13, path, f"there are {len(policies)} policies, not 1 to 16 ({advice})"))
+        faults.append((13, path, f"there are {len(policies)} policies, not {least} to {most} ({advice})"))
     for entry, policy in enumerate(policies, 1):
         here = (*path, entry)
         faults += table_faults(here, policy, keys)
@@ -127,15 +139,24 @@ RULES = {"version": version_faults, "number": number_faults, "numbers": numbers_
          "policies": policies_faults}
 
 
+def advice_on_version():
+    """Returns what to write as the version, with the tables that each adds."""
+    ways, before = [], formats.SHAPES[formats.VERSIONS[0]]
+    for version in formats.VERSIONS:
+        added = [key for key in formats.SHAPES[version] if key not in before]
+        ways.append(f"version = {version}" + (f" with a table {' and '.join(added)}" if added else ""))
+        before = formats.SHAPES[version]
+    return f"write {', or '.join(ways)}, above the first table"
+
+
 def faults_of(tree):
     """Returns all faults of a scenario's tree, the least number first."""
-    faults, version = [], tree.get("version")
-    advice = "(write version = 1, or version = 2 with a table returns, above the first table)"
+    faults, version, known = [], tree.get("version"), formats.VERSIONS
     if "version" not in tree:
-        faults.append((2, (), f"the key version is missing {advice}"))
-    elif type(version) is not int or version not in (1, 2):
-        faults.append((2, ("version",), f"{shown(version)} is not 1 or 2 {advice}"))
+        faults.append((2, (), f"the key version is missing ({advice_on_version()})"))
+    elif type(version) is not int or version not in known:
+        faults.append((2, ("version",), f"{shown(version)} is not {' or '.join(map(str, known))} ({advice_on_version()})"))
     # With another version, the rest is judged as the version that fits it.
-    with_returns = version == 2 if type(version) is int and version in (1, 2) else "returns" in tree
-    faults += table_faults((), tree, WITH_RETURNS if with_returns else DOCUMENT)
-    return sorted(faults, key=lambda fault: fault[0])
+    if faults:
+        version = formats.version_with(tree)
+    return sorted(faults + table_faults((), tree, formats.SHAPES[version]), key=lambda fault: fault[0])

@@ -8,13 +8,14 @@ import os
 import re
 from typing import NamedTuple
 
-HEADER = "policy,s,S,total,per_period,diff_total,diff_mean,diff_var,cov"
-GRID_POLICIES = 15
-MOST_ITEMS = 1_000_000
+import formats
+from refused import Refused
 
-
-class Refused(Exception):
-    """A sweep that can't be done; its text says why."""
+HEADER = formats.HEADER
+# The base is in each scenario of a sweep, so that one policy less of the grid is.
+GRID_POLICIES = formats.POLICIES[1] - 1
+MOST_ITEMS = formats.limits("policy", "S")[1]
+MOST_LETTERS = formats.limits("policy", "name")[1]
 
 
 class Scenario(NamedTuple):
@@ -52,9 +53,9 @@ def scenario_text(tree, policies):
 
 
 def name_of(point, level):
-    """The name of a pair of the grid, at most 16 characters."""
+    """Returns the name of a pair of the grid, shortened if it is too long."""
     name = f"s{point}_S{level}"
-    return name if len(name) <= 16 else name.replace("_", "")
+    return name if len(name) <= MOST_LETTERS else name.replace("_", "")
 
 
 def numbers_of(name, first, last, step):

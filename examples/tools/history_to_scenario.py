@@ -34,13 +34,15 @@ import collections
 import re
 import sys
 
+import formats
 from amounts import DECIMALS
-from cells import DELIMITERS, Refused
-from counts import MOST_ROWS, history_counts, lead_counts, order_counts
+from cells import DELIMITERS
+from counts import history_counts, lead_counts, order_counts
 from dates import EVERY, checked_format
+from refused import Refused
 
-MOST_DEMAND = 10_000
-MOST_LEAD = 32
+MOST_DEMAND = formats.limits("demand", "values")[1]
+MOST_LEAD = formats.limits("lead", "values")[1]
 
 
 def demand_weights(counts, box):

@@ -13,23 +13,19 @@ import math
 import re
 from fractions import Fraction
 
-from grid import HEADER as HEADING
+import formats
+from refused import Refused
 from values import name_faults, shown
 
-HEADER = HEADING.split(",")
+HEADER = list(formats.COLUMNS)
 # Replications of a run, and the keys whose runs check.py pools into one report.
-MOST_REPLICATIONS, MOST_KEYS = 256, 64
+MOST_REPLICATIONS, MOST_KEYS = formats.limits("", "replications")[1], 64
 WHOLE = re.compile("-?[0-9]{1,40}")
 FRACTION = re.compile("-?[0-9]{1,60}/[1-9][0-9]{0,59}")
 # The kind of each column's cells, and how a message names it. `-` stands for no figure with one replication.
-KINDS = {"s": WHOLE, "S": WHOLE, "total": WHOLE, "per_period": FRACTION, "diff_total": WHOLE, "diff_mean": FRACTION,
-         "diff_var": FRACTION, "cov": FRACTION}
+KINDS = {name: FRACTION if name in formats.FRACTIONS else WHOLE for name in HEADER if name != "policy"}
 WORDS = {WHOLE: "a whole number", FRACTION: "a fraction such as 359/4"}
 MAY_LACK = ("diff_var", "cov")
-
-
-class Refused(Exception):
-    """A report that cannot be used; its text says why."""
 
 
 def central_probability(angle, degrees):

@@ -12,9 +12,10 @@ from typing import NamedTuple
 import numpy as np
 
 from grid import MOST_ITEMS
-from laws import Law, law_of, reflected, sum_of
-from longrun import DIGITS, OneLead, SeveralLeads, decay_of, gap_grid
+from laws import law_of, reflected, sum_of
+from longrun import DIGITS, OneLead, SeveralLeads, Walk, decay_of, gap_grid
 from overtaking import FEW_STEPS, OTHER_PRODUCTS, TRANSFORM_PRODUCTS
+from refused import Refused
 
 MOST_PRODUCTS = 300_000_000  # of cells of levels and of gaps
 MOST_CELLS = 60_000  # of a law
@@ -23,10 +24,6 @@ MOST_CHAIN = 2_500_000_000  # products of all passes over late orders
 CELLS_OF_SHAPE = 400  # in which a scenario's shape is looked at
 LEAST_CELLS = 8  # of the largest net demand or order
 COARSER = 1.2  # by how much a step may grow if more values then lie on the lattice
-
-
-class Refused(Exception):
-    """A scenario for which no policy can be suggested; its text says why."""
 
 
 class Shape(NamedTuple):
@@ -150,6 +147,20 @@ def theory_on(tree, shape, step, exact):
     if len(chances) == 1:
         return OneLead(tree, step, exact, most, max(chances))
     return SeveralLeads(tree, step, exact, most, chances)
+
+
+def walk_of(tree, gap):
+    """Returns the position of a scenario on a lattice that is fine enough for gaps up to so many items; None if nothing is
+    to be ordered in the long run, or if the tables of such a lattice are too large."""
+    tables = [tree[name] for name in ("demand", "returns") if name in tree]
+    means, high = [mean_square(it)[0] for it in tables], max(max(it["values"]) for it in tables)
+    if means[0] - sum(means[1:]) <= 1e-9 * means[0]:
+        return None
+    height = height_of(tree, high) if len(tables) > 1 else 0.0
+    base = step = math.gcd(*(value for it in tables for value in it["values"]))
+    while gap / step * min(high, gap) / step > MOST_PRODUCTS or 4 * height / step > MOST_TRANSFORM:
+        step *= 2
+    return Walk(tree, step, step == base) if step == base or step * LEAST_CELLS <= max(high, gap) else None
 
 
 def theories_of(tree, today):

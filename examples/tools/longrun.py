@@ -136,24 +136,21 @@ def search(policy_of, most):
         found.update((gap, policy_of(gap)) for gap in between)
 
 
-class LongRun:
-    """A scenario on a lattice of `step` items, and the figures of its policies.
+class Walk:
+    """Describes the inventory position of a scenario on a lattice of `step` items.
 
     A gap is S - s in cells: an order is placed once the position is more than the gap below S.
     """
 
-    def __init__(self, tree, step, exact, most):
-        """Makes the laws of a scenario. `exact` says that all its values lie on the lattice; `most` is the largest gap
-        that is looked at."""
-        costs = tree["costs"]
-        self.setup, self.holding, self.backlog = costs["setup"], costs["holding"], costs["backlog"]
-        self.step, self.exact, self.most = step, exact, most
+    def __init__(self, tree, step, exact):
+        """Makes the laws of the position. `exact` says that all demands and returns lie on the lattice."""
+        self.step, self.exact = step, exact
         self.demand = law_of(tree["demand"], step)
         self.back = law_of(tree["returns"], step) if "returns" in tree else NOTHING
         self.net = sum_of(self.demand, reflected(self.back))
         self.visits, self.falls = ladder(self.net)
         self.span = float(self.visits.sum())
-        self.lows, self.known = np.ones(1), {}
+        self.lows = np.ones(1)
         self.above_low = reflected(scaled(0, self.visits))
 
     @property
@@ -171,13 +168,43 @@ class LongRun:
         """Returns the mean number of periods from one order to the next."""
         return self.span * float(self.lows_of(gap).sum())
 
+    def depth(self, gap):
+        """Returns how far the lows of a cycle are below S on average, in cells."""
+        lows = self.lows_of(gap)
+        return float(lows @ np.arange(gap + 1) / lows.sum())
+
     def positions(self, gap):
         """Returns the law of how far the position after a review is below S."""
         return sum_of(scaled(0, self.lows_of(gap)), self.above_low)
 
+    def gap_of(self, point, level):
+        """Returns the gap of a policy."""
+        return (level - point) // self.step
+
+    def gaps_of(self, point, level):
+        """Returns the gap of a policy with the share 1; where the lattice is not exact, the two gaps beside the policy
+        with their shares."""
+        gap = self.gap_of(point, level)
+        share = 0.0 if self.exact else (level - point - (self.step - 1) / 2) / self.step - gap
+        if abs(share) * self.step <= 0.5 or gap + share < 0:
+            return [(gap, 1.0)]
+        return [(gap, 1 - abs(share)), (gap + (1 if share > 0 else -1), abs(share))]
+
     def mean_position(self, point, level):
         """Returns the mean position at the beginning of a period, in items: after a review, less a net demand."""
-        return level - self.step * (self.positions(self.gap_of(point, level)).mean + self.net.mean)
+        depth = sum(share * self.depth(gap) for gap, share in self.gaps_of(point, level))
+        return level - self.step * (depth + self.above_low.mean + self.net.mean)
+
+
+class LongRun(Walk):
+    """Computes the figures of a scenario's policies on a lattice."""
+
+    def __init__(self, tree, step, exact, most):
+        """Makes the laws of a scenario; `most` is the largest gap that is looked at."""
+        super().__init__(tree, step, exact)
+        costs = tree["costs"]
+        self.setup, self.holding, self.backlog = costs["setup"], costs["holding"], costs["backlog"]
+        self.most, self.known = most, {}
 
     def laws(self, gap):
         """Returns the laws of how far the stock is below S at the end of a period, and just before its demand."""
@@ -189,22 +216,14 @@ class LongRun:
             self.known[gap] = [Surplus(law, self.step) for law in self.laws(gap)]
         return self.known[gap]
 
-    def gap_of(self, point, level):
-        """Returns the gap of a policy."""
-        return (level - point) // self.step
-
     def items(self, gap):
         """Returns S - s of a gap; where the lattice is not exact, the middle of those that have this gap."""
         return gap * self.step + (0 if self.exact else (self.step - 1) // 2)
 
     def figures(self, point, level):
         """Returns the figures of a policy; where the lattice is not exact, between those of the two gaps beside its own."""
-        gap = self.gap_of(point, level)
-        share = 0.0 if self.exact else (level - point - (self.step - 1) / 2) / self.step - gap
-        if abs(share) * self.step <= 0.5 or gap + share < 0:
-            return self.figures_of_gap(gap, level)
-        pairs = zip(self.figures_of_gap(gap, level), self.figures_of_gap(gap + (1 if share > 0 else -1), level))
-        return Figures(*((1 - abs(share)) * figure + abs(share) * other for figure, other in pairs))
+        shares = [(share, self.figures_of_gap(gap, level)) for gap, share in self.gaps_of(point, level)]
+        return Figures(*(sum(share * figures[place] for share, figures in shares) for place in range(len(Figures._fields))))
 
     def figures_of_gap(self, gap, level):
         """Returns the figures of a gap and an order-up-to level."""

@@ -9,7 +9,9 @@ This is not proved; which scenarios crnsim takes is.
 """
 import re
 
-MOST_DEPTH = 80
+import formats
+
+MOST_DEPTH = formats.MOST_LEVELS
 TOKEN = re.compile(r'"""(?:\\.|[^\\])*?"{3,5}|\'\'\'.*?\'{3,5}|"(?:\\.|[^"\\\n])*"|\'[^\'\n]*\'|#[^\n]*'
                    r'|(?<![+0-9-])[0-9]{2}:[0-9]{2}(?::[0-9]{2})?|[^\S\n]+|.', re.DOTALL)
 ESCAPE = re.compile(r"\\(?:x([0-9A-Fa-f]{2})|.)", re.DOTALL)

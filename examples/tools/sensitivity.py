@@ -28,14 +28,15 @@ import sys
 from fractions import Fraction
 from typing import NamedTuple
 
+import formats
 from columns import aligned
 from cost_counts import all_totals, counting
-from grid import Refused
 from history_to_scenario import MOST_DEMAND, MOST_LEAD
+from refused import Refused
 from suggest import scenario_of
 from sweep import PROGRAM
 
-MOST_WEIGHT = 65_536
+MOST_WEIGHT = formats.WEIGHT_SUMS[1]
 CHANGES = [("demand_up", 11, "demand 10% up"), ("demand_down", 9, "demand 10% down")]
 
 
@@ -51,15 +52,15 @@ class Case(NamedTuple):
         return [(cost - least, 100 * (cost - least) / least if least else None) for cost in self.costs]
 
 
-def mean_of(weights):
-    """Returns the mean of a table of values with their weights."""
-    return Fraction(sum(value * weight for value, weight in weights.items()), sum(weights.values()))
+def mean_of(table):
+    """Returns the mean of a table of values and weights."""
+    return Fraction(sum(map(int.__mul__, table["values"], table["weights"])), sum(table["weights"]))
 
 
 def scaled_down(weights):
-    """Returns weights that come to 65,536 at most.
+    """Returns weights that come to MOST_WEIGHT at most.
 
-    They are divided by their common divisor, or else scaled to 65,536 and rounded so that their sum stays right."""
+    They are divided by their common divisor, or else scaled to MOST_WEIGHT and rounded so that their sum stays right."""
     common = math.gcd(*weights.values())
     weights = {value: weight // common for value, weight in weights.items()}
     total = sum(weights.values())
@@ -84,18 +85,18 @@ def changed_demand(demand, tenths):
 
 def demand_trees(tree, notes):
     """Returns the trees of the cases with another demand; what cannot be done exactly or at all goes to the notes."""
-    weights = dict(zip(tree["demand"]["values"], tree["demand"]["weights"]))
     trees = {}
     for name, tenths, words in CHANGES:
         changed = changed_demand(tree["demand"], tenths)
         if max(changed) > MOST_DEMAND:
             notes.append(f"{words} is left out: a demand would be {max(changed):,}, which is over {MOST_DEMAND:,}")
             continue
-        before, after = mean_of(weights), mean_of(changed)
+        values = sorted(changed)
+        demand = {"values": values, "weights": [changed[it] for it in values]}
+        before, after = mean_of(tree["demand"]), mean_of(demand)
         if after != before * tenths / 10:
             notes.append(f"{words}: by rounded weights the mean is {float(after / before) - 1:+.4%}")
-        values = sorted(changed)
-        trees[name] = {**tree, "demand": {"values": values, "weights": [changed[it] for it in values]}}
+        trees[name] = {**tree, "demand": demand}
     return trees
 
 

@@ -34,6 +34,7 @@ import sys
 
 from document import text_of_document
 from grid import GRID_POLICIES, MOST_ITEMS, lines_of, scenario_text
+from refused import Refused
 from why import MOST_BYTES, reported_faults
 
 NO_NUMPY = ("numpy is missing here; on Debian: apt-get install python3-numpy, and then /usr/bin/python3 {path} "
@@ -171,7 +172,7 @@ def main():
     words.add_argument("--unit-zero", action="store_true", help="write unit = 0")
     asked = words.parse_args()
     try:
-        from lattice import Refused, theories_of
+        from lattice import theories_of
     except ImportError:
         print(f"suggest.py: {NO_NUMPY.format(path=sys.argv[0])}", file=sys.stderr)
         return 2

@@ -20,8 +20,9 @@ import sys
 from concurrent import futures
 
 from document import tree_of
-from grid import HEADER, Refused, keep, kept_rows, rows_of, scenarios_of
+from grid import HEADER, keep, kept_rows, rows_of, scenarios_of
 from progress import progress_of
+from refused import Refused
 
 NO_DISTRIBUTED = ("--cluster needs distributed, which is missing here; on Debian: apt-get install python3-distributed, and "
                   "then /usr/bin/python3 {path} ..")

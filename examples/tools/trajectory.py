@@ -26,8 +26,9 @@ from typing import NamedTuple
 
 from columns import aligned
 from cost_counts import all_totals, counting
-from grid import MOST_ITEMS, Refused
+from grid import MOST_ITEMS
 from pictures import NoPicture, open_pyplot, picture_path
+from refused import Refused
 from suggest import scenario_of
 from sweep import PROGRAM
 from trajectory_pictures import draw_trajectories

@@ -7,19 +7,9 @@ This is not proved; which number crnsim reports is.
 """
 import re
 
+import formats
 from characters import odd_advice
 
-WEIGHTS = ("numbers", 0, 65_536)
-COSTS = {"setup": ("number", 0, 100_000_000), "unit": ("number", 0, 10_000), "holding": ("number", 0, 10_000),
-         "backlog": ("number", 0, 10_000)}
-DEMAND = {"values": ("numbers", 0, 10_000), "weights": WEIGHTS}
-LEAD = {"values": ("numbers", 1, 32), "weights": WEIGHTS}
-POLICY = {"name": ("name",), "s": ("number", 0, 1_000_000), "S": ("number", 0, 1_000_000)}
-DOCUMENT = {"version": ("version",), "key": ("key",), "periods": ("number", 1, 1_024),
-            "replications": ("number", 1, 256), "initial": ("number", 0, 1_000_000), "ring": ("ring",),
-            "costs": ("table", COSTS), "demand": ("draws", DEMAND), "lead": ("draws", LEAD),
-            "policy": ("policies", POLICY)}
-WITH_RETURNS = {**DOCUMENT, "returns": ("draws", DEMAND)}
 KINDS = {bool: "true or false", int: "a whole number", float: "a number with a point", str: "a text", list: "a list",
          dict: "a table"}
 # What to do about a value of the wrong kind, by what should stand there.
@@ -27,13 +17,11 @@ WRITE = {"a whole number": "write digits alone, as 60", "a text": 'write it in d
          "a list of whole numbers": "write [ ] around it, as [1]", "a list of four texts": "write four texts in [ ]",
          "a text of 16 digits of 0-9a-f": "write it in double quotes", "a table": "write the keys of this table below a "
          "line with its name in [ ]", "a list of tables": "begin each policy with a line [[policy]]"}
-# What to do about a number above its range, by its key.
-LESS = {"values": "count in boxes of several items", "initial": "count in boxes of several items",
-        "s": "count in boxes of several items", "S": "count in boxes of several items",
-        "replications": "make more runs, each with another key", "periods": "take longer periods, or more replications",
-        "weights": "divide all weights by the same number", "setup": "take a larger coin for all costs",
-        "unit": "take a larger coin for all costs", "holding": "take a larger coin for all costs",
-        "backlog": "take a larger coin for all costs"}
+# What to do about a number above its range, by its key; other keys count items.
+LESS = {"replications": "make more runs, each with another key", "periods": "take longer periods, or more replications",
+        "weights": "divide all weights by the same number",
+        **dict.fromkeys(formats.COSTS, "take a larger coin for all costs")}
+LESS_ITEMS = "count in boxes of several items"
 
 
 class SpeltFloat(float):
@@ -84,7 +72,9 @@ def number_faults(path, value, least, greatest):
     if least <= value <= greatest:
         return []
     key = next(part for part in reversed(path) if isinstance(part, str))
-    less = "an order arrives after 32 periods at most: take longer periods" if greatest == 32 else LESS[key]
+    less = LESS.get(key, LESS_ITEMS)
+    if path[:2] == ("lead", "values"):
+        less = f"an order arrives after {greatest} periods at most: take longer periods"
     advice = less if value > greatest else f"write {least} or more"
     return [(6, path, f"{shown(value)} is not from {least:,} to {greatest:,} ({advice})")]
 
@@ -120,9 +110,9 @@ def word_faults(path, word):
     """Returns the faults of one word of the key."""
     if not isinstance(word, str):
         return wrong_kind(path, word, "a text of 16 digits of 0-9a-f")
-    if re.fullmatch("[0-9a-f]{16}", word):
+    if formats.WORD.fullmatch(word):
         return []
-    advice = "write a-f in lower case" if re.fullmatch("[0-9a-f]{16}", word.lower()) else odd_advice(word)
+    advice = "write a-f in lower case" if formats.WORD.fullmatch(word.lower()) else odd_advice(word)
     advice = advice or (f"it has {len(word)} characters" if len(word) != 16 else "write digits of 0-9a-f alone")
     return [(6, path, f"{shown(word)} is not 16 digits of 0-9a-f ({advice})")]
 
@@ -140,16 +130,18 @@ def ring_faults(path, value):
     """Returns the faults of the size of the ring."""
     if type(value) is not int:
         return wrong_kind(path, value, "a whole number")
-    good = value in [2**it for it in range(11)]
-    return [] if good else [(12, path, f"{shown(value)} is not one of 1, 2, 4, 8, .., 1,024 (write ring = 1024)")]
+    sizes = formats.RING_SIZES
+    return [] if value in sizes else [(12, path, f"{shown(value)} is not one of {', '.join(map(str, sizes[:4]))}, .., "
+                                       f"{sizes[-1]:,} (write ring = {sizes[-1]})")]
 
 
 def name_faults(path, value):
     """Returns the faults of a policy's name by itself."""
     if not isinstance(value, str):
         return wrong_kind(path, value, "a text")
-    if re.fullmatch("[A-Za-z0-9_-]{1,16}", value):
+    if formats.NAME.fullmatch(value):
         return []
-    advice = odd_advice(value) or (f"it has {len(value)} characters: write 1 to 16" if not 1 <= len(value) <= 16 else
-                                   "write letters, digits, _ and - alone")
-    return [(11, path, f"{shown(value)} is not 1 to 16 of A-Z a-z 0-9 _ - ({advice})")]
+    least, most = formats.limits("policy", "name")
+    advice = odd_advice(value) or (f"it has {len(value)} characters: write {least} to {most}"
+                                   if not least <= len(value) <= most else "write letters, digits, _ and - alone")
+    return [(11, path, f"{shown(value)} is not {least} to {most} of A-Z a-z 0-9 _ - ({advice})")]

@@ -13,11 +13,12 @@ This tool is not proved; which scenarios crnsim takes, and the number that it re
 import argparse
 import sys
 
+import formats
 from document import read_document, text_of_document
 from faults import faults_of, place_text
 from lines import lines_of
 
-MOST_BYTES = 1_048_576
+MOST_BYTES = formats.MOST_BYTES
 
 
 def reported_faults(data):

@@ -2,12 +2,9 @@
 no public contract reaches, and nothing else, stands in specs/Inner."""
 import collections
 import re
-import sys
 
-from pages import TOP
-
-sys.path.insert(0, f"{TOP}/tools")
 from definitions import Repository
+from pages import TOP
 
 
 def section_of(page, heading):

@@ -6,12 +6,14 @@ a folder with a copy of `examples/`. What the commands of a block print is the n
 a page shows a refusal with `|| echo`. What a command between backticks prints is not compared.
 """
 import csv
+import glob
 import os
 import re
 import tempfile
+import tomllib
 from fractions import Fraction
 
-from pages import fences_of, pieces_of, spans_of, text_of
+from pages import TOP, blocks_of, fences_of, pieces_of, prose_of, spans_of, text_of
 from shell import RUNNERS, Missing, Room, commands_of
 
 PAGES = ["README.md", "docs/GUIDE.md", "docs/FORMATS.md"]
@@ -169,6 +171,31 @@ class Page:
         yield from self.unshown()
         blocks = [it for it in pieces_of(self.name) if not it.is_prose]
         yield f"{self.name}: its fences", fences_of(self.name) == 2 * len(blocks) or "a fence is spelt in another way"
+
+
+def option_tries(_):
+    """Checks that each option that a page names is one that a tool takes."""
+    names = [*glob.glob("examples/tools/*.py", root_dir=TOP), "tests/theory/run.py"]
+    options = set(re.findall(r'"(--[\w-]+)"', "".join(map(text_of, names)))) | {"--help"}
+    for page in (*PAGES, "examples/README.md", "examples/case/README.md"):
+        spans = " ".join(spans_of(prose_of(page)))
+        for option in sorted(set(re.findall(r"(?<![\w-])--[A-Za-z][\w-]*", spans))):
+            yield f"{page}: {option}", option in options or "no tool has this option"
+
+
+def is_part(part, whole):
+    """Returns whether a table says nothing but what another one says too."""
+    return all(whole.get(key) == value or isinstance(value, dict) and is_part(value, whole.get(key, {}))
+               for key, value in part.items())
+
+
+def toml_tries(_):
+    """Checks that each block of TOML on a page is a part of an example."""
+    trees = [tomllib.loads(text_of(it)) for it in glob.glob("examples/*.toml", root_dir=TOP)]
+    for page in PAGES:
+        for text in blocks_of(page, "toml"):
+            right = any(is_part(tomllib.loads(text), tree) for tree in trees)
+            yield f"{page}: {text.splitlines()[0]} ..", right or "it is no part of an example"
 
 
 def command_tries(program):

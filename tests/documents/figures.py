@@ -6,13 +6,12 @@ import re
 from fractions import Fraction
 from math import sqrt
 
-from pages import prose_of, rows_of, text_of
+import formats
+from pages import prose_of, rows_of, spans_of, text_of
 from program import oracle
 
 GUIDE = "docs/GUIDE.md"
 SCENARIO = "examples/spare_part.toml"
-COSTS = ["setup", "unit", "holding", "backlog"]
-FRACTIONS = ["per_period", "diff_mean", "diff_var", "cov"]
 
 
 def rounded(number, places=0):
@@ -28,7 +27,7 @@ def report_of(text):
     """The rows of a report by their policies, with numbers for texts."""
     rows = {row["policy"]: row for row in csv.DictReader(text.splitlines())}
     for row in rows.values():
-        row |= {name: Fraction(row[name]) for name in [*FRACTIONS, "total", "diff_total"] if row[name] != "-"}
+        row |= {name: Fraction(row[name]) for name in [*formats.FRACTIONS, "total", "diff_total"] if row[name] != "-"}
     return rows
 
 
@@ -57,8 +56,9 @@ def table_tries(_):
 def count_tries(program):
     """What each total is made of: the table, and the sentences that read it."""
     text, counts = text_of(SCENARIO), {}
-    for cost in COSTS:
-        only = re.sub(rf"^({'|'.join(COSTS)}) = .*$", lambda it: f"{it[1]} = {int(it[1] == cost)}", text, flags=re.M)
+    rate = re.compile(rf"^({'|'.join(formats.COSTS)}) = .*$", re.MULTILINE)
+    for cost in formats.COSTS:
+        only = rate.sub(lambda it: f"{it[1]} = {int(it[1] == cost)}", text)
         for policy, row in report_of(program.ask("", only).output).items():
             counts.setdefault(policy, []).append(row["total"])
     shown = rows_of(GUIDE, "policy", "orders (`setup`)", "items ordered (`unit`)", "item-weeks in stock (`holding`)",
@@ -69,11 +69,16 @@ def count_tries(program):
         yield f"{GUIDE}: the counts of {policy}", cells == wanted or f"they should be {wanted}"
 
 
-def sentence_tries(sentences, page=GUIDE):
-    """That a page has each of these sentences."""
-    prose = prose_of(page)
-    for sentence in sentences:
-        yield f"{page}: {sentence}", sentence in prose or "it has no such sentence"
+def formula_tries(_):
+    """Tries the formula for a spreadsheet, with its functions as they are there: it turns a fraction into a number."""
+    functions = {"VALUE": int, "FIND": lambda part, text: text.index(part) + 1, "LEFT": lambda text, size: text[:size],
+                 "MID": lambda text, start, size: text[start - 1:start - 1 + size]}
+    formulas = [span for span in spans_of(prose_of(GUIDE)) if span.startswith("=")]
+    yield f"{GUIDE}: a formula for a spreadsheet", len(formulas) == 1 or f"there are {len(formulas)}"
+    for formula in formulas:
+        value = eval(formula[1:].replace(";", ","), functions, {"E2": "149115/3328"})
+        wanted = Fraction(149115, 3328)
+        yield f"{GUIDE}: {formula}", rounded(value, 6) == rounded(wanted, 6) or f"149115/3328 becomes {value}"
 
 
 def period_tries(_):
@@ -93,5 +98,5 @@ def period_tries(_):
 
 def figure_tries(program):
     """All tables with figures."""
-    for part in (table_tries, count_tries, period_tries):
+    for part in (table_tries, count_tries, period_tries, formula_tries):
         yield from part(program)

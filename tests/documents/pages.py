@@ -71,8 +71,3 @@ def rows_of(page, *headings):
     head = r"\| " + r" \| ".join(map(re.escape, headings)) + r" \|"
     tables = re.findall(rf"^{head}\n\|[-|]+\|\n((?:\|.*\n)*)", text_of(page) + "\n", re.MULTILINE)
     return [cells_of(line) for line in tables[0].splitlines()] if len(tables) == 1 else []
-
-
-def numbers_of(text):
-    """The whole numbers of a text, as 1,024."""
-    return [int(it.replace(",", "")) for it in re.findall(r"(?<![\w.,])[0-9]+(?:,[0-9]{3})*(?![\w])", text)]

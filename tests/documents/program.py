@@ -1,13 +1,7 @@
 """Asks the program, and the second readers of scenarios, which are those of the tools and of the hostile tests."""
-import contextlib
-import resource
 import subprocess
-import sys
 from typing import NamedTuple
 
-from pages import TOP
-
-sys.path += [f"{TOP}/examples/tools", f"{TOP}/tests/program", f"{TOP}/tests/hostile"]
 import document
 import faults
 import oracle
@@ -31,23 +25,14 @@ class Program:
         """The program at a path."""
         self.path, self.file = path, f"{folder}/FILE"
 
-    def ask(self, words, text="", file=None, to=None, kilobytes=None):
-        """Runs the program on a text; in its words, FILE is a file with this text. What it writes goes to another file
-        where one is named."""
+    def ask(self, words, text="", file=None):
+        """Runs the program on a text; in its words, FILE is a file with this text."""
         if file is not None:
             with open(self.file, "w", encoding="utf-8") as it:
                 it.write(file)
-
-        def limit():
-            """Limits the address space of the run."""
-            if kilobytes:
-                resource.setrlimit(resource.RLIMIT_AS, (1024 * kilobytes, 1024 * kilobytes))
-
         words = [self.file if it == "FILE" else it for it in words.split()]
-        with open(to, "wb") if to else contextlib.nullcontext(subprocess.PIPE) as output:
-            ran = subprocess.run([self.path, *words], input=text.encode(), stdout=output, stderr=subprocess.PIPE,
-                                 preexec_fn=limit, timeout=SECONDS)
-        return Answer(ran.returncode, (ran.stdout or b"").decode(), ran.stderr.decode())
+        ran = subprocess.run([self.path, *words], input=text.encode(), capture_output=True, timeout=SECONDS)
+        return Answer(ran.returncode, ran.stdout.decode(), ran.stderr.decode())
 
     def fault_of(self, scenario):
         """The number with which the program refuses a scenario; 0 where it takes it, and else what it says."""

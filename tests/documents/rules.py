@@ -2,24 +2,28 @@
 names in the sources and the help say the same of each number."""
 import re
 
-from pages import blocks_of, prose_of, rows_of, text_of
+import formats
+from pages import blocks_of, rows_of, text_of
 from program import judged
 
 FORMATS, GUIDE = "docs/FORMATS.md", "docs/GUIDE.md"
-RULES = ("Number", "Name", "The scenario is refused since", "For example")
-REFUSED = ("Number", "Name", "The text is refused since", "For example")
 LINE = r"`([A-Za-z]+ = [^`]+)`"
 # An example: one line or two, what stands before it and after it.
 EXAMPLE = re.compile(r"(no line |for |write |(?:a table `\w+`|`\[\w+\]`) with )?"
                      rf"{LINE}(?: with {LINE})?( with nothing after it)?")
-NAMED = {("crn_scenario", "scenario_fault"): RULES, ("crn_checkpoint", "checkpoint_fault"): REFUSED,
-         ("crn_checkpoint", "migrate_fault"): REFUSED}
+NAMED = [("crn_scenario", "scenario_fault"), ("crn_checkpoint", "fault")]
 OLD = [("checkpoint,2,", "checkpoint,1,"), ("returns,0,-,-,-\n", "")]
 # What is done with the checkpoint that FORMATS shows, by the number with which it is then refused; 0 where it is taken.
 EDITS = [(1, "resume", [("costs,7,2,1,4", "costs,07,2,1,4")]), (1, "resume", [("\n", "\r\n")]),
          (1, "resume", [("end,-,-,-,-\n", "end,-,-,-,-")]), (1, "resume", [("state,4,35,0,0", "state,1000001,35,0,0")]),
          (1, "migrate", [("end,-,-,-,-\n", "")]), (2, "resume", [("0000\ncosts", "0001\ncosts")]), (4, "resume", OLD),
          (5, "migrate", []), (0, "resume", [("state,4,35,0,0", "state,5,35,0,0")]), (0, "migrate", OLD)]
+
+
+def rule_tables():
+    """Returns the rows of the rules of scenarios and those of checkpoints: number, name, reason and example."""
+    scenarios, checkpoints = formats.tables_with("Number", "Name", "For example")
+    return scenarios, checkpoints
 
 
 def with_line(text, line):
@@ -81,22 +85,38 @@ def listed(output, heading):
     return {int(number): " ".join(text.split()) for number, text in found}
 
 
+def large_numbers(text):
+    """Returns the numbers of a text that are limits, and not counts or versions: those of more than one digit."""
+    return {it for it in formats.numbers_of(text) if it > 9}
+
+
+def compared(name, told, reasons):
+    """Compares a list of the help with the one of a page: each text is nearest, by its words, to that of its number, and
+    has no limit that the other lacks."""
+    for number, other in nearest(told, reasons):
+        yield f"{FORMATS}: {name} {number} is that of the help", number == other or f"the help's is more like {other}"
+        lacking = large_numbers(told[number]) - large_numbers(reasons.get(number, ""))
+        yield f"{FORMATS}: {name} {number} has the limits of the help", not lacking or f"it lacks {sorted(lacking)}"
+
+
 def help_tries(program):
-    """The rules of the help are those of FORMATS: each is nearest, by its words, to the one of its number."""
+    """Compares the rules of the help with those of FORMATS."""
     told = listed(program.ask("help").output, "Rules of a scenario")
-    rows = {int(row[0]): row[2] for row in rows_of(FORMATS, *RULES)}
+    rows = {int(row[0]): row[2] for row in rule_tables()[0]}
     yield "crnsim help: the numbers of the rules", list(told) == list(range(1, 14)) or f"they are {list(told)}"
-    for number, other in nearest(told, rows):
-        yield f"{FORMATS}: rule {number} is that of the help", number == other or f"the help's is more like {other}"
+    yield from compared("rule", told, rows)
 
 
 def name_tries():
     """The names and numbers of the tables are those of the sources."""
-    rows = [(row[0], re.findall(r"`(\w+)`", row[1])) for rules in (RULES, REFUSED) for row in rows_of(FORMATS, *rules)]
+    rows = [(row[0], re.findall(r"`(\w+)`", row[1])) for rows in rule_tables() for row in rows]
     page = {(names[0], int(number)) for number, names in rows if names}
     source = set()
     for crate, name in NAMED:
-        found = re.findall(r"Fault::(\w+) => ([0-9]+),", text_of(f"crates/{crate}/src/{name}.rt"))
+        text = text_of(f"crates/{crate}/src/{name}.rt")
+        constants = dict(re.findall(r"const (\w+): u8 = ([0-9]+);", text))
+        found = [(fault, constants.get(number, number)) for fault, number in re.findall(r"Fault::(\w+) => (\w+),", text)
+                 if constants.get(number, number).isdigit()]
         source |= {(fault, int(number)) for fault, number in found if number != "90"}
     for fault, number in sorted(page ^ source):
         yield f"{FORMATS}: {fault} is {number}", "not in the sources" if (fault, number) in page else "no table has it"
@@ -107,7 +127,7 @@ def checkpoint_tries(program):
     """The rules by which checkpoints are refused."""
     shown = next((it for it in blocks_of(FORMATS) if it.startswith("checkpoint,2,")), "")
     scenario = text_of("tests/program/five_periods.toml")
-    cells = {int(row[0]): row[3] for row in rows_of(FORMATS, *REFUSED)}
+    cells = {int(row[0]): row[3] for row in rule_tables()[1]}
     yield f"{FORMATS}: the numbers of refused checkpoints", set(cells) == {number for number, *_ in EDITS} - {0}
     tried = {number: "" for number in cells}
     for number, command, edits in EDITS:
@@ -118,9 +138,6 @@ def checkpoint_tries(program):
         told = program.ask(f"{command} FILE", scenario if command == "resume" else "", file=text)
         right = (told.status, told.errors) == ((4, f"crnsim: checkpoint {number}\n") if number else (0, ""))
         yield f"{FORMATS}: checkpoint {number}: {command}, {edits}", right or f"{told.status}, {told.errors!r}"
-    told = {command: sorted({it for it, by, _ in EDITS if by == command and it}) for command in ("resume", "migrate")}
-    sentence = "`resume` tells {}, {} and {}, `migrate` {} and {}.".format(*told["resume"], *told["migrate"])
-    yield f"{FORMATS}: {sentence}", sentence in prose_of(FORMATS) or "it has no such sentence"
     for number, cell in cells.items():
         for example in re.findall("`([a-z]+,[^`]*)`", cell):
             yield f"{FORMATS}: checkpoint {number}: {example}", f"{example}\n" in tried[number] or "this is not tried"
@@ -128,7 +145,7 @@ def checkpoint_tries(program):
 
 def rule_tries(program):
     """All that the pages say of the rules."""
-    rows = [(int(row[0]), row[3]) for row in rows_of(FORMATS, *RULES)]
+    rows = [(int(row[0]), row[3]) for row in rule_tables()[0]]
     yield from example_tries(program, FORMATS, rows, "examples/two_policies.toml")
     table = rows_of(GUIDE, "What it says", "What it usually comes from")
     rows = [(int(re.findall("[0-9]+", row[0])[-1]), row[1]) for row in table if "command line" not in row[0]]

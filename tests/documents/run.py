@@ -7,12 +7,10 @@ no public contract states (believed.py); that each wrong implementation says wha
 and which function refuses it; that public items have docstrings of one form (docstrings.py); and that the scenario and the report of README
 are those that the program takes and writes.
 That the commands of README, of the guide and of the formats can be copied and print what stands there (commands.py),
-and the help's examples too (helps.py); that ranges, rules and statuses are those of the program (ranges.py, rules.py,
-statuses.py), also wherever else they stand (facts.py, sentences.py); and that the figures of tables and of sentences
-are those that come out (figures.py, readings.py). There is a line for each failure and each try that this machine
-cannot make, and a last line that counts.
+and the help's examples too (helps.py); that the tables of the formats, their ranges, rules and statuses are those of the
+program (tables.py, ranges.py, rules.py, statuses.py); and that the figures of tables are those that come out (figures.py).
+There is a line for each failure and each try that this machine cannot make, and a last line that counts.
 """
-import glob
 import os
 import re
 import sys
@@ -20,21 +18,20 @@ import tempfile
 
 # Compiled text is not to stand in the repository.
 sys.dont_write_bytecode = True
-sys.path.append(os.path.join(os.path.dirname(os.path.abspath(__file__)), "..", "..", "tools"))
+TOP = os.path.dirname(os.path.dirname(os.path.dirname(os.path.abspath(__file__))))
+sys.path += [f"{TOP}/{it}" for it in ("tools", "examples/tools", "tests/program", "tests/hostile")]
 from believed import believed_tries, inner_tries
-from commands import command_tries
+from commands import command_tries, option_tries, toml_tries
 from docstrings import docstring_tries
 from edits import crates, edits_of
-from facts import checkpoint_tries, header_tries, option_tries, toml_tries, usage_tries
 from figures import figure_tries
 from helps import example_tries
-from pages import PAGES, TOP, anchors_of, blocks_of, text_of
+from pages import PAGES, anchors_of, blocks_of, text_of
 from program import Program
 from ranges import range_tries
-from readings import reading_tries
 from rules import rule_tries
-from sentences import number_tries
 from statuses import status_tries
+from tables import table_tries
 
 
 def link_tries(_):
@@ -111,8 +108,8 @@ def readme_tries(program):
 
 
 PARTS = [link_tries, crate_tries, name_tries, quote_tries, edit_tries, believed_tries, inner_tries, docstring_tries, readme_tries,
-         command_tries, example_tries, header_tries, checkpoint_tries, usage_tries, option_tries, toml_tries, range_tries,
-         number_tries, rule_tries, status_tries, figure_tries, reading_tries]
+         command_tries, option_tries, toml_tries, example_tries, table_tries, range_tries, rule_tries, status_tries,
+         figure_tries]
 
 
 def tried(part, program):

@@ -65,12 +65,13 @@ def runner_of(kind, command):
 
 
 class Room:
-    """A folder with a copy of the examples, in which the program is reached as the pages say."""
+    """Keeps a folder with a copy of the examples and the pages, in which the program is reached as the pages say."""
 
     def __init__(self, folder, program):
         """Makes the room in a folder that is empty."""
         self.folder = f"{folder}/top"
         shutil.copytree(f"{TOP}/examples", f"{self.folder}/examples", ignore=shutil.ignore_patterns("__pycache__"))
+        shutil.copytree(f"{TOP}/docs", f"{self.folder}/docs")
         for link in (f"{self.folder}/crates/crnsim/out/crnsim", f"{folder}/bin/crnsim"):
             os.makedirs(os.path.dirname(link))
             os.symlink(program, link)

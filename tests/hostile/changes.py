@@ -7,16 +7,17 @@ import copy
 import json
 import re
 
+import formats
 from trees import MARK, MOST_LEVELS
 
-ENDS = [0, 1, 4, 16, 31, 32, 256, 1023, 1024, 10_000, 65_536, 1_000_000, 100_000_000, 200_000_000_000,
-        2**31, 2**32, 2**63, 2**64]
+# The ends of the range of each key's numbers, and of all entries of lists.
+RANGES = {it.name: formats.limits(it.table, it.name) for it in formats.KEYS if it.table not in formats.DRAWS and it.ranges}
+RANGES["version"] = (formats.VERSIONS[0], formats.VERSIONS[-1])
+LIST_ENDS = sorted({end for it in formats.KEYS if it.table in formats.DRAWS for pair in it.ranges for end in pair})
+ENDS = sorted({0, 1, 4, 31, 1023, formats.MOST_COST, 2**31, 2**32, 2**63, 2**64, *LIST_ENDS,
+               *(end for pair in RANGES.values() for end in pair), *formats.POLICIES})
 NUMBERS = sorted({sign * it + step for it in ENDS for sign in (1, -1) for step in (-1, 0, 1)})
-# The ends of the range of each key's numbers.
-RANGES = {"periods": (1, 1024), "replications": (1, 256), "initial": (0, 1_000_000), "s": (0, 1_000_000),
-          "S": (0, 1_000_000), "setup": (0, 100_000_000), "unit": (0, 10_000), "holding": (0, 10_000),
-          "backlog": (0, 10_000), "version": (1, 2), "ring": (1, 1024)}
-LIST_ENDS = (0, 1, 32, 10_000, 65_536)
+MOST_WEIGHT = formats.WEIGHT_SUMS[1]
 STRINGS = ["", "A", "B", "A b", "a" * 16, "a" * 17, "a" * 5000, "0" * 16, "f" * 15 + "F", "\u00e4", "x\u0000", "q,r",
            "-", "_0-Z", "\ufeff"]
 OTHER_KINDS = [True, 1.0, "1", [], {}, [1], [[1]], [{}], {"a": 1}, ["1"], [1, "1"], 2**63 - 1, -(2**63), float("inf"),
@@ -98,23 +99,36 @@ def with_other_spelling(chance, text):
 # ---- trees of scenarios
 
 
+def some_draws(chance, keys):
+    """Returns values with their weights."""
+    _, low, high = keys["values"]
+    high = min(high, low + chance.choice([5, high]))
+    values = sorted(chance.sample(range(low, high + 1), chance.randint(1, min(6, high - low + 1))))
+    return {"values": values, "weights": [chance.randint(1, 9) for _ in values]}
+
+
+def some_policies(chance, keys):
+    """Returns policies with names of their own."""
+    policies = [a_table(chance, keys) for _ in range(chance.choice([1, 2, 3, formats.POLICIES[1]]))]
+    for number, it in enumerate(policies):
+        it["name"], (it["s"], it["S"]) = chance.choice(["P%d", "p-%d", "_%d"]) % number, sorted((it["s"], it["S"]))
+    return policies
+
+
+def a_table(chance, keys):
+    """Returns a table with a value at each of these keys; numbers are often small."""
+    make = {"number": lambda low, high: chance.choice([low, high, chance.randint(low, min(high, low + 50))]),
+            "ring": lambda: chance.choice(formats.RING_SIZES), "name": lambda: "A",
+            "key": lambda: ["%016x" % chance.getrandbits(64) for _ in range(formats.WORDS_OF_KEY)],
+            "table": lambda its: a_table(chance, its), "draws": lambda its: some_draws(chance, its),
+            "policies": lambda its: some_policies(chance, its)}
+    return {key: make[kind](*more) for key, (kind, *more) in keys.items() if kind != "version"}
+
+
 def a_scenario(chance):
     """The tree of a scenario that has no fault."""
-    def draws(low, high):
-        values = sorted(chance.sample(range(low, high + 1), chance.randint(1, min(6, high - low + 1))))
-        return {"values": values, "weights": [chance.randint(1, 9) for _ in values]}
-
-    tree = {"version": chance.choice([1, 2]), "key": ["%016x" % chance.getrandbits(64) for _ in range(4)],
-            "periods": chance.choice([1, 3, 4, 5, 16, 1024]), "replications": chance.choice([1, 2, 3, 256]),
-            "initial": chance.choice([0, 10, 1_000_000]), "ring": 2**chance.randint(0, 10),
-            "costs": {it: chance.randint(0, 100) for it in ("setup", "unit", "holding", "backlog")},
-            "demand": draws(0, chance.choice([5, 10_000])), "lead": draws(1, 32), "policy": []}
-    if tree["version"] == 2:
-        tree["returns"] = draws(0, 8)
-    for number in range(chance.choice([1, 2, 3, 16])):
-        name, s = chance.choice(["P%d", "p-%d", "_%d"]) % number, chance.randint(0, 50)
-        tree["policy"].append({"name": name, "s": s, "S": s + chance.randint(0, 50)})
-    return tree
+    version = chance.choice(formats.VERSIONS)
+    return {"version": version, **a_table(chance, formats.SHAPES[version])}
 
 
 def places_of(tree):
@@ -178,22 +192,24 @@ def tree_changed(chance, tree):
 def rule_changed(chance, tree):
     """The tree with a change that is at the very end of a rule, or just beyond it."""
     tree = copy.deepcopy(tree)
-    draws = tree[chance.choice(["demand", "lead", "returns"] if "returns" in tree else ["demand", "lead"])]
+    draws = tree[chance.choice([it for it in formats.DRAWS if it in tree])]
     policies, policy = tree["policy"], chance.choice(tree["policy"])
     kind, more = chance.randrange(7), chance.randrange(2)
     if kind == 0:
-        draws["weights"] = [0] * (len(draws["values"]) - 1) + [chance.choice([0, 1, 65536, 65537])]
+        draws["weights"] = [0] * (len(draws["values"]) - 1) + [chance.choice([0, 1, MOST_WEIGHT, MOST_WEIGHT + 1])]
     elif kind == 1:
         draws["values"] = draws["values"] + [draws["values"][-1] + more]
-        draws["weights"] = draws["weights"] + [65536 - sum(draws["weights"])]
+        draws["weights"] = draws["weights"] + [MOST_WEIGHT - sum(draws["weights"])]
     elif kind == 2:
         policy["s"] = policy["S"] + more
     elif kind == 3:
         policy["name"] = chance.choice(policies)["name"] + "x" * chance.choice([0, 10, 14, 15])
     elif kind == 4:
-        tree["ring"] = chance.choice([0, 1, 3, 512, 1023, 1024, 1025, 2048, -2])
+        most = formats.RING_SIZES[-1]
+        tree["ring"] = chance.choice([0, 1, 3, most // 2, most - 1, most, most + 1, 2 * most, -2])
     elif kind == 5:
-        tree["policy"] = [{**policy, "name": f"N{it}"} for it in range(chance.choice([0, 16, 17, 40]))]
+        most = formats.POLICIES[1]
+        tree["policy"] = [{**policy, "name": f"N{it}"} for it in range(chance.choice([0, most, most + 1, 40]))]
     else:
         tree["key"] = tree["key"][more:] + chance.choice([[], ["0" * 16], ["0" * 15], ["0" * 17]])
     return tree

@@ -5,30 +5,26 @@ a scenario, a report or a checkpoint.
 """
 import os
 import subprocess
-import sys
 from typing import NamedTuple, Optional
 
-HERE = os.path.dirname(os.path.abspath(__file__))
-TOP = os.path.dirname(os.path.dirname(HERE))
-sys.path.append(f"{TOP}/tests")
+import formats
+import oracle
+from paths import TOP
 from scenarios import swapped
+from shown import Shown, refused
+
+HERE = os.path.dirname(os.path.abspath(__file__))
 
 SECONDS = 20
 # What a try yields as its verdict where it can't be made here; None is a try that did well.
 SKIPPED = "skipped"
 # The longest input.
-LIMIT = 1048576
+LIMIT = formats.MOST_BYTES
 # The policies of the scenario of five periods, A and B, and the last row of a checkpoint.
 POLICIES = (b'{ name = "%s", s = 5, S = 10 }', b'{ name = "%s", s = 4, S = 10 }')
 END = b"end,-,-,-,-\n"
-
-
-class Shown(NamedTuple):
-    """What a run shows. Status None: it did not end in time. A negative one: a signal ended it."""
-
-    output: bytes
-    errors: bytes
-    status: Optional[int]
+# A stored checkpoint of one run in each version, the oldest first.
+CUTS = ["tests/program/five_periods_old_cut.csv", "tests/program/five_periods_cut.csv"]
 
 
 class Command(NamedTuple):
@@ -71,13 +67,7 @@ def run(program, words, data=b"", environment=None, prepare=None, seconds=SECOND
     return Shown(ran.stdout or b"", ran.stderr, ran.returncode)
 
 
-def refused(fault, status):
-    """What a run shows that ends with a fault and has written nothing."""
-    return Shown(b"", f"crnsim: {fault}\n".encode(), status)
-
-
-MEMORY, THREAD = refused("memory", 7), refused("thread", 6)
-READING, WRITING = refused("reading", 5), refused("writing", 5)
+MEMORY, THREAD, READING, WRITING = map(refused, ("memory", "thread", "reading", "writing"))
 
 
 def unlike(shown):
@@ -120,20 +110,17 @@ def runs_of_policies(count, room):
             Command("resume", ["resume", file], scenario, report, file=cut, starts=count)]
 
 
-def migration(room):
-    """`migrate` of the stored checkpoint in its older spelling."""
-    old, new = stored("tests/program/five_periods_old_cut.csv"), stored("tests/program/five_periods_cut.csv")
-    return Command("migrate", ["migrate", written(room, "old_cut", old)], b"", new, file=old)
+def migrations(room):
+    """Returns `migrate` of the stored checkpoint in each older version."""
+    *olds, new = map(stored, CUTS)
+    return [Command("migrate", ["migrate", written(room, f"old_cut_{number}", old)], b"", new, file=old)
+            for number, old in enumerate(olds)]
 
 
 def all_commands(room):
-    """Each command once, with its right bytes. The words of the zero key are Random123's, the trace was worked by
+    """Returns each command once, with its right bytes. The words of the zero key are the oracle's, the trace was worked by
     hand."""
-    words = Command("words", ["words", *["0" * 16] * 4, "0"], output=b"""\
-demand 09218ebde6c85537 55941f5266d86105 4bd25e16282434dc ee29ec846bd2e40b
-lead ca29e96305009de4 1cc27861f52c604b a1e7adf87d24b5b5 fc2291a0341a674c
-returns 5539277864380943 86dc4496ff6c4bf6 b6a16a294c09b67c 3572aa99bcf71983
-""")
+    words = Command("words", ["words", *["0" * 16] * 4, "0"], output=oracle.words_text((0, 0, 0, 0), 0).encode())
     replay = Command("replay", ["replay", "1", "2", "0"], b"r0\np\nr1\nl0\ne\nr0\n", b"""\
 r0 R1 0 0000000000000000
 p P3 0 0000000000000001
@@ -145,23 +132,22 @@ published 0 ended 1
 reader 0 taken 0 left 1 ended 0
 reader 1 taken 0 left 0 ended 1
 """)
-    names = (b"run", b"leg", b"resume", b"migrate", b"words", b"replay", b"help")
-    help_text = Command("help", ["help"], parts=tuple(b"\n  %s " % it for it in names))
+    names = [it.split()[0] for it in formats.COMMANDS]
+    help_text = Command("help", ["help"], parts=tuple(f"\n  {it} ".encode() for it in names))
     base = Command("run of the stored run", ["run"], stored("crates/crnsim/stdin"), stored("crates/crnsim/stdout"), starts=2)
-    return [*runs_of_policies(2, room), base, migration(room), words, replay, help_text]
+    return [*runs_of_policies(2, room), base, *migrations(room), words, replay, help_text]
 
 
 def refused_commands(room):
     """Commands whose words, input or file is refused."""
     scenario, _, cut = of_policies(2)
-    cases = [("scenario 6", 3, ["run"], swapped(scenario, b"initial = 10\n", b"initial = -1\n")),
-             ("scenario 1", 3, ["leg", "1"], scenario + b"["),
-             ("checkpoint 1", 4, ["resume", written(room, "no_cut", cut + b"end")], scenario),
-             ("checkpoint 2", 4, ["resume", written(room, "a_cut", cut)], scenario.replace(b'"P2"', b'"P3"')),
-             ("checkpoint 5", 4, ["migrate", written(room, "a_cut", cut)], b""),
-             ("schedule 2", 4, ["replay", "1", "2", "0"], b"p\nr2\n"),
-             ("command line", 2, ["leg", "5"], scenario),
-             ("command line", 2, ["walk"], b""),
-             ("reading", 5, ["resume", f"{room}/none"], scenario)]
-    return [Command(f"{words[0]}, {fault}", words, data, fault=refused(fault, status))
-            for fault, status, words, data in cases]
+    cases = [("scenario 6", ["run"], swapped(scenario, b"initial = 10\n", b"initial = -1\n")),
+             ("scenario 1", ["leg", "1"], scenario + b"["),
+             ("checkpoint 1", ["resume", written(room, "no_cut", cut + b"end")], scenario),
+             ("checkpoint 2", ["resume", written(room, "a_cut", cut)], scenario.replace(b'"P2"', b'"P3"')),
+             ("checkpoint 5", ["migrate", written(room, "a_cut", cut)], b""),
+             ("schedule 2", ["replay", "1", "2", "0"], b"p\nr2\n"),
+             ("command line", ["leg", "5"], scenario),
+             ("command line", ["walk"], b""),
+             ("reading", ["resume", f"{room}/none"], scenario)]
+    return [Command(f"{words[0]}, {fault}", words, data, fault=refused(fault)) for fault, words, data in cases]

@@ -2,16 +2,30 @@
 cut or damaged at each byte: what chance may miss."""
 import copy
 
+import formats
 import readers
+from readers import MOST_A_PERIOD, MOST_COST, MOST_ITEMS, MOST_LEAD
 
-SCENARIO = {
-    "version": 2, "key": ["0123456789abcdef"] * 4, "periods": 5, "replications": 2, "initial": 10, "ring": 2,
-    "costs": {"setup": 7, "unit": 2, "holding": 1, "backlog": 4}, "demand": {"values": [2, 5], "weights": [1, 2]},
-    "lead": {"values": [1, 3], "weights": [2, 1]}, "returns": {"values": [0, 4], "weights": [3, 1]},
-    "policy": [{"name": "A", "s": 5, "S": 10}, {"name": "B", "s": 0, "S": 1_000_000}]}
-NAMES = ["", "a", "a" * 16, "a" * 17, "B", "b", "A B", "azAZ09_-", "\u00e4", "a\n", "."]
+MOST_LETTERS, MOST_WEIGHT = formats.limits("policy", "name")[1], formats.WEIGHT_SUMS[1]
+NAMES = ["", "a", "a" * MOST_LETTERS, "a" * (MOST_LETTERS + 1), "B", "b", "A B", "azAZ09_-", "\u00e4", "a\n", "."]
 WORDS = ["0" * 16, "0" * 15, "0" * 17, "g" + "0" * 15, "F" * 16, "f" * 16, "-" + "0" * 15, " " + "0" * 15]
-WEIGHTS = [[0, 0], [0, 1], [65536, 0], [65535, 1], [65536, 1], [65537, 0], [-1, 2], [1], [1, 1, 1], []]
+WEIGHTS = [[0, 0], [0, 1], [MOST_WEIGHT, 0], [MOST_WEIGHT - 1, 1], [MOST_WEIGHT, 1], [MOST_WEIGHT + 1, 0], [-1, 2], [1],
+           [1, 1, 1], []]
+
+
+def a_scenario(version):
+    """Returns a scenario of a version: two values in each list, costs that differ, and two policies."""
+    tree = formats.least_scenario(version)
+    for table in (it for it in formats.DRAWS if it in tree):
+        low = tree[table]["values"][0]
+        tree[table] = {"values": [low, low + 3], "weights": [2, 1]}
+    tree["costs"] = {it: place for place, it in enumerate(tree["costs"], 1)}
+    policy = {**tree["policy"][0], "s": 5, "S": 10}
+    return {**tree, "key": ["0123456789abcdef"] * 4, "periods": 5, "replications": 2, "initial": 10, "ring": 2,
+            "policy": [policy, {**policy, "name": "B", "s": 0, "S": formats.limits("policy", "S")[1]}]}
+
+
+SCENARIO = a_scenario(formats.VERSIONS[-1])
 
 
 def around(low, high):
@@ -34,7 +48,7 @@ def table_ends(tree, path, keys):
     for key, (kind, *more) in keys.items():
         if kind == "number":
             yield from (with_value(tree, [*path, key], it) for it in around(*more))
-        elif kind == "table":
+        elif kind in ("table", "draws"):
             yield from table_ends(tree, [*path, key], more[0])
         elif key == "values":
             yield from (with_value(tree, [*path, key], it) for it in ([], [1, 1], [2, 1], [1], [1, 2, 3]))
@@ -46,19 +60,21 @@ def table_ends(tree, path, keys):
 
 def scenario_ends():
     """Trees of scenarios with one number, name, word, list or count at an end."""
-    for tree in (SCENARIO, {**{it: SCENARIO[it] for it in SCENARIO if it != "returns"}, "version": 1}):
+    for version in formats.VERSIONS:
+        tree, shape = a_scenario(version), formats.SHAPES[version]
         yield tree
-        keys = {it: readers.WITH_RETURNS[it] for it in tree}
-        yield from table_ends(tree, [], keys)
-    yield from table_ends(SCENARIO, ["policy", 0], readers.POLICY)
-    yield from table_ends(SCENARIO, ["policy", 1], readers.POLICY)
+        yield from table_ends(tree, [], shape)
+        yield from (with_value(tree, ["version"], it) for it in around(version, version))
+        for place in range(len(tree["policy"])):
+            yield from table_ends(tree, ["policy", place], shape["policy"][1])
     yield from (with_value(SCENARIO, ["policy", 0, "s"], it) for it in (9, 10, 11))
     yield from (with_value(SCENARIO, ["policy", 0, "name"], it) for it in NAMES)
     yield from (with_value(SCENARIO, ["key", 3], it) for it in WORDS)
     yield from (with_value(SCENARIO, ["key"], ["0" * 16] * it) for it in (0, 3, 4, 5))
-    yield from (with_value(SCENARIO, ["ring"], it + step) for it in readers.RING_SIZES + [2048] for step in (-1, 0, 1))
+    yield from (with_value(SCENARIO, ["ring"], it + step) for size in formats.RING_SIZES for it in (size, 2 * size)
+                for step in (-1, 0, 1))
     policy = SCENARIO["policy"][0]
-    for count in (0, 1, 15, 16, 17, 18):
+    for count in around(*formats.POLICIES):
         yield with_value(SCENARIO, ["policy"], [{**policy, "name": f"P{it}"} for it in range(count)])
     for first in SCENARIO:
         yield {it: SCENARIO[it] for it in SCENARIO if it != first}
@@ -72,9 +88,11 @@ def damaged(text):
 
 def due_ends(stock, period, top):
     """What may be due, or nearly, beside a stock."""
-    near = [[], [(period, 1)], [(period + 31, 1)], [(period + 32, 1)], [(period - 1, 1)], [(period, 0)], [(period, -1)],
-            [(period, 1), (period, 1)], [(period + 1, 1), (period, 1)], [(period, 1), (period + 31, 1)]]
-    return near + [[(period, it - stock)] for it in (-10_001, -10_000, -9_999, 1_000_000, 1_000_001, top, top + 1)]
+    last = period + MOST_LEAD - 1
+    near = [[], [(period, 1)], [(last, 1)], [(last + 1, 1)], [(period - 1, 1)], [(period, 0)], [(period, -1)],
+            [(period, 1), (period, 1)], [(period + 1, 1), (period, 1)], [(period, 1), (last, 1)]]
+    sums = [*around(-MOST_A_PERIOD, MOST_ITEMS), top, top + 1]
+    return near + [[(period, it - stock)] for it in sums]
 
 
 def checkpoint_ends(cut):
@@ -82,12 +100,12 @@ def checkpoint_ends(cut):
     scenario, states = cut.scenario, cut.states
     total, each = readers.blocks_of(scenario)
     period = 4 * (cut.block % each)
-    top = 1_000_000 + (10_000 * period if "returns" in scenario else 0)
+    top = MOST_ITEMS + (MOST_A_PERIOD * period if "returns" in scenario else 0)
     stock, cost, due, costs = states[0]
-    firsts = [(it, cost, more, costs) for it in [*around(-10_000 * period, top), *around(-10_000, 1_000_000), stock]
-              for more in due_ends(it, period, top)]
-    firsts += [(stock, it, due, costs) for it in around(0, 200_000_000_000 * period)]
-    firsts += [(stock, cost, due, [*costs[:-1], it]) for it in around(0, 200_000_000_000 * scenario["periods"])]
+    stocks = [*around(-MOST_A_PERIOD * period, top), *around(-MOST_A_PERIOD, MOST_ITEMS), stock]
+    firsts = [(it, cost, more, costs) for it in stocks for more in due_ends(it, period, top)]
+    firsts += [(stock, it, due, costs) for it in around(0, MOST_COST * period)]
+    firsts += [(stock, cost, due, [*costs[:-1], it]) for it in around(0, MOST_COST * scenario["periods"])]
     firsts += [(stock, cost, due, it) for it in (costs[:-1], [*costs, 0])]
     for first in firsts:
         yield cut._replace(states=[first, *states[1:]])
@@ -95,5 +113,5 @@ def checkpoint_ends(cut):
         yield cut._replace(block=block)
     ended = (scenario["initial"], 0, [], [0] * scenario["replications"])
     yield cut._replace(block=total, states=[ended] * len(states))
-    for periods in (1, 3, 4, 8, 9, 12, 1024, 1025):
+    for periods in (1, 3, 4, 8, 9, 12, *around(*formats.limits("", "periods"))[4:]):
         yield cut._replace(scenario={**scenario, "periods": periods})

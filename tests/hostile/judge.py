@@ -16,9 +16,11 @@ import sys
 import tempfile
 from typing import NamedTuple, Optional
 
+import paths
 import changes
 import edges
 import ends
+import formats
 import readers
 import trees
 from commands import Shown, refused, run, stored, unlike, written
@@ -42,7 +44,6 @@ CUTS = [(LONG_LEADS, (0, 1, 2, 3, 4, 8, 9)), (WITH_RETURNS, (0, 1, 2, 5, 9))]
 STORED_CUTS = [("tests/program/five_periods.toml", (0, 1, 2, 3, 4)), ("examples/spare_part.toml", (27,))]
 STORED = ["examples/two_policies.toml", "examples/spare_part.toml", "examples/mail_order.toml",
           "tests/program/five_periods.toml"]
-HEADER = "policy,s,S,total,per_period,diff_total,diff_mean,diff_var,cov"
 # The answers that two thousand cases meet.
 ANSWERS = {*(f"scenario {it}" for it in range(1, 14)), "checkpoint 1", "checkpoint 2", "checkpoint 4",
            "migrate 1", "migrate 5", "schedule 1", "schedule 2",
@@ -84,7 +85,7 @@ def answered(shown, case):
 
 def refusal(kind, number):
     """What a run shows that refuses a text with a number."""
-    return refused(f"{kind} {number}", 3 if kind == "scenario" else 4)
+    return refused(f"{kind} {number}")
 
 
 def scenario_case(chance, text, room):
@@ -106,7 +107,7 @@ def resume_case(data, file, room):
     if number:
         return Case(f"checkpoint {number}", words, data, refusal("checkpoint", number), file=file)
     lines = tuple(f"{it['name']},{it['s']},{it['S']}," for it in scenario["policy"])
-    return Case("checkpoint taken", words, data, lines=(HEADER, *lines), file=file)
+    return Case("checkpoint taken", words, data, lines=(formats.HEADER, *lines), file=file)
 
 
 def migrate_case(file, room):
@@ -115,7 +116,7 @@ def migrate_case(file, room):
     number = readers.migrate_fault(checkpoint)
     if number:
         return Case(f"migrate {number}", words, b"", refusal("checkpoint", number), file=file)
-    output = readers.text_of(checkpoint._replace(spelling=2))
+    output = readers.text_of(checkpoint._replace(spelling=readers.NEWEST))
     return Case("migrate taken", words, b"", output=output, file=file)
 
 
@@ -124,14 +125,16 @@ def ends_of(checkpoint):
     periods = checkpoint.scenario["periods"]
     total, each = readers.blocks_of(checkpoint.scenario)
     done = 4 * (checkpoint.block % each)
-    near = [-10_000 * done, 1_000_000 + 10_000 * done, -10_000, 1_000_000, done, done + 31, total,
-            200_000_000_000 * done, 200_000_000_000 * periods]
+    near = [-readers.MOST_A_PERIOD * done, readers.MOST_ITEMS + readers.MOST_A_PERIOD * done, -readers.MOST_A_PERIOD,
+            readers.MOST_ITEMS, done, done + readers.MOST_LEAD - 1, total, readers.MOST_COST * done,
+            readers.MOST_COST * periods]
     return [it + step for it in near for step in (-1, 0, 1)]
 
 
 def changed_file(chance, cut, spelling):
     """The checkpoint of a cut in a spelling, or sometimes in the other, with changes."""
-    spelling = spelling if chance.random() < 0.9 else 3 - spelling
+    others = [it for it in formats.CHECKPOINT_VERSIONS if it != spelling]
+    spelling = spelling if chance.random() < 0.9 else chance.choice(others)
     text = readers.text_of(cut.checkpoint._replace(spelling=spelling))
     return changes.changed_checkpoint(chance, text, ends_of(cut.checkpoint))
 
@@ -176,7 +179,7 @@ def case_of(seed, number, texts, cuts, room):
     if kind < 0.7:
         cut = chance.choice(cuts)
         data = changes.with_other_number(chance, cut.text) if chance.random() < 0.15 else cut.text
-        return resume_case(data, changed_file(chance, cut, 2), room)
+        return resume_case(data, changed_file(chance, cut, readers.NEWEST), room)
     if kind < 0.85:
         cut = chance.choice([it for it in cuts if "returns" not in it.scenario])
         return migrate_case(changed_file(chance, cut, 1), room)

@@ -91,7 +91,7 @@ def stack_tries(program, command):
 def tries(program, room):
     """All limits."""
     commands = all_commands(room)
-    least = least_address(program, commands[-1])
+    least = least_address(program, next(it for it in commands if it.name == "help"))
     print(f"limits: processes come up in an address space of {least} KB", flush=True)
     for command in commands + long_commands():
         yield from address_tries(program, command, ADDRESSES, least)

@@ -1,31 +1,19 @@
 """A second reader of scenarios, checkpoints and schedules, written from docs/FORMATS.md: which fault a text has, and
-what it says."""
+what it says. Keys, ranges and versions are read from the tables of that page."""
 import re
 from typing import NamedTuple
 
+import formats
 from trees import is_integer, tree_of
 
-WORD = re.compile(r"[0-9a-f]{16}")
-NAME = re.compile(r"[A-Za-z0-9_-]{1,16}")
 INTEGER = re.compile(r"0|-?[1-9][0-9]*")
-RING_SIZES = [2**it for it in range(11)]
-MOST_POLICIES = 16
-MOST_COST = 200_000_000_000
-MOST_ITEMS = 1_000_000
-MOST_A_PERIOD = 10_000
-
-# What stands at the keys of a table: a kind, and where it is of numbers the least and the greatest.
-WEIGHTS = ("numbers", 0, 65536)
-COSTS = {"setup": ("number", 0, 100_000_000), "unit": ("number", 0, 10_000), "holding": ("number", 0, 10_000),
-         "backlog": ("number", 0, 10_000)}
-DEMAND = {"values": ("numbers", 0, MOST_A_PERIOD), "weights": WEIGHTS}
-LEAD = {"values": ("numbers", 1, 32), "weights": WEIGHTS}
-POLICY = {"name": ("name",), "s": ("number", 0, MOST_ITEMS), "S": ("number", 0, MOST_ITEMS)}
-DOCUMENT = {"version": ("number", 1, 2), "key": ("key",), "periods": ("number", 1, 1024),
-            "replications": ("number", 1, 256), "initial": ("number", 0, MOST_ITEMS), "ring": ("ring",),
-            "costs": ("table", COSTS), "demand": ("table", DEMAND), "lead": ("table", LEAD),
-            "policy": ("tables", POLICY)}
-WITH_RETURNS = {**DOCUMENT, "returns": ("table", DEMAND)}
+MOST_COST = formats.MOST_COST
+MOST_ITEMS = formats.limits("", "initial")[1]
+MOST_A_PERIOD = formats.limits("demand", "values")[1]
+# Orders arrive in the periods from the next one on, so at most so many differ.
+MOST_LEAD = formats.limits("lead", "values")[1]
+MOST_ROWS = formats.WEIGHT_SUMS[1]
+NEWEST = formats.CHECKPOINT_VERSIONS[-1]
 
 
 def rises(values):
@@ -45,23 +33,26 @@ def list_faults(value, is_entry):
 
 def value_faults(value, kind, *more):
     """The faults of one value by itself."""
+    if kind == "version":
+        return set()
     if kind == "number":
         return range_faults([value], *more) if is_integer(value) else {5}
     if kind == "numbers":
         return list_faults(value, is_integer) or (range_faults(value, *more) if value else {6})
     if kind == "key":
-        good = isinstance(value, list) and len(value) == 4
+        good = isinstance(value, list) and len(value) == formats.WORDS_OF_KEY
         return list_faults(value, lambda it: isinstance(it, str)) or (
-            set() if good and all(map(WORD.fullmatch, value)) else {6})
+            set() if good and all(map(formats.WORD.fullmatch, value)) else {6})
     if kind == "ring":
-        return {5} if not is_integer(value) else set() if value in RING_SIZES else {12}
+        return {5} if not is_integer(value) else set() if value in formats.RING_SIZES else {12}
     if kind == "name":
-        return {5} if not isinstance(value, str) else set() if NAME.fullmatch(value) else {11}
-    if kind == "table":
+        return {5} if not isinstance(value, str) else set() if formats.NAME.fullmatch(value) else {11}
+    if kind in ("table", "draws"):
         return table_faults(value, *more) if isinstance(value, dict) else {5}
     tables = [it for it in value if isinstance(it, dict)] if isinstance(value, list) else []
     faults = set().union(*(table_faults(it, *more) for it in tables))
-    counted = isinstance(value, list) and not 1 <= len(value) <= MOST_POLICIES
+    least, most = formats.POLICIES
+    counted = isinstance(value, list) and not least <= len(value) <= most
     return faults | list_faults(value, lambda it: isinstance(it, dict)) | ({13} if counted else set())
 
 
@@ -77,7 +68,8 @@ def draw_faults(draws):
     values, weights = draws["values"], draws["weights"]
     faults = {7} if len(values) != len(weights) else set()
     faults |= set() if rises(values) else {8}
-    return faults | (set() if 1 <= sum(weights) <= 65536 else {9})
+    least, most = formats.WEIGHT_SUMS
+    return faults | (set() if least <= sum(weights) <= most else {9})
 
 
 def policy_faults(policies):
@@ -92,13 +84,13 @@ def scenario_of(data):
     tree = tree_of(data)
     if tree is None:
         return 1, None
-    if not is_integer(tree.get("version")) or tree["version"] not in (1, 2):
+    if not is_integer(tree.get("version")) or tree["version"] not in formats.VERSIONS:
         return 2, None
-    faults = table_faults(tree, WITH_RETURNS if tree["version"] == 2 else DOCUMENT)
+    faults = table_faults(tree, formats.SHAPES[tree["version"]])
     # What stands beside each other is looked at where each part is of its kind; the faults up to 5 are below those.
     if not faults & {3, 4, 5}:
         faults |= policy_faults(tree["policy"])
-        faults = faults.union(*(draw_faults(tree[it]) for it in ("demand", "lead", "returns") if it in tree))
+        faults = faults.union(*(draw_faults(tree[it]) for it in formats.DRAWS if it in tree))
     return min(faults, default=0), tree
 
 
@@ -155,9 +147,10 @@ class Rows:
         return [number_of(field, *it) for field, it in zip(self.take(kind, len(ranges)), ranges)]
 
 
-def draws_of(rows, kind, count, keys):
+def draws_of(rows, kind, count, table):
     """Values with their weights, a row each."""
-    pairs = [rows.numbers(kind, [keys["values"][1:], keys["weights"][1:]]) for _ in range(count)]
+    limits = [formats.limits(table, "values"), formats.limits(table, "weights")]
+    pairs = [rows.numbers(kind, limits) for _ in range(count)]
     draws = {"values": [it[0] for it in pairs], "weights": [it[1] for it in pairs]}
     demand_that(pairs and not draw_faults(draws))
     return draws
@@ -167,8 +160,8 @@ def state_of(rows, scenario, done, periods):
     """The state of a policy, after so many replications and so many periods of the next one."""
     top = MOST_ITEMS + (MOST_A_PERIOD * periods if "returns" in scenario else 0)
     low = -MOST_A_PERIOD * periods
-    stock, cost, due_count, _ = rows.numbers("state", [(low, top), (0, MOST_COST * periods), (0, 32), (done, done)])
-    due = [rows.numbers("due", [(periods, periods + 31), (1, top - low)]) for _ in range(due_count)]
+    stock, cost, due_count, _ = rows.numbers("state", [(low, top), (0, MOST_COST * periods), (0, MOST_LEAD), (done, done)])
+    due = [rows.numbers("due", [(periods, periods + MOST_LEAD - 1), (1, top - low)]) for _ in range(due_count)]
     demand_that(rises([it[0] for it in due]) and -MOST_A_PERIOD <= stock + sum(it[1] for it in due) <= top)
     demand_that(periods or (stock, cost, due) == (scenario["initial"], 0, []))
     costs = [rows.numbers("cost", [(it, it), (0, MOST_COST * scenario["periods"])])[1] for it in range(done)]
@@ -178,8 +171,9 @@ def state_of(rows, scenario, done, periods):
 def policy_of(rows):
     """The policy of the next row."""
     name, low, high = rows.take("policy", 3)
-    demand_that(NAME.fullmatch(name))
-    return {"name": name, "s": number_of(low, 0, MOST_ITEMS), "S": number_of(high, 0, MOST_ITEMS)}
+    demand_that(formats.NAME.fullmatch(name))
+    return {"name": name, "s": number_of(low, *formats.limits("policy", "s")),
+            "S": number_of(high, *formats.limits("policy", "S"))}
 
 
 def checkpoint_of(data):
@@ -187,18 +181,18 @@ def checkpoint_of(data):
     try:
         rows = Rows(data)
         spelling, block, periods, replications = rows.numbers(
-            "checkpoint", [(1, 2), (0, 2**64), DOCUMENT["periods"][1:], DOCUMENT["replications"][1:]])
+            "checkpoint", [(1, NEWEST), (0, 2**64), formats.limits("", "periods"), formats.limits("", "replications")])
         scenario = {"version": 1, "periods": periods, "replications": replications, "key": rows.take("key", 4)}
-        demand_that(all(map(WORD.fullmatch, scenario["key"])))
-        scenario["costs"] = dict(zip(COSTS, rows.numbers("costs", [it[1:] for it in COSTS.values()])))
+        demand_that(all(map(formats.WORD.fullmatch, scenario["key"])))
+        rates = rows.numbers("costs", [formats.limits("costs", it) for it in formats.COSTS])
+        scenario["costs"] = dict(zip(formats.COSTS, rates))
         initial, demands, leads, count = rows.numbers(
-            "sizes", [(0, MOST_ITEMS), (1, 65536), (1, 65536), (1, MOST_POLICIES)])
+            "sizes", [formats.limits("", "initial"), (1, MOST_ROWS), (1, MOST_ROWS), formats.POLICIES])
         scenario["initial"] = initial
-        returned = rows.numbers("returns", [(0, 65536)])[0] if spelling == 2 else 0
-        scenario["demand"] = draws_of(rows, "demand", demands, DEMAND)
-        scenario["lead"] = draws_of(rows, "lead", leads, LEAD)
-        if returned:
-            scenario |= {"version": 2, "returns": draws_of(rows, "return", returned, DEMAND)}
+        returned = rows.numbers("returns", [(0, MOST_ROWS)])[0] if spelling > 1 else 0
+        for table, kind, count_of_rows in zip(formats.DRAWS, formats.DRAW_ROWS, (demands, leads, returned)):
+            scenario |= {table: draws_of(rows, kind, count_of_rows, table)} if count_of_rows else {}
+        scenario["version"] = formats.version_with(scenario)
         total, each = blocks_of(scenario)
         demand_that(block <= total)
         scenario["policy"], states = [], []
@@ -216,18 +210,18 @@ def checkpoint_of(data):
 def start_of(scenario):
     """What stands at block 0 of a scenario's run: initial stocks, and nothing due."""
     scenario = {it: scenario[it] for it in scenario if it != "ring"}
-    return Checkpoint(2, 0, scenario, [(scenario["initial"], 0, [], [])] * len(scenario["policy"]))
+    return Checkpoint(NEWEST, 0, scenario, [(scenario["initial"], 0, [], [])] * len(scenario["policy"]))
 
 
 def text_of(checkpoint):
     """A checkpoint's text in its spelling."""
-    scenario, returns = checkpoint.scenario, checkpoint.scenario.get("returns", {"values": [], "weights": []})
+    scenario, nothing = checkpoint.scenario, {"values": [], "weights": []}
+    lists = [scenario.get(it, nothing) for it in formats.DRAWS]
     rows = [("checkpoint", checkpoint.spelling, checkpoint.block, scenario["periods"], scenario["replications"]),
-            ("key", *scenario["key"]), ("costs", *(scenario["costs"][it] for it in COSTS)),
-            ("sizes", scenario["initial"], len(scenario["demand"]["values"]), len(scenario["lead"]["values"]),
-             len(scenario["policy"]))]
-    rows += [("returns", len(returns["values"]))] if checkpoint.spelling == 2 else []
-    for kind, draws in (("demand", scenario["demand"]), ("lead", scenario["lead"]), ("return", returns)):
+            ("key", *scenario["key"]), ("costs", *(scenario["costs"][it] for it in formats.COSTS)),
+            ("sizes", scenario["initial"], *(len(it["values"]) for it in lists[:2]), len(scenario["policy"]))]
+    rows += [("returns", len(lists[2]["values"]))] if checkpoint.spelling > 1 else []
+    for kind, draws in zip(formats.DRAW_ROWS, lists):
         rows += [(kind, *it) for it in zip(draws["values"], draws["weights"])]
     for policy, (stock, cost, due, costs) in zip(scenario["policy"], checkpoint.states):
         rows += [("policy", policy["name"], policy["s"], policy["S"]), ("state", stock, cost, len(due), len(costs))]
@@ -241,12 +235,12 @@ def resume_fault(checkpoint, scenario):
         return 1
     if checkpoint.scenario != start_of(scenario).scenario:
         return 2
-    return 4 if checkpoint.spelling == 1 else 0
+    return 4 if checkpoint.spelling < NEWEST else 0
 
 
 def migrate_fault(checkpoint):
     """The number with which `migrate` refuses a text, 0 where it writes it anew."""
-    return 1 if checkpoint is None else 5 if checkpoint.spelling == 2 else 0
+    return 1 if checkpoint is None else 5 if checkpoint.spelling == NEWEST else 0
 
 
 def schedule_of(data, readers):

@@ -9,6 +9,7 @@ import sys
 import tempfile
 import time
 
+import paths
 import crates
 import crowd
 import judge

@@ -9,6 +9,7 @@ import termios
 import threading
 import time
 
+import formats
 import readers
 from commands import (LIMIT, READING, SECONDS, SKIPPED, TOP, WRITING, Shown, all_commands, refused, run, unlike,
                       written)
@@ -18,7 +19,6 @@ BYTES = 200
 # Fronts of an input that are tried, from none of it to all.
 FRONTS = 24
 LINUX_PR_CAPBSET_DROP, LINUX_CAP_DAC_OVERRIDE, LINUX_CAP_DAC_READ_SEARCH = 24, 1, 2
-READ_NOTHING = ("words", "help", "migrate")
 
 
 def verdict(shown, wanted):
@@ -65,9 +65,9 @@ def front_answer(command, front):
     """What a command shows of a front of its input: a front that is a whole text is answered as such."""
     if command.name == "replay":
         fault, _ = readers.schedule_of(front, 2)
-        return refused(f"schedule {fault}", 4) if fault else None
+        return refused(f"schedule {fault}") if fault else None
     fault, _ = readers.scenario_of(front)
-    return refused(f"scenario {fault}", 3) if fault else None
+    return refused(f"scenario {fault}") if fault else None
 
 
 def input_tries(program, commands):
@@ -78,7 +78,7 @@ def input_tries(program, commands):
         folder = os.open(TOP, os.O_RDONLY)
         unread = run(program, command.words, folder)
         os.close(folder)
-        if command.name in READ_NOTHING:
+        if not command.data:
             yield f"{name} closed", right(command, closed)
             yield f"{name} a folder", right(command, unread)
             continue
@@ -177,8 +177,8 @@ def error_tries(program):
         os.dup2(os.open("/dev/full", os.O_WRONLY), 2)
 
     for name, prepare in (("closed", close), ("full", fill)):
-        shown = run(program, ["run"], b"version = 3\n", prepare=prepare)
-        yield f"errors {name}", verdict(shown, Shown(b"", b"", 3))
+        shown = run(program, ["run"], b"version = 0\n", prepare=prepare)
+        yield f"errors {name}", verdict(shown, Shown(b"", b"", formats.status_of("scenario")))
 
 
 # ---- files
@@ -217,7 +217,7 @@ def file_tries(program, commands, room):
         shown = run(program, [command.name, pipe], command.data)
         writer.join()
         yield f"{name} a pipe, byte by byte", right(command, shown)
-        for size, wanted in ((LIMIT, refused("checkpoint 1", 4)), (LIMIT + 1, READING)):
+        for size, wanted in ((LIMIT, refused("checkpoint 1")), (LIMIT + 1, READING)):
             file = written(room, "long", command.file.ljust(size, b"x"))
             yield f"{name} of {size} bytes", verdict(run(program, [command.name, file], command.data), wanted)
 

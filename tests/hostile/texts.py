@@ -12,7 +12,9 @@ import sys
 import tempfile
 from typing import NamedTuple
 
-from commands import HERE, LIMIT, stored, written
+import paths
+import formats
+from commands import CUTS, HERE, LIMIT, stored, written
 from scenarios import swapped
 
 MOST = (1.0, 128)
@@ -134,7 +136,7 @@ def table_texts():
 
 def checkpoint_texts(words, name):
     """Checkpoints made from a stored one, for a command that reads FILE: none of them is one."""
-    good = stored(f"tests/program/{name}")
+    good = stored(name)
     spelling = good.split(b",")[1]
     front, state = good.partition(b"demand,")[0], good.partition(b"state,")[0]
     policies = state.rpartition(b"policy,")[0]
@@ -192,9 +194,8 @@ def cost_of(program, words, text, room):
 
 def wrong_cost(text, cost):
     """What is wrong with the answer to a text, and with what it took."""
-    status = 0 if not text.fault else 3 if text.fault.startswith("scenario") else 4
     line = f"crnsim: {text.fault}\n".encode() if text.fault else b""
-    if (cost.status, cost.errors) != (status, line):
+    if (cost.status, cost.errors) != (formats.status_of(text.fault), line):
         return f"status {cost.status}, {cost.errors[:80]!r}"
     return f"took {told(cost)}" if is_over(cost, text.most) else None
 
@@ -211,8 +212,9 @@ def told(cost):
 
 def all_texts():
     """All texts. A checkpoint in the older spelling is read by `resume` as well, but only `migrate` wants one."""
-    return [*scenario_texts(), *table_texts(), *checkpoint_texts("resume FILE", "five_periods_cut.csv"),
-            *checkpoint_texts("migrate FILE", "five_periods_old_cut.csv"), *schedule_texts()]
+    *olds, new = CUTS
+    return [*scenario_texts(), *table_texts(), *checkpoint_texts("resume FILE", new),
+            *(text for it in olds for text in checkpoint_texts("migrate FILE", it)), *schedule_texts()]
 
 
 def tries(program, room):

@@ -4,8 +4,10 @@ import math
 import re
 import tomllib
 
+import formats
+
 MARK = b"\xef\xbb\xbf"
-MOST_LEVELS = 80
+MOST_LEVELS = formats.MOST_LEVELS
 # What counts where levels are counted, and texts and comments, in which nothing does.
 PIECE = re.compile(r'"""(?:\\.|[^\\])*?"{3,5}|\'\'\'.*?\'{3,5}|"(?:\\.|[^"\\])*"|\'[^\']*\'|#[^\n]*|[][{}.=,\n]',
                    re.DOTALL)

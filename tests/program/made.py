@@ -5,6 +5,7 @@ R^2 (R^2 - 1) / 12, so the variance of the mean difference to policy 0 is p^2 (R
 (p + 1) R (R + 1) / 12.
 """
 import itertools
+import tomllib
 
 import oracle
 
@@ -26,13 +27,8 @@ lead = {{ values = [1], weights = [1] }}
 
 def checkpoint(policies, replications):
     """Its checkpoint at the end, as if the policies had cost what is said above."""
-    rows = [f"checkpoint,2,{replications},4,{replications}",
-            "key,0000000000000000,0000000000000000,0000000000000000,0000000000000000",
-            "costs,7,2,1,4", f"sizes,10,1,1,{policies}", "returns,0,-,-,-", "demand,3,1,-,-", "lead,1,1,-,-"]
-    for p in range(policies):
-        rows += [f"policy,p{p},{p},{100 + p},-", f"state,10,0,0,{replications}"]
-        rows += [f"cost,{i},{1000 + 10 * p + (p + 1) * i},-,-" for i in range(replications)]
-    return "".join(f"{row}\n" for row in [*rows, "end,-,-,-,-"])
+    states = [(10, 0, {}, [1000 + 10 * p + (p + 1) * i for i in range(replications)]) for p in range(policies)]
+    return oracle.checkpoint_text(tomllib.loads(scenario(policies, replications)), replications, states)
 
 
 def words(number):
@@ -52,8 +48,9 @@ def producer_steps(size, readers):
 
 def trace(size, readers, turns):
     """The trace of a ring whose readers all leave before the producer takes so many turns."""
-    # The producer loads each cursor, stores twelve words and publishes.
-    published = turns // (readers + 13)
+    # The producer loads each cursor, stores the words of a block and publishes.
+    words_of_block = 4 * len(oracle.STREAMS)
+    published = turns // (readers + words_of_block + 1)
     lines = [f"l{reader} R3 {1 + reader} 8000000000000000" for reader in range(readers)]
     lines += itertools.islice(producer_steps(size, readers), turns)
     lines.append(f"published {published} ended 0")

@@ -3,22 +3,28 @@
 
     oracle.py report SCENARIO         the report of the scenario in this file
     oracle.py leg N SCENARIO          its checkpoint at block N
-    oracle.py old N SCENARIO          the same in version 1 of the format, for scenarios without returns
+    oracle.py old V N SCENARIO        the same in version V of the format, for scenarios that it can hold
     oracle.py words K0 K1 K2 K3 N     the words of block N
 
-It is written from docs/DEFINITIONS.md and docs/FORMATS.md: it carries no stock on, but adds up all earlier orders,
-demands and returned items anew in each period, and draws from the spread-out list. Scenarios are taken to be without a
-fault.
+It is written from docs/PROOFS.md and docs/FORMATS.md: it carries no stock on, but adds up all earlier orders, demands and
+returned items anew in each period, and draws from the spread-out list. Scenarios are taken to be without a fault. The
+time for that grows with the square of the periods, so a long run (LongRun) carries stock and position from period to
+period; the first and the last replication of each policy are computed in both ways, and the results must be equal.
 """
+import os
 import sys
 import tomllib
 from fractions import Fraction
-from functools import lru_cache
+from functools import cache, lru_cache
+
+sys.path.append(os.path.join(os.path.dirname(os.path.abspath(__file__)), "../../examples/tools"))
+import formats
 
 MASK = 2**64 - 1
 PARITY = 0x1BD11BDAA9FC1A22
 ROTATIONS = [(14, 16), (52, 57), (23, 40), (5, 37), (25, 33), (46, 12), (58, 22), (32, 32)]
-STREAMS = ["demand", "lead", "returns"]
+STREAMS = formats.DRAWS
+NEWEST = formats.CHECKPOINT_VERSIONS[-1]
 
 # ---- the stream
 
@@ -109,6 +115,24 @@ def history(scenario, policy, draws):
     return placed, stocks, spent
 
 
+def long_history(scenario, policy, draws):
+    """Returns what `history` returns, from one pass over the periods."""
+    costs, low, high = scenario.costs, policy["s"], policy["S"]
+    stock = position = scenario.tree["initial"]
+    arriving = [0] * (scenario.periods + formats.limits("lead", "values")[1])
+    placed, stocks, spent = [], [], []
+    for period, (demand, lead, returned) in enumerate(zip(*draws)):
+        order = high - position if position < low else 0
+        placed.append((order, period + lead))
+        arriving[period + lead] += order
+        position += order + returned - demand
+        stock += arriving[period] + returned - demand
+        stocks.append(stock)
+        spent.append((costs["setup"] + costs["unit"] * order if order else 0)
+                     + (costs["holding"] * stock if stock >= 0 else costs["backlog"] * -stock))
+    return placed, stocks, spent
+
+
 class Run:
     """The histories of each policy in each replication of a scenario."""
 
@@ -134,10 +158,38 @@ class Run:
         return stocks[periods - 1], sum(spent[:periods]), due, self.costs(policy)[:done]
 
 
-@lru_cache(maxsize=None)
+class LongRun(Run):
+    """Keeps whole histories for some replications of a run, and only the costs for the others."""
+
+    def __init__(self, text, kept):
+        self.scenario = scenario = Scenario(text)
+        draws = [[scenario.draws(replication, it) for it in STREAMS] for replication in range(scenario.replications)]
+        kept = {0, scenario.replications - 1, *kept}
+        self.histories, self.spent = [], []
+        for policy in scenario.policies:
+            made = [long_history(scenario, policy, drawn) for drawn in draws]
+            for it in (0, -1):
+                if made[it] != history(scenario, policy, draws[it]):
+                    raise SystemExit(f"two histories of {policy['name']} differ")
+            self.histories.append({it: made[it] for it in kept if it < len(made)})
+            self.spent.append([sum(spent) for _, _, spent in made])
+
+    def costs(self, policy):
+        """The cost of each replication of a policy, by its number."""
+        return self.spent[policy]
+
+
+@cache
 def run_of(text):
     """The run of a scenario's text."""
     return Run(text)
+
+
+@lru_cache(maxsize=1)
+def long_run_of(text, blocks):
+    """Returns the run of a long scenario's text, with the state of each policy at each of the blocks."""
+    each = Scenario(text).blocks
+    return LongRun(text, {block // each for block in blocks})
 
 
 # ---- texts
@@ -159,7 +211,7 @@ def fraction(num, den):
 def report_of(run):
     """The report of a run."""
     count, periods = run.scenario.replications, run.scenario.periods
-    rows = ["policy,s,S,total,per_period,diff_total,diff_mean,diff_var,cov"]
+    rows = [formats.HEADER]
     first = run.costs(0)
     for number, policy in enumerate(run.scenario.policies):
         costs = run.costs(number)
@@ -172,21 +224,19 @@ def report_of(run):
     return "".join(f"{row}\n" for row in rows)
 
 
-def checkpoint_of(run, block, version):
-    """The checkpoint of a run at a block, in version 1 or 2 of the format."""
-    scenario, tree = run.scenario, run.scenario.tree
-    if block > scenario.total or version == 1 and "returns" in tree:
+def checkpoint_text(tree, block, states, version=NEWEST):
+    """Returns the checkpoint of a scenario's tree at a block, with these states of its policies."""
+    if version == 1 and "returns" in tree:
         raise SystemExit("there is no such checkpoint")
-    rows = [["checkpoint", version, block, scenario.periods, scenario.replications], ["key", *tree["key"]],
-            ["costs", *(scenario.costs[it] for it in ("setup", "unit", "holding", "backlog"))],
+    rows = [["checkpoint", version, block, tree["periods"], tree["replications"]], ["key", *tree["key"]],
+            ["costs", *(tree["costs"][it] for it in formats.COSTS)],
             ["sizes", tree["initial"], len(tree["demand"]["values"]), len(tree["lead"]["values"]), len(tree["policy"])]]
-    if version == 2:
+    if version > 1:
         rows.append(["returns", len(tree.get("returns", {"values": []})["values"])])
-    for table, name in zip(STREAMS, ["demand", "lead", "return"]):
+    for table, name in zip(STREAMS, formats.DRAW_ROWS, strict=True):
         if table in tree:
             rows += [[name, value, weight] for value, weight in zip(tree[table]["values"], tree[table]["weights"])]
-    for number, policy in enumerate(scenario.policies):
-        stock, cost, due, costs = run.state(number, block)
+    for policy, (stock, cost, due, costs) in zip(tree["policy"], states, strict=True):
         rows.append(["policy", policy["name"], policy["s"], policy["S"]])
         rows.append(["state", stock, cost, len(due), len(costs)])
         rows += [["due", period, due[period]] for period in sorted(due)]
@@ -195,30 +245,47 @@ def checkpoint_of(run, block, version):
     return "".join(",".join(map(str, row + ["-"] * (5 - len(row)))) + "\n" for row in rows)
 
 
-def report(text):
-    """The report of a scenario."""
-    return report_of(run_of(text))
+def checkpoint_of(run, block, version=NEWEST):
+    """Returns the checkpoint of a run at a block."""
+    if block > run.scenario.total:
+        raise SystemExit("there is no such checkpoint")
+    states = [run.state(number, block) for number in range(len(run.scenario.policies))]
+    return checkpoint_text(run.scenario.tree, block, states, version)
 
 
-def checkpoint(text, block, version):
-    """The checkpoint of a scenario at a block, in version 1 or 2 of the format."""
+def checkpoint(text, block, version=NEWEST):
+    """Returns the checkpoint of a scenario at a block."""
     return checkpoint_of(run_of(text), block, version)
+
+
+def answer(words, text):
+    """Returns what crnsim writes for the words of its command line and a scenario; None for an unknown command."""
+    match words:
+        case [] | ["run"]:
+            return report_of(run_of(text))
+        case ["leg", block]:
+            return checkpoint(text, int(block))
+        case ["words", _, _, _, _, number]:
+            return words_text(tuple(int(word, 16) for word in words[1:5]), int(number))
+    return None
 
 
 def main(words):
     """The text that the words of the command line ask for."""
     match words:
         case ["report", name]:
-            command = report
-        case ["leg" | "old", block, name]:
-            def command(text):
-                return checkpoint(text, int(block), 2 if words[0] == "leg" else 1)
-        case ["words", _, _, _, _, number]:
-            return words_text(tuple(int(word, 16) for word in words[1:5]), int(number))
+            words = ["run"]
+        case ["leg", _, name]:
+            words = words[:2]
+        case ["old", version, block, name]:
+            with open(name, encoding="utf-8") as it:
+                return checkpoint(it.read(), int(block), int(version))
+        case ["words", _, _, _, _, _]:
+            return answer(words, "")
         case _:
             raise SystemExit(__doc__)
     with open(name, encoding="utf-8") as it:
-        return command(it.read())
+        return answer(words, it.read())
 
 
 if __name__ == "__main__":

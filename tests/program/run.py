@@ -3,8 +3,8 @@
 
 The files of FILES have groups of cases: what a group says holds for each of its cases. A case has the words of the
 command line (args), and may have what stands on standard input (input) and in the file FILE (file), what is wanted on
-standard output (output, or some parts of it (has), in lines of at most so many columns), the fault's line and the
-status. Each of these texts is given, or is that of a file of the repository (input_from), or is made of some numbers by
+standard output (output, or some parts of it (has), in lines of at most so many columns), and the fault's line, whose
+status docs/FORMATS.md has. Each of these texts is given, or is that of a file of the repository (input_from), or is made of some numbers by
 a function of made.py (input_made), with one change (input_change) and then others (input_changes), cut after so many
 lines (input_lines), filled up with a piece to a size (input_fill, input_size), followed by an end (input_end), and in
 UTF-8 or another encoding (input_encoding); so may the words of the command line be (args_encoding). A change is an old
@@ -14,9 +14,9 @@ then as a named pipe (pieces.py).
 
 A case is tried with each of its commands and each of its files (of the repository), where it has lists of them. Some
 cases stand for many tries. blocks: the scenario is run, then cut at each of these blocks, or at all, and resumed on
-another ring (ring). old_blocks: its checkpoints of the old version there are migrated. long: for both the oracle needs
-the histories of longest.py. prefixes: the fault is told of each proper prefix of the file. turned: and of the file with
-each of its bytes put to this one. Where these are answered in several ways, a map has in place of each byte the name of
+another ring (ring). old_blocks: its checkpoints of the old version there are migrated. long: for both the oracle computes
+a long run. prefixes: the fault is told of each proper prefix of the file. turned: and of the file with each of its bytes
+put to this one. Where these are answered in several ways, a map has in place of each byte the name of
 an answer; a case without a file has its input changed. rows: the fault is told of the file with one of these rows put
 in, at each place. steps: of changes of the input that are made one after the other, each tells the scenario's fault that
 comes next. What the oracle, a second program (oracle.py), can tell of a case is tried too: it has to write the output
@@ -37,15 +37,16 @@ HERE = os.path.dirname(os.path.abspath(__file__))
 TOP = os.path.dirname(os.path.dirname(HERE))
 # Compiled text is not to stand in the repository.
 sys.dont_write_bytecode = True
-sys.path.append(f"{TOP}/tests")
-import longest
+sys.path += [f"{TOP}/tests", f"{TOP}/examples/tools"]
+import formats
 import made
 import oracle
 import pieces
 import waits
 from scenarios import on_ring
+from shown import refused
 
-FILES = ["cases.toml", "checkpoints.toml", "scenarios.toml", "legs.toml", "limits.toml"]
+FILES = ["reports.toml", "replays.toml", "cases.toml", "scenarios.toml", "checkpoints.toml", "legs.toml", "limits.toml"]
 # The scenario of the longest run.
 LONGEST = "bench/largest.toml"
 # After so long a run counts as one that does not end. Beside other work a ring of one slot can take ten seconds.
@@ -119,23 +120,13 @@ def run(program, args, data, to=None, kilobytes=None):
     return ran.stdout or b"", ran.stderr, ran.returncode
 
 
-def refused(fault, status):
-    """What a run shows that ends with a fault and has written nothing."""
-    return b"", f"crnsim: {fault}\n".encode(), status
-
-
-def wanted_fault(case):
-    """What a run shows that ends with the case's fault."""
-    return refused(case["fault"], case["status"])
-
-
 def is_wanted(case, shown):
     """Whether a run shows what the case wants."""
     if shown is None:
         return False
     output, errors, status = shown
     if "fault" in case:
-        return shown == wanted_fault(case)
+        return shown == refused(case["fault"])
     if "has" in case:
         wide = max(map(len, output.decode().splitlines()), default=0) > case.get("columns", sys.maxsize)
         return not errors and not status and not wide and all(it in output.decode() for it in case["has"])
@@ -177,15 +168,7 @@ def told(case):
     """What the oracle writes for a case, or None where a fault is wanted or the oracle knows no such command."""
     if "fault" in case:
         return None
-    text = (text_of(case, "input") or b"").decode()
-    match words_of(case, None):
-        case [] | ["run"]:
-            return oracle.report(text)
-        case ["leg", block]:
-            return oracle.checkpoint(text, int(block), 2)
-        case ["words", _, _, _, _, _] as words:
-            return oracle.main(words)
-    return None
+    return oracle.answer(words_of(case, None), (text_of(case, "input") or b"").decode())
 
 
 def on_file(program, room, args, file, data=None):
@@ -206,7 +189,7 @@ def run_of(case):
     text = text_of(case, "input").decode()
     if "long" not in case:
         return oracle.run_of(text)
-    return longest.run_of(text, tuple(case.get("blocks", []) + case.get("old_blocks", [])))
+    return oracle.long_run_of(text, tuple(case.get("blocks", []) + case.get("old_blocks", [])))
 
 
 def cut_tries(program, case, room):
@@ -217,7 +200,7 @@ def cut_tries(program, case, room):
     whole = (oracle.report_of(its).encode(), b"", 0)
     yield "run", lambda: run(program, ["run"], data) == whole
     for block in blocks_of(case, "blocks"):
-        leg = oracle.checkpoint_of(its, block, 2).encode()
+        leg = oracle.checkpoint_of(its, block).encode()
         yield f"leg {block}", lambda: run(program, ["leg", str(block)], data) == (leg, b"", 0)
         yield f"resumed from {block}", lambda: on_file(program, room, resume, leg, on_ring(data, size)) == whole
 
@@ -227,12 +210,12 @@ def old_tries(program, case, room):
     data, resume, migrate = text_of(case, "input"), ["resume", f"{room}/FILE"], ["migrate", f"{room}/FILE"]
     its = run_of(case)
     whole = (oracle.report_of(its).encode(), b"", 0)
-    for block in blocks_of(case, "old_blocks"):
-        old, new = (oracle.checkpoint_of(its, block, version).encode() for version in (1, 2))
+    for block, version in itertools.product(blocks_of(case, "old_blocks"), formats.CHECKPOINT_VERSIONS[:-1]):
+        old, new = (oracle.checkpoint_of(its, block, it).encode() for it in (version, oracle.NEWEST))
         yield f"migrated at {block}", lambda: on_file(program, room, migrate, old) == (new, b"", 0)
         yield f"resumed from {block}", lambda: on_file(program, room, resume, new, on_ring(data, 1024)) == whole
-        yield f"migrated twice at {block}", lambda: on_file(program, room, migrate, new) == refused("checkpoint 5", 4)
-        yield f"old resumed at {block}", lambda: on_file(program, room, resume, old, data) == refused("checkpoint 4", 4)
+        yield f"migrated twice at {block}", lambda: on_file(program, room, migrate, new) == refused("checkpoint 5")
+        yield f"old resumed at {block}", lambda: on_file(program, room, resume, old, data) == refused("checkpoint 4")
 
 
 def changed_text(case):
@@ -281,7 +264,7 @@ def row_tries(program, case, room):
     lines = file.decode().splitlines(keepends=True)
     for row, place in itertools.product(case["rows"], range(len(lines) + 1)):
         changed = "".join([*lines[:place], f"{row}\n", *lines[place:]]).encode()
-        yield f"{row} in place {place}", lambda: on_file(program, room, args, changed, data) == wanted_fault(case)
+        yield f"{row} in place {place}", lambda: on_file(program, room, args, changed, data) == refused(case["fault"])
 
 
 def step_tries(program, case, _room):
@@ -289,7 +272,7 @@ def step_tries(program, case, _room):
     text = text_of(case, "input").decode()
     for number, (old, new, fault) in enumerate(case["steps"], 1):
         text = changed(text, (old, new), case)
-        data, wanted = text.encode(), refused(f"scenario {fault}", 3)
+        data, wanted = text.encode(), refused(f"scenario {fault}")
         yield f"step {number}, {new!r}", lambda: run(program, ["run"], data) == wanted
 
 
@@ -298,7 +281,7 @@ def try_limits(program, case, room):
     the first of these and a refused thread come."""
     args = words_of(case, room)
     write_file(room, text_of(case, "file"))
-    good, thread, memory = (text_of(case, "output"), b"", 0), refused("thread", 6), refused("memory", 7)
+    good, thread, memory = (text_of(case, "output"), b"", 0), refused("thread"), refused("memory")
     seen = [run(program, args, text_of(case, "input"), None, it) for it in case["limits"]]
     return good in seen and thread in seen and all(it in (good, thread, memory) for it in seen)
 

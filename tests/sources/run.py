@@ -2,7 +2,8 @@
 """Looks in the sources of the program for what no contract can see: tests/sources/run.py.
 
 A fault that the system is the cause of carries the value that reported it, and no contract can tell a value that was
-handed on from one that was made up. So nothing makes one: RULES say what may not stand in the crates of the program.
+handed on from one that was made up. So nothing makes one. The ring moves its words by loads and stores alone. RULES say
+what may not stand in the crates of the program.
 Each rule is then tried on the sources with a line of PLANTS put in, which it must find. There is a line for each failure,
 and a last line that counts.
 """
@@ -120,6 +121,11 @@ def waits_for_ever(tokens, at):
     return tokens[at].text == "park" or tokens[at].text == "sleep" and before(tokens, at) == ["::"]
 
 
+def loads_and_stores_at_once(tokens, at):
+    """A step that loads and stores a word at once: `swap`, `exchange`, and the kinds of `fetch_` and `compare_exchange`."""
+    return tokens[at].text in ("swap", "exchange") or tokens[at].text.startswith(("fetch_", "compare_exchange"))
+
+
 def calls(*names):
     """A rule against calls of these names."""
     return lambda tokens, at: tokens[at].text in names
@@ -137,6 +143,8 @@ RULES = [
     Rule("a wait has no end of its own", "crn_run/src/", waits_for_ever),
     # Words of the ring are loaded and stored through a seat alone.
     Rule("a word is touched without its seat", "crn_ring/src/", calls("peek", "load_new_seat", "swap_new_seat", "join_seat")),
+    # Each word has one writer, so a load and a store are all the steps that the ring needs.
+    Rule("a step of the ring both loads and stores", "crn_ring/src/", loads_and_stores_at_once),
 ]
 
 # The functions that read a flag of the kit: it has no value to hand on.
@@ -149,6 +157,7 @@ OUTPUT, SENT = "crn_engines/src/output.rt", "    let mut sent = 0;"
 MAIN, OPENED = "crnsim/src/main.rt", "    match File::open(rt, name) {"
 GATE, ASKED = "crn_run/src/gate.rt", "    if gate.pass(policy, block) {"
 WORKER, APPLY = "crn_run/src/worker.rt", "    drop(permit);"
+STEPS, STORE = "crn_ring/src/steps.rt", "        self.table.shared.store::<StoresWord>(seat, base + i, word);"
 PLANTS = [
     Plant(MEMORY, INPUT, READ, "    if true { return Err(Fault::Memory(AllocError)); }"),
     Plant(MEMORY, INPUT, READ, "    let refused = AllocError; return Err(Fault::Memory(refused));"),
@@ -180,10 +189,16 @@ PLANTS = [
     Plant(RULES[6].name, WORKER, "use crn_cipher::Block;", "use crn_cipher::{Block, block};\nconst MAKE: fn([u64; 4], u64) -> Block = block(0);"),
     Plant(RULES[7].name, "crn_run/src/waiting.rt", "                .park_timeout(rt, Duration::from_micros(self.sleep));", "                .park(rt);"),
     Plant(RULES[7].name, "crn_run/src/waiting.rt", "            thread::yield_now();", "            thread::sleep(rt, Duration::from_micros(1));"),
-    Plant(RULES[8].name, "crn_ring/src/reading.rt", "use crate::", "fn look(table: &Table) -> u64 { table.peek(0) }\nuse crate::"),
-    Plant(RULES[8].name, "crn_ring/src/reading.rt", "use crate::", "fn look(table: &Table) { table.load_new_seat(0) }\nuse crate::"),
-    Plant(RULES[8].name, "crn_ring/src/reading.rt", "use crate::", "fn look(table: &Table) { table.swap_new_seat(0) }\nuse crate::"),
-    Plant(RULES[8].name, "crn_ring/src/reading.rt", "use crate::", "fn look(table: &Table) { table.join_seat(0) }\nuse crate::"),
+    Plant(RULES[8].name, "crn_ring/src/reader.rt", "use crate::", "fn look(table: &Table) -> u64 { table.peek(0) }\nuse crate::"),
+    Plant(RULES[8].name, "crn_ring/src/reader.rt", "use crate::", "fn look(table: &Table) { table.load_new_seat(0) }\nuse crate::"),
+    Plant(RULES[8].name, "crn_ring/src/reader.rt", "use crate::", "fn look(table: &Table) { table.swap_new_seat(0) }\nuse crate::"),
+    Plant(RULES[8].name, "crn_ring/src/reader.rt", "use crate::", "fn look(table: &Table) { table.join_seat(0) }\nuse crate::"),
+    Plant(RULES[9].name, STEPS, STORE, "        let _ = self.table.shared.swap::<StoresWord>(seat, base + i, word);"),
+    Plant(RULES[9].name, STEPS, STORE, "        let _ = self.table.shared.fetch_add::<StoresWord>(seat, base + i, word);"),
+    Plant(RULES[9].name, STEPS, STORE, "        let _ = self.table.shared.fetch_max::<StoresWord>(seat, base + i, word);"),
+    Plant(RULES[9].name, STEPS, STORE, "        let _ = self.table.shared.compare_exchange::<StoresWord>(seat, base + i, 0, word);"),
+    Plant(RULES[9].name, STEPS, STORE, "        let _ = self.table.shared.compare_exchange_with::<StoresWord>(seat, base + i, 0, word);"),
+    Plant(RULES[9].name, STEPS, STORE, "        let _ = self.table.shared.exchange(seat, base + i, word);"),
 ]
 
 

@@ -1,13 +1,13 @@
 -- A checkpoint and its scenario, as they are read.
 use Rattle.std.proofs.Common.{true, ◌≡◌, ℕ, ◌<◌, ◌≤◌, ◌^◌, Option, Some, List, decimal, refl, ap, sym, ◌∙◌, subst, arith, inl, inr}
-use Rattle.crn_stock.specs.declared.rules.Policy.{Policy}
+use Rattle.crn_stock.specs.declared.policy.Policy.{Policy}
 use Rattle.crn_stock.specs.Parts.{Parts}
-use Rattle.crn_stock.specs.Models.{ModelParts, total}
-use Rattle.crn_stock.specs.Scenarios.{ScenarioParts, AreForScenario, IsScenarioRingSize}
+use Rattle.crn_stock.specs.Models.{ModelParts, total, ScenarioParts, AreForScenario, IsSameButRing}
+use Rattle.crn_limits.specs.Limits.{IsRingSize}
 use Rattle.crn_checkpoint.specs.declared.version.Version.{Version}
 use Rattle.crn_checkpoint.specs.declared.version.Version.TheVariants.{First, Second}
 use Rattle.crn_checkpoint.specs.CheckpointText.{version_number, checkpoint_rows, checkpoint_text}
-use Rattle.crn_checkpoint.specs.Reading.{IsTextIn, IsAnyTextOf, IsSameButRing}
+use Rattle.crn_checkpoint.specs.Reading.{IsTextIn, IsAnyTextOf}
 use Rattle.crn_checkpoint.specs.Inner.Cells.{cell, AreRowsOf}
 use Rattle.crn_checkpoint.proofs.Lengths.{total_high}
 use Rattle.crn_rows.specs.Plain.{are_rows}
@@ -42,7 +42,7 @@ pub next_read : (v : Version) (s : ScenarioParts) (next : ℕ) (states : List Pa
 unfolding checkpoint_rows
 next_read v s next states rows h x says = says next (omega (arith, h.ranges.next_high, total_high s.model h.ranges.scenario.model)) (ap (λ rows. cell rows 0 2) h.rows_are)
 
-pub for_scenario : (s : ScenarioParts) (ring : ℕ) (ps : List Policy) → IsScenarioRingSize ring → AreForScenario s.ring s.policies → ps ≡ s.policies → AreForScenario ring ps
+pub for_scenario : (s : ScenarioParts) (ring : ℕ) (ps : List Policy) → IsRingSize ring → AreForScenario s.ring s.policies → ps ≡ s.policies → AreForScenario ring ps
 for_scenario s ring ps size h e = subst (AreForScenario ring) (sym e) (record { size = size; some = h.some; few = h.few; ranges = h.ranges; names = h.names; differ = h.differ })
 
 -- the text tells no ring

@@ -2,18 +2,19 @@
 use Rattle.std.proofs.Common.{◌≡◌, ◌∙◌, ℕ, List, Ok, Err, Result, IfOk, IfErr, MatchResult, sym, subst, inl, inr}
 use Rattle.std.specs.Prelude.{◌⊎◌, IsErr, IsErrAnd, alloc_error}
 use Rattle.crn_stock.specs.Parts.{Parts}
-use Rattle.crn_stock.specs.Scenarios.{ScenarioParts}
+use Rattle.crn_stock.specs.Models.{ScenarioParts}
 use Rattle.crn_checkpoint.specs.declared.version.Version.{Version}
 use Rattle.crn_checkpoint.specs.declared.version.Version.TheVariants.{First, Second}
-use Rattle.crn_checkpoint.specs.declared.unread.Unread.{Unread}
-use Rattle.crn_checkpoint.specs.declared.unread.Unread.TheVariants as unread
-use Rattle.crn_checkpoint.specs.declared.checkpoint_fault.CheckpointFault.{CheckpointFault}
-use Rattle.crn_checkpoint.specs.declared.checkpoint_fault.CheckpointFault.TheVariants as fault
-use Rattle.crn_checkpoint.specs.declared.migrate_fault.MigrateFault.{MigrateFault}
-use Rattle.crn_checkpoint.specs.declared.migrate_fault.MigrateFault.TheVariants as migration
+use Rattle.crn_checkpoint.specs.declared.fault.Unread.{Unread}
+use Rattle.crn_checkpoint.specs.declared.fault.Unread.TheVariants as unread
+use Rattle.crn_checkpoint.specs.declared.fault.CheckpointFault.{CheckpointFault}
+use Rattle.crn_checkpoint.specs.declared.fault.CheckpointFault.TheVariants as fault
+use Rattle.crn_checkpoint.specs.declared.fault.MigrateFault.{MigrateFault}
+use Rattle.crn_checkpoint.specs.declared.fault.MigrateFault.TheVariants as migration
 use Rattle.crn_checkpoint.specs.CheckpointText.{checkpoint_text}
-use Rattle.crn_checkpoint.specs.Reading.{IsInRange, IsTextIn, IsTextOf, IsNoCheckpoint, RefusesCheckpoint, reading_fault}
-use Rattle.crn_checkpoint.specs.Migration.{IsMigrated, RefusesMigration, migration_fault}
+use Rattle.crn_checkpoint.specs.Reading.{IsInRange, IsTextIn, IsTextOf, IsNoCheckpoint, RefusesCheckpoint}
+use Rattle.crn_checkpoint.specs.Migration.{IsMigrated, RefusesMigration}
+use Rattle.crn_checkpoint.specs.Faults.{reading_fault, migration_fault}
 use Rattle.crn_checkpoint.specs.Inner.Judging.{IsRefusedFor}
 use Rattle.crn_checkpoint.proofs.Cuts.{any_text, text_of_same}
 

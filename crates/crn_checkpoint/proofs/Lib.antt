@@ -6,7 +6,6 @@ mod WholeRows
 mod Words
 mod ListRows
 mod Dues
-mod Differing
 mod Restoring
 mod Turns
 mod Restorable

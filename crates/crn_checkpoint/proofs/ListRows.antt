@@ -3,8 +3,7 @@ use Rattle.std.proofs.Common.{◌≡◌, ℕ, ◌<◌, ◌≤◌, ◌^◌, Optio
 use Rattle.crn_draw.specs.Spread.{Weighted}
 use Rattle.crn_draw.specs.Faults.{least_weights_fault}
 use Rattle.crn_stock.specs.Parts.{Parts}
-use Rattle.crn_stock.specs.Models.{returned_values}
-use Rattle.crn_stock.specs.Scenarios.{ScenarioParts}
+use Rattle.crn_stock.specs.Models.{returned_values, ScenarioParts}
 use Rattle.crn_checkpoint.specs.declared.version.Version.TheVariants.{First, Second}
 use Rattle.crn_checkpoint.specs.CheckpointText.{drawn_rows, returned_rows, all_policy_rows, end_row, checkpoint_rows}
 use Rattle.crn_checkpoint.specs.Reading.{IsScenario, CanDraw}

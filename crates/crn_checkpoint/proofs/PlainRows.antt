@@ -9,11 +9,11 @@ use Rattle.std.specs.Fmt.{signed_decimal}
 use lib.Signed.{mag}
 use Rattle.crn_draw.specs.Faults.{least_weights_fault}
 use Rattle.crn_draw.specs.Spread.{Weighted}
-use Rattle.crn_stock.specs.declared.rules.Policy.{Policy}
-use Rattle.crn_stock.specs.declared.rules.Costs.{Costs}
-use Rattle.crn_stock.specs.Parts.{Parts, AreInRange, stock_limit, period_cost_limit}
-use Rattle.crn_stock.specs.Models.{ModelParts, IsModel, IsPolicy, AreCosts, blocks_per_replication, returned_values, total}
-use Rattle.crn_stock.specs.Scenarios.{ScenarioParts}
+use Rattle.crn_stock.specs.declared.policy.Policy.{Policy}
+use Rattle.crn_stock.specs.declared.costs.Costs.{Costs}
+use Rattle.crn_stock.specs.Parts.{Parts, AreInRange, stock_limit}
+use Rattle.crn_stock.specs.declared.limits.TheConstants.{PERIOD_COST_LIMIT}
+use Rattle.crn_stock.specs.Models.{ModelParts, IsModel, IsPolicy, AreCosts, blocks_per_replication, returned_values, total, ScenarioParts}
 use Rattle.crn_spelling.specs.Names.{is_name}
 use Rattle.crn_spelling.specs.Hex.{hex_word}
 use Rattle.crn_sequential.specs.Runs.{IsCheckpointOf, StandsBefore}
@@ -117,8 +117,8 @@ state_rows_plain : (p : Policy) (v : Parts) → IsPolicy p → is_name p.name �
 state_rows_plain p v h name k =
     let r = k.ranges in
     let due = due_plain v.period v.due (omega (arith, r.period_high, r.due_length, k.periods)) (each_below v.due (2 ^ 64) (amounts_below v k)) in
-    let high : v.periods * period_cost_limit < 2 ^ 64 = omega (arith, k.periods) in
-    let costs = costs_plain 0 v.costs (omega (arith, k.done)) (all_below v.costs (v.periods * period_cost_limit) (2 ^ 64) high r.costs_high) in
+    let high : v.periods * PERIOD_COST_LIMIT < 2 ^ 64 = omega (arith, k.periods) in
+    let costs = costs_plain 0 v.costs (omega (arith, k.done)) (all_below v.costs (v.periods * PERIOD_COST_LIMIT) (2 ^ 64) high r.costs_high) in
     let both = rows_append (due_rows v.period v.due) (cost_rows 0 v.costs) due costs in
     rw (policy_plain p h name, state_plain v k, both) refl
 

@@ -3,9 +3,8 @@ use Rattle.std.proofs.Common.{◌≡◌, ℕ, ◌*◌, ◌/◌, ◌<◌, ◌≤�
 use Rattle.std.specs.Prelude.{ℤ, pos, ◌≤ℤ◌, ◌+ℤ◌, unsigned_abs}
 use Rattle.std.proofs.lemmas.Int.{ints}
 use Rattle.std.proofs.Math.Nat.{div-le_of_le-mul}
-use Rattle.crn_stock.specs.Parts.{Parts}
+use Rattle.crn_stock.specs.Parts.{Parts, restored, CanRestore, first_period}
 use Rattle.crn_stock.specs.Models.{ModelParts, has_returns, blocks_per_replication}
-use Rattle.crn_stock.specs.Restored.{restored, CanRestore, first_period}
 use Rattle.crn_checkpoint.specs.Inner.Amounts.{IsRestorable}
 use Rattle.crn_checkpoint.proofs.Lengths.{each_below}
 use Rattle.crn_checkpoint.proofs.WholeRows.{limit_high, small_stock}

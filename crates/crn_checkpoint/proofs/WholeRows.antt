@@ -1,21 +1,25 @@
 -- The rows of a checkpoint, by their places.
-use Rattle.std.proofs.Common.{◌≡◌, ℕ, ◌+◌, ◌*◌, ◌<◌, ◌≤◌, ◌^◌, zero, suc, Option, Some, None, List, [], ◌∷◌, ◌++◌, map, length, get_or, take, drop, decimal, refl, ap, ◌∙◌, arith}
+use Rattle.std.proofs.Common.{◌≡◌, ◌≢◌, ℕ, ◌+◌, ◌*◌, ◌<◌, ◌≤◌, ◌^◌, zero, suc, Option, Some, None, List, [], ◌∷◌, ◌++◌, map, length, get_or, take, drop, decimal, refl, ap, ◌∙◌, arith}
 use Rattle.std.specs.Prelude.{Bool, true, false, ℤ, pos, negsuc, ◌≤ℤ◌, ◌+ℤ◌, unsigned_abs}
 use Rattle.std.proofs.lemmas.Int.{ints}
 use Rattle.crn_draw.specs.Spread.{Weighted}
 use Rattle.crn_draw.specs.Faults.{least_weights_fault}
 use Rattle.crn_draw.specs.declared.fault.DrawFault.{DrawFault}
+use Rattle.crn_draw.specs.declared.fault.DrawFault.TheVariants as draw
+use Rattle.crn_stock.specs.declared.restore.RestoreFault.{RestoreFault}
+use Rattle.crn_stock.specs.declared.restore.RestoreFault.TheVariants as restore
+use Rattle.crn_checkpoint.specs.Faults.{undrawn, unrestored}
 use Rattle.crn_stock.specs.Parts.{stock_limit}
 use Rattle.crn_stock.specs.Models.{ModelParts}
 use Rattle.crn_checkpoint.specs.Inner.Sizes.{model_parts_of}
-use Rattle.crn_checkpoint.specs.declared.models.Sizes.{Sizes}
-use Rattle.crn_checkpoint.specs.declared.unread.Unread.{Unread}
-use Rattle.crn_checkpoint.specs.declared.unread.Unread.TheVariants.{Memory}
-use Rattle.crn_stock.specs.declared.rules.Policy.{Policy}
+use Rattle.crn_checkpoint.specs.declared.read.scenario.Sizes.{Sizes}
+use Rattle.crn_checkpoint.specs.declared.fault.Unread.{Unread}
+use Rattle.crn_checkpoint.specs.declared.fault.Unread.TheVariants.{Memory}
+use Rattle.crn_stock.specs.declared.policy.Policy.{Policy}
 use Rattle.std.specs.Prelude.{Result, Ok, Err, IsErr, IsErrAnd, MatchResult, alloc_error}
 use Rattle.crn_checkpoint.specs.CheckpointText.{weight_rows, cost_rows}
 
--- ---- lists, front and rest
+-- ---- lists, prefix and rest
 
 pub take_of : {A : Type 0} (xs ys : List A) (n : ℕ) → n ≡ length xs → take n (xs ++ ys) ≡ xs
 take_of [] ys n e = rw e refl
@@ -108,7 +112,20 @@ same_weighted d values weights ev ew = rw (ev, ew) refl
 pub same_policy : (p : Policy) (name : List ℕ) (low high : ℤ) → name ≡ p.name → low ≡ p.low → high ≡ p.high → Path Policy (record { name = name; low = low; high = high }) p
 same_policy p name low high en el eh = rw (en, el, eh) refl
 
--- ---- an answer that is handed on
+-- ---- faults of the crates below
+
+pub undrawn_memory : (f : DrawFault) → (f ≢ draw.Memory alloc_error → ⊥) → undrawn f ≡ Memory alloc_error
+undrawn_memory draw.Empty h = absurd (h (λ e. cc e))
+undrawn_memory draw.Lengths h = absurd (h (λ e. cc e))
+undrawn_memory draw.Order h = absurd (h (λ e. cc e))
+undrawn_memory draw.Total h = absurd (h (λ e. cc e))
+undrawn_memory (draw.Memory refused) h = refl
+
+pub unrestored_memory : (f : RestoreFault) → (f ≢ restore.Memory alloc_error → ⊥) → unrestored f ≡ Memory alloc_error
+unrestored_memory restore.Range h = absurd (h (λ e. cc e))
+unrestored_memory (restore.Memory refused) h = refl
+
+-- ---- a result that is handed on
 
 pub handed_on : {T : Type 0} (r : Result T Unread) (e : Unread) (P : T → Type 0) → IsErr r × IsErrAnd r (λ f. f ≡ e) → e ≡ Memory alloc_error → MatchResult r P (λ f. f ≡ Memory alloc_error)
 handed_on (Ok x) e P h m = absurd (cc h.0)

@@ -2,7 +2,7 @@
 use Rattle.std.proofs.Common.{◌≡◌, ℕ, zero, suc, ◌+◌, ◌<◌, List, [], ◌∷◌, ◌++◌, length, drop, get_or, slice_index, refl, ap, sym, ◌∙◌, append_assoc, add-one, arith}
 use Rattle.std.proofs.lemmas.List.{append-nil}
 use Rattle.std.proofs.Math.Seq.{drop-cons}
-use Rattle.crn_stock.specs.declared.rules.Policy.{Policy}
+use Rattle.crn_stock.specs.declared.policy.Policy.{Policy}
 use Rattle.crn_stock.specs.Parts.{Parts}
 use Rattle.crn_rows.specs.Rows.{row_text, rows_text}
 use Rattle.crn_checkpoint.specs.CheckpointText.{due_rows, policy_rows, all_policy_rows}

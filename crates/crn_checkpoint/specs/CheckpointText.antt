@@ -3,11 +3,10 @@
 use Rattle.std.specs.Prelude.{ℕ, zero, suc, ◌+◌, List, [], ◌∷◌, ◌++◌, Option, Some, None, length, slice_index, codes, decimal}
 use Rattle.std.specs.Fmt.{signed_decimal}
 use Rattle.crn_draw.specs.Spread.{Weighted}
-use Rattle.crn_stock.specs.declared.rules.Costs.{Costs}
-use Rattle.crn_stock.specs.declared.rules.Policy.{Policy}
+use Rattle.crn_stock.specs.declared.costs.Costs.{Costs}
+use Rattle.crn_stock.specs.declared.policy.Policy.{Policy}
 use Rattle.crn_stock.specs.Parts.{Parts}
-use Rattle.crn_stock.specs.Models.{ModelParts, returned_values}
-use Rattle.crn_stock.specs.Scenarios.{ScenarioParts}
+use Rattle.crn_stock.specs.Models.{ModelParts, returned_values, ScenarioParts}
 use Rattle.crn_rows.specs.Rows.{rows_text}
 use Rattle.crn_spelling.specs.Hex.{hex_word}
 use Rattle.crn_checkpoint.specs.declared.version.Version.{Version}

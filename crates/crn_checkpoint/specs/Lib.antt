@@ -1,4 +1,5 @@
 pub mod CheckpointText
 pub mod Reading
 pub mod Migration
+pub mod Faults
 pub mod Inner

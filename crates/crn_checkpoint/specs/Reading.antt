@@ -3,16 +3,13 @@ use Rattle.std.specs.Prelude.{◌≡◌, ◌⊎◌, ℕ, ◌^◌, ◌<◌, ◌�
 use Rattle.crn_draw.specs.Spread.{Weighted}
 use Rattle.crn_draw.specs.Faults.{least_weights_fault}
 use Rattle.crn_stock.specs.Parts.{Parts, AreInRange}
-use Rattle.crn_stock.specs.Models.{ModelParts, IsModel, total}
-use Rattle.crn_stock.specs.Scenarios.{ScenarioParts, AreForScenario}
+use Rattle.crn_stock.specs.Models.{ModelParts, IsModel, total, ScenarioParts, AreForScenario, IsSameButRing}
 use Rattle.crn_sequential.specs.Runs.{IsCheckpointOf, EachAt}
 use Rattle.crn_checkpoint.specs.CheckpointText.{checkpoint_text}
 use Rattle.crn_checkpoint.specs.declared.version.Version.{Version}
 use Rattle.crn_checkpoint.specs.declared.version.Version.TheVariants as version
-use Rattle.crn_checkpoint.specs.declared.checkpoint_fault.CheckpointFault.{CheckpointFault}
-use Rattle.crn_checkpoint.specs.declared.checkpoint_fault.CheckpointFault.TheVariants as fault
-use Rattle.crn_checkpoint.specs.declared.unread.Unread.{Unread}
-use Rattle.crn_checkpoint.specs.declared.unread.Unread.TheVariants as unread
+use Rattle.crn_checkpoint.specs.declared.fault.CheckpointFault.{CheckpointFault}
+use Rattle.crn_checkpoint.specs.declared.fault.CheckpointFault.TheVariants as fault
 
 -- the numbers of returned items can be drawn from by their weights, where customers return any
 abbrev pub CanDraw : Option Weighted → Type 0
@@ -58,12 +55,6 @@ IsOldTextOf s next states bytes = IsTextIn version.First s next states bytes
 abbrev pub IsAnyTextOf : ScenarioParts → ℕ → List Parts → List ℕ → Type 0
 IsAnyTextOf s next states bytes = IsTextOf s next states bytes ⊎ IsOldTextOf s next states bytes
 
--- two scenarios differ in their rings at most
-pub record IsSameButRing (s s' : ScenarioParts) : Type 0 where
-  pub key : s.key ≡ s'.key
-  pub model : s.model ≡ s'.model
-  pub policies : s.policies ≡ s'.policies
-
 -- the bytes are the text of no checkpoint, in whatever version and of whatever scenario
 abbrev pub IsNoCheckpoint : List ℕ → Type 0
 IsNoCheckpoint bytes = (s : ScenarioParts) (next : ℕ) (states : List Parts) → ¬ IsAnyTextOf s next states bytes
@@ -82,24 +73,12 @@ pub record IsOld (s : ScenarioParts) (bytes : List ℕ) : Type 0 where
   pub states : List Parts
   pub is_text : IsOldTextOf s next states bytes
 
--- what a refusal says of the bytes: want of memory says nothing
+-- what a refusal says about the bytes: a failed allocation says nothing
 abbrev pub RefusesCheckpoint : ScenarioParts → CheckpointFault → List ℕ → Type 0
 RefusesCheckpoint s fault.NoCheckpoint bytes = IsNoCheckpoint bytes
 RefusesCheckpoint s fault.OtherScenario bytes = IsOfAnother s bytes
 RefusesCheckpoint s fault.OldVersion bytes = IsOld s bytes
 RefusesCheckpoint s (fault.Memory _) bytes = ⊤
-
--- the fault for a text of which nothing was read
-abbrev pub reading_fault : Unread → CheckpointFault
-reading_fault unread.NoCheckpoint = fault.NoCheckpoint
-reading_fault (unread.Memory refused) = fault.Memory refused
-
--- the number by which a fault is told
-abbrev pub checkpoint_fault_number : CheckpointFault → ℕ
-checkpoint_fault_number fault.NoCheckpoint = 1
-checkpoint_fault_number fault.OtherScenario = 2
-checkpoint_fault_number fault.OldVersion = 4
-checkpoint_fault_number (fault.Memory _) = 90
 
 -- the bytes are the text of a leg: of the states that the scenario's policies have after the blocks below `next`
 pub record IsLegOf (s : ScenarioParts) (next : ℕ) (bytes : List ℕ) : Type 0 where

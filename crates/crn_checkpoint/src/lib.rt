@@ -1,30 +1,19 @@
-//! Checkpoints of a run as texts: they are written, and read only as they are written. Texts of the first version are
-//! migrated to the second, in which all are written.
+//! Checkpoints of a run as texts. They are written in version 2; texts in version 1 are migrated to it.
 //!
-//! A text is read loosely, row by row, into a scenario and the states of its policies. These are judged and written
-//! again, and the text is taken only where it is byte for byte the same: so what is read is just what is written.
+//! A text is parsed leniently, row by row, into a scenario and the states of its policies. These are validated and
+//! written again, and the text is accepted only if the result is byte for byte the input. So no grammar has to be
+//! proved, and every checkpoint has one spelling.
+//!
+//! `read` and `write` have a file each for the rows of a scenario and for those of a policy.
 #![tactic(auto)]
 
-mod amounts;
-mod cells;
-mod checkpoint_fault;
-mod cut;
-mod lists;
-mod migrate_fault;
-mod migration;
-mod models;
-mod policies;
-mod policy_rows;
-mod reading;
-mod rows;
-mod scenario_rows;
-mod scenarios;
-mod unread;
+mod fault;
+mod migrate;
+mod read;
 mod version;
-mod writing;
+mod write;
 
-pub use checkpoint_fault::CheckpointFault;
-pub use migrate_fault::MigrateFault;
-pub use migration::migrate_checkpoint;
-pub use reading::read_checkpoint;
-pub use writing::write_checkpoint;
+pub use fault::{CheckpointFault, MigrateFault};
+pub use migrate::migrate_checkpoint;
+pub use read::read_checkpoint;
+pub use write::write_checkpoint;

@@ -1,5 +1,5 @@
 -- The words of a block as one list, and in their streams.
-use Rattle.std.proofs.Common.{◌≡◌, ℕ, ◌+◌, ◌-◌, ◌<◌, ◌≤◌, List, [], ◌∷◌, ◌++◌, length, slice_index, refl, sym, ap, ◌∙◌, arith}
+use Rattle.std.proofs.Common.{◌≡◌, ◌≢◌, ℕ, ◌+◌, ◌-◌, ◌<◌, ◌≤◌, ◌^◌, List, [], ◌∷◌, ◌++◌, length, slice_index, refl, sym, ap, ◌∙◌, arith, lit<}
 use mathlib.Core.HLevel.{is_prop→PathP}
 use mathlib.Core.List.{is_set}
 use Rattle.std.proofs.Math.Nat.{ℕ_set}
@@ -9,7 +9,8 @@ use Rattle.crn_cipher.specs.declared.stream.Block.{Block}
 use Rattle.crn_cipher.specs.declared.stream.Stream.{Stream}
 use Rattle.crn_cipher.specs.declared.stream.Stream.TheVariants.{Demand, Lead, Returns}
 use Rattle.crn_cipher.specs.Cipher.{Threefry, key_step}
-use Rattle.crn_cipher.specs.Blocks.{StreamWords, words_of, BlockWords, block_word}
+use Rattle.crn_cipher.specs.Blocks.{counter_of, StreamWords, words_of, BlockWords, block_word}
+use Rattle.crn_cipher.proofs.Inverse.{state_from, distinct}
 
 pub length-threefry : (key ctr : List ℕ) → length (Threefry key ctr) ≡ 4
 unfolding Threefry key_step
@@ -114,3 +115,14 @@ determined a b key number =
       lead_words = is_prop→PathP (λ j. lead j ≡ StreamWords (key j) (number j) Lead) (λ j. is_set ℕ_set (lead j) (StreamWords (key j) (number j) Lead)) a.lead_words b.lead_words i;
       returns_words = is_prop→PathP (λ j. returns j ≡ StreamWords (key j) (number j) Returns) (λ j. is_set ℕ_set (returns j) (StreamWords (key j) (number j) Returns)) a.returns_words b.returns_words i;
     }
+
+-- ---- Blocks of different numbers differ in the words of each stream.
+
+counter_fits : (s : Stream) → counter_of s < 2 ^ 64
+counter_fits Demand = lit< tt
+counter_fits Lead = lit< tt
+counter_fits Returns = lit< tt
+
+pub apart : (key : List ℕ) → length key ≡ 4 → ((i : ℕ) → slice_index key i < 2 ^ 64) → (m n : ℕ) → m < 2 ^ 64 → n < 2 ^ 64 → m ≢ n → (s : Stream)
+    → StreamWords key m s ≢ StreamWords key n s
+apart key four words m n fits-m fits-n differ s e = differ (distinct key (state_from key four words) (counter_of s) m n (counter_fits s) fits-m fits-n e)

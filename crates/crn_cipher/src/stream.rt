@@ -100,6 +100,7 @@ impl Block {
     ///
     /// The words are those of that block.
     #[inline(always)]
+    #[tactic(auto, using(crate::proofs::Blocks::demand_of, crate::proofs::Blocks::lead_of, crate::proofs::Blocks::returns_of))]
     pub fn from_words(key: [u64; 4], number: u64, words: [u64; BLOCK_WORDS]) -> Block
         requires { words ≡ BlockWords key number }
         ensures key { result.key ≡ key }

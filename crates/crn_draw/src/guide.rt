@@ -4,6 +4,7 @@ ghost use Rattle.std.specs.Prelude.{◌≡◌, ℕ, ◌≤◌, ◌<◌, IfOk, le
 ghost use Rattle.crn_draw.specs.Spread.{place_of};
 ghost use Rattle.crn_draw.specs.Inner.Runs.{start_at, IsBracket, StandsAtPlace, StartsRise};
 ghost use Rattle.crn_draw.specs.Inner.Guide.{IsEntry, IsGuide};
+ghost use Rattle.crn_draw.specs.declared.weights.TheConstants.{TOTAL_LIMIT};
 
 use crate::runs::{Run, index_of, place_at, value_at};
 use std::alloc::{AllocError, Global};
@@ -53,18 +54,18 @@ fn entry_of(runs: &[Run], first: usize, last: usize) -> u32
 ///
 /// # Asks
 ///
-/// There are 1 to 65,536 runs, the first of which begins at 0 and each other one after the one before; `total` is at
-/// most 65,536.
+/// There are 1 to `TOTAL_LIMIT` runs, the first of which begins at 0 and each other one after the one before; `total` is at
+/// most `TOTAL_LIMIT`.
 ///
 /// # Errors
 ///
 /// `AllocError` where a growth was refused.
 pub fn guide_of(alloc: Global, runs: &[Run], total: u64) -> Result<Guide, AllocError>
     requires some { 0 < length runs.now }
-    requires few { length runs.now ≤ 65536 }
+    requires few { length runs.now ≤ TOTAL_LIMIT }
     requires first { start_at runs.now 0 ≡ 0 }
     requires rising { StartsRise runs.now }
-    requires total { total ≤ 65536 }
+    requires total { total ≤ TOTAL_LIMIT }
     ensures { IfOk result (IsGuide runs.now total) }
 {
     let mut entries = Vec::with_capacity(alloc, BUCKETS as usize)?;
@@ -87,11 +88,11 @@ pub fn guide_of(alloc: Global, runs: &[Run], total: u64) -> Result<Guide, AllocE
 ///
 /// # Asks
 ///
-/// The guide is that of these runs, which begin one after another, and of `total` places, at most 65,536.
+/// The guide is that of these runs, which begin one after another, and of `total` places, at most `TOTAL_LIMIT`.
 #[inline(always)]
 pub fn draw(runs: &[Run], guide: &Guide, total: u64, word: u64) -> u32
     requires rising { StartsRise runs.now }
-    requires total { total ≤ 65536 }
+    requires total { total ≤ TOTAL_LIMIT }
     requires guide { IsGuide runs.now total guide.now }
     ensures { StandsAtPlace runs.now (place_of word total) result }
 {

@@ -3,6 +3,7 @@
 ghost use Rattle.std.specs.Prelude.{◌≡◌, ℕ, ◌≤◌, ◌<◌, IfOk, length, sum};
 ghost use Rattle.crn_draw.specs.Spread.{place_of};
 ghost use Rattle.crn_draw.specs.Inner.Runs.{runs_from, start_at, IsBracket, StandsAtPlace, StartsRise};
+ghost use Rattle.crn_draw.specs.declared.weights.TheConstants.{TOTAL_LIMIT};
 
 use std::alloc::{AllocError, Global};
 
@@ -17,10 +18,10 @@ pub struct Run {
 ///
 /// # Asks
 ///
-/// `total` is at most 65,536.
+/// `total` is at most `TOTAL_LIMIT`.
 #[inline(always)]
 pub fn place_at(word: u64, total: u64) -> u32
-    requires { total ≤ 65536 }
+    requires { total ≤ TOTAL_LIMIT }
     ensures { result ≡ place_of word total }
 {
     ((u128::from(word) * u128::from(total)) >> 64) as u32
@@ -30,14 +31,14 @@ pub fn place_at(word: u64, total: u64) -> u32
 ///
 /// # Asks
 ///
-/// There are as many weights as values, and their sum is at most 65,536.
+/// There are as many weights as values, and their sum is at most `TOTAL_LIMIT`.
 ///
 /// # Errors
 ///
 /// `AllocError` where a growth was refused.
 pub fn runs_of(alloc: Global, values: &[u32], weights: &[u32]) -> Result<Vec<Run>, AllocError>
     requires same_length { length values.now ≡ length weights.now }
-    requires total { sum weights.now ≤ 65536 }
+    requires total { sum weights.now ≤ TOTAL_LIMIT }
     ensures { IfOk result (λ v. v.items ≡ runs_from 0 values.now weights.now) }
 {
     let mut runs = Vec::new(alloc);

@@ -1,12 +1,11 @@
 -- The states of a leg are those of whoever reads its text.
 use Rattle.std.proofs.Common.{◌≡◌, ◌∙◌, ℕ, List, ap, subst, sym, slice_get, inl}
-use Rattle.crn_stock.specs.declared.rules.Policy.{Policy}
+use Rattle.crn_stock.specs.declared.policy.Policy.{Policy}
 use Rattle.crn_stock.specs.Parts.{Parts}
-use Rattle.crn_stock.specs.Models.{ModelParts}
-use Rattle.crn_stock.specs.Scenarios.{ScenarioParts}
+use Rattle.crn_stock.specs.Models.{ModelParts, ScenarioParts, IsSameButRing}
 use Rattle.crn_stock.specs.Draws.{At}
 use Rattle.crn_sequential.specs.Runs.{EachAt}
-use Rattle.crn_checkpoint.specs.Reading.{IsAnyTextOf, IsSameButRing, IsLegOf}
+use Rattle.crn_checkpoint.specs.Reading.{IsAnyTextOf, IsLegOf}
 use Rattle.crn_scenario.specs.Reading.{Reads, scenario_of}
 
 -- a text is that of one scenario

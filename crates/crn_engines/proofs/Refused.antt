@@ -1,18 +1,21 @@
 -- What a fault tells, handed on from one step of an engine to the next.
 use Rattle.std.proofs.Common.{◌≡◌, ◌≢◌, ℕ, List, Option, Result, Ok, Err, IfErr, false, inr, refl, subst}
-use Rattle.crn_stock.specs.Models.{total}
+use Rattle.crn_stock.specs.Models.{total, ScenarioParts}
 use Rattle.crn_stock.specs.Parts.{Parts}
-use Rattle.crn_stock.specs.Scenarios.{ScenarioParts}
 use Rattle.crn_engines.specs.declared.fault.Fault.{Fault}
 use Rattle.crn_engines.specs.declared.fault.Fault.TheVariants as fault
 use Rattle.crn_engines.specs.declared.output.WriteFault.{WriteFault}
+use Rattle.crn_run.specs.declared.fault.ThreadFault.{ThreadFault}
+use Rattle.std.specs.declared.alloc.AllocError.{AllocError}
 use Rattle.crn_checkpoint.specs.Reading.{IsTextOf}
 use Rattle.crn_engines.specs.Bytes.{ReadAll}
 use Rattle.crn_engines.specs.Inputs.{HasScenario, ReadScenario}
-use Rattle.crn_engines.specs.Legs.{HasEnough, MadeLeg}
-use Rattle.crn_engines.specs.Refusals.{RefusesLeg, RefusesMigrate, RefusesOutput, RefusesReplay, RefusesResume, RefusesScenarioInput, RefusesSimulation}
-use Rattle.crn_engines.specs.Resumption.{HasCheckpoint, MadeResumed}
-use Rattle.crn_engines.specs.Simulation.{MadeReport}
+use Rattle.crn_engines.specs.Legs.{HasEnough, MadeLeg, RefusesLeg}
+use Rattle.crn_engines.specs.Migration.{RefusesMigrate}
+use Rattle.crn_engines.specs.Replay.{RefusesReplay}
+use Rattle.crn_engines.specs.Refusals.{RefusesOutput, RefusesScenarioInput}
+use Rattle.crn_engines.specs.Resumption.{HasCheckpoint, MadeResumed, RefusesResume}
+use Rattle.crn_engines.specs.Simulation.{MadeReport, RefusesSimulation}
 use Rattle.crn_engines.specs.Statuses.{is_writing}
 use Rattle.crn_engines.specs.Inner.Refusals.{RefusesLegRun, RefusesOldText, RefusesOnward, RefusesOnwardRun, RefusesRun, RefusesScheduleText, RefusesTrace}
 
@@ -66,17 +69,21 @@ to_leg fault.Gate n a b h = h
 to_leg (fault.Memory m) n a b h = h
 
 -- a run of the scenario that was read
+-- what holds of a thread and of memory holds of each fault of a run
+of_run : (e : Fault) (P : Fault → Type 0) → ((t : ThreadFault) → P (fault.Thread t)) → ((m : AllocError) → P (fault.Memory m)) → RefusesRun e → P e
+of_run fault.CommandLine P thread memory h = absurd h
+of_run (fault.Scenario f) P thread memory h = absurd h
+of_run (fault.Checkpoint f) P thread memory h = absurd h
+of_run (fault.Migration f) P thread memory h = absurd h
+of_run (fault.Schedule f) P thread memory h = absurd h
+of_run (fault.Reading r) P thread memory h = absurd h
+of_run (fault.Writing w) P thread memory h = absurd h
+of_run (fault.Thread t) P thread memory h = thread t
+of_run fault.Gate P thread memory h = absurd h
+of_run (fault.Memory m) P thread memory h = memory m
+
 pub run_to_simulation : (e : Fault) (a b : Option (List ℕ)) → HasScenario a b → RefusesRun e → RefusesSimulation e a b
-run_to_simulation fault.CommandLine a b read h = absurd h
-run_to_simulation (fault.Scenario f) a b read h = absurd h
-run_to_simulation (fault.Checkpoint f) a b read h = absurd h
-run_to_simulation (fault.Migration f) a b read h = absurd h
-run_to_simulation (fault.Schedule f) a b read h = absurd h
-run_to_simulation (fault.Reading r) a b read h = absurd h
-run_to_simulation (fault.Writing w) a b read h = absurd h
-run_to_simulation (fault.Thread t) a b read h = read
-run_to_simulation fault.Gate a b read h = absurd h
-run_to_simulation (fault.Memory m) a b read h = tt
+run_to_simulation e a b read h = of_run e (λ f. RefusesSimulation f a b) (λ t. read) (λ m. tt) h
 
 pub run_to_leg : (e : Fault) (s : ScenarioParts) (n : ℕ) (a b : Option (List ℕ)) → ReadScenario a b s → RefusesLegRun s n e → RefusesLeg n e a b
 run_to_leg fault.CommandLine s n a b read h = record { scenario = s; read = read; fewer = h }
@@ -114,65 +121,33 @@ checkpoint_of_report s s' a b text made = record {
 
 -- ---- an output that is refused
 
+-- what holds of each fault of writing holds of each fault of an output
+of_output : (e : Fault) (P : Fault → Type 0) → ((w : WriteFault) → P (fault.Writing w)) → RefusesOutput e → P e
+of_output fault.CommandLine P write h = absurd h
+of_output (fault.Scenario f) P write h = absurd h
+of_output (fault.Checkpoint f) P write h = absurd h
+of_output (fault.Migration f) P write h = absurd h
+of_output (fault.Schedule f) P write h = absurd h
+of_output (fault.Reading r) P write h = absurd h
+of_output (fault.Writing w) P write h = write w
+of_output (fault.Thread t) P write h = absurd h
+of_output fault.Gate P write h = absurd h
+of_output (fault.Memory m) P write h = absurd h
+
 pub output_of_simulation : (e : Fault) (a b : Option (List ℕ)) → HasScenario a b → RefusesOutput e → RefusesSimulation e a b
-output_of_simulation fault.CommandLine a b read h = absurd h
-output_of_simulation (fault.Scenario f) a b read h = absurd h
-output_of_simulation (fault.Checkpoint f) a b read h = absurd h
-output_of_simulation (fault.Migration f) a b read h = absurd h
-output_of_simulation (fault.Schedule f) a b read h = absurd h
-output_of_simulation (fault.Reading r) a b read h = absurd h
-output_of_simulation (fault.Writing w) a b read h = read
-output_of_simulation (fault.Thread t) a b read h = absurd h
-output_of_simulation fault.Gate a b read h = absurd h
-output_of_simulation (fault.Memory m) a b read h = absurd h
+output_of_simulation e a b read h = of_output e (λ f. RefusesSimulation f a b) (λ w. read) h
 
 pub output_of_leg : (e : Fault) (n : ℕ) (a b : Option (List ℕ)) → HasEnough n a b → RefusesOutput e → RefusesLeg n e a b
-output_of_leg fault.CommandLine n a b read h = absurd h
-output_of_leg (fault.Scenario f) n a b read h = absurd h
-output_of_leg (fault.Checkpoint f) n a b read h = absurd h
-output_of_leg (fault.Migration f) n a b read h = absurd h
-output_of_leg (fault.Schedule f) n a b read h = absurd h
-output_of_leg (fault.Reading r) n a b read h = absurd h
-output_of_leg (fault.Writing w) n a b read h = read
-output_of_leg (fault.Thread t) n a b read h = absurd h
-output_of_leg fault.Gate n a b read h = absurd h
-output_of_leg (fault.Memory m) n a b read h = absurd h
+output_of_leg e n a b read h = of_output e (λ f. RefusesLeg n f a b) (λ w. read) h
 
 pub output_of_resume : (e : Fault) (s s' a b : Option (List ℕ)) → HasCheckpoint s s' a b → RefusesOutput e → RefusesResume e s s' a b
-output_of_resume fault.CommandLine s s' a b read h = absurd h
-output_of_resume (fault.Scenario f) s s' a b read h = absurd h
-output_of_resume (fault.Checkpoint f) s s' a b read h = absurd h
-output_of_resume (fault.Migration f) s s' a b read h = absurd h
-output_of_resume (fault.Schedule f) s s' a b read h = absurd h
-output_of_resume (fault.Reading r) s s' a b read h = absurd h
-output_of_resume (fault.Writing w) s s' a b read h = read
-output_of_resume (fault.Thread t) s s' a b read h = absurd h
-output_of_resume fault.Gate s s' a b read h = absurd h
-output_of_resume (fault.Memory m) s s' a b read h = absurd h
+output_of_resume e s s' a b read h = of_output e (λ f. RefusesResume f s s' a b) (λ w. read) h
 
 pub output_of_migrate : (e : Fault) (a b : Option (List ℕ)) → RefusesOutput e → RefusesMigrate e a b
-output_of_migrate fault.CommandLine a b h = absurd h
-output_of_migrate (fault.Scenario f) a b h = absurd h
-output_of_migrate (fault.Checkpoint f) a b h = absurd h
-output_of_migrate (fault.Migration f) a b h = absurd h
-output_of_migrate (fault.Schedule f) a b h = absurd h
-output_of_migrate (fault.Reading r) a b h = absurd h
-output_of_migrate (fault.Writing w) a b h = tt
-output_of_migrate (fault.Thread t) a b h = absurd h
-output_of_migrate fault.Gate a b h = absurd h
-output_of_migrate (fault.Memory m) a b h = absurd h
+output_of_migrate e a b h = of_output e (λ f. RefusesMigrate f a b) (λ w. tt) h
 
 pub output_of_replay : (e : Fault) (size readers total : ℕ) (a b : Option (List ℕ)) → RefusesOutput e → RefusesReplay size readers total e a b
-output_of_replay fault.CommandLine size readers total a b h = absurd h
-output_of_replay (fault.Scenario f) size readers total a b h = absurd h
-output_of_replay (fault.Checkpoint f) size readers total a b h = absurd h
-output_of_replay (fault.Migration f) size readers total a b h = absurd h
-output_of_replay (fault.Schedule f) size readers total a b h = absurd h
-output_of_replay (fault.Reading r) size readers total a b h = absurd h
-output_of_replay (fault.Writing w) size readers total a b h = tt
-output_of_replay (fault.Thread t) size readers total a b h = absurd h
-output_of_replay fault.Gate size readers total a b h = absurd h
-output_of_replay (fault.Memory m) size readers total a b h = absurd h
+output_of_replay e size readers total a b h = of_output e (λ f. RefusesReplay size readers total f a b) (λ w. tt) h
 
 -- ---- a checkpoint that is read after the scenario
 
@@ -189,16 +164,7 @@ onward_of_resume fault.Gate s p q a b read h = absurd h
 onward_of_resume (fault.Memory m) s p q a b read h = inr (record { scenario = s; read = read }, h)
 
 pub onward_silent : (e : Fault) (s : ScenarioParts) (p q : Option (List ℕ)) → RefusesOnward s e p q → is_writing e ≡ false
-onward_silent fault.CommandLine s p q h = refl
-onward_silent (fault.Scenario f) s p q h = refl
-onward_silent (fault.Checkpoint f) s p q h = refl
-onward_silent (fault.Migration f) s p q h = refl
-onward_silent (fault.Schedule f) s p q h = refl
-onward_silent (fault.Reading r) s p q h = refl
-onward_silent (fault.Writing w) s p q h = absurd h
-onward_silent (fault.Thread t) s p q h = refl
-onward_silent fault.Gate s p q h = refl
-onward_silent (fault.Memory m) s p q h = refl
+onward_silent e s p q h = no_write e (λ w is. subst (λ (f : Fault). RefusesOnward s f p q) is h)
 
 pub text_of_onward : (e : Fault) (s : ScenarioParts) (p q : Option (List ℕ)) (bytes : List ℕ) → ReadAll p q bytes → RefusesOnwardRun s e bytes → RefusesOnward s e p q
 text_of_onward fault.CommandLine s p q bytes read h = absurd h
@@ -213,16 +179,7 @@ text_of_onward fault.Gate s p q bytes read h = absurd h
 text_of_onward (fault.Memory m) s p q bytes read h = tt
 
 pub run_onward : (e : Fault) (s : ScenarioParts) (next : ℕ) (states : List Parts) (bytes : List ℕ) → IsTextOf s next states bytes → RefusesRun e → RefusesOnwardRun s e bytes
-run_onward fault.CommandLine s next states bytes is_text h = absurd h
-run_onward (fault.Scenario f) s next states bytes is_text h = absurd h
-run_onward (fault.Checkpoint f) s next states bytes is_text h = absurd h
-run_onward (fault.Migration f) s next states bytes is_text h = absurd h
-run_onward (fault.Schedule f) s next states bytes is_text h = absurd h
-run_onward (fault.Reading r) s next states bytes is_text h = absurd h
-run_onward (fault.Writing w) s next states bytes is_text h = absurd h
-run_onward (fault.Thread t) s next states bytes is_text h = (next, states, is_text)
-run_onward fault.Gate s next states bytes is_text h = absurd h
-run_onward (fault.Memory m) s next states bytes is_text h = tt
+run_onward e s next states bytes is_text h = of_run e (λ f. RefusesOnwardRun s f bytes) (λ t. (next, states, is_text)) (λ m. tt) h
 
 -- ---- an old text, and a schedule
 
@@ -239,16 +196,7 @@ old_of_migrate fault.Gate a b bytes read h = absurd h
 old_of_migrate (fault.Memory m) a b bytes read h = tt
 
 pub old_silent : (e : Fault) (bytes : List ℕ) → RefusesOldText e bytes → is_writing e ≡ false
-old_silent fault.CommandLine bytes h = refl
-old_silent (fault.Scenario f) bytes h = refl
-old_silent (fault.Checkpoint f) bytes h = refl
-old_silent (fault.Migration f) bytes h = refl
-old_silent (fault.Schedule f) bytes h = refl
-old_silent (fault.Reading r) bytes h = refl
-old_silent (fault.Writing w) bytes h = absurd h
-old_silent (fault.Thread t) bytes h = refl
-old_silent fault.Gate bytes h = refl
-old_silent (fault.Memory m) bytes h = refl
+old_silent e bytes h = no_write e (λ w is. subst (λ (f : Fault). RefusesOldText f bytes) is h)
 
 pub text_of_trace : (e : Fault) (n : ℕ) (a b : Option (List ℕ)) (bytes : List ℕ) → ReadAll a b bytes → RefusesScheduleText n e bytes → RefusesTrace n e a b
 text_of_trace fault.CommandLine n a b bytes read h = absurd h
@@ -263,16 +211,7 @@ text_of_trace fault.Gate n a b bytes read h = absurd h
 text_of_trace (fault.Memory m) n a b bytes read h = tt
 
 pub schedule_silent : (e : Fault) (n : ℕ) (bytes : List ℕ) → RefusesScheduleText n e bytes → is_writing e ≡ false
-schedule_silent fault.CommandLine n bytes h = refl
-schedule_silent (fault.Scenario f) n bytes h = refl
-schedule_silent (fault.Checkpoint f) n bytes h = refl
-schedule_silent (fault.Migration f) n bytes h = refl
-schedule_silent (fault.Schedule f) n bytes h = refl
-schedule_silent (fault.Reading r) n bytes h = refl
-schedule_silent (fault.Writing w) n bytes h = absurd h
-schedule_silent (fault.Thread t) n bytes h = refl
-schedule_silent fault.Gate n bytes h = refl
-schedule_silent (fault.Memory m) n bytes h = refl
+schedule_silent e n bytes h = no_write e (λ w is. subst (λ (f : Fault). RefusesScheduleText n f bytes) is h)
 
 pub trace_of_replay : (e : Fault) (size readers total : ℕ) (a b : Option (List ℕ)) → RefusesTrace readers e a b → RefusesReplay size readers total e a b
 trace_of_replay fault.CommandLine size readers total a b h = absurd h

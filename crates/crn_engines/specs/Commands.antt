@@ -2,16 +2,16 @@
 use Rattle.std.specs.Prelude.{ℕ, List, Option, string_bytes}
 use Rattle.std.specs.Io.KnownBytes.{Appends, Keeps}
 use Rattle.crn_trace.specs.BlockWords.{words_text}
-use Rattle.crn_command_line.specs.declared.words.Command.{Command}
-use Rattle.crn_command_line.specs.declared.words.Command.TheVariants as command
+use Rattle.crn_command_line.specs.declared.commands.Command.{Command}
+use Rattle.crn_command_line.specs.declared.commands.Command.TheVariants as command
 use Rattle.crn_engines.specs.declared.fault.Fault.{Fault}
 use Rattle.crn_engines.specs.Bytes.{AppendsFront}
-use Rattle.crn_engines.specs.Simulation.{WroteReport, WroteFront}
-use Rattle.crn_engines.specs.Legs.{WroteLeg, WroteLegFront}
-use Rattle.crn_engines.specs.Resumption.{WroteResumed, WroteResumedFront, WroteLegsReport}
-use Rattle.crn_engines.specs.Migration.{WroteMigrated, WroteMigratedFront}
-use Rattle.crn_engines.specs.Replay.{replayed, WroteTrace, WroteTraceFront}
-use Rattle.crn_engines.specs.Refusals.{RefusesLeg, RefusesMigrate, RefusesOutput, RefusesReplay, RefusesResume, RefusesSimulation, RefusesWords}
+use Rattle.crn_engines.specs.Simulation.{WroteReport, WroteFront, RefusesSimulation}
+use Rattle.crn_engines.specs.Legs.{WroteLeg, WroteLegFront, RefusesLeg}
+use Rattle.crn_engines.specs.Resumption.{WroteResumed, WroteResumedFront, WroteLegsReport, RefusesResume}
+use Rattle.crn_engines.specs.Migration.{WroteMigrated, WroteMigratedFront, RefusesMigrate}
+use Rattle.crn_engines.specs.Replay.{replayed, WroteTrace, WroteTraceFront, RefusesReplay}
+use Rattle.crn_engines.specs.Refusals.{RefusesOutput, RefusesWords}
 
 -- the bytes that the checkpoint's reader and the input's have left, and those that the writer holds; each may tell nothing
 pub record Streams : Type 0 where

@@ -1,7 +1,7 @@
 -- What an input is read as. `reading` and `reading'` are the bytes that the reader has left before and after; either may
 -- tell nothing.
 use Rattle.std.specs.Prelude.{ℕ, List, Option}
-use Rattle.crn_stock.specs.Scenarios.{ScenarioParts}
+use Rattle.crn_stock.specs.Models.{ScenarioParts}
 use Rattle.crn_scenario.specs.Reading.{Reads, RefusesScenario}
 use Rattle.crn_scenario.specs.declared.scenario_fault.ScenarioFault.{ScenarioFault}
 use Rattle.crn_engines.specs.Bytes.{ReadAll}

@@ -1,12 +1,14 @@
--- What `leg` reads and writes. `reading` and `reading'` are the bytes that the reader has left before and after, `held`
+-- What `leg` reads and writes, and what its faults say. `reading` and `reading'` are the bytes that the reader has left before and after, `held`
 -- and `held'` those that the writer holds; either may tell nothing.
 use Rattle.std.specs.Prelude.{ℕ, ◌<◌, ◌≤◌, List, Option}
-use Rattle.crn_stock.specs.Models.{total}
-use Rattle.crn_stock.specs.Scenarios.{ScenarioParts}
+use Rattle.crn_stock.specs.Models.{total, ScenarioParts}
 use Rattle.crn_checkpoint.specs.Reading.{IsLegOf}
 use Rattle.crn_scenario.specs.Reading.{Reads}
+use Rattle.crn_engines.specs.declared.fault.Fault.{Fault}
+use Rattle.crn_engines.specs.declared.fault.Fault.TheVariants as fault
 use Rattle.crn_engines.specs.Bytes.{ReadAll, Wrote, WroteFrontOf}
 use Rattle.crn_engines.specs.Inputs.{ReadScenario}
+use Rattle.crn_engines.specs.Refusals.{RefusesScenarioInput}
 
 -- the text is that of a leg up to block n of the scenario that the input is a text of
 pub record IsLegFor (n : ℕ) (input text : List ℕ) : Type 0 where
@@ -39,3 +41,10 @@ pub record HasEnough (n : ℕ) (reading reading' : Option (List ℕ)) : Type 0 w
   pub scenario : ScenarioParts
   pub read : ReadScenario reading reading' scenario
   pub enough : n ≤ total scenario.model
+
+-- nothing is run of a scenario of fewer than n blocks
+abbrev pub RefusesLeg : ℕ → Fault → Option (List ℕ) → Option (List ℕ) → Type 0
+RefusesLeg n fault.CommandLine reading reading' = HasFewer n reading reading'
+RefusesLeg n (fault.Thread _) reading reading' = HasEnough n reading reading'
+RefusesLeg n (fault.Writing _) reading reading' = HasEnough n reading reading'
+RefusesLeg n e reading reading' = RefusesScenarioInput e reading reading'

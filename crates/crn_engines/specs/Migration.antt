@@ -1,12 +1,16 @@
--- What `migrate` reads and writes. `reading` and `reading'` are the bytes that the reader has left before and after, `held`
+-- What `migrate` reads and writes, and what its faults say. `reading` and `reading'` are the bytes that the reader has left before and after, `held`
 -- and `held'` those that the writer holds; either may tell nothing.
-use Rattle.std.specs.Prelude.{ℕ, List, Option}
-use Rattle.crn_stock.specs.Scenarios.{ScenarioParts}
-use Rattle.crn_checkpoint.specs.Reading.{IsSameButRing, IsLegOf, IsOldLegOf}
+use Rattle.std.specs.Prelude.{◌≢◌, ⊤, ℕ, List, Option, alloc_error}
+use Rattle.crn_stock.specs.Models.{ScenarioParts, IsSameButRing}
+use Rattle.crn_checkpoint.specs.Reading.{IsLegOf, IsOldLegOf}
 use Rattle.crn_checkpoint.specs.Migration.{IsMigrated, RefusesMigration}
-use Rattle.crn_checkpoint.specs.declared.migrate_fault.MigrateFault.{MigrateFault}
+use Rattle.crn_checkpoint.specs.declared.fault.MigrateFault.{MigrateFault}
+use Rattle.crn_checkpoint.specs.declared.fault.MigrateFault.TheVariants as migration
 use Rattle.crn_report.specs.Report.{IsReportOf}
+use Rattle.crn_engines.specs.declared.fault.Fault.{Fault}
+use Rattle.crn_engines.specs.declared.fault.Fault.TheVariants as fault
 use Rattle.crn_engines.specs.Bytes.{ReadAll, Wrote, WroteFrontOf}
+use Rattle.crn_engines.specs.Refusals.{RefusesInput}
 use Rattle.crn_engines.specs.Resumption.{ReportsLegs}
 
 -- the text is that of a leg of a scenario; so what a resumed run reports from it, on a ring of whatever size, is the
@@ -39,3 +43,9 @@ pub record ReadRefusedMigration (f : MigrateFault) (reading reading' : Option (L
   pub input : List ℕ
   pub read : ReadAll reading reading' input
   pub refused : RefusesMigration f input
+
+-- what each fault says of the checkpoint's input
+abbrev pub RefusesMigrate : Fault → Option (List ℕ) → Option (List ℕ) → Type 0
+RefusesMigrate (fault.Migration f) reading reading' = (f ≢ migration.Memory alloc_error) × ReadRefusedMigration f reading reading'
+RefusesMigrate (fault.Writing _) reading reading' = ⊤
+RefusesMigrate e reading reading' = RefusesInput e reading reading'

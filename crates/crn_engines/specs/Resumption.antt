@@ -1,17 +1,21 @@
--- What `resume` reads and writes. `saved` and `saved'` are the bytes that the checkpoint's reader has left before and
+-- What `resume` reads and writes, and what its faults say. `saved` and `saved'` are the bytes that the checkpoint's reader has left before and
 -- after, `reading` and `reading'` those of the scenario's reader, `held` and `held'` those that the writer holds; either
 -- may tell nothing.
-use Rattle.std.specs.Prelude.{◌≡◌, ℕ, List, Option, length, map}
-use Rattle.crn_stock.specs.Models.{total}
+use Rattle.std.specs.Prelude.{◌≡◌, ◌≢◌, ◌⊎◌, ℕ, List, Option, length, map, alloc_error}
+use Rattle.std.specs.Io.KnownBytes.{Keeps}
+use Rattle.crn_stock.specs.Models.{total, ScenarioParts, IsSameButRing}
 use Rattle.crn_stock.specs.Parts.{Parts}
-use Rattle.crn_stock.specs.Scenarios.{ScenarioParts}
 use Rattle.crn_sequential.specs.Runs.{EachOnward}
-use Rattle.crn_checkpoint.specs.Reading.{IsTextOf, IsSameButRing, IsLegOf, RefusesCheckpoint}
-use Rattle.crn_checkpoint.specs.declared.checkpoint_fault.CheckpointFault.{CheckpointFault}
+use Rattle.crn_checkpoint.specs.Reading.{IsTextOf, IsLegOf, RefusesCheckpoint}
+use Rattle.crn_checkpoint.specs.declared.fault.CheckpointFault.{CheckpointFault}
+use Rattle.crn_checkpoint.specs.declared.fault.CheckpointFault.TheVariants as checkpoint
 use Rattle.crn_scenario.specs.Reading.{Reads}
 use Rattle.crn_report.specs.Report.{IsReportText, IsReportOf}
+use Rattle.crn_engines.specs.declared.fault.Fault.{Fault}
+use Rattle.crn_engines.specs.declared.fault.Fault.TheVariants as fault
 use Rattle.crn_engines.specs.Bytes.{ReadAll, Wrote, WroteFrontOf}
-use Rattle.crn_engines.specs.Inputs.{ReadScenario}
+use Rattle.crn_engines.specs.Inputs.{HasScenario, ReadScenario}
+use Rattle.crn_engines.specs.Refusals.{RefusesInput, RefusesScenarioInput}
 
 -- the text is the report of the states that these become by all blocks that are left, one for each policy
 pub record IsReportOnward (s : ScenarioParts) (states : List Parts) (text : List ℕ) : Type 0 where
@@ -80,3 +84,10 @@ pub record ReadRefusedCheckpoint (f : CheckpointFault) (saved saved' reading rea
   pub bytes : List ℕ
   pub read : ReadBoth saved saved' reading reading' scenario bytes
   pub refused : RefusesCheckpoint scenario f bytes
+
+-- the scenario is read first, and where it is refused the checkpoint is not read
+abbrev pub RefusesResume : Fault → Option (List ℕ) → Option (List ℕ) → Option (List ℕ) → Option (List ℕ) → Type 0
+RefusesResume (fault.Checkpoint f) saved saved' reading reading' = (f ≢ checkpoint.Memory alloc_error) × ReadRefusedCheckpoint f saved saved' reading reading'
+RefusesResume (fault.Thread _) saved saved' reading reading' = HasCheckpoint saved saved' reading reading'
+RefusesResume (fault.Writing _) saved saved' reading reading' = HasCheckpoint saved saved' reading reading'
+RefusesResume e saved saved' reading reading' = (Keeps saved saved' × RefusesScenarioInput e reading reading') ⊎ (HasScenario reading reading' × RefusesInput e saved saved')

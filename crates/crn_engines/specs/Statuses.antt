@@ -3,6 +3,8 @@ use Rattle.std.specs.Prelude.{◌≡◌, ◌≢◌, ◌⊎◌, ℕ, Bool, true, 
 use Rattle.std.specs.declared.alloc.AllocError.{AllocError}
 use Rattle.crn_command_line.specs.declared.fault.CommandLineFault.{CommandLineFault}
 use Rattle.crn_command_line.specs.declared.fault.CommandLineFault.TheVariants as words
+use Rattle.crn_proto.specs.declared.fault.RingFault.{RingFault}
+use Rattle.crn_proto.specs.declared.fault.RingFault.TheVariants as ring
 use Rattle.crn_run.specs.declared.fault.RunFault.{RunFault}
 use Rattle.crn_run.specs.declared.fault.RunFault.TheVariants as run
 use Rattle.crn_engines.specs.declared.fault.Fault.{Fault}
@@ -35,6 +37,11 @@ fault_of_run (run.Memory refused) = fault.Memory refused
 abbrev pub fault_of_words : CommandLineFault → Fault
 fault_of_words words.Words = fault.CommandLine
 fault_of_words (words.Memory refused) = fault.Memory refused
+
+-- the program's word for a ring that is not opened
+abbrev pub fault_of_ring : RingFault → Fault
+fault_of_ring (ring.Memory refused) = fault.Memory refused
+fault_of_ring _ = fault.CommandLine
 
 -- the program's word for a fault of one of its parts: want of memory is a fault of its own, wherever it was met
 abbrev pub HandsOn : {Part : Type 0} → (AllocError → Part) → (Part → Fault) → Part → Fault → Type 0

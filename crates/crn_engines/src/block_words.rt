@@ -15,8 +15,7 @@ use std::io::Write;
 ///
 /// # Errors
 ///
-/// - `Memory` where a growth was refused: nothing was written.
-/// - `Writing` where a write fails or takes no byte: a front of the lines went out.
+/// `Memory` or `Writing`: see [`Fault`].
 pub fn write_words<W: Write>(
     alloc: Global,
     key: [u64; 4],

@@ -19,15 +19,13 @@ use std::io::{Read, Write};
 use std::sync::Wait;
 use std::thread::Threads;
 
-/// Writes what a command asks for to `writer`, from the input of `reader`. `Resume` and `Migrate` read their checkpoint
-/// from `saved`, and not from the file that they name; no other command reads `saved`.
+/// Writes what a command asks for to `writer`, from the input of `reader`. `Resume` and `Migrate` read their checkpoint from
+/// `saved`, and not from the file that they name; no other command reads `saved`.
 ///
 /// # Errors
 ///
-/// Those of the engine that the command is for: [`simulate`], [`write_words`], [`replay_run`], [`leg`], [`resume`] or
-/// [`migrate`]. For help it is `Writing` alone, where a write fails or takes no byte; a front of the help went out.
-///
-/// After each error but `Writing` nothing was written.
+/// Those of the command's engine: [`simulate`], [`write_words`], [`replay_run`], [`leg`], [`resume`] or [`migrate`]. For
+/// `Help` it is `Writing` alone.
 pub fn answer_command<H: Threads + Wait + Sync, C: Read, R: Read, W: Write>(
     rt: &H,
     alloc: Global,
@@ -60,8 +58,7 @@ pub fn answer_command<H: Threads + Wait + Sync, C: Read, R: Read, W: Write>(
 ///
 /// # Errors
 ///
-/// - `CommandLine` if the words are refused.
-/// - `Memory` if an allocation fails.
+/// `CommandLine` or `Memory`: see [`Fault`].
 pub fn read_words(alloc: Global, words: &[String]) -> Result<Command, Fault>
     ensures { IfErr result (λ e. (e ≡ Fault.CommandLine) ⊎ (e ≡ Fault.Memory alloc_error)) }
 {

@@ -5,52 +5,53 @@ use crate::input::ReadFault;
 use crate::output::WriteFault;
 use crn_checkpoint::{CheckpointFault, MigrateFault};
 use crn_command_line::CommandLineFault;
+use crn_proto::RingFault;
 use crn_run::{RunFault, ThreadFault};
 use crn_scenario::ScenarioFault;
 use crn_trace::ScheduleFault;
 use std::alloc::AllocError;
 use thiserror::Error;
 
-/// Why the program gave no answer. Its text is the line that the program prints on standard error.
+/// Why a command failed. Its text is the line that the program prints on standard error.
 ///
-/// A fault that the system is the cause of carries what reported it, and comes from nothing else.
+/// Every engine returns it, each one only the variants that its docstring names. Nothing was written before any of them but
+/// `Writing`. A fault that the system causes carries the value that reported it, and comes from nothing else.
 #[derive(Clone, Copy, Debug, Drop, Error)]
 pub enum Fault {
-    /// The words after the program's name are refused, there is no such ring, or a leg is longer than the run.
+    /// The command line is invalid, there is no ring with these numbers, or a leg is longer than the run.
     #[error("crnsim: command line")]
     CommandLine,
-    /// The input is no scenario that can be run.
+    /// The input is not a scenario: it breaks this rule and none with a lower number.
     #[error("crnsim: scenario {}", .0.number())]
     Scenario(ScenarioFault),
-    /// The file is no checkpoint of the scenario.
+    /// The text is not a checkpoint of the scenario in the present version.
     #[error("crnsim: checkpoint {}", .0.number())]
     Checkpoint(CheckpointFault),
-    /// The file is no checkpoint of version 1 that can be migrated.
+    /// The text is not a checkpoint of version 1, so it cannot be migrated.
     #[error("crnsim: checkpoint {}", .0.number())]
     Migration(MigrateFault),
-    /// The input is no schedule for the ring.
+    /// The input is not a schedule for the ring.
     #[error("crnsim: schedule {}", .0.number())]
     Schedule(ScheduleFault),
-    /// A file was not opened, a read failed, or an input is over 1,048,576 bytes.
+    /// A file was not opened, a read failed for whatever cause, or an input is over [`INPUT_LIMIT`](crate::INPUT_LIMIT) bytes.
     #[error("crnsim: reading")]
     Reading(ReadFault),
-    /// A write failed or took no byte.
+    /// A write failed or took no byte. A prefix of the output, which may be empty, was written.
     #[error("crnsim: writing")]
     Writing(WriteFault),
-    /// A thread was refused.
+    /// A thread failed to start.
     #[error("crnsim: thread")]
     Thread(ThreadFault),
-    /// A gate answered false. The program's own gates never do.
+    /// A gate returned false. The program's own gates never do, so no engine returns it.
     #[error("crnsim: gate")]
     Gate,
-    /// A growth was refused.
+    /// An allocation failed.
     #[error("crnsim: memory")]
     Memory(AllocError),
 }
 
 impl Fault {
-    /// The status that the program ends with: 2 for the command line, 3 for the scenario, 4 for the checkpoint,
-    /// its migration and the schedule, 5 for reading and writing, 6 for a thread and a gate, 7 for want of memory.
+    /// Returns the status that the program ends with, 2 to 7. `crnsim help` lists them.
     pub fn status(&self) -> u8
         ensures { result ≡ status_of self.now }
     {
@@ -101,7 +102,7 @@ impl From<ScenarioFault> for Fault {
 }
 
 impl From<CheckpointFault> for Fault {
-    ghost use Rattle.crn_checkpoint.specs.declared.checkpoint_fault.CheckpointFault.TheVariants.{Memory};
+    ghost use Rattle.crn_checkpoint.specs.declared.fault.CheckpointFault.TheVariants.{Memory};
     ghost use Rattle.crn_engines.specs.declared.fault.Fault.TheVariants.{Checkpoint};
     ghost use Rattle.crn_engines.specs.Statuses.{HandsOn};
 
@@ -116,7 +117,7 @@ impl From<CheckpointFault> for Fault {
 }
 
 impl From<MigrateFault> for Fault {
-    ghost use Rattle.crn_checkpoint.specs.declared.migrate_fault.MigrateFault.TheVariants.{Memory};
+    ghost use Rattle.crn_checkpoint.specs.declared.fault.MigrateFault.TheVariants.{Memory};
     ghost use Rattle.crn_engines.specs.declared.fault.Fault.TheVariants.{Migration};
     ghost use Rattle.crn_engines.specs.Statuses.{HandsOn};
 
@@ -155,6 +156,19 @@ impl From<RunFault> for Fault {
             RunFault::Thread(fault) => Fault::Thread(fault),
             RunFault::Gate => Fault::Gate,
             RunFault::Memory(refused) => Fault::Memory(refused),
+        }
+    }
+}
+
+impl From<RingFault> for Fault {
+    ghost use Rattle.crn_engines.specs.Statuses.{fault_of_ring};
+
+    ghost from_gives = { λ e f. f ≡ fault_of_ring e };
+
+    fn from(fault: RingFault) -> Fault {
+        match fault {
+            RingFault::Memory(refused) => Fault::Memory(refused),
+            RingFault::Size | RingFault::Readers | RingFault::Stream => Fault::CommandLine,
         }
     }
 }

@@ -3,8 +3,7 @@ ghost use Rattle.std.specs.Io.KnownBytes.{Keeps};
 ghost use Rattle.crn_stock.specs.Models.{total};
 ghost use Rattle.crn_sequential.specs.Runs.{IsCheckpointOf, EachAt};
 ghost use Rattle.crn_checkpoint.specs.Reading.{IsLegOf};
-ghost use Rattle.crn_engines.specs.Legs.{MadeLeg, WroteLeg, WroteLegFront};
-ghost use Rattle.crn_engines.specs.Refusals.{RefusesLeg};
+ghost use Rattle.crn_engines.specs.Legs.{MadeLeg, WroteLeg, WroteLegFront, RefusesLeg};
 ghost use Rattle.crn_engines.specs.Statuses.{is_writing};
 ghost use Rattle.crn_engines.specs.Inner.Refusals.{RefusesLegRun, RefusesRun};
 
@@ -18,21 +17,13 @@ use std::io::{Read, Write};
 use std::sync::Wait;
 use std::thread::Threads;
 
-/// Reads a scenario from `reader` to its end, runs all its policies over the blocks below `n`, each on a thread of its
-/// own, and writes the checkpoint that they have come to to `writer`. Nothing is written before its whole text stands.
-///
-/// [`resume`](crate::resume) goes on from there.
+/// Reads a scenario from `reader` to its end, runs all its policies over the blocks below `n`, each on a thread of its own,
+/// and writes the checkpoint at block `n` to `writer`. [`resume`](crate::resume) continues from it.
 ///
 /// # Errors
 ///
-/// - `Reading` where a read fails, for whatever cause, or where the input is over 1,048,576 bytes.
-/// - `Scenario` where the input is no scenario, with the least of its faults.
-/// - `CommandLine` where the scenario has fewer than `n` blocks in all. Then nothing is run.
-/// - `Thread` where a thread was refused. `Gate` is never answered, as the gates are open ones.
-/// - `Memory` where a growth was refused.
-/// - `Writing` where a write fails or takes no byte. A front of the text, which may be empty, went out.
-///
-/// After each other error nothing was written.
+/// - `CommandLine` if the scenario has fewer than `n` blocks in all. Then nothing is run.
+/// - `Reading`, `Scenario`, `Thread`, `Memory` or `Writing`: see [`Fault`].
 pub fn leg<H: Threads + Wait + Sync, R: Read, W: Write>(
     rt: &H,
     alloc: Global,
@@ -77,7 +68,8 @@ fn leg_text<H: Threads + Wait + Sync>(
     if !has_blocks(scenario, n) {
         return Err(Fault::CommandLine);
     }
-    let reached = reached_at(rt, alloc, scenario, n)?;
+    let start = Checkpoint::start(alloc, scenario)?;
+    let reached = run_to(rt, alloc, scenario, &start, n)?;
     let text = write_checkpoint(alloc, scenario, &reached)?;
     Ok(text)
 }
@@ -87,21 +79,4 @@ fn has_blocks(scenario: &Scenario, n: u64) -> bool
     ensures { IsTrue result ↔ (n ≤ total scenario.now.model) }
 {
     n <= scenario.model().total()
-}
-
-// What all policies have come to at block `n`.
-fn reached_at<H: Threads + Wait + Sync>(
-    rt: &H,
-    alloc: Global,
-    scenario: &Scenario,
-    n: u64,
-) -> Result<Checkpoint, Fault>
-    requires within { n ≤ total scenario.now.model }
-    ensures next { IfOk result (λ c. c.next ≡ n) }
-    ensures of { IfOk result (λ c. IsCheckpointOf scenario.now n c.states.items) }
-    ensures at { IfOk result (λ c. EachAt scenario.now n c.states.items) }
-    ensures refused { IfErr result (λ e. RefusesRun e) }
-{
-    let start = Checkpoint::start(alloc, scenario)?;
-    run_to(rt, alloc, scenario, &start, n)
 }

@@ -1,8 +1,7 @@
 ghost use Rattle.std.specs.Prelude.{◌≡◌, true, false, IfOk, IfErr, OnOk};
 ghost use Rattle.std.specs.Io.KnownBytes.{Keeps};
 ghost use Rattle.crn_checkpoint.specs.Migration.{IsMigrated};
-ghost use Rattle.crn_engines.specs.Migration.{MadeMigrated, MigratesLegs, WroteMigrated, WroteMigratedFront};
-ghost use Rattle.crn_engines.specs.Refusals.{RefusesMigrate};
+ghost use Rattle.crn_engines.specs.Migration.{MadeMigrated, MigratesLegs, WroteMigrated, WroteMigratedFront, RefusesMigrate};
 ghost use Rattle.crn_engines.specs.Statuses.{is_writing};
 ghost use Rattle.crn_engines.specs.Inner.Refusals.{RefusesOldText};
 
@@ -14,19 +13,14 @@ use std::alloc::Global;
 use std::io::{Read, Write};
 
 /// Reads a checkpoint of version 1 from `reader` to its end, and writes the text of the same checkpoint in version 2 to
-/// `writer`. Nothing is written before the whole text stands.
+/// `writer`.
 ///
 /// From a checkpoint that was written as the leg of a scenario, the new text is that leg's: [`resume`](crate::resume)
 /// writes the report that [`simulate`](crate::simulate) writes.
 ///
 /// # Errors
 ///
-/// - `Reading` where a read fails, for whatever cause, or where the input is over 1,048,576 bytes.
-/// - `Migration` where the input is no checkpoint, or one of version 2 already, with the least of its faults.
-/// - `Memory` where a growth was refused.
-/// - `Writing` where a write fails or takes no byte. A front of the text, which may be empty, went out.
-///
-/// After each other error nothing was written.
+/// `Reading`, `Migration`, `Memory` or `Writing`: see [`Fault`].
 pub fn migrate<R: Read, W: Write>(
     alloc: Global,
     reader: &mut R,

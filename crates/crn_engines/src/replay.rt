@@ -2,8 +2,7 @@ ghost use Rattle.std.specs.Prelude.{◌≡◌, ◌↔◌, ◌⊎◌, true, false
 ghost use Rattle.std.specs.Io.KnownBytes.{Keeps};
 ghost use Rattle.crn_proto.specs.Machine.{open_machine};
 ghost use Rattle.crn_proto.specs.Opening.{CanOpen};
-ghost use Rattle.crn_engines.specs.Refusals.{RefusesReplay};
-ghost use Rattle.crn_engines.specs.Replay.{replayed, MadeTrace, IsTraceFor, WroteTrace, WroteTraceFront};
+ghost use Rattle.crn_engines.specs.Replay.{replayed, MadeTrace, IsTraceFor, WroteTrace, WroteTraceFront, RefusesReplay};
 ghost use Rattle.crn_engines.specs.Statuses.{is_writing};
 ghost use Rattle.crn_engines.specs.Inner.Refusals.{RefusesScheduleText, RefusesTrace};
 
@@ -11,24 +10,18 @@ use crate::fault::Fault;
 use crate::input::read_input;
 use crate::steps::send_made;
 use crn_cipher::StreamId;
-use crn_proto::{Machine, RingFault, RingSpec};
+use crn_proto::{Machine, RingSpec};
 use crn_trace::{read_schedule, trace_text};
 use std::alloc::Global;
 use std::io::{Read, Write};
 
-/// Reads a schedule from `reader` to its end and writes its trace to `writer`, for a ring of so many slots and
-/// readers that carries the blocks 0 to `total` - 1 of the zero key. Nothing is written before the whole trace stands.
+/// Reads a schedule from `reader` to its end and writes its trace to `writer`, for a ring of so many slots and readers that
+/// carries the blocks 0 to `total` - 1 of the zero key.
 ///
 /// # Errors
 ///
-/// - `CommandLine` where there is no such ring: the size is no power of two from 1 to 1,024, there are fewer than 1 or
-///   more than 16 readers, or the total is over 65,536. Then nothing is read.
-/// - `Reading` where a read fails, for whatever cause, or where the input is over 1,048,576 bytes.
-/// - `Schedule` where the input is no schedule for so many readers.
-/// - `Memory` where a growth was refused.
-/// - `Writing` where a write fails or takes no byte. A front of the trace, which may be empty, went out.
-///
-/// After each other error nothing was written.
+/// - `CommandLine` if there is no such ring: see [`RingFault`](crn_proto::RingFault). Then nothing is read.
+/// - `Reading`, `Schedule`, `Memory` or `Writing`: see [`Fault`].
 pub fn replay_run<R: Read, W: Write>(
     alloc: Global,
     size: u64,
@@ -70,11 +63,7 @@ fn open_ring(alloc: Global, size: u64, readers: u32, total: u64) -> Result<Machi
         first: 0,
         total,
     };
-    match Machine::open(alloc, RingSpec { size, readers, id }) {
-        Ok(machine) => Ok(machine),
-        Err(RingFault::Memory(refused)) => Err(Fault::Memory(refused)),
-        Err(_) => Err(Fault::CommandLine),
-    }
+    Ok(Machine::open(alloc, RingSpec { size, readers, id })?)
 }
 
 // The trace for an input.

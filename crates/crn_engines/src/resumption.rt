@@ -1,43 +1,30 @@
-ghost use Rattle.std.specs.Prelude.{◌≡◌, ℕ, List, true, false, IfOk, IfErr, OnOk};
+ghost use Rattle.std.specs.Prelude.{◌≡◌, true, false, IfOk, IfErr, OnOk};
 ghost use Rattle.std.specs.Io.KnownBytes.{Keeps};
-ghost use Rattle.crn_stock.specs.Parts.{Parts};
-ghost use Rattle.crn_stock.specs.Scenarios.{ScenarioParts};
-ghost use Rattle.crn_checkpoint.specs.Reading.{IsTextOf, IsAnyTextOf, IsSameButRing};
-ghost use Rattle.crn_engines.specs.Refusals.{RefusesResume};
-ghost use Rattle.crn_engines.specs.Resumption.{MadeResumed, MadeLegsReport, IsResumedReport, ReportsLegs, WroteResumed, WroteResumedFront, WroteLegsReport};
+ghost use Rattle.crn_engines.specs.Resumption.{MadeResumed, MadeLegsReport, IsResumedReport, ReportsLegs, WroteResumed, WroteResumedFront, WroteLegsReport, RefusesResume};
 ghost use Rattle.crn_engines.specs.Statuses.{is_writing};
 ghost use Rattle.crn_engines.specs.Inner.Onward.{MadeOnward};
-ghost use Rattle.crn_engines.specs.Inner.Refusals.{RefusesCheckpointText, RefusesOnward, RefusesOnwardRun};
+ghost use Rattle.crn_engines.specs.Inner.Refusals.{RefusesOnward, RefusesOnwardRun};
 
 use crate::fault::Fault;
 use crate::input::read_input;
 use crate::steps::{run_and_report, scenario_from, send_made};
 use crn_checkpoint::read_checkpoint;
-use crn_run::Checkpoint;
 use crn_stock::Scenario;
 use std::alloc::Global;
 use std::io::{Read, Write};
 use std::sync::Wait;
 use std::thread::Threads;
 
-/// Reads a scenario from `reader` to its end, then a checkpoint of it from `checkpoint`, runs all policies from there
-/// over the blocks that are left, each on a thread of its own, and writes the report to `writer`. Nothing is written
-/// before the whole report stands.
+/// Reads a scenario from `reader` to its end, then a checkpoint of it from `checkpoint`, runs all policies from there over
+/// the remaining blocks, each on a thread of its own, and writes the report to `writer`.
 ///
-/// From a checkpoint that [`leg`](crate::leg) has written of the same scenario, with a ring of whatever size, it writes
-/// the report that [`simulate`](crate::simulate) writes. From one with altered amounts it goes on as they say.
+/// From a checkpoint that [`leg`](crate::leg) has written of the same scenario, with a ring of any size, it writes the
+/// report that [`simulate`](crate::simulate) writes. If amounts of the checkpoint were altered, it continues from these.
 ///
 /// # Errors
 ///
-/// - `Reading` where a read fails, for whatever cause, or where an input is over 1,048,576 bytes.
-/// - `Scenario` where the input is no scenario, with the least of its faults. Then the checkpoint is not read.
-/// - `Checkpoint` where the other text is no checkpoint, that of another scenario or one of version 1, with the least of
-///   its faults.
-/// - `Thread` where a thread was refused. `Gate` is never answered, as the gates are open ones.
-/// - `Memory` where a growth was refused.
-/// - `Writing` where a write fails or takes no byte. A front of the report, which may be empty, went out.
-///
-/// After each other error nothing was written.
+/// - `Scenario` if the scenario is refused. Then the checkpoint is not read.
+/// - `Reading`, `Checkpoint`, `Thread`, `Memory` or `Writing`: see [`Fault`].
 pub fn resume<H: Threads + Wait + Sync, C: Read, R: Read, W: Write>(
     rt: &H,
     alloc: Global,
@@ -96,17 +83,6 @@ fn resumed_text<H: Threads + Wait + Sync>(
     ensures legs { IfOk result (λ text. ReportsLegs scenario.now bytes.now text.items) }
     ensures refused { IfErr result (λ e. RefusesOnwardRun scenario.now e bytes.now) }
 {
-    let start = checkpoint_of(alloc, scenario, bytes)?;
+    let start = read_checkpoint(alloc, scenario, bytes)?;
     run_and_report(rt, alloc, scenario, &start)
-}
-
-// The checkpoint that a text spells.
-fn checkpoint_of(alloc: Global, scenario: &Scenario, bytes: &[u8]) -> Result<Checkpoint, Fault>
-    ensures is_text { IfOk result (λ c. IsTextOf scenario.now c.next c.states.items bytes.now) }
-    ensures only { IfOk result (λ c. (s : ScenarioParts) (next : ℕ) (states : List Parts) → IsAnyTextOf s next states bytes.now
-        → IsSameButRing s scenario.now × (next ≡ c.next) × (states ≡ c.states.items)) }
-    ensures refused { IfErr result (λ e. RefusesCheckpointText scenario.now e bytes.now) }
-{
-    let checkpoint = read_checkpoint(alloc, scenario, bytes)?;
-    Ok(checkpoint)
 }

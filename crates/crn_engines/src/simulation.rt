@@ -1,10 +1,9 @@
 ghost use Rattle.std.specs.Prelude.{◌≡◌, true, false, IfOk, IfErr, OnOk};
 ghost use Rattle.std.specs.Io.KnownBytes.{Keeps};
 ghost use Rattle.crn_report.specs.Report.{IsReportOf};
-ghost use Rattle.crn_engines.specs.Refusals.{RefusesSimulation};
 ghost use Rattle.crn_engines.specs.Statuses.{is_writing};
 ghost use Rattle.crn_engines.specs.Inner.Refusals.{RefusesRun};
-ghost use Rattle.crn_engines.specs.Simulation.{MadeReport, WroteReport, WroteFront};
+ghost use Rattle.crn_engines.specs.Simulation.{MadeReport, WroteReport, WroteFront, RefusesSimulation};
 
 use crate::fault::Fault;
 use crate::steps::{run_and_report, scenario_from, send_made};
@@ -15,19 +14,12 @@ use std::io::{Read, Write};
 use std::sync::Wait;
 use std::thread::Threads;
 
-/// Reads a scenario from `reader` to its end, runs all its policies, and writes the report to `writer`. Each policy
-/// runs on a thread of its own, and all of them take the same stream from one ring, which the calling thread feeds.
-/// Nothing is written before the whole report stands.
+/// Reads a scenario from `reader` to its end, runs all its policies, and writes the report to `writer`. Each policy runs on a
+/// thread of its own; all of them take the same stream from one ring, which the calling thread feeds.
 ///
 /// # Errors
 ///
-/// - `Reading` where a read fails, for whatever cause, or where the input is over 1,048,576 bytes.
-/// - `Scenario` where the input is no scenario, with the least of its faults.
-/// - `Thread` where a thread was refused. `Gate` is never answered, as the gates are open ones.
-/// - `Memory` where a growth was refused.
-/// - `Writing` where a write fails or takes no byte. A front of the report, which may be empty, went out.
-///
-/// After each other error nothing was written.
+/// `Reading`, `Scenario`, `Thread`, `Memory` or `Writing`: see [`Fault`].
 pub fn simulate<H: Threads + Wait + Sync, R: Read, W: Write>(
     rt: &H,
     alloc: Global,

@@ -14,6 +14,7 @@ ghost use Rattle.crn_engines.specs.Inner.Refusals.{RefusesRun};
 use crate::fault::Fault;
 use crate::input::read_input;
 use crate::output::write_text;
+use crn_limits::POLICY_LIMIT;
 use crn_report::report;
 use crn_run::{Checkpoint, OpenGate, run_all};
 use crn_scenario::read_scenario;
@@ -22,9 +23,6 @@ use std::alloc::Global;
 use std::io::{Read, Write};
 use std::sync::Wait;
 use std::thread::Threads;
-
-// The most policies of a scenario.
-const POLICY_LIMIT: usize = 16;
 
 /// Reads an input to its end and judges it as a scenario.
 pub(crate) fn scenario_from<R: Read>(alloc: Global, reader: &mut R) -> Result<Scenario, Fault>
@@ -53,13 +51,13 @@ pub(crate) fn run_to<H: Threads + Wait + Sync>(
     ensures onward { IfOk result (λ c. EachOnward scenario.now start.now.states.items upto c.states.items) }
     ensures refused { IfErr result (λ e. RefusesRun e) }
 {
-    let mut gates = [OpenGate; POLICY_LIMIT];
+    let mut gates = [OpenGate; POLICY_LIMIT as usize];
     let gates = &mut gates[..scenario.policies().len()];
     let finished = run_all(rt, alloc, scenario, start, upto, gates)?;
     Ok(finished.checkpoint)
 }
 
-/// Runs all policies over the blocks that are left, and makes the report.
+/// Runs all policies from a checkpoint over the remaining blocks, and makes the report.
 pub(crate) fn run_and_report<H: Threads + Wait + Sync>(
     rt: &H,
     alloc: Global,
@@ -78,7 +76,7 @@ pub(crate) fn run_and_report<H: Threads + Wait + Sync>(
     Ok(text)
 }
 
-/// Writes a whole text that was made for it.
+/// Writes a text that was made whole before: nothing is written before a fault of what makes it.
 pub(crate) fn send_made<W: Write>(writer: &mut W, text: Vec<u8>) -> Result<(), Fault>
     ensures whole { OnOk result (Appends (W.contents writer.old) (W.contents writer.new) text.items) }
     ensures front { OnErr result (AppendsFront (W.contents writer.old) (W.contents writer.new) text.items) }
@@ -87,11 +85,7 @@ pub(crate) fn send_made<W: Write>(writer: &mut W, text: Vec<u8>) -> Result<(), F
     send(writer, text.as_slice())
 }
 
-/// Writes a whole text.
-///
-/// # Errors
-///
-/// `Writing` where a write fails or takes no byte: a front of the text, which may be empty, went out.
+/// Writes a whole text, or a prefix of it if it fails.
 pub(crate) fn send<W: Write>(writer: &mut W, text: &[u8]) -> Result<(), Fault>
     ensures whole { OnOk result (Appends (W.contents writer.old) (W.contents writer.new) text.now) }
     ensures front { OnErr result (AppendsFront (W.contents writer.old) (W.contents writer.new) text.now) }

@@ -3,23 +3,24 @@ use Rattle.std.proofs.Common.{◌≡◌, ℕ, ◌≤◌, true, List, [], ◌∷�
 use Rattle.std.proofs.lemmas.Bool.{and_parts}
 use Rattle.std.proofs.lemmas.Bool.Decides.{nat_tests}
 use Rattle.std.proofs.lemmas.List.Elements.{All-head, All-tail, All-cons, All-nil}
-use Rattle.crn_pair.specs.Limits.{cost_limit, are_costs}
+use Rattle.crn_pair.specs.Limits.{are_costs}
+use Rattle.crn_pair.specs.declared.compare.TheConstants.{COST_LIMIT}
 use Rattle.crn_pair.specs.Refused.{least_costs_fault, AreComparable}
 
-within : (a : List ℕ) → are_costs a ≡ true → All (λ k. k ≤ cost_limit) a
-within [] h = All-nil (λ k. k ≤ cost_limit)
+within : (a : List ℕ) → are_costs a ≡ true → All (λ k. k ≤ COST_LIMIT) a
+within [] h = All-nil (λ k. k ≤ COST_LIMIT)
 within (x ∷ a) h =
-    let parts = and_parts (nat_le x cost_limit) (are_costs a) h in
-    let here : nat_le x cost_limit ≡ true = parts.0 in
-    let low : x ≤ cost_limit = grind (arith, nat_tests, here) in
-    All-cons (λ k. k ≤ cost_limit) x a low (within a parts.1)
+    let parts = and_parts (nat_le x COST_LIMIT) (are_costs a) h in
+    let here : nat_le x COST_LIMIT ≡ true = parts.0 in
+    let low : x ≤ COST_LIMIT = grind (arith, nat_tests, here) in
+    All-cons (λ k. k ≤ COST_LIMIT) x a low (within a parts.1)
 
-from_within : (a : List ℕ) → All (λ k. k ≤ cost_limit) a → are_costs a ≡ true
+from_within : (a : List ℕ) → All (λ k. k ≤ COST_LIMIT) a → are_costs a ≡ true
 from_within [] h = refl
 from_within (x ∷ a) h =
-    let low : x ≤ cost_limit = All-head (λ k. k ≤ cost_limit) x a h in
-    let here : nat_le x cost_limit ≡ true = grind (arith, nat_tests, low) in
-    rw (here, from_within a (All-tail (λ k. k ≤ cost_limit) x a h))
+    let low : x ≤ COST_LIMIT = All-head (λ k. k ≤ COST_LIMIT) x a h in
+    let here : nat_le x COST_LIMIT ≡ true = grind (arith, nat_tests, low) in
+    rw (here, from_within a (All-tail (λ k. k ≤ COST_LIMIT) x a h))
 
 pub from_comparable : (a b : List ℕ) → AreComparable a b → least_costs_fault a b ≡ None
 from_comparable a b h =

@@ -3,7 +3,8 @@ use Rattle.std.proofs.Common.{◌≡◌, ℕ, zero, suc, ◌*◌, ◌+◌, ◌<�
 use Rattle.std.proofs.lemmas.Int.{ints, unsigned_abs-mul}
 use Rattle.std.proofs.lemmas.Bool.{and_parts, leb-true}
 use Rattle.std.proofs.Math.Nat.{mul-le-mul_left}
-use Rattle.crn_pair.specs.Limits.{cost_limit, are_costs}
+use Rattle.crn_pair.specs.Limits.{are_costs}
+use Rattle.crn_pair.specs.declared.compare.TheConstants.{COST_LIMIT}
 use Rattle.crn_pair.specs.Inner.Places.{products, AreSums, AreWithin}
 use Rattle.crn_pair.specs.Sums.{signed, differences, signed_sum, over_pairs}
 use Rattle.crn_pair.proofs.Products.{pairs_are}
@@ -19,7 +20,7 @@ pub record Gathers (xs ys : List ℤ) (i : ℕ) (m : Moments) : Type 0 where
 pub gathers_more : (xs ys : List ℤ) (i : ℕ) (x y : ℤ) (m m' : Moments)
     → drop i xs ≡ x ∷ drop (suc i) xs → drop i ys ≡ y ∷ drop (suc i) ys
     → m'.x ≡ m.x +ℤ x → m'.y ≡ m.y +ℤ y → m'.products ≡ m.products +ℤ (x *ℤ y)
-    → unsigned_abs x ≤ cost_limit → unsigned_abs y ≤ cost_limit
+    → unsigned_abs x ≤ COST_LIMIT → unsigned_abs y ≤ COST_LIMIT
     → Gathers xs ys i m → Gathers xs ys (i + 1) m'
 gathers_more xs ys i x y m m' at_x at_y new_x new_y new_products low_x low_y g =
     let old_x : m.x +ℤ signed_sum (drop i xs) ≡ signed_sum xs = g.x_left in
@@ -30,10 +31,10 @@ gathers_more xs ys i x y m m' at_x at_y new_x new_y new_products low_x low_y g =
     let head_p : products (drop i xs) (drop i ys) ≡ (x *ℤ y) +ℤ products (drop (suc i) xs) (drop (suc i) ys) =
     ap (λ (l : List ℤ). products l (drop i ys)) at_x ∙ ap (λ (l : List ℤ). products (x ∷ drop (suc i) xs) l) at_y in
     let size : unsigned_abs (x *ℤ y) ≡ unsigned_abs x * unsigned_abs y = unsigned_abs-mul x y in
-    let low_p : unsigned_abs x * unsigned_abs y ≤ cost_limit * cost_limit = omega (arith, mul-le-mul_left (unsigned_abs x) low_y, low_x) in
-    let w_x : unsigned_abs m.x ≤ i * cost_limit = g.within.x_low in
-    let w_y : unsigned_abs m.y ≤ i * cost_limit = g.within.y_low in
-    let w_p : unsigned_abs m.products ≤ i * (cost_limit * cost_limit) = g.within.products_low in
+    let low_p : unsigned_abs x * unsigned_abs y ≤ COST_LIMIT * COST_LIMIT = omega (arith, mul-le-mul_left (unsigned_abs x) low_y, low_x) in
+    let w_x : unsigned_abs m.x ≤ i * COST_LIMIT = g.within.x_low in
+    let w_y : unsigned_abs m.y ≤ i * COST_LIMIT = g.within.y_low in
+    let w_p : unsigned_abs m.products ≤ i * (COST_LIMIT * COST_LIMIT) = g.within.products_low in
     let one_on : suc i ≡ i + 1 = omega arith in
     subst (λ (n : ℕ). Gathers xs ys n m') one_on (record {
       x_left = omega (arith, ints, old_x, head_x, new_x);
@@ -63,9 +64,9 @@ gathers_all xs ys n m end_x end_y g =
 -- sums within a lower number of places are within a higher one
 pub within_more : (i n : ℕ) (m : Moments) → i ≤ n → AreWithin i m → AreWithin n m
 within_more i n m few w =
-    let x : unsigned_abs m.x ≤ i * cost_limit = w.x_low in
-    let y : unsigned_abs m.y ≤ i * cost_limit = w.y_low in
-    let p : unsigned_abs m.products ≤ i * (cost_limit * cost_limit) = w.products_low in
+    let x : unsigned_abs m.x ≤ i * COST_LIMIT = w.x_low in
+    let y : unsigned_abs m.y ≤ i * COST_LIMIT = w.y_low in
+    let p : unsigned_abs m.products ≤ i * (COST_LIMIT * COST_LIMIT) = w.products_low in
     record { x_low = omega (arith, x, few); y_low = omega (arith, y, few); products_low = omega (arith, p, few) }
 
 -- ---- the lists that are gathered over
@@ -94,10 +95,10 @@ no_signed_past [] (suc i) past = refl
 no_signed_past (x ∷ a) zero past = absurd (omega arith)
 no_signed_past (x ∷ a) (suc i) past = no_signed_past a i (omega arith)
 
-pub cost_at : (a : List ℕ) (i d : ℕ) → are_costs a ≡ true → i < length a → get_or a i d ≤ cost_limit
+pub cost_at : (a : List ℕ) (i d : ℕ) → are_costs a ≡ true → i < length a → get_or a i d ≤ COST_LIMIT
 cost_at [] i d all inside = absurd (omega arith)
-cost_at (x ∷ a) zero d all inside = leb-true x cost_limit (and_parts (nat_le x cost_limit) (are_costs a) all).0
-cost_at (x ∷ a) (suc i) d all inside = cost_at a i d (and_parts (nat_le x cost_limit) (are_costs a) all).1 (omega arith)
+cost_at (x ∷ a) zero d all inside = leb-true x COST_LIMIT (and_parts (nat_le x COST_LIMIT) (are_costs a) all).0
+cost_at (x ∷ a) (suc i) d all inside = cost_at a i d (and_parts (nat_le x COST_LIMIT) (are_costs a) all).1 (omega arith)
 
 -- from sums over places to the sum over pairs of places
 pub spread_is : (xs ys : List ℤ) (m : Moments) → length ys ≡ length xs → AreSums xs ys m → pos (length xs) *ℤ m.products -ℤ m.x *ℤ m.y ≡ over_pairs xs ys

@@ -1,11 +1,8 @@
 -- The range of a cost.
 use Rattle.std.specs.Prelude.{ℕ, List, [], ◌∷◌, Bool, true, ◌&&◌, nat_le}
-
--- the highest cost of one replication that is accepted
-abbrev pub cost_limit : ℕ
-cost_limit = 230000000000000
+use Rattle.crn_pair.specs.declared.compare.TheConstants.{COST_LIMIT}
 
 -- whether each is within its range
 abbrev pub are_costs : List ℕ → Bool
 are_costs [] = true
-are_costs (x ∷ a) = nat_le x cost_limit && are_costs a
+are_costs (x ∷ a) = nat_le x COST_LIMIT && are_costs a

@@ -12,9 +12,9 @@ pub enum PairFault {
     Lengths = 1,
     /// The lists are empty.
     Empty = 2,
-    /// The lists have more than 256 entries.
+    /// The lists have more than [`REPLICATION_LIMIT`](crn_limits::REPLICATION_LIMIT) entries.
     TooMany = 3,
-    /// An entry is over 230,000,000,000,000.
+    /// An entry is over [`COST_LIMIT`](crate::COST_LIMIT).
     Entry = 4,
 }
 

@@ -13,8 +13,8 @@ pub fn one_fraction()
     ensures den { (num : ℤ) (den : ℕ) (f g : Fraction) → 1 ≤ den → IsQuotient num den f → IsQuotient num den g → f.den ≡ g.den }
 {}
 
-/// Two lists of costs have no fault exactly where they can be compared: they are equally long, of 1 to 256 entries, and
-/// no entry is over 230,000,000,000,000.
+/// Two lists of costs have no fault exactly if they can be compared: they are equally long, of 1 to `REPLICATION_LIMIT`
+/// entries, and no entry is over `COST_LIMIT`.
 pub fn without_fault()
     ensures { (a b : List ℕ) → least_costs_fault a b ≡ None ↔ AreComparable a b }
 {}

@@ -9,6 +9,7 @@ pub mod laws;
 mod moments;
 mod pair;
 
+pub use compare::COST_LIMIT;
 pub use fault::PairFault;
 pub use fraction::Fraction;
 pub use pair::Pair;

@@ -1,5 +1,6 @@
 ghost use Rattle.std.specs.Prelude.{◌≤◌};
 ghost use Rattle.crn_pair.specs.Sums.{IsQuotient, IsQuotientIfAny};
+ghost use Rattle.crn_limits.specs.declared.TheConstants.{REPLICATION_LIMIT};
 
 use crate::compare::{least_fault, sums_of};
 use crate::fault::PairFault;
@@ -20,7 +21,7 @@ pub struct Pair {
     squares: i128,
     products: i128,
     pub ghost some: { 1 ≤ replications },
-    pub ghost few: { replications ≤ 256 },
+    pub ghost few: { replications ≤ REPLICATION_LIMIT },
 }
 
 impl Pair {
@@ -36,8 +37,8 @@ impl Pair {
     /// The first of these faults that holds:
     /// - `Lengths`: the lists have different lengths;
     /// - `Empty`: they are empty;
-    /// - `TooMany`: they have more than 256 entries;
-    /// - `Entry`: an entry is over 230,000,000,000,000.
+    /// - `TooMany`: they have more than [`REPLICATION_LIMIT`](crn_limits::REPLICATION_LIMIT) entries;
+    /// - `Entry`: an entry is over [`COST_LIMIT`](crate::COST_LIMIT).
     pub fn of(a: &[u64], b: &[u64]) -> Result<Pair, PairFault>
         ensures made { IfOk result (λ p. spec.IsPairOf a.now b.now p) }
         ensures fits { IfOk result (λ _. refused.least_costs_fault a.now b.now ≡ None) }

@@ -1,5 +1,5 @@
 -- Each move of the producer keeps the law of the words, its own and every reader's.
-use Rattle.std.proofs.Common.{◌≡◌, ℕ, ◌+◌, ◌-◌, ◌*◌, ◌/◌, ◌%◌, ◌<◌, ◌≤◌, ◌≢◌, false, List, length, get_or, set, inl, inr, refl, sym, ◌∙◌, arith, get_or-set_same, get_or-set_other}
+use Rattle.std.proofs.Common.{◌≡◌, ℕ, ◌+◌, ◌-◌, ◌*◌, ◌/◌, ◌%◌, ◌<◌, ◌≤◌, ◌≢◌, true, false, List, length, get_or, set, inl, inr, refl, sym, ◌∙◌, arith, get_or-set_same, get_or-set_other}
 use Rattle.crn_cipher.specs.declared.TheConstants.{BLOCK_WORDS}
 use Rattle.std.proofs.lemmas.Bool.{cases_lt, cases_eq, true≢false}
 use Rattle.std.proofs.lemmas.List.{length-set}
@@ -63,6 +63,26 @@ module _ (spec : RingSpec) (ring : IsRing spec) (words : List ℕ) (p : Producer
       omega arith
 
   module _ (new : List ℕ) where
+    -- A reader keeps its law if its cursor is as it was, no fewer blocks are published, and each published block that it has
+    -- not taken stands whole.
+    reader_keeps : (r : ℕ) (q : Reader) → ReaderLaw spec words r q → get_or new (1 + r) 0 ≡ get_or words (1 + r) 0 → get_or words 0 0 / 2 ≤ get_or new 0 0 / 2
+        → (ReaderHere spec words r q → (n i : ℕ) → q.taken ≤ n → n < get_or new 0 0 / 2 → i < BLOCK_WORDS → get_or new (place spec n i) 0 ≡ block_word spec.id.key n i)
+        → (q.seen_end ≡ true → get_or new 0 0 ≡ 2 * q.taken + 1) → ReaderLaw spec new r q
+    reader_keeps r q law same no_fewer whole at_end = record {
+      known = law.known;
+      from_first = law.from_first;
+      gone = λ e. same ∙ law.gone e;
+      here = λ e. let here = law.here e in record {
+        cursor = same ∙ here.cursor;
+        taken_seen = here.taken_seen;
+        seen_published = let s = here.seen_published in omega arith;
+        whole = whole here;
+        read_seen = here.read_seen;
+        read_words = here.read_words;
+      };
+      at_end = at_end;
+    }
+
     module _ (may : ProducerMay spec p StoreWord) (ch : Changes words new (producer_word spec p StoreWord) (block_word spec.id.key (storing p) (p.stored % BLOCK_WORDS))) where
       -- no cursor changes
       cursor_same : (r : ℕ) → r < spec.readers → get_or new (1 + r) 0 ≡ get_or words (1 + r) 0
@@ -121,20 +141,8 @@ module _ (spec : RingSpec) (ring : IsRing spec) (words : List ℕ) (p : Producer
           stored_stand = store_stands;
           none_stored = λ e. absurd (true≢false (sym e ∙ may.0));
         };
-        of_readers = λ r q law. record {
-          known = law.known;
-          from_first = law.from_first;
-          gone = λ e. cursor_same r law.known ∙ law.gone e;
-          here = λ e. let here = law.here e in record {
-            cursor = cursor_same r law.known ∙ here.cursor;
-            taken_seen = here.taken_seen;
-            seen_published = rw first_same here.seen_published;
-            whole = λ n i low high l. store_whole r q law.known here n i low (rw first_same at high) l;
-            read_seen = here.read_seen;
-            read_words = here.read_words;
-          };
-          at_end = λ e. first_same ∙ law.at_end e;
-        };
+        of_readers = λ r q law. reader_keeps r q law (cursor_same r law.known) (let f = first_same in omega arith)
+            (λ here n i low high l. store_whole r q law.known here n i low (rw first_same at high) l) (λ e. first_same ∙ law.at_end e);
       }
 
     module _ (c : ℕ) (may : ProducerMay spec p (Publish c)) (ch : Changes words new 0 (2 * (p.published + c))) where
@@ -184,21 +192,10 @@ module _ (spec : RingSpec) (ring : IsRing spec) (words : List ℕ) (p : Producer
           stored_stand = λ j r h k ne. absurd (omega arith);
           none_stored = λ e. refl;
         };
-        of_readers = λ r q law. record {
-          known = law.known;
-          from_first = law.from_first;
-          gone = λ e. ch.others (1 + r) (λ e. omega arith) ∙ law.gone e;
-          here = λ e. let here = law.here e in record {
-            cursor = ch.others (1 + r) (λ e. omega arith) ∙ here.cursor;
-            taken_seen = here.taken_seen;
-            seen_published = let f = front_moves in let g = published_is may.0 in let s = here.seen_published in omega arith;
-            whole = λ n i low high l. publish_whole r q law.known here n i low (rw front_moves at high) l;
-            read_seen = here.read_seen;
-            read_words = here.read_words;
-          };
-          -- a reader that saw the end saw an odd word, and the word is even
-          at_end = λ e. let odd = law.at_end e in let even = published_is may.0 in absurd (omega arith);
-        };
+        of_readers = λ r q law. reader_keeps r q law (ch.others (1 + r) (λ e. omega arith)) (let f = front_moves in let g = published_is may.0 in omega arith)
+            (λ here n i low high l. publish_whole r q law.known here n i low (rw front_moves at high) l)
+            -- a reader that saw the end saw an odd word, and the word is even
+            (λ e. let odd = law.at_end e in let even = published_is may.0 in absurd (omega arith));
       }
 
     module _ (may : ProducerMay spec p Finish) (ch : Changes words new 0 (2 * p.published + 1)) where
@@ -223,20 +220,9 @@ module _ (spec : RingSpec) (ring : IsRing spec) (words : List ℕ) (p : Producer
           stored_stand = λ j r h k ne. let none = may.1 in absurd (omega arith);
           none_stored = λ e. may.1;
         };
-        of_readers = λ r q law. record {
-          known = law.known;
-          from_first = law.from_first;
-          gone = λ e. ch.others (1 + r) (λ e. omega arith) ∙ law.gone e;
-          here = λ e. let here = law.here e in record {
-            cursor = ch.others (1 + r) (λ e. omega arith) ∙ here.cursor;
-            taken_seen = here.taken_seen;
-            seen_published = rw front_stays here.seen_published;
-            whole = λ n i low high l. ch.others (place spec n i) (place_not_first spec n i) ∙ here.whole n i low (rw front_stays at high) l;
-            read_seen = here.read_seen;
-            read_words = here.read_words;
-          };
-          at_end = λ e. let odd = law.at_end e in let even = published_is may.0 in absurd (omega arith);
-        };
+        of_readers = λ r q law. reader_keeps r q law (ch.others (1 + r) (λ e. omega arith)) (let f = front_stays in omega arith)
+            (λ here n i low high l. ch.others (place spec n i) (place_not_first spec n i) ∙ here.whole n i low (rw front_stays at high) l)
+            (λ e. let odd = law.at_end e in let even = published_is may.0 in absurd (omega arith));
       }
 
   -- a load changes no word

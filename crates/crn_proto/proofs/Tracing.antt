@@ -36,7 +36,8 @@ record TakerTracks (t : Taker) (q : Reader) : Type 0 where
   reads : t.reading ≡ true → q.taken < q.seen
   rests : t.reading ≡ false → t.read ≡ 0
 
-record Tracks (spec : RingSpec) (published passed stored : ℕ) (takers : List Taker) (gates : List ℕ) (readers : List Reader) : Type 0 where
+-- what the machine remembers of the producer, beside the gates that the ring's producer has loaded
+record ProducerTracks (spec : RingSpec) (published passed stored : ℕ) (gates : List ℕ) : Type 0 where
   in_total : published ≤ spec.id.total
   passed_few : passed ≤ spec.readers
   few : stored ≤ BLOCK_WORDS
@@ -44,9 +45,16 @@ record Tracks (spec : RingSpec) (published passed stored : ℕ) (takers : List T
   stored_in_total : 0 < stored → published < spec.id.total
   gate_count : length gates ≡ spec.readers
   gates_pass : (r : ℕ) → r < passed → slice_index gates r ≢ left_mark → published < slice_index gates r + spec.size
+
+-- each reader of the machine, beside the ring's of the same number
+record ReadersTrack (spec : RingSpec) (takers : List Taker) (readers : List Reader) : Type 0 where
   taker_count : length takers ≡ spec.readers
   reader_count : length readers ≡ spec.readers
   each : (r : ℕ) → r < spec.readers → TakerTracks (slice_index_or takers r (open_taker spec)) (slice_index_or readers r (open_reader spec))
+
+record Tracks (spec : RingSpec) (published passed stored : ℕ) (takers : List Taker) (gates : List ℕ) (readers : List Reader) : Type 0 where
+  producer : ProducerTracks spec published passed stored gates
+  readers_track : ReadersTrack spec takers readers
 
 abbrev Follows : MachineState → List ℕ → List Reader → Type 0
 Follows m gates readers = Tracks m.spec m.published m.passed m.stored m.takers gates readers
@@ -92,8 +100,8 @@ module _ (m : MachineState) (gates : List ℕ) (loads : List (ℕ × ℕ)) (step
   gate_advance going more =
       let g = m.passed in
       let count = slice_index m.words (1 + g) in
-      let empty : m.stored ≡ 0 = elim (cases_eq m.stored 0) [ inl e ↦ e | inr ne ↦ let p = tr.stored_passed (omega arith) in absurd (omega arith) ] in
-      let known : g < length gates = let n = tr.gate_count in omega arith in
+      let empty : m.stored ≡ 0 = elim (cases_eq m.stored 0) [ inl e ↦ e | inr ne ↦ let p = tr.producer.stored_passed (omega arith) in absurd (omega arith) ] in
+      let known : g < length gates = let n = tr.producer.gate_count in omega arith in
       let same = get_or-set_same gates g count 0 known in
       record {
         gates = set gates g count;
@@ -102,43 +110,40 @@ module _ (m : MachineState) (gates : List ℕ) (loads : List (ℕ × ℕ)) (step
         readers = readers;
         sized = sized;
         same_spec = refl;
-        tracks = cond_both ((count == left_mark) || nat_lt m.published (count + m.spec.size)) (m.passed + 1) 0
-            (λ passed. Tracks m.spec m.published passed m.stored m.takers (set gates g count) readers)
-            (λ passes. record {
-              in_total = tr.in_total;
-              passed_few = omega arith;
-              few = tr.few;
-              stored_passed = λ h. absurd (omega arith);
-              stored_in_total = tr.stored_in_total;
-              gate_count = length-set gates g count ∙ tr.gate_count;
-              gates_pass = λ r h ne. elim (cases_eq r g) [
-                | inl e ↦
-                    let is : slice_index (set gates g count) r ≡ count = rw e same in
-                    elim (or_cases (count == left_mark) (nat_lt m.published (count + m.spec.size)) passes) [
-                      | inl left ↦ absurd (ne (is ∙ eqb-true _ _ left))
-                      | inr room ↦ let near = ltb-true _ _ room in omega arith
-                    ]
-                | inr other ↦
-                    let is = get_or-set_other gates g r count 0 other in
-                    let old = tr.gates_pass r (omega arith) (λ e. ne (is ∙ e)) in
-                    omega arith
-              ];
-              taker_count = tr.taker_count;
-              reader_count = tr.reader_count;
-              each = tr.each;
-            })
-            (λ full. record {
-              in_total = tr.in_total;
-              passed_few = omega arith;
-              few = tr.few;
-              stored_passed = λ h. absurd (omega arith);
-              stored_in_total = tr.stored_in_total;
-              gate_count = length-set gates g count ∙ tr.gate_count;
-              gates_pass = λ r h ne. absurd (omega arith);
-              taker_count = tr.taker_count;
-              reader_count = tr.reader_count;
-              each = tr.each;
-            });
+        tracks = record {
+          producer = cond_both ((count == left_mark) || nat_lt m.published (count + m.spec.size)) (m.passed + 1) 0
+              (λ passed. ProducerTracks m.spec m.published passed m.stored (set gates g count))
+              (λ passes. record {
+                in_total = tr.producer.in_total;
+                passed_few = omega arith;
+                few = tr.producer.few;
+                stored_passed = λ h. absurd (omega arith);
+                stored_in_total = tr.producer.stored_in_total;
+                gate_count = length-set gates g count ∙ tr.producer.gate_count;
+                gates_pass = λ r h ne. elim (cases_eq r g) [
+                  | inl e ↦
+                      let is : slice_index (set gates g count) r ≡ count = rw e same in
+                      elim (or_cases (count == left_mark) (nat_lt m.published (count + m.spec.size)) passes) [
+                        | inl left ↦ absurd (ne (is ∙ eqb-true _ _ left))
+                        | inr room ↦ let near = ltb-true _ _ room in omega arith
+                      ]
+                  | inr other ↦
+                      let is = get_or-set_other gates g r count 0 other in
+                      let old = tr.producer.gates_pass r (omega arith) (λ e. ne (is ∙ e)) in
+                      omega arith
+                ];
+              })
+              (λ full. record {
+                in_total = tr.producer.in_total;
+                passed_few = omega arith;
+                few = tr.producer.few;
+                stored_passed = λ h. absurd (omega arith);
+                stored_in_total = tr.producer.stored_in_total;
+                gate_count = length-set gates g count ∙ tr.producer.gate_count;
+                gates_pass = λ r h ne. absurd (omega arith);
+              });
+          readers_track = tr.readers_track;
+        };
         made = ByProducer (LoadGate g) ∷ [];
         took = (ByProducer (LoadGate g), refl, refl, ((going, more), rw (set-get_or m.words (1 + g) 0) refl), refl);
       }
@@ -147,7 +152,7 @@ module _ (m : MachineState) (gates : List ℕ) (loads : List (ℕ × ℕ)) (step
   store_advance going more all few =
       let block : m.published + m.stored / BLOCK_WORDS ≡ m.published = omega arith in
       let word : m.stored % BLOCK_WORDS ≡ m.stored = omega arith in
-      let most = tr.in_total in
+      let most = tr.producer.in_total in
       let within = place_within m.spec m.published m.stored slots few in
       record {
         gates = gates;
@@ -157,25 +162,25 @@ module _ (m : MachineState) (gates : List ℕ) (loads : List (ℕ × ℕ)) (step
         sized = length-set m.words _ _ ∙ sized;
         same_spec = refl;
         tracks = record {
-          in_total = tr.in_total;
-          passed_few = tr.passed_few;
-          few = omega arith;
-          stored_passed = λ h. let p = tr.passed_few in omega arith;
-          stored_in_total = λ h. omega arith;
-          gate_count = tr.gate_count;
-          gates_pass = tr.gates_pass;
-          taker_count = tr.taker_count;
-          reader_count = tr.reader_count;
-          each = tr.each;
+          producer = record {
+            in_total = tr.producer.in_total;
+            passed_few = tr.producer.passed_few;
+            few = omega arith;
+            stored_passed = λ h. let p = tr.producer.passed_few in omega arith;
+            stored_in_total = λ h. omega arith;
+            gate_count = tr.producer.gate_count;
+            gates_pass = tr.producer.gates_pass;
+          };
+          readers_track = tr.readers_track;
         };
         made = ByProducer StoreWord ∷ [];
-        took = (ByProducer StoreWord, refl, refl, ((going, omega arith, λ r h ne. let pass = tr.gates_pass r (omega arith) ne in omega arith), rw (block, word) refl), rw (block, word) (ap (λ x. record { kind = kind_of (ByProducer StoreWord); word = place m.spec m.published m.stored; value = x }) (stored_at (place m.spec m.published m.stored) _ within)));
+        took = (ByProducer StoreWord, refl, refl, ((going, omega arith, λ r h ne. let pass = tr.producer.gates_pass r (omega arith) ne in omega arith), rw (block, word) refl), rw (block, word) (ap (λ x. record { kind = kind_of (ByProducer StoreWord); word = place m.spec m.published m.stored; value = x }) (stored_at (place m.spec m.published m.stored) _ within)));
       }
 
   publish_advance : m.ended ≡ false → m.published ≢ m.spec.id.total → BLOCK_WORDS ≤ m.stored → Advances (ring_of m gates loads steps readers) ProducerActs (publishes m)
   publish_advance going more whole =
-      let most = tr.in_total in
-      let few = tr.few in
+      let most = tr.producer.in_total in
+      let few = tr.producer.few in
       record {
         gates = gates;
         loads = loads;
@@ -184,16 +189,16 @@ module _ (m : MachineState) (gates : List ℕ) (loads : List (ℕ × ℕ)) (step
         sized = length-set m.words _ _ ∙ sized;
         same_spec = refl;
         tracks = record {
-          in_total = omega arith;
-          passed_few = omega arith;
-          few = omega arith;
-          stored_passed = λ h. absurd (omega arith);
-          stored_in_total = λ h. absurd (omega arith);
-          gate_count = tr.gate_count;
-          gates_pass = λ r h ne. absurd (omega arith);
-          taker_count = tr.taker_count;
-          reader_count = tr.reader_count;
-          each = tr.each;
+          producer = record {
+            in_total = omega arith;
+            passed_few = omega arith;
+            few = omega arith;
+            stored_passed = λ h. absurd (omega arith);
+            stored_in_total = λ h. absurd (omega arith);
+            gate_count = tr.producer.gate_count;
+            gates_pass = λ r h ne. absurd (omega arith);
+          };
+          readers_track = tr.readers_track;
         };
         made = ByProducer (Publish 1) ∷ [];
         took = (ByProducer (Publish 1), refl, (refl, refl), ((going, omega arith, omega arith), refl), ap (λ x. record { kind = kind_of (ByProducer (Publish 1)); word = 0; value = x }) (stored_at 0 _ (omega arith)));
@@ -205,7 +210,7 @@ module _ (m : MachineState) (gates : List ℕ) (loads : List (ℕ × ℕ)) (step
       cond_both m.ended _ _ (Advances (ring_of m gates loads steps readers) ProducerActs) (λ e. stays ProducerActs)
       (λ going. cond_both (m.published == m.spec.id.total) _ _ (Advances (ring_of m gates loads steps readers) ProducerActs)
       (λ e. let all = eqb-true _ _ e in
-      ends_advance ProducerActs (inl refl) going (elim (cases_eq m.stored 0) [ inl none ↦ none | inr ne ↦ let p = tr.stored_in_total (omega arith) in absurd (omega arith) ]))
+      ends_advance ProducerActs (inl refl) going (elim (cases_eq m.stored 0) [ inl none ↦ none | inr ne ↦ let p = tr.producer.stored_in_total (omega arith) in absurd (omega arith) ]))
       (λ more. cond_both (nat_lt m.passed m.spec.readers) _ _ (Advances (ring_of m gates loads steps readers) ProducerActs)
       (λ l. gate_advance going (ltb-true _ _ l))
       (λ g. cond_both (nat_lt m.stored BLOCK_WORDS) _ _ (Advances (ring_of m gates loads steps readers) ProducerActs)
@@ -226,36 +231,32 @@ module _ (m : MachineState) (gates : List ℕ) (loads : List (ℕ × ℕ)) (step
     q_at = slice_index_or readers r (open_reader m.spec)
 
     here : slice_get readers r ≡ Some q_at
-    here = let n = tr.reader_count in slice_get-get_or readers r (open_reader m.spec) (omega arith)
+    here = let n = tr.readers_track.reader_count in slice_get-get_or readers r (open_reader m.spec) (omega arith)
 
     tracks_after : (t : Taker) (q : Reader) → TakerTracks t q → Tracks m.spec m.published m.passed m.stored (set m.takers r t) gates (set readers r q)
     tracks_after t q both = record {
-      in_total = tr.in_total;
-      passed_few = tr.passed_few;
-      few = tr.few;
-      stored_passed = tr.stored_passed;
-      stored_in_total = tr.stored_in_total;
-      gate_count = tr.gate_count;
-      gates_pass = tr.gates_pass;
-      taker_count = length-set m.takers r t ∙ tr.taker_count;
-      reader_count = length-set readers r q ∙ tr.reader_count;
-      each = λ k h. elim (cases_eq k r) [
-        | inl e ↦
-            let n = tr.reader_count in
-            let j = tr.taker_count in
-            let first = get_or-set_same m.takers r t (open_taker m.spec) (omega arith) in
-            let second = get_or-set_same readers r q (open_reader m.spec) (omega arith) in
-            rw (e, first, second) both
-        | inr ne ↦
-            let first = get_or-set_other m.takers r k t (open_taker m.spec) ne in
-            let second = get_or-set_other readers r k q (open_reader m.spec) ne in
-            rw (first, second) (tr.each k h)
-      ];
+      producer = tr.producer;
+      readers_track = record {
+        taker_count = length-set m.takers r t ∙ tr.readers_track.taker_count;
+        reader_count = length-set readers r q ∙ tr.readers_track.reader_count;
+        each = λ k h. elim (cases_eq k r) [
+          | inl e ↦
+              let n = tr.readers_track.reader_count in
+              let j = tr.readers_track.taker_count in
+              let first = get_or-set_same m.takers r t (open_taker m.spec) (omega arith) in
+              let second = get_or-set_same readers r q (open_reader m.spec) (omega arith) in
+              rw (e, first, second) both
+          | inr ne ↦
+              let first = get_or-set_other m.takers r k t (open_taker m.spec) ne in
+              let second = get_or-set_other readers r k q (open_reader m.spec) ne in
+              rw (first, second) (tr.readers_track.each k h)
+        ];
+      };
     }
 
     cursor_advance : (taker_at m r).left ≡ false → (taker_at m r).seen_end ≡ false → (taker_at m r).reading ≡ false → Advances (ring_of m gates loads steps readers) (ReaderActs r) (loads_cursor m r)
     cursor_advance stays_in no_end rests =
-        let both = tr.each r known in
+        let both = tr.readers_track.each r known in
         let v = slice_index m.words 0 in
         let none = both.rests rests in
         let k = both.read in
@@ -281,7 +282,7 @@ module _ (m : MachineState) (gates : List ℕ) (loads : List (ℕ × ℕ)) (step
 
     word_advance : (taker_at m r).left ≡ false → (taker_at m r).reading ≡ true → (taker_at m r).read < BLOCK_WORDS → Advances (ring_of m gates loads steps readers) (ReaderActs r) (loads_word m r)
     word_advance stays_in reads few =
-        let both = tr.each r known in
+        let both = tr.readers_track.each r known in
         let taken = both.taken in
         let k = both.read in
         let more = both.reads reads in
@@ -310,7 +311,7 @@ module _ (m : MachineState) (gates : List ℕ) (loads : List (ℕ × ℕ)) (step
 
     take_advance : (taker_at m r).left ≡ false → (taker_at m r).reading ≡ true → BLOCK_WORDS ≤ (taker_at m r).read → Advances (ring_of m gates loads steps readers) (ReaderActs r) (takes m r)
     take_advance stays_in reads whole =
-        let both = tr.each r known in
+        let both = tr.readers_track.each r known in
         let k = both.read in
         let few = both.few in
         record {
@@ -341,7 +342,7 @@ module _ (m : MachineState) (gates : List ℕ) (loads : List (ℕ × ℕ)) (step
 
     leave_advance : (taker_at m r).left ≡ false → (taker_at m r).reading ≡ false → Advances (ring_of m gates loads steps readers) (LeaveActs r) (leaves m r)
     leave_advance stays_in rests =
-        let both = tr.each r known in
+        let both = tr.readers_track.each r known in
         let none = both.rests rests in
         let k = both.read in
         record {
@@ -399,9 +400,9 @@ module _ (m : MachineState) (gates : List ℕ) (loads : List (ℕ × ℕ)) (step
     words = refl;
     published = refl;
     ended = refl;
-    taken = λ r h. (tr.each r h).taken;
-    left = λ r h. (tr.each r h).left;
-    seen_end = λ r h. (tr.each r h).seen_end;
+    taken = λ r h. (tr.readers_track.each r h).taken;
+    left = λ r h. (tr.readers_track.each r h).left;
+    seen_end = λ r h. (tr.readers_track.each r h).seen_end;
   }
 
 runs_cons : (who : Actor) (s t u : Ring) (made moves : List Move) (answer : Option Answer) → IsAnswer who s made answer t → Runs t moves u → Runs s (made ++ moves) u
@@ -427,24 +428,28 @@ replay_from (who ∷ actors) m gates loads steps readers sized slots tr all =
 
 open_tracks : (spec : RingSpec) → IsRing spec → Follows (open_machine spec) (replicate spec.readers spec.id.first) (replicate spec.readers (open_reader spec))
 open_tracks spec ring = record {
-  in_total = ring.in_order;
-  passed_few = omega arith;
-  few = omega arith;
-  stored_passed = λ h. absurd (omega arith);
-  stored_in_total = λ h. absurd (omega arith);
-  gate_count = length-replicate _ _;
-  gates_pass = λ r h ne. absurd (omega arith);
-  taker_count = length-replicate _ _;
-  reader_count = length-replicate _ _;
-  each = λ r h. rw (get_or-replicate spec.readers r (open_taker spec) (open_taker spec) h, get_or-replicate spec.readers r (open_reader spec) (open_reader spec) h) (record {
-    taken = refl;
-    left = refl;
-    seen_end = refl;
-    read = refl;
+  producer = record {
+    in_total = ring.in_order;
+    passed_few = omega arith;
     few = omega arith;
-    reads = λ e. absurd (true≢false (sym e));
-    rests = λ e. refl;
-  });
+    stored_passed = λ h. absurd (omega arith);
+    stored_in_total = λ h. absurd (omega arith);
+    gate_count = length-replicate _ _;
+    gates_pass = λ r h ne. absurd (omega arith);
+  };
+  readers_track = record {
+    taker_count = length-replicate _ _;
+    reader_count = length-replicate _ _;
+    each = λ r h. rw (get_or-replicate spec.readers r (open_taker spec) (open_taker spec) h, get_or-replicate spec.readers r (open_reader spec) (open_reader spec) h) (record {
+      taken = refl;
+      left = refl;
+      seen_end = refl;
+      read = refl;
+      few = omega arith;
+      reads = λ e. absurd (true≢false (sym e));
+      rests = λ e. refl;
+    });
+  };
 }
 
 pub every_replay_is_a_run : EveryReplayIsARun

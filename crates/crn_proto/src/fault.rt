@@ -3,21 +3,21 @@ ghost use Rattle.crn_proto.specs.Opening.{open_fault_number};
 
 use std::alloc::AllocError;
 
-/// Why a ring is not opened. Where several faults hold, the one of the least number is answered.
+/// Why a ring is not opened. If several faults hold, the first of them is returned.
 #[derive(Clone, Copy, Debug, PartialEq, Eq)]
 pub enum RingFault {
-    /// The size is no power of two from 1 to 1,024.
+    /// The size is no power of two from 1 to [`SLOT_LIMIT`](crn_limits::SLOT_LIMIT).
     Size,
-    /// The number of readers is not from 1 to 16.
+    /// The number of readers is not from 1 to [`POLICY_LIMIT`](crn_limits::POLICY_LIMIT).
     Readers,
-    /// The stream's total is over 65,536 blocks, or its first block is over its total.
+    /// The stream's total is over [`BLOCK_LIMIT`](crn_limits::BLOCK_LIMIT), or its first block is over its total.
     Stream,
-    /// A request for memory was refused. It is answered only where no other fault holds.
+    /// An allocation failed. Returned only if no other fault holds.
     Memory(AllocError),
 }
 
 impl RingFault {
-    /// The fault's number: 1 for the size, 2 for the readers, 3 for the stream, 90 for want of memory.
+    /// Returns the number of the fault: 1 for the size, 2 for the readers, 3 for the stream, 90 for out of memory.
     pub fn number(self) -> u8
         ensures { result ≡ open_fault_number self }
     {

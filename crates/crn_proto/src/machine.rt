@@ -1,9 +1,9 @@
 // The ring as a machine that takes one step at a time.
 
-ghost use Rattle.std.specs.Prelude.{◌≡◌, ℕ, ◌+◌, ◌-◌, ◌*◌, ◌/◌, ◌%◌, ◌^◌, ◌<◌, ◌≤◌, ◌↔◌, true, false, ◌++◌, length, slice_index, List, take, drop, Some, IfOk, OnErr, IsErrOf};
+ghost use Rattle.std.specs.Prelude.{◌≡◌, ℕ, ◌+◌, ◌-◌, ◌*◌, ◌/◌, ◌%◌, ◌^◌, ◌<◌, ◌≤◌, ◌↔◌, true, false, ◌++◌, length, slice_index, List, take, drop, Some, IfOk, IfErr, OnErr};
 ghost use Rattle.std.specs.List.{All};
-ghost use Rattle.crn_proto.specs.Ring.{IsRing, left_mark, place, word_count, open_words};
-ghost use Rattle.crn_proto.specs.Opening.{CanOpen, IsRingSize, IsReaderCount, IsStream};
+ghost use Rattle.crn_proto.specs.Ring.{IsRing, left_mark, place, word_count};
+ghost use Rattle.crn_proto.specs.Opening.{CanOpen, RefusesRing};
 ghost use Rattle.crn_proto.specs.Machine.{MachineState, machine_of, machine_steps, ends, loads_gate, stores_word, publishes, producer_steps, finish_steps, loads_cursor, loads_word, takes, leaves, reader_steps, leave_steps, IsActor, open_machine, taker_at, machine_after, machine_answers};
 ghost use Rattle.crn_proto.specs.Inner.Machine.{MachineFits, TakerFits};
 
@@ -11,6 +11,7 @@ mod shown;
 
 use crate::{Actor, Kind, LEFT, RingFault, RingSpec, Step};
 use crn_cipher::{BLOCK_WORDS, block};
+use crn_limits::{POLICY_LIMIT, SLOT_LIMIT};
 use std::alloc::{AllocError, Global};
 use std::marker::Model;
 
@@ -59,8 +60,8 @@ impl Model for Machine {
 #[tactic(auto, unfolding(crate::specs::Ring::place))]
 fn place_of(spec: &RingSpec, n: u64, i: u64) -> u64
     requires size { 0 < spec.now.size }
-    requires small { spec.now.size ≤ 1024 }
-    requires readers { spec.now.readers ≤ 16 }
+    requires small { spec.now.size ≤ SLOT_LIMIT }
+    requires readers { spec.now.readers ≤ POLICY_LIMIT }
     requires word { i < BLOCK_WORDS }
     ensures place { result ≡ place spec.now n i }
     ensures not_first { 0 < result }
@@ -69,58 +70,19 @@ fn place_of(spec: &RingSpec, n: u64, i: u64) -> u64
     1 + u64::from(spec.readers) + BLOCK_WORDS as u64 * (n % spec.size) + i
 }
 
-// The words of a ring before any step: its cursors stand at the first block, and its slots hold zeros.
-fn opening_words(alloc: Global, spec: &RingSpec) -> Result<Vec<u64>, AllocError>
-    requires size { spec.now.size ≤ 1024 }
-    requires readers { spec.now.readers ≤ 16 }
-    requires first { spec.now.id.first ≤ 65536 }
-    ensures { IfOk result (λ words. words.items ≡ open_words spec.now) }
-{
-    let cursors = 1 + spec.readers as usize;
-    let mut words = vec![in alloc; 2 * spec.id.first; 1]?;
-    words.resize(cursors, spec.id.first)?;
-    words.resize(cursors + BLOCK_WORDS * spec.size as usize, 0)?;
-    Ok(words)
-}
-
-// The first fault of a ring that may not be opened.
-fn judge(spec: &RingSpec) -> Result<(), RingFault>
-    ensures valid { IfOk result (λ _. CanOpen spec.now) }
-    ensures size { IsErrOf result RingFault.Size ↔ (¬ IsRingSize spec.now.size) }
-    ensures readers { IsErrOf result RingFault.Readers ↔ (IsRingSize spec.now.size × (¬ IsReaderCount spec.now.readers)) }
-    ensures stream { IsErrOf result RingFault.Stream ↔ (IsRingSize spec.now.size × IsReaderCount spec.now.readers × (¬ IsStream spec.now.id)) }
-{
-    if !spec.size.is_power_of_two() || spec.size > 1_024 {
-        return Err(RingFault::Size);
-    }
-    if spec.readers == 0 || spec.readers > 16 {
-        return Err(RingFault::Readers);
-    }
-    if spec.id.total > 65_536 || spec.id.first > spec.id.total {
-        return Err(RingFault::Stream);
-    }
-    Ok(())
-}
-
 impl Machine {
-    /// The ring before any step: nothing is published or taken. Its memory is that of the words and the readers, and no
-    /// step takes any more.
+    /// Opens a ring: nothing is published or taken yet. Allocates the words and the readers; no step allocates any more.
     ///
     /// # Errors
     ///
-    /// The first of these faults that holds, and then nothing is kept:
-    /// - `Size`: the size is no power of two from 1 to 1,024;
-    /// - `Readers`: the number of readers is not from 1 to 16;
-    /// - `Stream`: the total is over 65,536, or the first block is over the total;
-    /// - `Memory`: a request for memory was refused.
+    /// The fault that [`RingSpec::judge`] finds, or else `Memory` if an allocation failed. Then nothing is kept.
     pub fn open(alloc: Global, spec: RingSpec) -> Result<Machine, RingFault>
         ensures opened { IfOk result (λ m. m ≡ open_machine spec) }
         ensures is_ring { IfOk result (λ m. IsRing spec) }
-        ensures size { IsErrOf result RingFault.Size ↔ (¬ IsRingSize spec.size) }
-        ensures readers { IsErrOf result RingFault.Readers ↔ (IsRingSize spec.size × (¬ IsReaderCount spec.readers)) }
-        ensures stream { IsErrOf result RingFault.Stream ↔ (IsRingSize spec.size × IsReaderCount spec.readers × (¬ IsStream spec.id)) }
+        ensures valid { IfOk result (λ m. CanOpen spec) }
+        ensures refused { IfErr result (λ f. RefusesRing spec f) }
     {
-        judge(&spec)?;
+        spec.judge()?;
         Ok(Machine::before_any_step(alloc, spec)?)
     }
 
@@ -129,7 +91,7 @@ impl Machine {
         requires { CanOpen spec }
         ensures { IfOk result (λ m. m ≡ open_machine spec) }
     {
-        let words = opening_words(alloc, &spec)?;
+        let words = spec.opening_words(alloc)?;
         let taker = Taker {
             taken: spec.id.first,
             left: false,

@@ -5,7 +5,7 @@ use Rattle.crn_stock.specs.Parts.{Parts}
 use Rattle.crn_stock.specs.Models.{ModelParts, total}
 use Rattle.crn_sequential.specs.Runs.{StandsBefore}
 use Rattle.crn_report.specs.declared.figures.Figures.{Figures}
-use Rattle.crn_report.specs.Rows.{IsFigures}
+use Rattle.crn_report.specs.Report.{IsFigures}
 
 abbrev pub FiguresAt : ModelParts → List (List ℕ) → ℕ → Figures → Type 0
 FiguresAt m costs i f = (a : List ℕ) → slice_get costs i ≡ Some a → IsFigures m a (slice_index_or costs 0 []) f

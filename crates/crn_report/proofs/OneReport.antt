@@ -4,12 +4,10 @@ use Rattle.crn_pair.specs.Pairs.{variance_parts, covariance_parts}
 use Rattle.crn_pair.specs.Sums.{signed, differences, over_pairs, IsQuotient, IsQuotientIfAny}
 use Rattle.crn_pair.specs.Sums as pairs
 use Rattle.crn_pair.specs.declared.fraction.Fraction.{Fraction}
-use Rattle.crn_stock.specs.Models.{ModelParts}
-use Rattle.crn_stock.specs.Scenarios.{ScenarioParts}
-use Rattle.crn_stock.specs.declared.rules.Policy.{Policy}
+use Rattle.crn_stock.specs.Models.{ModelParts, ScenarioParts}
+use Rattle.crn_stock.specs.declared.policy.Policy.{Policy}
 use Rattle.crn_rows.specs.Rows.{row_text}
-use Rattle.crn_report.specs.Report.{fraction_text, estimate_text, fields, header, policy_rows_text, IsReportText}
-use Rattle.crn_report.specs.Rows.{IsFigures}
+use Rattle.crn_report.specs.Report.{fraction_text, estimate_text, fields, header, policy_rows_text, IsReportText, IsFigures}
 use Rattle.crn_report.specs.declared.figures.Figures.{Figures}
 
 -- what `crn_pair::laws::one_fraction` says

@@ -1,15 +1,21 @@
 // The figures of a report's rows.
 
 ghost use Rattle.std.specs.Prelude.{◌≡◌, ◌+◌, ◌*◌, ◌≤◌, ◌<◌, ◌^◌, All, IfOk, ℕ, List, length, map, sum, Some, slice_get};
-ghost use Rattle.crn_stock.specs.Parts.{Parts, period_cost_limit};
+ghost use Rattle.crn_stock.specs.Parts.{Parts};
+ghost use Rattle.crn_stock.specs.declared.limits.TheConstants.{PERIOD_COST_LIMIT};
+ghost use Rattle.crn_limits.specs.declared.TheConstants.{PERIOD_LIMIT, REPLICATION_LIMIT};
 ghost use Rattle.crn_stock.specs.Models.{total};
 ghost use Rattle.crn_sequential.specs.Runs.{StandsBefore};
 ghost use Rattle.crn_pair.specs.Pairs.{IsPairOf};
-ghost use Rattle.crn_report.specs.Rows.{IsFigures, AreFigures};
+ghost use Rattle.crn_report.specs.Report.{IsFigures, AreFigures};
 
-use crn_pair::{Fraction, Pair};
-use crn_stock::{Model, Scenario, State};
+use crn_limits::PERIOD_LIMIT;
+use crn_pair::{COST_LIMIT, Fraction, Pair};
+use crn_stock::{Model, PERIOD_COST_LIMIT, Scenario, State};
 use std::alloc::{AllocError, Global};
+
+// The costs of a run's replications are never too great to be compared.
+const _: () = prove!(PERIOD_LIMIT as u64 * PERIOD_COST_LIMIT <= COST_LIMIT);
 
 /// What a row says of a policy beside the first one.
 #[derive(Clone, Copy)]
@@ -24,22 +30,20 @@ pub(crate) struct Figures {
     pub(crate) cov: Option<Fraction>,
 }
 
-// The costs by replication of a policy whose run has come to its end.
+// Returns the costs by replication of a policy whose state has run all blocks of the model.
 fn costs_at_end<'a>(model: &Model, state: &'a State) -> &'a [u64]
     requires { StandsBefore model.now (total model.now) state.now }
     ensures value { result.now ≡ state.now.costs }
     ensures count { length result.now ≡ model.now.replications }
-    ensures high { All (λ k. k ≤ 1024 * period_cost_limit) result.now }
+    ensures high { All (λ k. k ≤ PERIOD_LIMIT * PERIOD_COST_LIMIT) result.now }
 {
-    let _ = state.period();
-    let _ = model.periods();
     state.costs()
 }
 
 // The sum of the costs of all replications.
 fn total_of(costs: &[u64]) -> u64
-    requires few { length costs.now ≤ 256 }
-    requires high { All (λ k. k ≤ 1024 * period_cost_limit) costs.now }
+    requires few { length costs.now ≤ REPLICATION_LIMIT }
+    requires high { All (λ k. k ≤ PERIOD_LIMIT * PERIOD_COST_LIMIT) costs.now }
     ensures sum { result ≡ sum costs.now }
     ensures high { result < 2 ^ 63 }
 {
@@ -54,9 +58,9 @@ fn total_of(costs: &[u64]) -> u64
 fn pair_of(costs: &[u64], base: &[u64]) -> Pair
     requires count { length base.now ≡ length costs.now }
     requires some { 1 ≤ length costs.now }
-    requires few { length costs.now ≤ 256 }
-    requires costs { All (λ k. k ≤ 1024 * period_cost_limit) costs.now }
-    requires base { All (λ k. k ≤ 1024 * period_cost_limit) base.now }
+    requires few { length costs.now ≤ REPLICATION_LIMIT }
+    requires costs { All (λ k. k ≤ PERIOD_LIMIT * PERIOD_COST_LIMIT) costs.now }
+    requires base { All (λ k. k ≤ PERIOD_LIMIT * PERIOD_COST_LIMIT) base.now }
     ensures { IsPairOf costs.now base.now result }
 {
     match Pair::of(costs, base) {

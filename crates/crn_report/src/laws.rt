@@ -1,7 +1,7 @@
 //! Laws of the definitions that contracts cite. They compute nothing.
 
 ghost use Rattle.std.specs.Prelude.{◌≡◌, ℕ, ◌≤◌, List};
-ghost use Rattle.crn_stock.specs.Scenarios.{ScenarioParts};
+ghost use Rattle.crn_stock.specs.Models.{ScenarioParts};
 ghost use Rattle.crn_report.specs.Report.{IsReportText};
 
 use crn_pair::laws::one_fraction;

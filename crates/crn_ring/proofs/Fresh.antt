@@ -7,7 +7,7 @@ use Rattle.std.specs.Prelude.{Some}
 use mathlib.Core.Logic.{dite}
 use native.Mathlib.Decide.{ℕ_discrete}
 use Rattle.crn_ring.specs.declared.ring.Ring.{Ring}
-use Rattle.crn_ring.specs.declared.reader_end.Reader.{Reader}
+use Rattle.crn_ring.specs.declared.reader.Reader.{Reader}
 use Rattle.crn_ring.specs.Calls.{IsFresh, AllFresh}
 
 pub fresh_push : (ring : Ring) (xs : List Reader) (y : Reader) → AllFresh ring xs → IsFresh ring (length xs) y → AllFresh ring (xs ++ y ∷ [])

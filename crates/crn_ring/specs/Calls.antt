@@ -1,19 +1,14 @@
 -- What the calls of a ring, a producer and a reader speak of.
 use Rattle.std.specs.Prelude.{◌≡◌, ℕ, ◌+◌, ◌<◌, List, length, slice_get, Some, drop}
-use Rattle.atomic_table.specs.declared.shared.Seat.{Seat}
 use Rattle.crn_cipher.specs.declared.stream.Block.{Block}
 use Rattle.crn_proto.specs.declared.spec.RingSpec.{RingSpec}
 use Rattle.crn_proto.specs.declared.actor_parts.ProducerPart.{ProducerPart}
 use Rattle.crn_proto.specs.declared.actor_parts.ReaderPart.{ReaderPart}
-use Rattle.crn_proto.specs.declared.fault.RingFault.{RingFault}
-use Rattle.crn_proto.specs.declared.fault.RingFault.TheVariants.{Size, Readers, Stream, Memory}
 use Rattle.crn_proto.specs.Ring.{open_producer, open_reader}
-use Rattle.crn_proto.specs.Opening.{IsRingSize, IsReaderCount, IsStream}
-use Rattle.crn_ring.specs.declared.view.View.{View}
 use Rattle.crn_ring.specs.declared.ring.Ring.{Ring}
-use Rattle.crn_ring.specs.declared.producer_end.Producer.{Producer}
-use Rattle.crn_ring.specs.declared.reader_end.Reader.{Reader}
-use Rattle.crn_ring.specs.declared.reader_end.LeftReader.{LeftReader}
+use Rattle.crn_ring.specs.declared.producer.Producer.{Producer}
+use Rattle.crn_ring.specs.declared.reader.Reader.{Reader}
+use Rattle.crn_ring.specs.declared.reader.LeftReader.{LeftReader}
 use Rattle.crn_ring.specs.declared.answers.Publish.{Publish}
 use Rattle.crn_ring.specs.declared.answers.Publish.TheVariants as One
 use Rattle.crn_ring.specs.declared.answers.PublishMany.{PublishMany}
@@ -22,6 +17,7 @@ use Rattle.crn_ring.specs.declared.answers.Take.{Take}
 use Rattle.crn_ring.specs.declared.answers.Take.TheVariants as Next
 use Rattle.crn_ring.specs.declared.answers.Batch.{Batch}
 use Rattle.crn_ring.specs.declared.answers.Batch.TheVariants as Several
+use Rattle.crn_ring.specs.Seats.{Place, view_of, spec_in, producer_in, reader_in}
 use Rattle.crn_ring.specs.Parts.{Publishes, IsFull, Takes, SeesNothing, SeesEnd}
 
 abbrev pub spec_of : Ring → RingSpec
@@ -29,24 +25,24 @@ spec_of ring = ring.spec
 
 -- the part of the ring's state that is the producer's, or a reader's
 abbrev pub producer_part : Producer → ProducerPart
-producer_part p = p.seat.me.0.producer
+producer_part p = producer_in p.seat
 
 abbrev pub reader_part : Reader → ReaderPart
-reader_part r = r.seat.me.0.reader
+reader_part r = reader_in r.seat
 
 abbrev pub reader_number : Reader → ℕ
 reader_number r = r.number
 
 -- the ring that the producer, or a reader, was opened with
 abbrev pub producer_spec : Producer → RingSpec
-producer_spec p = p.seat.me.0.spec
+producer_spec p = spec_in p.seat
 
 abbrev pub reader_spec : Reader → RingSpec
-reader_spec r = r.seat.me.0.spec
+reader_spec r = spec_in r.seat
 
 -- The seat is at this ring's table.
-abbrev pub IsAt : Ring → Seat (Unit {0}) View → Type 0
-IsAt ring seat = (seat.table_id ≡ ring.table.shared.table_id) × (seat.me.0.spec ≡ ring.spec)
+abbrev pub IsAt : Ring → Place → Type 0
+IsAt ring seat = (seat.table_id ≡ ring.table.shared.table_id) × (spec_in seat ≡ ring.spec)
 
 -- The producer, or the reader, is this ring's.
 abbrev pub IsProducerOf : Ring → Producer → Type 0
@@ -57,11 +53,11 @@ IsReaderOf ring r = IsAt ring r.seat
 
 -- What a reader that has left has done.
 abbrev pub left_part : LeftReader → ReaderPart
-left_part x = x.seat.me.0.reader
+left_part x = reader_in x.seat
 
 -- What is left is reader number r of this ring.
 abbrev pub HasLeft : Ring → ℕ → LeftReader → Type 0
-HasLeft ring r x = IsAt ring x.seat × (x.seat.me.0.number ≡ r)
+HasLeft ring r x = IsAt ring x.seat × ((view_of x.seat).number ≡ r)
 
 -- Reader x is number r of this ring, as it is at open.
 abbrev pub IsFresh : Ring → ℕ → Reader → Type 0
@@ -77,13 +73,6 @@ pub record IsOpened (spec : RingSpec) (ring : Ring) (p : Producer) (readers : Li
   pub producer_open : producer_part p ≡ open_producer spec
   pub count : length readers ≡ spec.readers
   pub readers_open : AllFresh ring readers
-
--- The least fault that holds.
-abbrev pub RefusesRing : RingSpec → RingFault → Type 0
-RefusesRing spec Size = ¬ (IsRingSize spec.size)
-RefusesRing spec Readers = IsRingSize spec.size × ¬ (IsReaderCount spec.readers)
-RefusesRing spec Stream = IsRingSize spec.size × IsReaderCount spec.readers × ¬ (IsStream spec.id)
-RefusesRing spec (Memory _) = IsRingSize spec.size × IsReaderCount spec.readers × IsStream spec.id
 
 -- The first `count` of these are the ring's blocks from n on.
 abbrev pub FollowOn : RingSpec → ℕ → ℕ → List Block → Type 0

@@ -1,5 +1,6 @@
 -- What `close` answers.
 use Rattle.std.specs.Prelude.{◌≡◌, ◌≢◌, ℕ, ◌<◌, ◌≤◌, length, slice_index}
+use Rattle.crn_limits.specs.declared.TheConstants.{POLICY_LIMIT}
 use Rattle.crn_proto.specs.declared.spec.RingSpec.{RingSpec}
 use Rattle.crn_proto.specs.declared.actor_parts.ProducerPart.{ProducerPart}
 use Rattle.crn_proto.specs.Ring.{left_mark}
@@ -10,7 +11,7 @@ use Rattle.crn_ring.specs.declared.answers.Closing.{Closing}
 pub record Closes (spec : RingSpec) (p : ProducerPart) (c : Closing) : Type 0 where
   pub published : c.published ≡ p.published
   pub ended : c.ended ≡ p.ended
-  pub long : length c.cursors ≡ 16
+  pub long : length c.cursors ≡ POLICY_LIMIT
   pub at_most : (r : ℕ) → r < spec.readers → slice_index c.cursors r ≢ left_mark → slice_index c.cursors r ≤ c.published
   pub gates_low : (r : ℕ) → r < spec.readers → slice_index p.gates r ≤ slice_index c.cursors r
-  pub others : (r : ℕ) → spec.readers ≤ r → r < 16 → slice_index c.cursors r ≡ 0
+  pub others : (r : ℕ) → spec.readers ≤ r → r < POLICY_LIMIT → slice_index c.cursors r ≡ 0

@@ -2,3 +2,4 @@
 pub mod Gates
 pub mod Plays
 pub mod Rooms
+pub mod Seats

@@ -1,4 +1,5 @@
 pub mod Holds
+pub mod Seats
 pub mod Gates
 pub mod Plays
 pub mod Parts

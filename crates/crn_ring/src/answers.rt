@@ -1,13 +1,14 @@
-//! What the calls of a producer and of a reader answer.
+//! The results of the calls of a producer, of a reader and of a ring.
 use crn_cipher::Block;
+use crn_limits::POLICY_LIMIT;
 
-/// What [`try_publish`](crate::Producer::try_publish) has done.
+/// Says what [`try_publish`](crate::Producer::try_publish) has done.
 #[derive(Clone, Copy, Debug, PartialEq, Eq)]
 pub enum Publish {
     /// The block is published.
     Done,
-    /// Nothing is published: when this call loaded its cursor, reader `reader` had not taken block `taken`, which stands
-    /// in the slot that the block needs. It is the first found so, by number.
+    /// Nothing is published: when this call loaded its cursor, reader `reader` had not taken block `taken`, which is in
+    /// the slot that the block needs. It is the first such reader, by number.
     Full {
         /// The reader's number.
         reader: u32,
@@ -16,7 +17,7 @@ pub enum Publish {
     },
 }
 
-/// What [`publish_batch`](crate::Producer::publish_batch) has done.
+/// Says what [`publish_batch`](crate::Producer::publish_batch) has done.
 #[derive(Clone, Copy, Debug, PartialEq, Eq)]
 pub enum PublishMany {
     /// The first of the blocks are published.
@@ -33,27 +34,27 @@ pub enum PublishMany {
     },
 }
 
-/// What [`try_take`](crate::Reader::try_take) has found.
+/// Says what [`try_take`](crate::Reader::try_take) has found.
 #[derive(Clone, Copy, Debug, PartialEq, Eq)]
 pub enum Take {
     /// The next block.
     Got(Block),
-    /// No block: all that are published were taken before. More may come.
+    /// No block: all published blocks were taken before. More may come.
     Empty {
         /// The number of the block that would be taken next.
         published: u64,
     },
-    /// No block: all that are published were taken before, and no more will come.
+    /// No block: all published blocks were taken before, and no more will come.
     Ended {
         /// The number of the block that would have been taken next.
         published: u64,
     },
 }
 
-/// What [`take_batch`](crate::Reader::take_batch) has found.
+/// Says what [`take_batch`](crate::Reader::take_batch) has found.
 #[derive(Clone, Copy, Debug, PartialEq, Eq)]
 pub enum Batch {
-    /// The next blocks, which stand at the front of the places lent.
+    /// The next blocks, at the start of the slice that was passed.
     Got {
         /// How many, at least one.
         count: usize,
@@ -70,14 +71,14 @@ pub enum Batch {
     },
 }
 
-/// The cursors of a ring at its end, as [`close`](crate::Ring::close) answers them.
+/// Has the cursors of a ring at its end, as [`close`](crate::Ring::close) returns them.
 #[derive(Clone, Copy, Debug, PartialEq, Eq)]
 pub struct Closing {
     /// The number of the block that would have been published next.
     pub published: u64,
-    /// Whether the end mark stands.
+    /// Whether the end is marked.
     pub ended: bool,
-    /// For each reader the number of the block that it would have taken next, or [`LEFT`](crn_proto::LEFT)
-    /// where it has left; 0 past the readers.
-    pub cursors: [u64; 16],
+    /// For each reader the number of the block that it would have taken next, or [`LEFT`](crn_proto::LEFT) if it has
+    /// left. Entries past the readers are 0.
+    pub cursors: [u64; POLICY_LIMIT as usize],
 }

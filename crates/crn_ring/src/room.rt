@@ -1,19 +1,67 @@
-//! How a producer looks for room.
+//! How the producer looks for room: it loads the readers' cursors, which are its gates.
+ghost use Rattle.std.specs.Prelude.{◌≡◌, ◌≢◌, ◌+◌, ◌<◌, ◌≤◌, true, false};
+ghost use Rattle.crn_proto.specs.Ring.{left_mark};
+ghost use Rattle.crn_ring.specs.Gates.{Passes};
 
-/// What the gates said of one block.
+use crate::ring::{Place, Ring};
+use crn_proto::LEFT;
+
+/// Says what the gates show of one block.
 #[derive(Clone, Copy)]
 pub(crate) enum Gauge {
     /// This reader has no room for it.
     Full { reader: u32, taken: u64 },
-    /// All have room; the least count among them, `LEFT` where all readers left.
+    /// All have room. The least count among them, or `LEFT` if all readers have left.
     Least(u64),
 }
 
-/// For how many blocks there is room.
+/// Says for how many blocks there is room.
 #[derive(Clone, Copy)]
 pub(crate) enum Room {
-    /// For so many, at least one.
+    /// For this many, at least one.
     Blocks(usize),
-    /// For none: this reader has taken the blocks up to `taken`.
+    /// For none: this reader takes block `taken` next.
     Full { reader: u32, taken: u64 },
+}
+
+// Returns whether a gate of this count lets block n into a ring of this size: its reader has left, or has taken block
+// `n - size`.
+#[inline(always)]
+fn lets_in(count: u64, n: u64, size: u64) -> bool
+    requires known { count ≢ left_mark → count ≤ n }
+    requires small { n < left_mark }
+    ensures passes { result ≡ true → Passes size n count }
+    ensures full { result ≡ false → (count ≢ left_mark) × (count + size ≤ n) }
+{
+    count == LEFT || n - count < size
+}
+
+impl Ring {
+    ghost use Rattle.crn_proto.specs.Chains.{ProducerReaches};
+    ghost use Rattle.crn_ring.specs.Seats.{producer_in, view_of};
+    ghost use Rattle.crn_ring.specs.Inner.Seats.{IsProducerSeat, SameSeat};
+    ghost use Rattle.crn_ring.specs.Inner.Rooms.{Gauges};
+
+    // Loads the gates in order, up to the first that has no room for block n.
+    pub(crate) fn gauge(&self, seat: &mut Place, n: u64) -> Gauge
+        requires own { IsProducerSeat self.now seat.old }
+        requires at { ((producer_in seat.old).ended ≡ false) × ((producer_in seat.old).published ≡ n) × (n ≤ self.now.spec.id.total) }
+        ensures own { SameSeat seat.old seat.new }
+        ensures moved { ProducerReaches self.now.spec (producer_in seat.old) self.now.spec.readers (producer_in seat.new) }
+        ensures view { Gauges self.now.spec n (view_of seat.old) (view_of seat.new) result }
+    {
+        let size = self.spec.size;
+        let mut least = LEFT;
+        for r in 0..self.spec.readers {
+            let count = self.load_gate(seat, r);
+            if !lets_in(count, n, size) {
+                return Gauge::Full {
+                    reader: r,
+                    taken: count,
+                };
+            }
+            least = least.min(count);
+        }
+        Gauge::Least(least)
+    }
 }

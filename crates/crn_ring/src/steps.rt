@@ -1,12 +1,12 @@
-//! Each atomic step of an actor, as a function of its own: one load or one store of one word of the table, with the
-//! move of the ring that it is.
+//! The atomic steps of the actors, one function each. A step is one load or one store of one word of the table, and its
+//! contract names the move of the ring that it makes.
 ghost use Rattle.std.specs.Prelude.{◌≡◌, ◌≢◌, ◌+◌, ◌-◌, ◌*◌, ◌/◌, ◌%◌, ◌<◌, ◌≤◌, ℕ, false, length, [], slice_index};
 ghost use Rattle.crn_cipher.specs.Blocks.{block_word};
 ghost use Rattle.crn_proto.specs.Ring.{place, left_mark, storing, reading, PassesGates, ProducerMay, ReaderMay, LoadGate, StoreWord, Publish, Finish, LoadCursor, LoadWord, Take, Leave};
 ghost use Rattle.crn_proto.specs.Chains.{ProducerReaches, ReaderReaches};
-ghost use Rattle.crn_ring.specs.Holds.{HasProducer, HasReader};
+ghost use Rattle.crn_ring.specs.Seats.{producer_in, reader_in, view_of};
 ghost use Rattle.crn_ring.specs.Plays.{by_producer, by_reader};
-ghost use Rattle.crn_ring.specs.Calls.{IsAt};
+ghost use Rattle.crn_ring.specs.Inner.Seats.{IsProducerSeat, IsReaderSeat, SameSeat, ViewBecomes};
 
 use crate::plays::{
     LoadsCursor, LoadsGate, LoadsWord, Publishes, StoresEnd, StoresLeft, StoresTaken, StoresWord,
@@ -16,7 +16,7 @@ use crn_cipher::BLOCK_WORDS;
 use crn_proto::LEFT;
 
 impl Ring {
-    /// Where the words of block n begin. The size is a power of two, so that the slot is told by a mask.
+    /// Returns the index at which the words of block n begin. The size is a power of two, so a mask selects the slot.
     #[inline(always)]
     pub(crate) fn base(&self, n: u64) -> usize
         ensures same { result ≡ place self.now.spec n 0 }
@@ -25,112 +25,112 @@ impl Ring {
         (1 + self.spec.readers as u64 + BLOCK_WORDS as u64 * (n & (self.spec.size - 1))) as usize
     }
 
-    /// The producer loads the cursor of reader r.
+    /// Loads the cursor of reader r, for the producer.
     #[inline(always)]
     pub(crate) fn load_gate(&self, seat: &mut Place, r: u32) -> u64
-        requires own { IsAt self.now seat.old × HasProducer seat.old.me.0 }
-        requires may { (seat.old.me.0.producer.ended ≡ false) × (r < self.now.spec.readers) }
-        ensures own { (seat.new.table_id ≡ seat.old.table_id) × (seat.new.id ≡ seat.old.id) }
-        ensures moved { ProducerReaches self.now.spec seat.old.me.0.producer 1 seat.new.me.0.producer }
-        ensures view { seat.new.me ≡ (by_producer (LoadGate r) result seat.old.me.0, seat.old.me.1) }
-        ensures gates { length seat.old.me.0.producer.gates ≡ self.now.spec.readers }
-        ensures bounds { result ≢ left_mark → (result ≤ seat.old.me.0.producer.published) × (seat.old.me.0.producer.published ≤ result + self.now.spec.size) }
+        requires own { IsProducerSeat self.now seat.old }
+        requires may { ((producer_in seat.old).ended ≡ false) × (r < self.now.spec.readers) }
+        ensures own { SameSeat seat.old seat.new }
+        ensures moved { ProducerReaches self.now.spec (producer_in seat.old) 1 (producer_in seat.new) }
+        ensures view { ViewBecomes seat.old seat.new (by_producer (LoadGate r) result (view_of seat.old)) }
+        ensures gates { length (producer_in seat.old).gates ≡ self.now.spec.readers }
+        ensures bounds { result ≢ left_mark → (result ≤ (producer_in seat.old).published) × ((producer_in seat.old).published ≤ result + self.now.spec.size) }
     {
         self.table.shared.load::<LoadsGate>(seat, 1 + r as usize)
     }
 
-    /// The producer stores word i of block n, whose words begin at `base`.
+    /// Stores word i of block n, whose words begin at `base`.
     #[inline(always)]
     pub(crate) fn store_word(&self, seat: &mut Place, base: usize, n: u64, i: usize, word: u64)
-        requires own { IsAt self.now seat.old × HasProducer seat.old.me.0 }
-        requires at { (seat.old.me.0.producer.ended ≡ false) × (n ≡ storing seat.old.me.0.producer) × (i ≡ seat.old.me.0.producer.stored % BLOCK_WORDS) }
+        requires own { IsProducerSeat self.now seat.old }
+        requires at { ((producer_in seat.old).ended ≡ false) × (n ≡ storing (producer_in seat.old)) × (i ≡ (producer_in seat.old).stored % BLOCK_WORDS) }
         requires below { n < self.now.spec.id.total }
-        requires room { PassesGates self.now.spec seat.old.me.0.producer n }
+        requires room { PassesGates self.now.spec (producer_in seat.old) n }
         requires word { word ≡ block_word self.now.spec.id.key n i }
         requires base { (base ≡ place self.now.spec n 0) × (base + BLOCK_WORDS ≤ self.now.table.shared.table_id.words) }
-        ensures own { (seat.new.table_id ≡ seat.old.table_id) × (seat.new.id ≡ seat.old.id) }
-        ensures moved { ProducerReaches self.now.spec seat.old.me.0.producer 1 seat.new.me.0.producer }
-        ensures view { seat.new.me ≡ (by_producer StoreWord 0 seat.old.me.0, seat.old.me.1) }
+        ensures own { SameSeat seat.old seat.new }
+        ensures moved { ProducerReaches self.now.spec (producer_in seat.old) 1 (producer_in seat.new) }
+        ensures view { ViewBecomes seat.old seat.new (by_producer StoreWord 0 (view_of seat.old)) }
     {
         self.table.shared.store::<StoresWord>(seat, base + i, word);
     }
 
-    /// The producer publishes the `count` blocks that it has stored, up to n.
+    /// Publishes the `count` blocks that the producer has stored; n is the number of the block after them.
     #[inline(always)]
     pub(crate) fn publish_upto(&self, seat: &mut Place, n: u64, count: usize)
-        requires own { IsAt self.now seat.old × HasProducer seat.old.me.0 }
-        requires at { (seat.old.me.0.producer.ended ≡ false) × (seat.old.me.0.producer.stored ≡ BLOCK_WORDS * count) × (0 < count) × (n ≡ seat.old.me.0.producer.published + count) }
+        requires own { IsProducerSeat self.now seat.old }
+        requires at { ((producer_in seat.old).ended ≡ false) × ((producer_in seat.old).stored ≡ BLOCK_WORDS * count) × (0 < count) × (n ≡ (producer_in seat.old).published + count) }
         requires below { n ≤ self.now.spec.id.total }
-        ensures own { (seat.new.table_id ≡ seat.old.table_id) × (seat.new.id ≡ seat.old.id) }
-        ensures moved { ProducerReaches self.now.spec seat.old.me.0.producer 1 seat.new.me.0.producer }
-        ensures view { seat.new.me ≡ (by_producer (Publish count) 0 seat.old.me.0, seat.old.me.1) }
+        ensures own { SameSeat seat.old seat.new }
+        ensures moved { ProducerReaches self.now.spec (producer_in seat.old) 1 (producer_in seat.new) }
+        ensures view { ViewBecomes seat.old seat.new (by_producer (Publish count) 0 (view_of seat.old)) }
     {
         self.table.shared.store::<Publishes>(seat, 0, 2 * n);
     }
 
-    /// The producer marks the end, at n.
+    /// Marks the end after n blocks.
     #[inline(always)]
     pub(crate) fn store_end(&self, seat: &mut Place, n: u64)
-        requires own { IsAt self.now seat.old × HasProducer seat.old.me.0 }
-        requires at { (seat.old.me.0.producer.ended ≡ false) × (seat.old.me.0.producer.stored ≡ 0) × (seat.old.me.0.producer.published ≡ n) }
+        requires own { IsProducerSeat self.now seat.old }
+        requires at { ((producer_in seat.old).ended ≡ false) × ((producer_in seat.old).stored ≡ 0) × ((producer_in seat.old).published ≡ n) }
         requires below { n ≤ self.now.spec.id.total }
-        ensures own { (seat.new.table_id ≡ seat.old.table_id) × (seat.new.id ≡ seat.old.id) }
-        ensures moved { ProducerReaches self.now.spec seat.old.me.0.producer 1 seat.new.me.0.producer }
-        ensures view { seat.new.me ≡ (by_producer Finish 0 seat.old.me.0, seat.old.me.1) }
+        ensures own { SameSeat seat.old seat.new }
+        ensures moved { ProducerReaches self.now.spec (producer_in seat.old) 1 (producer_in seat.new) }
+        ensures view { ViewBecomes seat.old seat.new (by_producer Finish 0 (view_of seat.old)) }
     {
         self.table.shared.store::<StoresEnd>(seat, 0, 2 * n + 1);
     }
 
-    /// A reader loads the ring cursor.
+    /// Loads the ring cursor, for a reader.
     #[inline(always)]
     pub(crate) fn load_cursor(&self, seat: &mut Place) -> u64
-        requires own { IsAt self.now seat.old × HasReader seat.old.me.0 }
-        requires at { (seat.old.me.0.reader.left ≡ false) × (seat.old.me.0.reader.seen_end ≡ false) × (seat.old.me.0.reader.read ≡ []) }
-        ensures own { (seat.new.table_id ≡ seat.old.table_id) × (seat.new.id ≡ seat.old.id) }
-        ensures moved { ReaderReaches seat.old.me.0.reader 1 seat.new.me.0.reader }
-        ensures view { seat.new.me ≡ (by_reader LoadCursor result seat.old.me.0, seat.old.me.1) }
-        ensures bounds { (seat.old.me.0.reader.taken ≤ result / 2) × (seat.old.me.0.reader.seen ≤ result / 2) × (result / 2 ≤ self.now.spec.id.total) }
+        requires own { IsReaderSeat self.now seat.old }
+        requires at { ((reader_in seat.old).left ≡ false) × ((reader_in seat.old).seen_end ≡ false) × ((reader_in seat.old).read ≡ []) }
+        ensures own { SameSeat seat.old seat.new }
+        ensures moved { ReaderReaches (reader_in seat.old) 1 (reader_in seat.new) }
+        ensures view { ViewBecomes seat.old seat.new (by_reader LoadCursor result (view_of seat.old)) }
+        ensures bounds { ((reader_in seat.old).taken ≤ result / 2) × ((reader_in seat.old).seen ≤ result / 2) × (result / 2 ≤ self.now.spec.id.total) }
     {
         self.table.shared.load::<LoadsCursor>(seat, 0)
     }
 
-    /// A reader loads word i of block n, whose words begin at `base`.
+    /// Loads word i of block n, whose words begin at `base`.
     #[inline(always)]
     pub(crate) fn load_word(&self, seat: &mut Place, base: usize, n: u64, i: usize) -> u64
-        requires own { IsAt self.now seat.old × HasReader seat.old.me.0 }
-        requires at { (seat.old.me.0.reader.left ≡ false) × (n ≡ reading seat.old.me.0.reader) × (i ≡ length seat.old.me.0.reader.read % BLOCK_WORDS) × (n < seat.old.me.0.reader.seen) }
+        requires own { IsReaderSeat self.now seat.old }
+        requires at { ((reader_in seat.old).left ≡ false) × (n ≡ reading (reader_in seat.old)) × (i ≡ length (reader_in seat.old).read % BLOCK_WORDS) × (n < (reader_in seat.old).seen) }
         requires base { (base ≡ place self.now.spec n 0) × (base + BLOCK_WORDS ≤ self.now.table.shared.table_id.words) }
-        ensures own { (seat.new.table_id ≡ seat.old.table_id) × (seat.new.id ≡ seat.old.id) }
-        ensures moved { ReaderReaches seat.old.me.0.reader 1 seat.new.me.0.reader }
-        ensures view { seat.new.me ≡ (by_reader LoadWord result seat.old.me.0, seat.old.me.1) }
+        ensures own { SameSeat seat.old seat.new }
+        ensures moved { ReaderReaches (reader_in seat.old) 1 (reader_in seat.new) }
+        ensures view { ViewBecomes seat.old seat.new (by_reader LoadWord result (view_of seat.old)) }
         ensures word { result ≡ block_word self.now.spec.id.key n i }
     {
         self.table.shared.load::<LoadsWord>(seat, base + i)
     }
 
-    /// Reader r takes the `count` blocks that it has read, up to n.
+    /// Takes the `count` blocks that reader r has read; n is the number of the block after them.
     #[inline(always)]
     pub(crate) fn store_taken(&self, seat: &mut Place, r: u32, n: u64, count: usize)
-        requires own { IsAt self.now seat.old × HasReader seat.old.me.0 }
-        requires at { (seat.old.me.0.reader.left ≡ false) × (seat.old.me.0.number ≡ r) × (r < self.now.spec.readers) }
-        requires whole { (length seat.old.me.0.reader.read ≡ BLOCK_WORDS * count) × (0 < count) × (n ≡ seat.old.me.0.reader.taken + count) }
-        ensures own { (seat.new.table_id ≡ seat.old.table_id) × (seat.new.id ≡ seat.old.id) }
-        ensures moved { ReaderReaches seat.old.me.0.reader 1 seat.new.me.0.reader }
-        ensures view { seat.new.me ≡ (by_reader (Take count) 0 seat.old.me.0, seat.old.me.1) }
+        requires own { IsReaderSeat self.now seat.old }
+        requires at { ((reader_in seat.old).left ≡ false) × ((view_of seat.old).number ≡ r) × (r < self.now.spec.readers) }
+        requires whole { (length (reader_in seat.old).read ≡ BLOCK_WORDS * count) × (0 < count) × (n ≡ (reader_in seat.old).taken + count) }
+        ensures own { SameSeat seat.old seat.new }
+        ensures moved { ReaderReaches (reader_in seat.old) 1 (reader_in seat.new) }
+        ensures view { ViewBecomes seat.old seat.new (by_reader (Take count) 0 (view_of seat.old)) }
     {
         self.table
             .shared
             .store::<StoresTaken>(seat, 1 + r as usize, n);
     }
 
-    /// Reader r leaves.
+    /// Stores the mark of a reader that has left in the cursor of reader r.
     #[inline(always)]
     pub(crate) fn store_left(&self, seat: &mut Place, r: u32)
-        requires own { IsAt self.now seat.old × HasReader seat.old.me.0 }
-        requires at { (seat.old.me.0.reader.left ≡ false) × (seat.old.me.0.reader.read ≡ []) × (seat.old.me.0.number ≡ r) × (r < self.now.spec.readers) }
-        ensures own { (seat.new.table_id ≡ seat.old.table_id) × (seat.new.id ≡ seat.old.id) }
-        ensures moved { ReaderReaches seat.old.me.0.reader 1 seat.new.me.0.reader }
-        ensures view { seat.new.me ≡ (by_reader Leave 0 seat.old.me.0, seat.old.me.1) }
+        requires own { IsReaderSeat self.now seat.old }
+        requires at { ((reader_in seat.old).left ≡ false) × ((reader_in seat.old).read ≡ []) × ((view_of seat.old).number ≡ r) × (r < self.now.spec.readers) }
+        ensures own { SameSeat seat.old seat.new }
+        ensures moved { ReaderReaches (reader_in seat.old) 1 (reader_in seat.new) }
+        ensures view { ViewBecomes seat.old seat.new (by_reader Leave 0 (view_of seat.old)) }
     {
         self.table
             .shared

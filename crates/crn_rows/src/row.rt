@@ -10,7 +10,7 @@ use std::str;
 
 /// A row of fields, which contracts see as the list of their bytes.
 ///
-/// Its calls answer for every place and every field: they read loosely, and say what they read only where the field is
+/// Its calls answer for every place and every field: they parsed leniently, and say what they read only where the field is
 /// spelt as this project writes it. Whoever reads a text so writes it again and compares.
 #[derive(Drop)]
 pub struct Row {

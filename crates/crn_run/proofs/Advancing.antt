@@ -3,10 +3,9 @@ use Rattle.std.proofs.Common.{◌≡◌, ℕ, ◌+◌, ◌≤◌, List, Some, sl
 use Rattle.crn_cipher.specs.declared.stream.Block.{Block}
 use Rattle.crn_proto.specs.declared.spec.RingSpec.{RingSpec}
 use Rattle.crn_ring.specs.Calls.{FollowOn}
-use Rattle.crn_stock.specs.declared.rules.Policy.{Policy}
+use Rattle.crn_stock.specs.declared.policy.Policy.{Policy}
 use Rattle.crn_stock.specs.Parts.{Parts}
-use Rattle.crn_stock.specs.Models.{ModelParts}
-use Rattle.crn_stock.specs.Scenarios.{ScenarioParts}
+use Rattle.crn_stock.specs.Models.{ModelParts, ScenarioParts}
 use Rattle.crn_stock.specs.Draws.{At, OnwardAt, next_block}
 use Rattle.crn_sequential.specs.Runs.{StandsBefore}
 use Rattle.crn_run.specs.Ends.{IsRun}

@@ -8,12 +8,12 @@ use Rattle.std.specs.List.{list_any}
 use Rattle.std.proofs.lemmas.Option.{slice_get_within, slice_get-get_or, get_or_from_slice_get}
 use Rattle.std.proofs.lemmas.List.Folds.{list_any_at}
 use Rattle.crn_stock.specs.Parts.{Parts}
-use Rattle.crn_stock.specs.Scenarios.{ScenarioParts}
+use Rattle.crn_stock.specs.Models.{ScenarioParts}
 use Rattle.crn_proto.specs.declared.actor_parts.ReaderPart.{ReaderPart}
 use Rattle.crn_stock.specs.Draws.{At, OnwardAt, next_block}
 use Rattle.crn_proto.specs.declared.spec.RingSpec.{RingSpec}
 use Rattle.crn_ring.specs.declared.ring.Ring.{Ring}
-use Rattle.crn_ring.specs.declared.reader_end.Reader.{Reader}
+use Rattle.crn_ring.specs.declared.reader.Reader.{Reader}
 use Rattle.crn_ring.specs.Calls.{IsFresh, reader_number, reader_part, spec_of}
 use Rattle.crn_run.specs.declared.fault.RunFault.{RunFault}
 use Rattle.crn_run.specs.declared.fault.RunFault.TheVariants.{Thread, Gate, Memory}

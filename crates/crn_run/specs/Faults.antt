@@ -1,8 +1,8 @@
 -- Why a run of all policies has no result.
 use Rattle.std.specs.Prelude.{◌≡◌, ⊤, ℕ, ◌<◌, Option, None, Some}
-use Rattle.crn_stock.specs.Scenarios.{ScenarioParts}
+use Rattle.crn_stock.specs.Models.{ScenarioParts}
 use Rattle.crn_ring.specs.declared.ring.Ring.{Ring}
-use Rattle.crn_ring.specs.declared.reader_end.Reader.{Reader}
+use Rattle.crn_ring.specs.declared.reader.Reader.{Reader}
 use Rattle.crn_ring.specs.Calls.{spec_of}
 use Rattle.crn_run.specs.Ends.{HasReadAll}
 use Rattle.crn_run.specs.Jobs.{ring_spec}

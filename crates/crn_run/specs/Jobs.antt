@@ -1,9 +1,9 @@
 -- The runs of all policies over one ring, each by a reader and on a thread of its own.
 use Rattle.std.specs.Prelude.{◌≡◌, ℕ, Bool, true, List, Some, length, slice_get}
-use Rattle.crn_stock.specs.Scenarios.{ScenarioParts}
+use Rattle.crn_stock.specs.Models.{ScenarioParts}
 use Rattle.crn_proto.specs.declared.spec.RingSpec.{RingSpec}
 use Rattle.crn_ring.specs.declared.ring.Ring.{Ring}
-use Rattle.crn_ring.specs.declared.reader_end.Reader.{Reader}
+use Rattle.crn_ring.specs.declared.reader.Reader.{Reader}
 use Rattle.crn_ring.specs.Calls.{spec_of}
 use Rattle.crn_run.specs.Ends.{HasReadAll}
 

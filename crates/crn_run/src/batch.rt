@@ -6,7 +6,7 @@ use crn_cipher::{Block, block};
 /// The most blocks that are published, or taken, at once.
 pub(crate) const BATCH: usize = 16;
 
-/// Room for the blocks that are published, or taken, at once. What stands in it is no block of the stream yet.
+/// Returns an array for a batch. Until a batch is written to it, all its blocks are the key's block 0.
 pub(crate) fn room_for(key: [u64; 4]) -> [Block; BATCH]
     ensures { length result ≡ BATCH }
 {

@@ -1,4 +1,4 @@
-//! Why a run of all policies has no result.
+//! Why the policies' runs have no result.
 ghost use Rattle.std.specs.Prelude.{◌≡◌, false, IfSome, IfNone};
 ghost use Rattle.crn_run.specs.Faults.{run_fault_number};
 ghost use Rattle.crn_run.specs.Inner.Ends.{is_short, IsEarlyEnd};
@@ -9,15 +9,18 @@ use std::error::Error;
 use std::fmt;
 use std::thread::SpawnError;
 
-/// Why [`run_all`](crate::run_all) has no result. Where several hold, the least by number is answered. The program's messages
-/// call them by words, and not by these numbers.
+/// Why [`run_all`](crate::run_all) has no result.
+///
+/// `Memory` is returned before any thread starts, so no other fault holds then. If an early end was found and a gate answered
+/// false, `Thread` is returned: the fault with the least number. The program's messages name the faults by words and not by
+/// these numbers.
 #[derive(Clone, Copy, Debug, PartialEq, Eq)]
 pub enum RunFault {
-    /// 1: a thread was refused, or a policy's thread found the end of the ring before its time.
+    /// 1: a thread failed to start, or a policy's reader found the end of the ring before block `upto`.
     Thread(ThreadFault),
     /// 2: a gate answered false.
     Gate,
-    /// 90: a request for memory was refused, before any thread was started. It carries the refusal.
+    /// 90: an allocation failed, before any thread was started. It carries the allocator's error.
     Memory(AllocError),
 }
 
@@ -56,23 +59,22 @@ impl From<AllocError> for RunFault {
     }
 }
 
-/// What kept a policy's thread from running to the end of the ring. It is made of what reported it alone: of the refusal
-/// that `spawn` returned, or of the end that a reader has seen before the ring's total, which only a refused thread brings
-/// about.
+/// What kept a policy from running up to the ring's total. It is made only from what reported it: the error that `spawn`
+/// returned, or the end that a reader has seen before the ring's total. The end comes early only if a thread failed to start.
 #[derive(Clone, Copy, Debug, PartialEq, Eq)]
 pub struct ThreadFault {
     ended: Option<u64>,
 }
 
 impl ThreadFault {
-    /// The block before which a policy's reader found the end of the ring; none where a thread was refused.
+    /// Returns the block before which a policy's reader found the end of the ring, and `None` if a thread failed to start.
     pub fn ended(&self) -> Option<u64>
         ensures { result ≡ self.now.ended }
     {
         self.ended
     }
 
-    /// What the end of a policy's run tells: that the ring's end came early, or nothing.
+    /// Returns the fault of a policy's run that found the end of the ring early, and `None` for each other end.
     pub(crate) fn of_end(end: &PolicyEnd) -> Option<ThreadFault>
         ensures early { IfSome result (λ t. IsEarlyEnd t end.now) }
         ensures whole { IfNone result (is_short end.now ≡ false) }

@@ -1,4 +1,4 @@
-//! The producer's side of a run.
+//! The producer's side of the policies' runs.
 ghost use Rattle.std.specs.Prelude.{◌≡◌, ℕ, ◌+◌, ◌<◌, ◌≤◌, true, false, length, slice_get, Some};
 ghost use Rattle.crn_cipher.specs.declared.stream.Block.{Block};
 ghost use Rattle.crn_ring.specs.Calls.{FollowOn, IsProducerOf, producer_part, spec_of};
@@ -6,18 +6,19 @@ ghost use Rattle.crn_ring.specs.Calls.{FollowOn, IsProducerOf, producer_part, sp
 use crate::batch::{BATCH, room_for};
 use crate::waiting::Waiting;
 use crn_cipher::{Block, block};
+use crn_limits::BLOCK_LIMIT;
 use crn_ring::{Producer, PublishMany, Ring};
 use std::sync::Wait;
 
-/// Publishes all blocks of the ring's stream that are not published, by batches of 16 at most, and then the end. Where
-/// the ring is full it tries again. It returns only if each reader takes its blocks or leaves. Takes no memory.
+/// Publishes all blocks of the ring's stream that are not published yet, in batches of at most 16, and then marks the end. If
+/// the ring is full it waits and tries again. It returns only if each reader takes its blocks or leaves. Allocates nothing.
 ///
 /// Source: Thompson, Farley, Barker, Gee and Stewart, "Disruptor: High performance alternative to bounded queues for
 /// exchanging data between concurrent threads", LMAX, 2011.
 ///
 /// # Asks
 ///
-/// This is the ring's producer, and the end is not marked.
+/// `producer` is the ring's, and the end is not marked.
 pub fn feed<R: Wait>(rt: &R, ring: &Ring, producer: &mut Producer)
     requires of { IsProducerOf ring.now producer.old }
     requires running { (producer_part producer.old).ended ≡ false }
@@ -41,9 +42,9 @@ pub fn feed<R: Wait>(rt: &R, ring: &Ring, producer: &mut Producer)
     unreachable!()
 }
 
-// Makes the first `count` of the blocks those of the key from block n on.
+// Sets the first `count` of the blocks to those of the key from block n on.
 fn fill(key: [u64; 4], n: u64, blocks: &mut [Block], count: usize)
-    requires room { (count ≤ length blocks.old) × (n + count ≤ 65536) }
+    requires room { (count ≤ length blocks.old) × (n + count ≤ BLOCK_LIMIT) }
     ensures blocks { (j : ℕ) (b : Block) → j < count → slice_get blocks.new j ≡ Some b → (b.key ≡ key) × (b.number ≡ n + j) }
 {
     for k in 0..count {
@@ -51,7 +52,7 @@ fn fill(key: [u64; 4], n: u64, blocks: &mut [Block], count: usize)
     }
 }
 
-// Publishes these blocks, which are the next ones, and tries again where there is no room.
+// Publishes these blocks, which are the next ones. If the ring is full it waits and tries again.
 fn publish_all<R: Wait>(
     rt: &R,
     ring: &Ring,

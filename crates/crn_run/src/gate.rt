@@ -1,29 +1,30 @@
-//! What may hold a policy's run.
+//! Gates, which may hold a policy's run.
 ghost use Rattle.std.specs.Prelude.{◌≡◌, ℕ, Bool, true, false, ◌||◌, not, IfSome, IfNone};
 
 /// What a policy's run asks before it applies a block. A gate that answers false holds the run before that block.
 ///
-/// A gate's value stores whether it has answered false, and tells contracts so. They also follow each call from the value
-/// before to the value after, so that a run can promise which calls it has made, and in which order.
+/// Contracts read from a gate's value whether it has answered false. They also relate the values before and after each
+/// call, so a run's contract says which calls it has made, and in which order.
 pub trait Gate {
     /// Whether it has answered false.
     ghost refused: { Self → Bool };
 
-    /// What a call for a policy's block with an answer makes of the value. Open, where it holds always.
+    /// What a call for a policy's block with an answer makes of the value. A gate that states nothing here takes the
+    /// relation that always holds.
     ghost asked: { Self → ℕ → ℕ → Bool → Self → Type 0 };
 
-    /// Whether the stream's block number `block` may be applied to the state of policy number `policy`, from 0 on in the
-    /// scenario's order.
+    /// Returns whether block number `block` of the stream may be applied to the state of policy number `policy`. Policies
+    /// are numbered from 0 in the scenario's order.
     ///
-    /// It may wait, on the thread of that policy; the others go on until they need a block that is not published
-    /// yet. After it the value says that it has answered false where it said so before or where this answer is false,
-    /// and nowhere else.
+    /// It may wait, on the thread of that policy. The other policies continue until they need a block that is not
+    /// published yet. Afterwards the value says that it has answered false if it said so before or if this answer is
+    /// false, and not otherwise.
     fn pass(&mut self, policy: u32, block: u64) -> bool
         ensures told { refused self.new ≡ (refused self.old || not result) }
         ensures asked { asked self.old policy block result self.new };
 }
 
-/// The gate that always passes. It takes no memory.
+/// The gate that always passes. It allocates nothing.
 #[derive(Clone, Copy, Debug, Default, PartialEq, Eq)]
 pub struct OpenGate;
 
@@ -38,14 +39,14 @@ impl Gate for OpenGate {
     }
 }
 
-/// The leave of a gate for one policy's next block, which `ask` alone gives.
+/// A gate's leave to apply one policy's next block. Only `ask` makes it.
 #[derive(Drop)]
 pub(crate) struct Permit {
     policy: u32,
     block: u64,
 }
 
-/// Asks a gate that has not answered false for a policy's block.
+/// Asks a gate for a policy's block. The gate has not answered false before.
 #[inline(always)]
 pub(crate) fn ask<G: Gate>(gate: &mut G, policy: u32, block: u64) -> Option<Permit>
     requires gate { G.refused gate.old ≡ false }

@@ -1,4 +1,4 @@
-//! The runs of all policies that are still to start.
+//! Jobs: the policies' runs that are still to start.
 ghost use Rattle.std.specs.Prelude.{◌≡◌, ◌<◌, ◌≤◌, false, length, slice_get, Some, IfOk, IfErr};
 ghost use Rattle.crn_stock.specs.Draws.{next_block};
 ghost use Rattle.crn_stock.specs.Models.{total};
@@ -28,7 +28,7 @@ pub(crate) struct Job {
 }
 
 impl Job {
-    /// Runs the policy on the thread that calls it.
+    /// Runs the policy on the calling thread.
     pub(crate) fn run<R: Wait, G: Gate>(
         self,
         rt: &R,
@@ -52,7 +52,8 @@ impl Job {
     }
 }
 
-/// A ring of the scenario for the blocks from `first` to `upto - 1`, with a reader for each policy.
+/// Opens a ring of the scenario for the blocks from `first` to `upto - 1`, with a reader for each policy. A scenario's ring
+/// meets every limit, so it fails only if an allocation fails.
 pub(crate) fn open_ring(
     alloc: Global,
     scenario: &Scenario,
@@ -74,14 +75,12 @@ pub(crate) fn open_ring(
     };
     match Ring::open(alloc, spec) {
         Ok(opened) => Ok(opened),
-        Err(fault) => match fault {
-            RingFault::Memory(refused) => Err(refused),
-            _ => unreachable!(),
-        },
+        Err(RingFault::Memory(refused)) => Err(refused),
+        Err(_) => unreachable!(),
     }
 }
 
-/// A job for each policy, from a copy of its state in `start`. They stand as on a stack: the first policy's is the last.
+/// Returns a job for each policy, from a copy of its state in `start`, as a stack: the first policy's job is the last.
 pub(crate) fn jobs_of(
     alloc: Global,
     ring: &Ring,
@@ -102,7 +101,7 @@ pub(crate) fn jobs_of(
     Ok(jobs)
 }
 
-// The job of a reader's policy, from a copy of its state in `start`.
+// Returns the job of a reader's policy, from a copy of its state in `start`.
 fn job_of(alloc: Global, start: &Checkpoint, reader: Reader) -> Result<Job, AllocError>
     requires { reader_number reader < length start.now.states.items }
     ensures policy { IfOk result (λ j. j.policy ≡ reader_number reader) }

@@ -1,4 +1,4 @@
-//! Runs of all policies of a scenario over the blocks of its stream.
+//! The runs of a scenario's policies over the blocks of its stream, each on a thread of its own. A run is that of one policy.
 #![tactic(auto)]
 
 mod batch;

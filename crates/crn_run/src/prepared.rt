@@ -1,4 +1,4 @@
-//! All that a run asks memory for, before its first thread starts.
+//! All memory of the policies' runs, allocated before the first thread starts.
 ghost use Rattle.std.specs.Prelude.{◌≡◌, ◌≤◌, false, [], IfOk, vec_len, vec_capacity};
 ghost use Rattle.crn_stock.specs.Models.{total};
 ghost use Rattle.crn_ring.specs.Calls.{IsProducerOf, producer_part, spec_of};
@@ -13,8 +13,8 @@ use crn_sequential::Checkpoint;
 use crn_stock::{Scenario, State};
 use std::alloc::{AllocError, Global};
 
-/// A ring with its producer, a job for each policy, and the room for what the jobs come to. No thread is started without
-/// it, and nothing that is made of it takes memory.
+/// A ring with its producer, a job for each policy, and empty vectors with the capacity for what the runs return. Every thread
+/// is started from it, and what is done with it allocates nothing.
 #[derive(Drop)]
 pub(crate) struct Prepared {
     pub(crate) ring: Ring,
@@ -29,7 +29,7 @@ pub(crate) struct Prepared {
     pub ghost readers_room: { (readers.items ≡ []) × (vec_len jobs ≤ vec_capacity readers) },
 }
 
-/// Asks for all memory of a run of the policies from `start` up to block `upto`.
+/// Allocates all memory for the policies' runs from `start` up to block `upto`.
 pub(crate) fn prepare(
     alloc: Global,
     scenario: &Scenario,

@@ -1,4 +1,4 @@
-//! The run of all policies, each on a thread of its own.
+//! The runs of all policies, each on a thread of its own.
 ghost use Rattle.std.specs.Prelude.{◌≡◌, ℕ, ◌≤◌, false, length, All, List, IfOk, IfErr, IfNone, IfSome, OnOk, MatchResult, vec_len, vec_capacity, []};
 ghost use Rattle.std.specs.List.{list_any};
 ghost use Rattle.crn_stock.specs.Parts.{Parts};
@@ -26,36 +26,38 @@ use std::alloc::Global;
 use std::sync::Wait;
 use std::thread::Threads;
 
-/// What a run of all policies has come to.
+/// What the policies' runs return.
 #[derive(Drop)]
 pub struct Finished {
-    /// Each policy's state where the run ends.
+    /// Each policy's state at the block where the runs end.
     pub checkpoint: Checkpoint,
-    /// The readers of the run's ring in order of their numbers, one for each policy, as their threads handed them back.
+    /// The readers of the ring, in order of their numbers and one for each policy, as their threads returned them.
     pub readers: Vec<Reader>,
 }
 
 /// Runs all policies from `start` up to block `upto`, each on a thread of its own, while the calling thread feeds the
-/// scenario's ring. `start` stays as it is. What it comes to is what [`run_plain`](crate::run_plain) comes to.
+/// scenario's ring. `start` stays as it is. The result equals that of [`run_plain`](crate::run_plain).
 ///
-/// Before each block the policy's gate is asked, by the policy's number and the block's. All memory of its own is asked
-/// for before the first thread starts, and every thread that was started is joined. It returns only if every policy's
-/// run does.
+/// Before each block the policy's gate is asked, with the numbers of the policy and of the block. All memory is allocated
+/// before the first thread starts, and every thread that was started is joined. It returns only if every policy's run
+/// does.
 ///
 /// # Asks
 ///
-/// `start` is a checkpoint of the scenario, `upto` is from `start.next` to the scenario's total, and there is one gate
-/// for each policy, none of which has answered false.
+/// - `start` is a checkpoint of the scenario.
+/// - `upto` is from `start.next` to the scenario's total.
+/// - There is one gate for each policy, and none has answered false.
 ///
 /// # Errors
 ///
-/// The least that holds:
-/// - [`RunFault::Thread`]: a thread was refused, and the ring was ended with nothing published. It carries the refusal, or
-///   where a policy's reader has found the end before `upto`, which only a refused thread brings about.
-/// - [`RunFault::Gate`]: a policy's gate was asked, as it was for each block before, and answered false.
-/// - [`RunFault::Memory`]: a request for memory was refused. It carries the refusal, and no thread was started.
+/// - [`RunFault::Thread`]: a thread failed to start, and the ring was ended with nothing published, so no gate was asked. Or a
+///   policy's reader found the end before `upto`, whether or not a gate answered false; that happens only if a thread failed
+///   to start.
+/// - [`RunFault::Gate`]: a policy's gate was asked, as it was for each block before, and answered false. No reader found an
+///   early end.
+/// - [`RunFault::Memory`]: an allocation failed, and no thread was started.
 ///
-/// Each comes from nothing else. A gate that was asked keeps what it stored.
+/// Nothing else causes a fault. A gate that was asked keeps what it stored.
 pub fn run_all<R: Threads + Wait + Sync, G: Gate + Send>(
     rt: &R,
     alloc: Global,
@@ -83,7 +85,7 @@ pub fn run_all<R: Threads + Wait + Sync, G: Gate + Send>(
     run_prepared(rt, scenario, prepared, gates)
 }
 
-// Runs what was prepared. It has no allocator.
+// Runs the policies with what was prepared. It has no allocator.
 fn run_prepared<R: Threads + Wait + Sync, G: Gate + Send>(
     rt: &R,
     scenario: &Scenario,
@@ -117,7 +119,8 @@ fn run_prepared<R: Threads + Wait + Sync, G: Gate + Send>(
     })
 }
 
-// Fails unless all runs have reached the end of the ring. A run that ended early is reported before one that was held.
+// Fails unless all runs have reached the ring's total. If one found an early end and another was held, the early end is
+// reported: `RunFault::Thread` has the least number. A thread that failed to start is reported before it comes to this.
 fn check(ends: &[PolicyEnd]) -> Result<(), RunFault>
     ensures whole { OnOk result (AllReached ends.now) }
     ensures refused { IfErr result (λ e. RefusesEnds ends.now e) }
@@ -131,7 +134,7 @@ fn check(ends: &[PolicyEnd]) -> Result<(), RunFault>
     Ok(())
 }
 
-// What the first end tells that came early.
+// Returns the fault of the first run that found an early end.
 fn early_end(ends: &[PolicyEnd]) -> Option<ThreadFault>
     ensures early { IfSome result (λ f. HasEarly f ends.now) }
     ensures none { IfNone result (list_any is_short ends.now ≡ false) }
@@ -145,14 +148,15 @@ fn early_end(ends: &[PolicyEnd]) -> Option<ThreadFault>
     None
 }
 
-// Whether a gate has held one of the policies.
+// Returns whether a gate has held one of the policies.
 fn has_held(ends: &[PolicyEnd]) -> bool
     ensures { result ≡ list_any is_held ends.now }
 {
     ends.iter().any(|end| matches!(end, PolicyEnd::Held(..)))
 }
 
-// The states and the readers of the ends, those of the last end first. All have reached the ring's total.
+// Returns the states and the readers of the ends, those of the last end first. `check` has found no fault, so all runs have
+// reached the ring's total.
 fn gather(
     mut ends: Vec<PolicyEnd>,
     mut states: Vec<State>,

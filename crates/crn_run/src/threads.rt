@@ -17,7 +17,7 @@ use std::sync::Wait;
 use std::thread;
 use std::thread::{Promise, PromisedHandle, Scope, Threads};
 
-// What a thread promises: the end of the job that it was given, under the gate as it was given.
+// What a thread promises: the end of its job, under the gate that it was given.
 #[derive(Drop)]
 struct EndsJob<G> {
     ring: Snapshot<Ring>,
@@ -59,14 +59,11 @@ fn start<'s, 'e: 's, 'g: 's, R: Wait + Sync, G: Gate + Send>(
         requires gate { G.refused gate.now ≡ false }
         ensures { IsDone G.refused G.asked scenario.entry.now ring.entry.now job gate.entry.now result }
     { job.run(rt, ring, scenario, gate) };
-    match scope.spawn_with(promise, work) {
-        Ok(child) => Ok(child),
-        Err(refused) => Err(ThreadFault::from(refused)),
-    }
+    Ok(scope.spawn_with(promise, work)?)
 }
 
-// Starts a thread for the last job, goes on with those before it, and then joins that thread. Where no job is left it
-// feeds the ring, and where a thread is refused it ends the ring as it is, and has an end of each thread that was started.
+// Starts a thread for the last job, does the same for the jobs before it, and then joins that thread. If no job is left it
+// feeds the ring. If a thread fails to start it ends the ring with nothing published, so each started thread ends too.
 fn start_from<'s, 'e: 's, 'g: 's, R: Threads + Wait + Sync, G: Gate + Send>(
     rt: &'e R,
     scope: &'s Scope<'s, &'e ()>,
@@ -110,9 +107,9 @@ fn start_from<'s, 'e: 's, 'g: 's, R: Threads + Wait + Sync, G: Gate + Send>(
     }
 }
 
-/// Runs each job on a thread of its own, under the gate of its policy, and feeds the ring on the thread that calls it.
-/// The jobs stand as on a stack; so do their ends. `ends` has the room for them. Where a thread is refused that is the
-/// answer, and the ring was ended with nothing published.
+/// Runs each job on a thread of its own, under the gate of its policy, and feeds the ring on the calling thread. The jobs are
+/// a stack, the first policy's last, and so are the ends that it returns. `ends` has the capacity for them. If a thread fails
+/// to start it fails, and the ring was ended with nothing published.
 pub(crate) fn run_jobs<'r, R: Threads + Wait + Sync, G: Gate + Send>(
     rt: &'r R,
     ring: &'r Ring,

@@ -1,4 +1,4 @@
-//! The run of one policy, on the thread that calls it.
+//! The run of one policy, on the calling thread.
 ghost use Rattle.std.specs.Prelude.{◌≡◌, ◌≢◌, ◌+◌, ◌<◌, ◌≤◌, true, false, not, length};
 ghost use Rattle.crn_stock.specs.Models.{IsPolicy, total};
 ghost use Rattle.crn_stock.specs.Draws.{next_block};
@@ -41,10 +41,12 @@ pub enum PolicyEnd {
     Held(State, LeftReader),
 }
 
-/// Takes the ring's blocks by batches of 16 at most, and applies each to the state of policy number `policy`, from 0 on in
-/// the scenario's order, up to the end of the ring. Before each block the gate is asked, and where it answers false the
-/// state stands before that block, also where later ones were taken. Where the ring is empty it tries again. It returns
-/// only if the end is marked or the gate answers false. But for what the gate does it takes no memory.
+/// Runs one policy: takes the ring's blocks in batches of at most 16, and applies each to the policy's state, up to the end
+/// of the ring. `policy` is the policy's number, from 0 in the scenario's order.
+///
+/// Before each block the gate is asked. If it answers false the state stands before that block, even if later blocks were
+/// taken. If the ring is empty it waits and tries again. It returns only if the end is marked or the gate answers false.
+/// It allocates nothing, unless the gate does.
 ///
 /// # Asks
 ///
@@ -90,7 +92,7 @@ pub fn run_policy<R: Wait, G: Gate>(
     unreachable!()
 }
 
-// The end of a run whose reader has seen the end of the ring after `published` blocks.
+// Returns the end of a run whose reader has seen the end of the ring before block `published`.
 fn ended(ring: &Ring, published: u64, state: State, reader: Reader) -> PolicyEnd
     ensures total { published ≡ (spec_of ring.now).id.total → result ≡ Reached state reader }
     ensures not_held { is_held result ≡ false }
@@ -107,8 +109,8 @@ fn ended(ring: &Ring, published: u64, state: State, reader: Reader) -> PolicyEnd
     }
 }
 
-// Applies the first `count` blocks, which are the state's next ones, each after the gate has passed it. Answers whether
-// it has passed them all; the state stands before the first that it has not.
+// Applies the first `count` blocks, which are the state's next ones, each after the gate has passed it. Returns whether the
+// gate has passed them all. If not, the state stands before the first that it has not passed.
 fn apply_all<G: Gate>(
     scenario: &Scenario,
     rules: &Policy,
@@ -139,7 +141,7 @@ fn apply_all<G: Gate>(
     true
 }
 
-// Applies the next block to the state of policy number `policy`, for which the gate has given its leave.
+// Applies the next block, for which the gate has given its leave, to the state of policy number `policy`.
 #[inline(always)]
 fn apply(
     scenario: &Scenario,

@@ -6,6 +6,7 @@ use Rattle.std.proofs.lemmas.Int.{ints}
 use Rattle.std.proofs.lemmas.List.Elements.{All-cons, All-nil}
 use Rattle.std.proofs.lemmas.List.Sums.{sum_by-cons}
 use Rattle.std.specs.Prelude.{int_lt, is_some}
+use Rattle.crn_draw.specs.declared.weights.TheConstants.{TOTAL_LIMIT}
 use Rattle.toml.specs.Data.{Items, no_items, item, Members, get_member, as_integer}
 use Rattle.crn_draw.specs.Faults.{least_weights_fault, rises}
 use Rattle.crn_scenario.specs.Tree.{array_at, count_items, are_integers, integers_of, kept}
@@ -54,13 +55,13 @@ first low high (negsuc n) zs h = absurd (false≢true h)
 within_one : (low high n : ℕ) → low ≤ n → n ≤ high → is_within (pos low) (pos high) (Some (pos n)) ≡ true
 within_one low high n l h = grind (arith, ints, nat_tests)
 
-pub widened : (low high : ℕ) (zs : List ℤ) → high ≤ 65536 → are_within (pos low) (pos high) zs ≡ true → are_within (pos 0) (pos 65536) zs ≡ true
+pub widened : (low high : ℕ) (zs : List ℤ) → high ≤ TOTAL_LIMIT → are_within (pos low) (pos high) zs ≡ true → are_within (pos 0) (pos TOTAL_LIMIT) zs ≡ true
 widened low high [] le h = refl
 widened low high (z ∷ zs) le h =
     let f = first low high z zs h in
     let n : ℕ = f.value in
     let top : n ≤ high = f.at_most in
-    let here : is_within (pos 0) (pos 65536) (Some z) ≡ true = subst (λ (x : ℤ). is_within (pos 0) (pos 65536) (Some x) ≡ true) (sym f.is) (within_one 0 65536 n (omega arith) (omega arith)) in
+    let here : is_within (pos 0) (pos TOTAL_LIMIT) (Some z) ≡ true = subst (λ (x : ℤ). is_within (pos 0) (pos TOTAL_LIMIT) (Some x) ≡ true) (sym f.is) (within_one 0 TOTAL_LIMIT n (omega arith) (omega arith)) in
     and_true _ _ here (widened low high zs le f.rest)
 
 pub all_high : (low high : ℕ) (zs : List ℤ) → are_within (pos low) (pos high) zs ≡ true → All (λ v. v ≤ high) (map nat_abs zs)
@@ -109,15 +110,15 @@ lengths_agree o p vs ws e f h =
 pub order_kept : (o : Option Items) (vs : Items) → o ≡ Some vs → have_other_order o ≡ false → rise_above None (integers_of vs) ≡ true
 order_kept o vs e h = passed (rise_above None (integers_of vs)) (subst (λ (x : Option Items). have_other_order x ≡ false) e h)
 
-pub total_kept : (o : Option Items) (ws : Items) → o ≡ Some ws → have_other_total o ≡ false → is_within (pos 1) (pos 65536) (Some (total_of (integers_of ws))) ≡ true
-total_kept o ws e h = passed (is_within (pos 1) (pos 65536) (Some (total_of (integers_of ws)))) (subst (λ (x : Option Items). have_other_total x ≡ false) e h)
+pub total_kept : (o : Option Items) (ws : Items) → o ≡ Some ws → have_other_total o ≡ false → is_within (pos 1) (pos TOTAL_LIMIT) (Some (total_of (integers_of ws))) ≡ true
+total_kept o ws e h = passed (is_within (pos 1) (pos TOTAL_LIMIT) (Some (total_of (integers_of ws)))) (subst (λ (x : Option Items). have_other_total x ≡ false) e h)
 
-none_of : (vs ws : List ℕ) → (length vs == 0) ≡ false → length vs ≡ length ws → rises vs ≡ true → 1 ≤ sum ws → sum ws ≤ 65536 → least_weights_fault vs ws ≡ None
+none_of : (vs ws : List ℕ) → (length vs == 0) ≡ false → length vs ≡ length ws → rises vs ≡ true → 1 ≤ sum ws → sum ws ≤ TOTAL_LIMIT → least_weights_fault vs ws ≡ None
 none_of vs ws some same rise low high =
     let e : nat_eq (length vs) 0 ≡ false = some in
     let f : nat_eq (length vs) (length ws) ≡ true = grind (arith, nat_tests) in
     let g : nat_lt 0 (sum ws) ≡ true = grind (arith, nat_tests) in
-    let k : nat_le (sum ws) 65536 ≡ true = grind (arith, nat_tests) in
+    let k : nat_le (sum ws) TOTAL_LIMIT ≡ true = grind (arith, nat_tests) in
     rw (e, f, rise, g, k) refl
 
 -- ---- a table of draws
@@ -125,25 +126,25 @@ none_of vs ws some same rise low high =
 pub values_kept : (low high : ℕ) (t : Members) → Kept (fields.draws low high) t → IsList low high (array_at (codes "values") t)
 values_kept low high t h = list_kept low high (get_member (codes "values") t) (kept_at (fields.draws low high) t 0 nowhere h (lit< tt))
 
-pub weights_kept : (low high : ℕ) (t : Members) → Kept (fields.draws low high) t → IsList 0 65536 (array_at (codes "weights") t)
-weights_kept low high t h = list_kept 0 65536 (get_member (codes "weights") t) (kept_at (fields.draws low high) t 1 nowhere h (lit< tt))
+pub weights_kept : (low high : ℕ) (t : Members) → Kept (fields.draws low high) t → IsList 0 TOTAL_LIMIT (array_at (codes "weights") t)
+weights_kept low high t h = list_kept 0 TOTAL_LIMIT (get_member (codes "weights") t) (kept_at (fields.draws low high) t 1 nowhere h (lit< tt))
 
-fault_free : (low high : ℕ) (vs ws : Items) → are_integers vs ≡ true → are_integers ws ≡ true → (count_items vs == 0) ≡ false → count_items vs ≡ count_items ws → are_within (pos low) (pos high) (integers_of vs) ≡ true → are_within (pos 0) (pos 65536) (integers_of ws) ≡ true → rise_above None (integers_of vs) ≡ true → is_within (pos 1) (pos 65536) (Some (total_of (integers_of ws))) ≡ true → least_weights_fault (map nat_abs (integers_of vs)) (map nat_abs (integers_of ws)) ≡ None
+fault_free : (low high : ℕ) (vs ws : Items) → are_integers vs ≡ true → are_integers ws ≡ true → (count_items vs == 0) ≡ false → count_items vs ≡ count_items ws → are_within (pos low) (pos high) (integers_of vs) ≡ true → are_within (pos 0) (pos TOTAL_LIMIT) (integers_of ws) ≡ true → rise_above None (integers_of vs) ≡ true → is_within (pos 1) (pos TOTAL_LIMIT) (Some (total_of (integers_of ws))) ≡ true → least_weights_fault (map nat_abs (integers_of vs)) (map nat_abs (integers_of ws)) ≡ None
 fault_free low high vs ws iv iw some same wv ww order total =
     let n = length-map (integers_of vs) in
     let m = length-map (integers_of ws) in
     let long : length (map nat_abs (integers_of vs)) ≡ count_items vs = n ∙ length_integers vs iv in
     let alike : length (map nat_abs (integers_of vs)) ≡ length (map nat_abs (integers_of ws)) = long ∙ same ∙ sym (m ∙ length_integers ws iw) in
     let filled : (length (map nat_abs (integers_of vs)) == 0) ≡ false = rw long some in
-    let summed = subst (λ (x : ℤ). is_within (pos 1) (pos 65536) (Some x) ≡ true) (total-sum 0 65536 (integers_of ws) ww) total in
-    let range = within_parts 1 65536 (sum (map nat_abs (integers_of ws))) summed in
+    let summed = subst (λ (x : ℤ). is_within (pos 1) (pos TOTAL_LIMIT) (Some x) ≡ true) (total-sum 0 TOTAL_LIMIT (integers_of ws) ww) total in
+    let range = within_parts 1 TOTAL_LIMIT (sum (map nat_abs (integers_of ws))) summed in
     none_of (map nat_abs (integers_of vs)) (map nat_abs (integers_of ws)) filled alike (do_rise low high (integers_of vs) wv order) range.0 range.1
 
 -- the values at a key, once it is known what stands there
 abbrev list_at : Option Items → List ℕ
 list_at o = map nat_abs (integers_in o)
 
-pub draws : (low high : ℕ) (t : Members) → high ≤ 65536 → Kept (fields.draws low high) t → has_other_lengths_in (Some t) ≡ false → has_other_order_in (Some t) ≡ false → has_other_total_in (Some t) ≡ false → AreDraws (Some t)
+pub draws : (low high : ℕ) (t : Members) → high ≤ TOTAL_LIMIT → Kept (fields.draws low high) t → has_other_lengths_in (Some t) ≡ false → has_other_order_in (Some t) ≡ false → has_other_total_in (Some t) ≡ false → AreDraws (Some t)
 draws low high t le h lengths order total =
     let v = values_kept low high t h in
     let w = weights_kept low high t h in
@@ -152,8 +153,8 @@ draws low high t le h lengths order total =
     let summed = total_kept (array_at (codes "weights") t) w.items w.is total in
     let free = fault_free low high v.items w.items v.integers w.integers v.some same v.within w.within rise summed in
     record {
-      values = subst (λ (o : Option Items). are_within (pos 0) (pos 65536) (integers_in o) ≡ true) (sym v.is) (widened low high (integers_of v.items) le v.within);
-      weights = subst (λ (o : Option Items). are_within (pos 0) (pos 65536) (integers_in o) ≡ true) (sym w.is) w.within;
+      values = subst (λ (o : Option Items). are_within (pos 0) (pos TOTAL_LIMIT) (integers_in o) ≡ true) (sym v.is) (widened low high (integers_of v.items) le v.within);
+      weights = subst (λ (o : Option Items). are_within (pos 0) (pos TOTAL_LIMIT) (integers_in o) ≡ true) (sym w.is) w.within;
       no_fault = subst (λ (o : Option Items). least_weights_fault (list_at o) (list_at (array_at (codes "weights") t)) ≡ None) (sym v.is) (subst (λ (o : Option Items). least_weights_fault (list_at (Some v.items)) (list_at o) ≡ None) (sym w.is) free);
     }
 

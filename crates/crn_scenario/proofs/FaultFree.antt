@@ -1,5 +1,5 @@
 -- A tree that says a scenario, key by key, has no fault.
-use Rattle.std.proofs.Common.{◌≡◌, ◌≢◌, ℕ, zero, suc, ◌^◌, ◌<◌, ◌≤◌, Bool, true, false, not, ◌&&◌, ◌||◌, ◌==◌, List, [], ◌∷◌, ◌++◌, ◌⊎◌, inl, inr, length, map, sum, All, AllPairs, Option, Some, None, codes, nat_le, refl, sym, ap, subst, ◌∙◌, arith, ℤ, pos}
+use Rattle.std.proofs.Common.{◌≡◌, ◌≢◌, ℕ, suc, ◌<◌, ◌≤◌, Bool, true, false, not, ◌&&◌, ◌||◌, ◌==◌, List, [], ◌∷◌, ◌++◌, ◌⊎◌, inl, inr, length, map, sum, All, AllPairs, Option, Some, None, codes, nat_le, refl, sym, ap, subst, ◌∙◌, arith, ℤ, pos}
 use Rattle.std.proofs.lemmas.Bool.{false≢true}
 use Rattle.std.proofs.lemmas.Bool.Decides.{nat_tests}
 use Rattle.std.proofs.lemmas.Int.{ints}
@@ -8,11 +8,15 @@ use Rattle.std.proofs.lemmas.List.Kept.{AllPairs-cons}
 use Rattle.std.proofs.lemmas.List.Sums.{list_all-from_AllPass}
 use Rattle.std.specs.Prelude.{⊤, option_and_then, int_le}
 use Rattle.std.specs.List.{list_all}
+use Rattle.crn_draw.specs.declared.weights.TheConstants.{TOTAL_LIMIT}
+use Rattle.crn_limits.specs.declared.TheConstants.{PERIOD_LIMIT, POLICY_LIMIT, REPLICATION_LIMIT}
+use Rattle.crn_limits.specs.Limits.{IsRingSize}
+use Rattle.crn_stock.specs.declared.limits.TheConstants.{ITEM_LIMIT, LEAD_LIMIT, RATE_LIMIT, SETUP_LIMIT}
 use Rattle.toml.specs.Data.{Data, string, integer, table, Items, Members, get_member, as_integer, as_str, as_array, as_table}
 use Rattle.crn_spelling.specs.Names.{is_name}
 use Rattle.crn_spelling.specs.Hex.{is_hex_word}
 use Rattle.crn_scenario.specs.Tree.{integer_at, text_at, array_at, table_at, count_items, integers_of, texts_of}
-use Rattle.crn_scenario.specs.Fields.{Entry, keys_of, number, keeps, keeps_at, keeps_at_all, is_within, is_list_within, are_four_words, are_within}
+use Rattle.crn_scenario.specs.Fields.{Entry, keys_of, number, greatest_level, keeps, keeps_at, keeps_at_all, is_within, is_list_within, are_four_words, are_within}
 use Rattle.crn_scenario.specs.Fields as fields
 use Rattle.crn_scenario.specs.declared.fields.Kind.{Kind}
 use Rattle.crn_scenario.specs.declared.fields.Kind.TheVariants as kind
@@ -107,13 +111,13 @@ numbers_stand low high ns o e some inside =
 
 costs_stand : (o : Option Data) (h : AreRates o) → Stand fields.costs h.rates
 costs_stand o h = (
-  number_stands 0 100000000 _ h.setup,
+  number_stands 0 SETUP_LIMIT _ h.setup,
   (
-    number_stands 0 10000 _ h.unit,
+    number_stands 0 RATE_LIMIT _ h.unit,
     (
-      number_stands 0 10000 _ h.holding,
+      number_stands 0 RATE_LIMIT _ h.holding,
       (
-        number_stands 0 10000 _ h.backlog,
+        number_stands 0 RATE_LIMIT _ h.backlog,
         tt,
       ),
     ),
@@ -126,7 +130,7 @@ draws_stand low high o h =
     let count : length h.weights ≡ length h.values = h.count in (
       numbers_stand low high h.values _ h.values_are some (record { at_least = h.at_least; at_most = h.at_most }),
       (
-        numbers_stand 0 65536 h.weights _ h.weights_are (omega (arith, some, count)) (record { at_least = λ i d lt. omega arith; at_most = h.weights_high }),
+        numbers_stand 0 TOTAL_LIMIT h.weights _ h.weights_are (omega (arith, some, count)) (record { at_least = λ i d lt. omega arith; at_most = h.weights_high }),
         tt,
       ),
     )
@@ -141,7 +145,7 @@ record AreDrawable (o : Option Members) : Type 0 where
   total : has_other_total_in o ≡ false
 
 drawable_items : (vs ws : List ℕ) (t : Members) → get_member (codes "values") t ≡ Some (numbers vs) → get_member (codes "weights") t ≡ Some (numbers ws) → length ws ≡ length vs
-    → AllPairs (λ v later. v < later) vs → 1 ≤ sum ws → sum ws ≤ 65536 → AreDrawable (Some t)
+    → AllPairs (λ v later. v < later) vs → 1 ≤ sum ws → sum ws ≤ TOTAL_LIMIT → AreDrawable (Some t)
 drawable_items vs ws t vs_are ws_are count rise low high =
     let values : array_at (codes "values") t ≡ Some (items_of (map (λ n. integer (pos n)) vs)) = ap (option_and_then as_array) vs_are in
     let weights : array_at (codes "weights") t ≡ Some (items_of (map (λ n. integer (pos n)) ws)) = ap (option_and_then as_array) ws_are in
@@ -149,8 +153,8 @@ drawable_items vs ws t vs_are ws_are count rise low high =
     let long_w = count-items_of (λ (n : ℕ). integer (pos n)) ws in
     let rising : rise_above None (integers_of (items_of (map (λ n. integer (pos n)) vs))) ≡ true = subst (λ (zs : List ℤ). rise_above None zs ≡ true) (sym (their_numbers vs)) ((rises vs).1 rise) in
     let sums : total_of (integers_of (items_of (map (λ n. integer (pos n)) ws))) ≡ pos (sum ws) = ap total_of (their_numbers ws) ∙ total-numbers ws in
-    let range : is_within (pos 1) (pos 65536) (Some (total_of (integers_of (items_of (map (λ n. integer (pos n)) ws))))) ≡ true =
-    subst (λ (z : ℤ). is_within (pos 1) (pos 65536) (Some z) ≡ true) (sym sums) ((within 1 65536 (sum ws)).1 (low, high)) in
+    let range : is_within (pos 1) (pos TOTAL_LIMIT) (Some (total_of (integers_of (items_of (map (λ n. integer (pos n)) ws))))) ≡ true =
+    subst (λ (z : ℤ). is_within (pos 1) (pos TOTAL_LIMIT) (Some z) ≡ true) (sym sums) ((within 1 TOTAL_LIMIT (sum ws)).1 (low, high)) in
     record {
       lengths =
           subst (λ (o : Option Items). have_other_lengths o (array_at (codes "weights") t) ≡ false) (sym values)
@@ -170,12 +174,12 @@ drawable low high o h =
 policy_stands : (t : Members) → IsPolicyTable t → Stand fields.policy t
 policy_stands t h =
     let order : h.low ≤ h.high = h.order in
-    let top : h.high ≤ 1000000 = h.top in (
+    let top : h.high ≤ greatest_level = h.top in (
       text_stands h.name _ h.name_is,
       (
-        number_stands 0 1000000 _ (record { number = h.low; is = h.low_is; at_least = omega arith; at_most = omega (arith, order, top) }),
+        number_stands 0 greatest_level _ (record { number = h.low; is = h.low_is; at_least = omega arith; at_most = omega (arith, order, top) }),
         (
-          number_stands 0 1000000 _ (record { number = h.high; is = h.high_is; at_least = omega arith; at_most = top }),
+          number_stands 0 greatest_level _ (record { number = h.high; is = h.high_is; at_least = omega arith; at_most = top }),
           tt,
         ),
       ),
@@ -233,11 +237,11 @@ top_stands ms z more h version rest = (
   (
     words_stand _ h.key,
     (
-      number_stands 1 1024 _ h.periods,
+      number_stands 1 PERIOD_LIMIT _ h.periods,
       (
-        number_stands 1 256 _ h.replications,
+        number_stands 1 REPLICATION_LIMIT _ h.replications,
         (
-          number_stands 0 1000000 _ h.initial,
+          number_stands 0 greatest_level _ h.initial,
           (
             integer_stands _ _ h.ring.is,
             (
@@ -301,8 +305,8 @@ of_second ms h v =
       is = is;
       one = inr is;
       top = λ r. keeps_all r (keys_of 2 fields.top_table) ms v.keys (top_stands ms (pos 2) (fields.entry_since 2 (codes "returns") kind.Table ∷ []) h v.version (table_stands _ _ v.returns.are, tt));
-      returns = λ r. keeps_inner r fields.returns v.returns.draws (get_member (codes "returns") ms) v.returns.are v.returns.keys (draws_stand 0 10000 _ v.returns);
-      drawn = drawable 0 10000 _ v.returns;
+      returns = λ r. keeps_inner r fields.returns v.returns.draws (get_member (codes "returns") ms) v.returns.are v.returns.keys (draws_stand 0 ITEM_LIMIT _ v.returns);
+      drawn = drawable 0 ITEM_LIMIT _ v.returns;
     }
 
 versions : (ms : Members) → IsSound ms → IsFirst ms ⊎ IsSecond ms → HasVersion ms
@@ -332,8 +336,8 @@ inner r ms h =
     (and_true _ _
     (and_true _ _
     (same_in r _ _ _ keys.costs (keeps_inner r fields.costs h.costs.rates (get_member (codes "costs") ms) h.costs.are h.costs.keys (costs_stand _ h.costs)))
-    (same_in r _ _ _ keys.demand (keeps_inner r fields.demand h.demand.draws (get_member (codes "demand") ms) h.demand.are h.demand.keys (draws_stand 0 10000 _ h.demand))))
-    (same_in r _ _ _ keys.lead (keeps_inner r fields.lead h.lead.draws (get_member (codes "lead") ms) h.lead.are h.lead.keys (draws_stand 1 32 _ h.lead))))
+    (same_in r _ _ _ keys.demand (keeps_inner r fields.demand h.demand.draws (get_member (codes "demand") ms) h.demand.are h.demand.keys (draws_stand 0 ITEM_LIMIT _ h.demand))))
+    (same_in r _ _ _ keys.lead (keeps_inner r fields.lead h.lead.draws (get_member (codes "lead") ms) h.lead.are h.lead.keys (draws_stand 1 LEAD_LIMIT _ h.lead))))
     (same_in r _ _ _ keys.returns (v.returns r))
 
 keep : (r : Rule) (ms : Members) → IsSound ms → all_keep r ms ≡ true
@@ -375,15 +379,15 @@ none_of_three a b c e f g = or_false _ _ e (or_false _ _ f (or_false _ _ g refl)
 
 lengths : (ms : Members) → IsSound ms → has_other_lengths ms ≡ false
 unfolding has_other_lengths
-lengths ms h = none_of_three _ _ _ (drawable 0 10000 _ h.demand).lengths (drawable 1 32 _ h.lead).lengths (has_version ms h).drawn.lengths
+lengths ms h = none_of_three _ _ _ (drawable 0 ITEM_LIMIT _ h.demand).lengths (drawable 1 LEAD_LIMIT _ h.lead).lengths (has_version ms h).drawn.lengths
 
 order : (ms : Members) → IsSound ms → has_values_out_of_order ms ≡ false
 unfolding has_values_out_of_order
-order ms h = none_of_three _ _ _ (drawable 0 10000 _ h.demand).order (drawable 1 32 _ h.lead).order (has_version ms h).drawn.order
+order ms h = none_of_three _ _ _ (drawable 0 ITEM_LIMIT _ h.demand).order (drawable 1 LEAD_LIMIT _ h.lead).order (has_version ms h).drawn.order
 
 weights : (ms : Members) → IsSound ms → has_weights_out_of_range ms ≡ false
 unfolding has_weights_out_of_range
-weights ms h = none_of_three _ _ _ (drawable 0 10000 _ h.demand).total (drawable 1 32 _ h.lead).total (has_version ms h).drawn.total
+weights ms h = none_of_three _ _ _ (drawable 0 ITEM_LIMIT _ h.demand).total (drawable 1 LEAD_LIMIT _ h.lead).total (has_version ms h).drawn.total
 
 low_above_high : (ms : Members) → IsSound ms → has_low_above_high ms ≡ false
 unfolding has_low_above_high
@@ -399,27 +403,16 @@ bad_name ms h =
     not_true _ (subst (λ (o : Option Items). are_good_names (names_at o) ≡ true) (sym (policy_items ms h))
     (subst (λ (ns : List (List ℕ)). are_good_names ns ≡ true) (sym (names_are ts h.policy.each)) good))
 
-size : (k : ℕ) → k ≤ 10 → is_ring_size (pos (2 ^ k)) ≡ true
+size : (slots : ℕ) → IsRingSize slots → is_ring_size (pos slots) ≡ true
 unfolding is_ring_size
-size zero h = refl
-size (suc zero) h = refl
-size (suc (suc zero)) h = refl
-size (suc (suc (suc zero))) h = refl
-size (suc (suc (suc (suc zero)))) h = refl
-size (suc (suc (suc (suc (suc zero))))) h = refl
-size (suc (suc (suc (suc (suc (suc zero)))))) h = refl
-size (suc (suc (suc (suc (suc (suc (suc zero))))))) h = refl
-size (suc (suc (suc (suc (suc (suc (suc (suc zero)))))))) h = refl
-size (suc (suc (suc (suc (suc (suc (suc (suc (suc zero))))))))) h = refl
-size (suc (suc (suc (suc (suc (suc (suc (suc (suc (suc zero)))))))))) h = refl
-size (suc (suc (suc (suc (suc (suc (suc (suc (suc (suc (suc k))))))))))) h = absurd (omega arith)
+size slots h = let few = h.1 in and_true _ _ h.0 (grind (arith, nat_tests, few))
 
 other_ring : (ms : Members) → IsSound ms → has_other_ring ms ≡ false
 unfolding has_other_ring
 other_ring ms h =
-    subst (λ (o : Option Data). is_other_ring (option_and_then as_integer o) ≡ false) (sym h.ring.is) (not_true _ (size h.ring.exponent h.ring.high))
+    subst (λ (o : Option Data). is_other_ring (option_and_then as_integer o) ≡ false) (sym h.ring.is) (not_true _ (size h.ring.slots h.ring.size))
 
-count : (n : ℕ) → 1 ≤ n → n ≤ 16 → (nat_le 1 n && nat_le n 16) ≡ true
+count : (n : ℕ) → 1 ≤ n → n ≤ POLICY_LIMIT → (nat_le 1 n && nat_le n POLICY_LIMIT) ≡ true
 count n low high = grind (arith, nat_tests, low, high)
 
 other_count : (ms : Members) → IsSound ms → has_other_policy_count ms ≡ false
@@ -428,7 +421,7 @@ other_count ms h =
     let ts = h.policy.policies in
     let right = count (length ts) h.policy.some h.policy.few in
     subst (λ (o : Option Items). is_other_count o ≡ false) (sym (policy_items ms h))
-    (not_true _ (subst (λ (n : ℕ). (nat_le 1 n && nat_le n 16) ≡ true) (sym (count-items_of (λ (t : Members). table t) ts)) right))
+    (not_true _ (subst (λ (n : ℕ). (nat_le 1 n && nat_le n POLICY_LIMIT) ≡ true) (sym (count-items_of (λ (t : Members). table t) ts)) right))
 
 -- ---- none of them
 

@@ -5,6 +5,7 @@ use Rattle.std.proofs.lemmas.Bool.Decides.{nat_tests, Decides-like, Decides-and,
 use Rattle.std.proofs.lemmas.List.Elements.{Contains-append_left, Contains-append_right, Contains-append_cases}
 use Rattle.std.specs.Prelude.{Decides}
 use Rattle.std.specs.List.{list_all}
+use Rattle.crn_spelling.specs.declared.names.TheConstants.{NAME_LIMIT}
 use Rattle.crn_spelling.specs.Names.{is_name_byte, is_name}
 use Rattle.crn_spelling.specs.Hex.{is_hex_digit, is_hex_word}
 use Rattle.crn_scenario.specs.Sound.{IsWord, IsName}
@@ -85,6 +86,6 @@ name text =
     Decides-like (is_name text)
     (λ h. record { some = h.0.0; few = h.0.1; glyphs = h.1 })
     (λ h. ((h.some, h.few), h.glyphs))
-    (Decides-and (nat_le 1 (length text) && nat_le (length text) 16) (list_all is_name_byte text)
-    (Decides-and (nat_le 1 (length text)) (nat_le (length text) 16) (Decides-le 1 (length text)) (Decides-le (length text) 16))
+    (Decides-and (nat_le 1 (length text) && nat_le (length text) NAME_LIMIT) (list_all is_name_byte text)
+    (Decides-and (nat_le 1 (length text)) (nat_le (length text) NAME_LIMIT) (Decides-le 1 (length text)) (Decides-le (length text) NAME_LIMIT))
     (Decides-by_and is_name_byte (Contains (codes "ABCDEFGHIJKLMNOPQRSTUVWXYZabcdefghijklmnopqrstuvwxyz0123456789_-")) (list_all is_name_byte) glyph refl (λ _ _. refl) text))

@@ -1,5 +1,5 @@
 -- The policies of a tree without a fault are those of a scenario.
-use Rattle.std.proofs.Common.{◌≡◌, ◌≢◌, ℕ, ◌+◌, ◌^◌, ◌≤◌, Bool, true, false, not, ◌&&◌, ◌||◌, List, [], ◌∷◌, length, map, subst, Option, Some, None, refl, sym, ap, ◌∙◌, arith, lit<, lit≤, ℤ, pos, negsuc, codes, nat_abs, All, nat_le}
+use Rattle.std.proofs.Common.{◌≡◌, ◌≢◌, ℕ, ◌+◌, ◌≤◌, true, false, not, ◌&&◌, List, [], ◌∷◌, length, map, subst, Option, Some, None, refl, sym, ap, ◌∙◌, arith, lit<, ℤ, pos, negsuc, codes, nat_abs, All, nat_le}
 use Rattle.std.proofs.lemmas.Bool.{false≢true, and_parts}
 use Rattle.std.proofs.lemmas.Bool.Decides.{nat_tests}
 use Rattle.std.proofs.lemmas.Int.{ints}
@@ -7,15 +7,17 @@ use Rattle.std.proofs.lemmas.List.Elements.{All-cons, All-nil}
 use Rattle.std.proofs.lemmas.List.Kept.{AllPairs-cons}
 use Rattle.std.proofs.lemmas.Slice.Eq.{bytes_eq-Decides}
 use Rattle.std.specs.Prelude.{◌≤ℤ◌, int_le, option_and_then, is_some}
+use Rattle.std.specs.Int.{is_power_of_two}
 use Rattle.std.specs.List.{AllPairs, list_all}
 use Rattle.std.specs.Str.{bytes_eq}
+use Rattle.crn_limits.specs.declared.TheConstants.{POLICY_LIMIT, SLOT_LIMIT}
+use Rattle.crn_limits.specs.Limits.{IsRingSize}
 use Rattle.toml.specs.Data.{Items, no_items, item, Members, get_member, as_table}
-use Rattle.crn_stock.specs.declared.rules.Policy.{Policy}
-use Rattle.crn_stock.specs.Models.{IsPolicy, ModelParts}
-use Rattle.crn_stock.specs.Scenarios.{AreForScenario, IsScenarioRingSize, ScenarioParts}
+use Rattle.crn_stock.specs.declared.policy.Policy.{Policy}
+use Rattle.crn_stock.specs.Models.{IsPolicy, ModelParts, AreForScenario, ScenarioParts}
 use Rattle.crn_spelling.specs.Names.{is_name}
 use Rattle.crn_scenario.specs.Tree.{integer_at, natural, text_at, array_at, tables_of, count_items, are_tables, kept}
-use Rattle.crn_scenario.specs.Fields.{Entry, entry, keeps, keeps_at_all, is_within}
+use Rattle.crn_scenario.specs.Fields.{Entry, entry, keeps, keeps_at_all, greatest_level}
 use Rattle.crn_scenario.specs.Fields as fields
 use Rattle.crn_scenario.specs.declared.fields.Rule.TheVariants as rule
 use Rattle.crn_scenario.specs.Faults.{HasNone, policies_in, policies_at, has_levels_in_order, are_in_order, has_low_above_high, names_in, names_at, is_among, all_differ, are_good_names, has_bad_name, is_ring_size, is_other_ring, has_other_ring, is_other_count, has_other_policy_count}
@@ -31,7 +33,7 @@ pub record IsGood (t : Members) : Type 0 where
   pub kept : Kept fields.policy t
   pub levels : has_levels_in_order t ≡ true
 
-levels_in_order : (o p : Option ℤ) → IsNumber 0 1000000 o → IsNumber 0 1000000 p → are_in_order o p ≡ true → integer o ≤ℤ integer p
+levels_in_order : (o p : Option ℤ) → IsNumber 0 greatest_level o → IsNumber 0 greatest_level p → are_in_order o p ≡ true → integer o ≤ℤ integer p
 levels_in_order o p f g h =
     let a : ℕ = f.value in
     let b : ℕ = g.value in
@@ -39,20 +41,20 @@ levels_in_order o p f g h =
     let l : pos a ≤ℤ pos b = grind (arith, ints, nat_tests, k) in
     subst (λ (x : Option ℤ). integer o ≤ℤ integer x) (sym g.is) (subst (λ (x : Option ℤ). integer x ≤ℤ pos b) (sym f.is) l)
 
-low_number : (t : Members) → Kept fields.policy t → IsNumber 0 1000000 (integer_at (codes "s") t)
-low_number t k = number_kept 0 1000000 (get_member (codes "s") t) (kept_at fields.policy t 1 nowhere k (lit< tt))
+low_number : (t : Members) → Kept fields.policy t → IsNumber 0 greatest_level (integer_at (codes "s") t)
+low_number t k = number_kept 0 greatest_level (get_member (codes "s") t) (kept_at fields.policy t 1 nowhere k (lit< tt))
 
-high_number : (t : Members) → Kept fields.policy t → IsNumber 0 1000000 (integer_at (codes "S") t)
-high_number t k = number_kept 0 1000000 (get_member (codes "S") t) (kept_at fields.policy t 2 nowhere k (lit< tt))
+high_number : (t : Members) → Kept fields.policy t → IsNumber 0 greatest_level (integer_at (codes "S") t)
+high_number t k = number_kept 0 greatest_level (get_member (codes "S") t) (kept_at fields.policy t 2 nowhere k (lit< tt))
 
 policy_fits : (t : Members) → IsGood t → IsPolicy (policy_of t)
 policy_fits t g =
     let low = low_number t g.kept in
     let high = high_number t g.kept in
     record {
-      low = from_low 0 1000000 _ _ (taken 0 1000000 (integer_at (codes "s") t) low);
+      low = from_low 0 greatest_level _ _ (taken 0 greatest_level (integer_at (codes "s") t) low);
       order = levels_in_order (integer_at (codes "s") t) (integer_at (codes "S") t) low high g.levels;
-      high = to_high 0 1000000 _ _ (taken 0 1000000 (integer_at (codes "S") t) high);
+      high = to_high 0 greatest_level _ _ (taken 0 greatest_level (integer_at (codes "S") t) high);
     }
 
 -- ---- all of them
@@ -137,47 +139,18 @@ length-policies (t ∷ ts) = omega (arith, length-policies ts)
 
 -- ---- the ring
 
-is_same : (n : ℕ) (z : ℤ) → is_within (pos n) (pos n) (Some z) ≡ true → z ≡ pos n
-is_same n (pos m) h =
-    let parts : (int_le (pos n) (pos m) ≡ true) × (int_le (pos m) (pos n) ≡ true) = and_parts _ _ h in
-    let a : int_le (pos n) (pos m) ≡ true = parts.0 in
-    let b : int_le (pos m) (pos n) ≡ true = parts.1 in
-    let l : n ≤ m = grind (arith, ints, nat_tests, a) in
-    let k : m ≤ n = grind (arith, ints, nat_tests, b) in
-    let e : m ≡ n = omega arith in
-    ap pos e
-is_same n (negsuc m) h = absurd (false≢true h)
-
-size_at : (e n : ℕ) → n ≡ 2 ^ e → e ≤ 10 → IsScenarioRingSize n
-size_at e n is le = record { exponent = e; high = le; is = is }
-
--- the sizes from 2 to the power e on, with as many exponents
-ring_one : (n e : ℕ) (z : ℤ) → n ≡ 2 ^ e → e ≤ 10 → is_within (pos n) (pos n) (Some z) ≡ true → IsScenarioRingSize (nat_abs z)
-ring_one n e z is le h = subst (λ (x : ℤ). IsScenarioRingSize (nat_abs x)) (sym (is_same n z h)) (size_at e n is le)
-
-either : (a b : Bool) {P : Type 0} → (a || b) ≡ true → (a ≡ true → P) → (b ≡ true → P) → P
-either true b h f g = f refl
-either false b h f g = g h
-
-pub ring_is : (z : ℤ) → is_ring_size z ≡ true → IsScenarioRingSize (nat_abs z)
+pub ring_is : (z : ℤ) → is_ring_size z ≡ true → IsRingSize (nat_abs z)
 unfolding is_ring_size
-ring_is z h =
-    either _ _ h (ring_one 1 0 z refl (lit≤ tt)) (λ h.
-    either _ _ h (ring_one 2 1 z refl (lit≤ tt)) (λ h.
-    either _ _ h (ring_one 4 2 z refl (lit≤ tt)) (λ h.
-    either _ _ h (ring_one 8 3 z refl (lit≤ tt)) (λ h.
-    either _ _ h (ring_one 16 4 z refl (lit≤ tt)) (λ h.
-    either _ _ h (ring_one 32 5 z refl (lit≤ tt)) (λ h.
-    either _ _ h (ring_one 64 6 z refl (lit≤ tt)) (λ h.
-    either _ _ h (ring_one 128 7 z refl (lit≤ tt)) (λ h.
-    either _ _ h (ring_one 256 8 z refl (lit≤ tt)) (λ h.
-    either _ _ h (ring_one 512 9 z refl (lit≤ tt)) (λ h.
-    either _ _ h (ring_one 1024 10 z refl (lit≤ tt)) (λ h. absurd (false≢true h))))))))))))
+ring_is (pos n) h =
+    let parts = and_parts (is_power_of_two n) (nat_le n SLOT_LIMIT) h in
+    let few : nat_le n SLOT_LIMIT ≡ true = parts.1 in
+    (parts.0, grind (arith, nat_tests, few))
+ring_is (negsuc n) h = absurd (false≢true h)
 
-ring_fits : (o : Option ℤ) → IsInteger o → is_other_ring o ≡ false → IsScenarioRingSize (natural o)
+ring_fits : (o : Option ℤ) → IsInteger o → is_other_ring o ≡ false → IsRingSize (natural o)
 ring_fits o i h =
     let k : is_ring_size i.value ≡ true = passed (is_ring_size i.value) (subst (λ (x : Option ℤ). is_other_ring x ≡ false) i.is h) in
-    subst (λ (x : Option ℤ). IsScenarioRingSize (natural x)) (sym i.is) (ring_is i.value k)
+    subst (λ (x : Option ℤ). IsRingSize (natural x)) (sym i.is) (ring_is i.value k)
 
 -- ---- a scenario's policies
 
@@ -204,19 +177,19 @@ all_good ms h = are_good (policies_at ms) (present ms h).policies (kinds ms h).p
 -- the conditions on the policies of an array
 record ArePolicies (ds : Items) : Type 0 where
   some : 1 ≤ length (map policy_of (tables_of ds))
-  few : length (map policy_of (tables_of ds)) ≤ 16
+  few : length (map policy_of (tables_of ds)) ≤ POLICY_LIMIT
   names : All (λ p. is_name p.name ≡ true) (map policy_of (tables_of ds))
   differ : AllPairs (λ p q. p.name ≢ q.name) (map policy_of (tables_of ds))
 
 are_policies : (ds : Items) → are_tables ds ≡ true → AreGood (tables_of ds) → are_good_names (names_in ds) ≡ true → is_other_count (Some ds) ≡ false → ArePolicies ds
 are_policies ds tables good names count =
     let n : length (map policy_of (tables_of ds)) ≡ count_items ds = length-policies (tables_of ds) ∙ count_tables ds tables in
-    let range : (nat_le 1 (count_items ds) && nat_le (count_items ds) 16) ≡ true = passed (nat_le 1 (count_items ds) && nat_le (count_items ds) 16) count in
-    let bounds = and_parts (nat_le 1 (count_items ds)) (nat_le (count_items ds) 16) range in
+    let range : (nat_le 1 (count_items ds) && nat_le (count_items ds) POLICY_LIMIT) ≡ true = passed (nat_le 1 (count_items ds) && nat_le (count_items ds) POLICY_LIMIT) count in
+    let bounds = and_parts (nat_le 1 (count_items ds)) (nat_le (count_items ds) POLICY_LIMIT) range in
     let low : nat_le 1 (count_items ds) ≡ true = bounds.0 in
-    let high : nat_le (count_items ds) 16 ≡ true = bounds.1 in
+    let high : nat_le (count_items ds) POLICY_LIMIT ≡ true = bounds.1 in
     let a : 1 ≤ count_items ds = grind (arith, nat_tests, low) in
-    let b : count_items ds ≤ 16 = grind (arith, nat_tests, high) in
+    let b : count_items ds ≤ POLICY_LIMIT = grind (arith, nat_tests, high) in
     let texts = subst (λ (x : List (List ℕ)). are_good_names x ≡ true) (names_are ds good) names in
     let parts = and_parts (list_all is_name (map name_in (tables_of ds))) (all_differ (map name_in (tables_of ds))) texts in
     record {

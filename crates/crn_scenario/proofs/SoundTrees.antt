@@ -8,12 +8,14 @@ use Rattle.std.proofs.lemmas.List.Elements.{All-cons, All-nil}
 use Rattle.std.proofs.lemmas.List.Sums.{AllPass-from_list_all}
 use Rattle.std.specs.Prelude.{option_and_then, int_le}
 use Rattle.std.specs.List.{list_all}
+use Rattle.crn_draw.specs.declared.weights.TheConstants.{TOTAL_LIMIT}
+use Rattle.crn_limits.specs.declared.TheConstants.{PERIOD_LIMIT, POLICY_LIMIT, REPLICATION_LIMIT}
+use Rattle.crn_stock.specs.declared.limits.TheConstants.{ITEM_LIMIT, LEAD_LIMIT, RATE_LIMIT, SETUP_LIMIT}
 use Rattle.toml.specs.Data.{Data, string, integer, float, boolean, datetime, array, table, Items, Members, get_member, as_integer, as_str, as_array, as_table}
-use Rattle.crn_stock.specs.Scenarios.{IsScenarioRingSize}
 use Rattle.crn_spelling.specs.Names.{is_name}
 use Rattle.crn_spelling.specs.Hex.{is_hex_word}
 use Rattle.crn_scenario.specs.Tree.{integer_at, array_at, table_at, integers_of, texts_of, tables_of, count_items}
-use Rattle.crn_scenario.specs.Fields.{Entry, keys_of, number, keeps, are_within}
+use Rattle.crn_scenario.specs.Fields.{Entry, keys_of, number, greatest_level, keeps, are_within}
 use Rattle.crn_scenario.specs.Fields as fields
 use Rattle.crn_scenario.specs.declared.fields.Kind.TheVariants as kind
 use Rattle.crn_scenario.specs.declared.fields.Rule.TheVariants as rule
@@ -98,20 +100,16 @@ words_at (Some (array ds)) k =
       each = λ i d lt. (word _).0 (AllPass-from_list_all is_hex_word (texts_of ds) parts.1 i d lt);
     }
 
-size_at : (z : ℤ) (n : ℕ) → z ≡ pos n → IsScenarioRingSize (nat_abs z) → (o : Option Data) → o ≡ Some (integer z) → IsSize o
-size_at z n e s o is = record { exponent = s.exponent; high = s.high; is = is ∙ ap (λ (w : ℤ). Some (integer w)) (e ∙ ap (λ (m : ℕ). pos m) (sym (ap nat_abs e) ∙ s.is)) }
-
--- a size is not below zero
-natural_size : (z : ℤ) → is_ring_size z ≡ true → z ≡ pos (nat_abs z)
+size_at : (z : ℤ) → is_ring_size z ≡ true → (o : Option Data) → o ≡ Some (integer z) → IsSize o
 unfolding is_ring_size
-natural_size (pos n) h = refl
-natural_size (negsuc n) h = absurd (false≢true h)
+size_at (pos n) h o is = record { slots = n; is = is; size = ring_is (pos n) h }
+size_at (negsuc n) h o is = absurd (false≢true h)
 
 ring : (ms : Members) → HasNone ms → IsSize (get_member (codes "ring") ms)
 ring ms h =
     let i = integer_kept (get_member (codes "ring") ms) (top_at ms 5 h (lit< tt) refl) in
     let ok : is_ring_size i.value ≡ true = passed (is_ring_size i.value) (subst (λ (x : Option ℤ). is_other_ring x ≡ false) i.is (ring_at ms h)) in
-    size_at i.value (nat_abs i.value) (natural_size i.value ok) (ring_is i.value ok) (get_member (codes "ring") ms) (integer_is (get_member (codes "ring") ms) i.value i.is)
+    size_at i.value ok (get_member (codes "ring") ms) (integer_is (get_member (codes "ring") ms) i.value i.is)
 
 -- ---- inner tables
 
@@ -125,10 +123,10 @@ rates ms h =
       rates = t.members;
       are = table_is (get_member (codes "costs") ms) t.members t.is;
       keys = no_other_in fields.costs (table_at (codes "costs") ms) t.members t.is (known ms h).costs;
-      setup = number_at 0 100000000 _ (kept_at fields.costs t.members 0 nowhere t.kept (lit< tt));
-      unit = number_at 0 10000 _ (kept_at fields.costs t.members 1 nowhere t.kept (lit< tt));
-      holding = number_at 0 10000 _ (kept_at fields.costs t.members 2 nowhere t.kept (lit< tt));
-      backlog = number_at 0 10000 _ (kept_at fields.costs t.members 3 nowhere t.kept (lit< tt));
+      setup = number_at 0 SETUP_LIMIT _ (kept_at fields.costs t.members 0 nowhere t.kept (lit< tt));
+      unit = number_at 0 RATE_LIMIT _ (kept_at fields.costs t.members 1 nowhere t.kept (lit< tt));
+      holding = number_at 0 RATE_LIMIT _ (kept_at fields.costs t.members 2 nowhere t.kept (lit< tt));
+      backlog = number_at 0 RATE_LIMIT _ (kept_at fields.costs t.members 3 nowhere t.kept (lit< tt));
     }
 
 -- the numbers of an array
@@ -157,12 +155,12 @@ weighted low high o t is keys k a b c =
     let v = values_kept low high t k in
     let w = weights_kept low high t k in
     let values = the_numbers low high v.items (numbers_back low high v.items v.integers v.within) v.within in
-    let weights = the_numbers 0 65536 w.items (numbers_back 0 65536 w.items w.integers w.within) w.within in
+    let weights = the_numbers 0 TOTAL_LIMIT w.items (numbers_back 0 TOTAL_LIMIT w.items w.integers w.within) w.within in
     let same : count_items v.items ≡ count_items w.items = lengths_agree (array_at (codes "values") t) (array_at (codes "weights") t) v.items w.items v.is w.is a in
     let rise : rise_above None (integers_of v.items) ≡ true = order_kept (array_at (codes "values") t) v.items v.is b in
     let total = total_kept (array_at (codes "weights") t) w.items w.is c in
     let sums : total_of (integers_of w.items) ≡ pos (sum weights.list) = ap total_of weights.integers ∙ total-numbers weights.list in
-    let bounds = within_parts 1 65536 (sum weights.list) (subst (λ (z : ℤ). fields.is_within (pos 1) (pos 65536) (Some z) ≡ true) sums total) in
+    let bounds = within_parts 1 TOTAL_LIMIT (sum weights.list) (subst (λ (z : ℤ). fields.is_within (pos 1) (pos TOTAL_LIMIT) (Some z) ≡ true) sums total) in
     let filled : (count_items v.items == 0) ≡ false = v.some in
     let some : 1 ≤ count_items v.items = grind (arith, nat_tests, filled) in
     record {
@@ -207,8 +205,8 @@ name_is t k =
 
 policy : (t : Members) → keeps rule.Known fields.policy t ≡ true → IsGood t → is_name (name_in t) ≡ true → IsPolicyTable t
 policy t keys good form =
-    let low = number_at 0 1000000 (get_member (codes "s") t) (kept_at fields.policy t 1 nowhere good.kept (lit< tt)) in
-    let high = number_at 0 1000000 (get_member (codes "S") t) (kept_at fields.policy t 2 nowhere good.kept (lit< tt)) in
+    let low = number_at 0 greatest_level (get_member (codes "s") t) (kept_at fields.policy t 1 nowhere good.kept (lit< tt)) in
+    let high = number_at 0 greatest_level (get_member (codes "S") t) (kept_at fields.policy t 2 nowhere good.kept (lit< tt)) in
     record {
       keys = no_other fields.policy t keys;
       name = name_in t;
@@ -246,12 +244,12 @@ policy_tables ms h =
     let named : are_good_names (names_in t.items) ≡ true = subst (λ (o : Option Items). are_good_names (names_at o) ≡ true) t.is (good_names_at ms h) in
     let names = and_parts (list_all is_name (map name_in ts)) (all_differ (map name_in ts)) (subst (λ (x : List (List ℕ)). are_good_names x ≡ true) (names_are t.items good) named) in
     let count = passed _ (subst (λ (o : Option Items). is_other_count o ≡ false) t.is (count_at ms h)) in
-    let bounds = and_parts (nat_le 1 (count_items t.items)) (nat_le (count_items t.items) 16) count in
+    let bounds = and_parts (nat_le 1 (count_items t.items)) (nat_le (count_items t.items) POLICY_LIMIT) count in
     let low : nat_le 1 (count_items t.items) ≡ true = bounds.0 in
-    let high : nat_le (count_items t.items) 16 ≡ true = bounds.1 in
+    let high : nat_le (count_items t.items) POLICY_LIMIT ≡ true = bounds.1 in
     let long : count_items t.items ≡ length ts = ap count_items back ∙ count-items_of (λ (m : Members). table m) ts in
     let some : 1 ≤ count_items t.items = grind (arith, nat_tests, low) in
-    let few : count_items t.items ≤ 16 = grind (arith, nat_tests, high) in
+    let few : count_items t.items ≤ POLICY_LIMIT = grind (arith, nat_tests, high) in
     record {
       policies = ts;
       are = array_is (get_member (codes "policy") ms) t.items t.is ∙ ap (λ (es : Items). Some (array es)) back;
@@ -280,7 +278,7 @@ second ms h e =
     record {
       version = integer_is (get_member (codes "version") ms) (pos 2) e;
       keys = no_other_key ms 2 h e;
-      returns = weighted_at 0 10000 o (table_at (codes "returns") ms) t refl (known ms h).returns (lengths ms h).returns (orders ms h).returns (totals ms h).returns;
+      returns = weighted_at 0 ITEM_LIMIT o (table_at (codes "returns") ms) t refl (known ms h).returns (lengths ms h).returns (orders ms h).returns (totals ms h).returns;
     }
 
 versions : (ms : Members) → HasNone ms → IsVersion (integer_at (codes "version") ms) → IsFirst ms ⊎ IsSecond ms
@@ -291,12 +289,12 @@ pub sound_tree : (ms : Members) → HasNone ms → IsSound ms
 sound_tree ms h = record {
   version = versions ms h (version ms h);
   key = words_at (get_member (codes "key") ms) (top_at ms 1 h (lit< tt) refl);
-  periods = number_at 1 1024 (get_member (codes "periods") ms) (top_at ms 2 h (lit< tt) refl);
-  replications = number_at 1 256 (get_member (codes "replications") ms) (top_at ms 3 h (lit< tt) refl);
-  initial = number_at 0 1000000 (get_member (codes "initial") ms) (top_at ms 4 h (lit< tt) refl);
+  periods = number_at 1 PERIOD_LIMIT (get_member (codes "periods") ms) (top_at ms 2 h (lit< tt) refl);
+  replications = number_at 1 REPLICATION_LIMIT (get_member (codes "replications") ms) (top_at ms 3 h (lit< tt) refl);
+  initial = number_at 0 greatest_level (get_member (codes "initial") ms) (top_at ms 4 h (lit< tt) refl);
   ring = ring ms h;
   costs = rates ms h;
-  demand = weighted_at 0 10000 (get_member (codes "demand") ms) (table_at (codes "demand") ms) (demand_kept ms h) refl (known ms h).demand (lengths ms h).demand (orders ms h).demand (totals ms h).demand;
-  lead = weighted_at 1 32 (get_member (codes "lead") ms) (table_at (codes "lead") ms) (lead_kept ms h) refl (known ms h).lead (lengths ms h).lead (orders ms h).lead (totals ms h).lead;
+  demand = weighted_at 0 ITEM_LIMIT (get_member (codes "demand") ms) (table_at (codes "demand") ms) (demand_kept ms h) refl (known ms h).demand (lengths ms h).demand (orders ms h).demand (totals ms h).demand;
+  lead = weighted_at 1 LEAD_LIMIT (get_member (codes "lead") ms) (table_at (codes "lead") ms) (lead_kept ms h) refl (known ms h).lead (lengths ms h).lead (orders ms h).lead (totals ms h).lead;
   policy = policy_tables ms h;
 }

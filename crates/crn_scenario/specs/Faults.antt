@@ -1,9 +1,12 @@
 -- The faults of a scenario's tree, each a fact of the tree by itself: a key that is absent and a value of
 -- another kind are faults of their own, and break no other rule.
-use Rattle.std.specs.Prelude.{◌≡◌, ℕ, ◌<◌, ℤ, pos, ◌+ℤ◌, List, [], ◌∷◌, Bool, true, false, not, ◌&&◌, ◌||◌, ◌==◌, Option, Some, None, int_le, int_lt, nat_le, option_and_then, codes}
+use Rattle.std.specs.Prelude.{◌≡◌, ℕ, ◌<◌, ℤ, pos, negsuc, ◌+ℤ◌, List, [], ◌∷◌, Bool, true, false, not, ◌&&◌, ◌||◌, ◌==◌, Option, Some, None, int_le, int_lt, nat_le, option_and_then, codes}
+use Rattle.std.specs.Int.{is_power_of_two}
 use Rattle.std.specs.List.{list_all, list_any}
 use Rattle.std.specs.Str.{bytes_eq}
 use Rattle.toml.specs.Data.{Data, Items, no_items, item, Members, as_table}
+use Rattle.crn_draw.specs.declared.weights.TheConstants.{TOTAL_LIMIT}
+use Rattle.crn_limits.specs.declared.TheConstants.{POLICY_LIMIT, SLOT_LIMIT}
 use Rattle.crn_spelling.specs.Names.{is_name}
 use Rattle.crn_scenario.specs.Tree.{integer_at, natural, text_at, array_at, table_at, integers_of, tables_of, count_items, kept}
 use Rattle.crn_scenario.specs.Fields.{Entry, keys_of, keeps, is_within}
@@ -105,7 +108,7 @@ total_of (z ∷ zs) = z +ℤ total_of zs
 
 abbrev pub have_other_total : Option Items → Bool
 have_other_total None = false
-have_other_total (Some ws) = not (is_within (pos 1) (pos 65536) (Some (total_of (integers_of ws))))
+have_other_total (Some ws) = not (is_within (pos 1) (pos TOTAL_LIMIT) (Some (total_of (integers_of ws))))
 
 abbrev pub has_other_lengths_in : Option Members → Bool
 has_other_lengths_in None = false
@@ -127,7 +130,7 @@ has_other_lengths ms = list_any (λ key. has_other_lengths_in (table_at key ms))
 unfoldable pub has_values_out_of_order : Members → Bool
 has_values_out_of_order ms = list_any (λ key. has_other_order_in (table_at key ms)) drawn
 
--- fault 9: the sum of the weights is not in 1..=65536
+-- fault 9: the sum of the weights is 0 or over its limit
 unfoldable pub has_weights_out_of_range : Members → Bool
 has_weights_out_of_range ms = list_any (λ key. has_other_total_in (table_at key ms)) drawn
 
@@ -172,14 +175,11 @@ are_good_names names = list_all is_name names && all_differ names
 unfoldable pub has_bad_name : Members → Bool
 has_bad_name ms = not (are_good_names (names_at (array_at (codes "policy") ms)))
 
--- ---- fault 12: the ring is not a power of two in 1..=1024
-
-abbrev pub is_one_of : List ℕ → ℤ → Bool
-is_one_of [] z = false
-is_one_of (n ∷ ns) z = is_within (pos n) (pos n) (Some z) || is_one_of ns z
+-- ---- fault 12: there is no ring of this size: it is no power of two, or over the limit
 
 unfoldable pub is_ring_size : ℤ → Bool
-is_ring_size z = is_one_of (1 ∷ 2 ∷ 4 ∷ 8 ∷ 16 ∷ 32 ∷ 64 ∷ 128 ∷ 256 ∷ 512 ∷ 1024 ∷ []) z
+is_ring_size (pos slots) = is_power_of_two slots && nat_le slots SLOT_LIMIT
+is_ring_size (negsuc n) = false
 
 abbrev pub is_other_ring : Option ℤ → Bool
 is_other_ring None = false
@@ -188,11 +188,11 @@ is_other_ring (Some z) = not (is_ring_size z)
 unfoldable pub has_other_ring : Members → Bool
 has_other_ring ms = is_other_ring (integer_at (codes "ring") ms)
 
--- ---- fault 13: the number of policies is not in 1..=16
+-- ---- fault 13: there is no policy, or more than the limit
 
 abbrev pub is_other_count : Option Items → Bool
 is_other_count None = false
-is_other_count (Some ds) = not (nat_le 1 (count_items ds) && nat_le (count_items ds) 16)
+is_other_count (Some ds) = not (nat_le 1 (count_items ds) && nat_le (count_items ds) POLICY_LIMIT)
 
 unfoldable pub has_other_policy_count : Members → Bool
 has_other_policy_count ms = is_other_count (array_at (codes "policy") ms)

@@ -1,9 +1,12 @@
 -- The keys of a scenario's tables: which they are, what may stand at each, and in which range.
-use Rattle.std.specs.Prelude.{ℕ, ℤ, pos, List, [], ◌∷◌, Bool, true, false, ◌&&◌, ◌||◌, ◌==◌, not, Option, Some, None, is_some, int_le, nat_le, codes}
+use Rattle.std.specs.Prelude.{ℕ, ℤ, pos, nat_abs, List, [], ◌∷◌, Bool, true, false, ◌&&◌, ◌||◌, ◌==◌, not, Option, Some, None, is_some, int_le, nat_le, codes}
 use Rattle.std.specs.List.{list_all, filter}
 use Rattle.std.specs.Str.{bytes_eq}
 use Rattle.toml.specs.Data.{Data, Items, Members, no_members, member, get_member, as_integer, as_str, as_array, as_table}
+use Rattle.crn_draw.specs.declared.weights.TheConstants.{TOTAL_LIMIT}
+use Rattle.crn_limits.specs.declared.TheConstants.{PERIOD_LIMIT, REPLICATION_LIMIT}
 use Rattle.crn_spelling.specs.Hex.{is_hex_word}
+use Rattle.crn_stock.specs.declared.limits.TheConstants.{ITEM_LIMIT, LEAD_LIMIT, LEVEL_LIMIT, RATE_LIMIT, SETUP_LIMIT}
 use Rattle.crn_scenario.specs.Tree.{integers_of, texts_of, count_items, are_integers, are_texts, are_tables}
 use Rattle.crn_scenario.specs.declared.fields.Kind.{Kind}
 use Rattle.crn_scenario.specs.declared.fields.Kind.TheVariants as kind
@@ -35,13 +38,17 @@ number low high = kind.Number (pos low) (pos high)
 abbrev pub numbers_within : ℕ → ℕ → Kind
 numbers_within low high = kind.Numbers (pos low) (pos high)
 
+-- the greatest amount of stock
+abbrev pub greatest_level : ℕ
+greatest_level = nat_abs LEVEL_LIMIT
+
 abbrev pub top_table : List Entry
 top_table =
     entry (codes "version") kind.Integer
     ∷ entry (codes "key") kind.Words
-    ∷ entry (codes "periods") (number 1 1024)
-    ∷ entry (codes "replications") (number 1 256)
-    ∷ entry (codes "initial") (number 0 1000000)
+    ∷ entry (codes "periods") (number 1 PERIOD_LIMIT)
+    ∷ entry (codes "replications") (number 1 REPLICATION_LIMIT)
+    ∷ entry (codes "initial") (number 0 greatest_level)
     ∷ entry (codes "ring") kind.Integer
     ∷ entry (codes "costs") kind.Table
     ∷ entry (codes "demand") kind.Table
@@ -52,30 +59,30 @@ top_table =
 
 abbrev pub costs : List Entry
 costs =
-    entry (codes "setup") (number 0 100000000)
-    ∷ entry (codes "unit") (number 0 10000)
-    ∷ entry (codes "holding") (number 0 10000)
-    ∷ entry (codes "backlog") (number 0 10000)
+    entry (codes "setup") (number 0 SETUP_LIMIT)
+    ∷ entry (codes "unit") (number 0 RATE_LIMIT)
+    ∷ entry (codes "holding") (number 0 RATE_LIMIT)
+    ∷ entry (codes "backlog") (number 0 RATE_LIMIT)
     ∷ []
 
 -- values from low to high, with their weights
 abbrev pub draws : ℕ → ℕ → List Entry
-draws low high = entry (codes "values") (numbers_within low high) ∷ entry (codes "weights") (numbers_within 0 65536) ∷ []
+draws low high = entry (codes "values") (numbers_within low high) ∷ entry (codes "weights") (numbers_within 0 TOTAL_LIMIT) ∷ []
 
 abbrev pub demand : List Entry
-demand = draws 0 10000
+demand = draws 0 ITEM_LIMIT
 
 abbrev pub lead : List Entry
-lead = draws 1 32
+lead = draws 1 LEAD_LIMIT
 
 abbrev pub returns : List Entry
-returns = draws 0 10000
+returns = draws 0 ITEM_LIMIT
 
 abbrev pub policy : List Entry
 policy =
     entry (codes "name") kind.Text
-    ∷ entry (codes "s") (number 0 1000000)
-    ∷ entry (codes "S") (number 0 1000000)
+    ∷ entry (codes "s") (number 0 greatest_level)
+    ∷ entry (codes "S") (number 0 greatest_level)
     ∷ []
 
 -- ---- what stands at a key against what may stand there

@@ -1,7 +1,13 @@
 -- A tree that says a scenario, key by key: what stands at each key of each table. `laws::sound` says that these are
 -- the trees without a fault.
-use Rattle.std.specs.Prelude.{◌≡◌, ◌≢◌, ℕ, ◌^◌, ◌<◌, ◌≤◌, pos, List, [], ◌∷◌, ◌++◌, ◌⊎◌, map, Option, Some, None, All, Contains, length, sum, codes}
+use Rattle.std.specs.Prelude.{◌≡◌, ◌≢◌, ℕ, ◌<◌, ◌≤◌, pos, List, [], ◌∷◌, ◌++◌, ◌⊎◌, map, Option, Some, None, All, Contains, length, sum, codes}
 use Rattle.std.specs.List.{AllPairs}
+use Rattle.crn_draw.specs.declared.weights.TheConstants.{TOTAL_LIMIT}
+use Rattle.crn_limits.specs.declared.TheConstants.{PERIOD_LIMIT, POLICY_LIMIT, REPLICATION_LIMIT}
+use Rattle.crn_limits.specs.Limits.{IsRingSize}
+use Rattle.crn_spelling.specs.declared.names.TheConstants.{NAME_LIMIT}
+use Rattle.crn_stock.specs.declared.limits.TheConstants.{ITEM_LIMIT, LEAD_LIMIT, RATE_LIMIT, SETUP_LIMIT}
+use Rattle.crn_scenario.specs.Fields.{greatest_level}
 use Rattle.toml.specs.Data.{Data, string, integer, array, table, Items, no_items, item, Members, get_member}
 
 -- ---- values
@@ -32,11 +38,11 @@ pub record IsNumber (low high : ℕ) (o : Option Data) : Type 0 where
   pub at_least : low ≤ number
   pub at_most : number ≤ high
 
--- the size of a ring: a power of two from 1 to 1,024
+-- the size of a ring
 pub record IsSize (o : Option Data) : Type 0 where
-  pub exponent : ℕ
-  pub high : exponent ≤ 10
-  pub is : o ≡ Some (integer (pos (2 ^ exponent)))
+  pub slots : ℕ
+  pub is : o ≡ Some (integer (pos slots))
+  pub size : IsRingSize slots
 
 -- 16 hexadecimal digits
 pub record IsWord (text : List ℕ) : Type 0 where
@@ -50,10 +56,10 @@ pub record AreWords (o : Option Data) : Type 0 where
   pub four : length words ≡ 4
   pub each : All IsWord words
 
--- 1 to 16 letters, digits, `_` and `-`
+-- letters, digits, `_` and `-`, from one to the limit
 pub record IsName (text : List ℕ) : Type 0 where
   pub some : 1 ≤ length text
-  pub few : length text ≤ 16
+  pub few : length text ≤ NAME_LIMIT
   pub glyphs : All (Contains (codes "ABCDEFGHIJKLMNOPQRSTUVWXYZabcdefghijklmnopqrstuvwxyz0123456789_-")) text
 
 -- ---- tables
@@ -63,10 +69,10 @@ pub record AreRates (o : Option Data) : Type 0 where
   pub rates : Members
   pub are : o ≡ Some (table rates)
   pub keys : HasNoOther (codes "setup" ∷ codes "unit" ∷ codes "holding" ∷ codes "backlog" ∷ []) rates
-  pub setup : IsNumber 0 100000000 (get_member (codes "setup") rates)
-  pub unit : IsNumber 0 10000 (get_member (codes "unit") rates)
-  pub holding : IsNumber 0 10000 (get_member (codes "holding") rates)
-  pub backlog : IsNumber 0 10000 (get_member (codes "backlog") rates)
+  pub setup : IsNumber 0 SETUP_LIMIT (get_member (codes "setup") rates)
+  pub unit : IsNumber 0 RATE_LIMIT (get_member (codes "unit") rates)
+  pub holding : IsNumber 0 RATE_LIMIT (get_member (codes "holding") rates)
+  pub backlog : IsNumber 0 RATE_LIMIT (get_member (codes "backlog") rates)
 
 -- values within a range and their weights
 pub record AreWeighted (low high : ℕ) (o : Option Data) : Type 0 where
@@ -82,9 +88,9 @@ pub record AreWeighted (low high : ℕ) (o : Option Data) : Type 0 where
   pub at_least : All (λ v. low ≤ v) values
   pub at_most : All (λ v. v ≤ high) values
   pub rise : AllPairs (λ v later. v < later) values
-  pub weights_high : All (λ w. w ≤ 65536) weights
+  pub weights_high : All (λ w. w ≤ TOTAL_LIMIT) weights
   pub sum_low : 1 ≤ sum weights
-  pub sum_high : sum weights ≤ 65536
+  pub sum_high : sum weights ≤ TOTAL_LIMIT
 
 -- a policy
 pub record IsPolicyTable (t : Members) : Type 0 where
@@ -97,14 +103,14 @@ pub record IsPolicyTable (t : Members) : Type 0 where
   pub high_is : get_member (codes "S") t ≡ Some (integer (pos high))
   pub form : IsName name
   pub order : low ≤ high
-  pub top : high ≤ 1000000
+  pub top : high ≤ greatest_level
 
--- 1 to 16 policies with different names
+-- policies with different names, from one to the limit
 pub record ArePolicyTables (o : Option Data) : Type 0 where
   pub policies : List Members
   pub are : o ≡ Some (tables policies)
   pub some : 1 ≤ length policies
-  pub few : length policies ≤ 16
+  pub few : length policies ≤ POLICY_LIMIT
   pub each : All IsPolicyTable policies
   pub differ : AllPairs (λ p q. get_member (codes "name") p ≢ get_member (codes "name") q) policies
 
@@ -125,16 +131,16 @@ pub record IsFirst (ms : Members) : Type 0 where
 pub record IsSecond (ms : Members) : Type 0 where
   pub version : get_member (codes "version") ms ≡ Some (integer (pos 2))
   pub keys : HasNoOther (first_keys ++ codes "returns" ∷ []) ms
-  pub returns : AreWeighted 0 10000 (get_member (codes "returns") ms)
+  pub returns : AreWeighted 0 ITEM_LIMIT (get_member (codes "returns") ms)
 
 pub record IsSound (ms : Members) : Type 0 where
   pub version : IsFirst ms ⊎ IsSecond ms
   pub key : AreWords (get_member (codes "key") ms)
-  pub periods : IsNumber 1 1024 (get_member (codes "periods") ms)
-  pub replications : IsNumber 1 256 (get_member (codes "replications") ms)
-  pub initial : IsNumber 0 1000000 (get_member (codes "initial") ms)
+  pub periods : IsNumber 1 PERIOD_LIMIT (get_member (codes "periods") ms)
+  pub replications : IsNumber 1 REPLICATION_LIMIT (get_member (codes "replications") ms)
+  pub initial : IsNumber 0 greatest_level (get_member (codes "initial") ms)
   pub ring : IsSize (get_member (codes "ring") ms)
   pub costs : AreRates (get_member (codes "costs") ms)
-  pub demand : AreWeighted 0 10000 (get_member (codes "demand") ms)
-  pub lead : AreWeighted 1 32 (get_member (codes "lead") ms)
+  pub demand : AreWeighted 0 ITEM_LIMIT (get_member (codes "demand") ms)
+  pub lead : AreWeighted 1 LEAD_LIMIT (get_member (codes "lead") ms)
   pub policy : ArePolicyTables (get_member (codes "policy") ms)

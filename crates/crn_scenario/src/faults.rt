@@ -16,6 +16,8 @@ use crate::fields::{
 };
 use crate::scenario_fault::ScenarioFault;
 use crate::tree::{array_at, count_items, integer_at, natural, table_at, text_at};
+use crn_draw::TOTAL_LIMIT;
+use crn_limits::POLICY_LIMIT;
 use crn_spelling::names::is_name;
 use std::alloc::{AllocError, Global};
 use std::collections::BTreeSet;
@@ -225,7 +227,7 @@ fn have_other_total(draws: &Table) -> bool
     match array_at(draws, "weights") {
         Some(weights) => {
             let total = total_of(weights);
-            !(1 <= total && total <= 65_536)
+            !(1 <= total && total <= i128::from(TOTAL_LIMIT))
         }
         None => false,
     }
@@ -251,7 +253,7 @@ fn has_values_out_of_order(table: &Table) -> bool
         || table_at(table, "returns").is_some_and(have_other_order)
 }
 
-// Fault 9: the weights of a table are 0 in sum, or over 65,536.
+// Fault 9: the weights of a table are 0 in sum, or too much.
 #[tactic(auto, unfolding(crate::specs::Faults::has_weights_out_of_range))]
 fn has_weights_out_of_range(table: &Table) -> bool
     ensures { result ≡ spec.has_weights_out_of_range (table_view table.now) }
@@ -358,17 +360,18 @@ fn has_bad_name(alloc: Global, table: &Table) -> Result<bool, AllocError>
     Ok(!all_differ(alloc, names.as_slice())?)
 }
 
+// Whether a number is the size of a ring.
 #[tactic(auto, unfolding(crate::specs::Faults::is_ring_size))]
 fn is_ring_size(number: i64) -> bool
     ensures { result ≡ spec.is_ring_size number }
 {
-    matches!(
-        number,
-        1 | 2 | 4 | 8 | 16 | 32 | 64 | 128 | 256 | 512 | 1024
-    )
+    match u64::try_from(number) {
+        Ok(slots) => crn_limits::is_ring_size(slots),
+        Err(_) => false,
+    }
 }
 
-// Fault 12: the ring's size is not a power of two from 1 to 1,024.
+// Fault 12: there is no ring of this size.
 #[tactic(auto, unfolding(crate::specs::Faults::has_other_ring))]
 fn has_other_ring(table: &Table) -> bool
     ensures { result ≡ spec.has_other_ring (table_view table.now) }
@@ -379,7 +382,7 @@ fn has_other_ring(table: &Table) -> bool
     }
 }
 
-// Fault 13: the number of policies is not 1 to 16.
+// Fault 13: there is no policy, or there are too many.
 #[tactic(auto, unfolding(crate::specs::Faults::has_other_policy_count))]
 fn has_other_policy_count(table: &Table) -> bool
     ensures { result ≡ spec.has_other_policy_count (table_view table.now) }
@@ -387,7 +390,7 @@ fn has_other_policy_count(table: &Table) -> bool
     match array_at(table, "policy") {
         Some(policies) => {
             let count = count_items(policies);
-            !(1 <= count && count <= 16)
+            !(1 <= count && count <= POLICY_LIMIT as usize)
         }
         None => false,
     }
@@ -434,11 +437,11 @@ fn judge_policies(alloc: Global, table: &Table) -> Result<(), ScenarioFault>
     refuse_where(has_other_policy_count(table), ScenarioFault::PolicyCount)
 }
 
-/// Refuses a tree that has a fault, with the fault of the least number that holds of it.
+/// Checks that a tree has no fault.
 ///
 /// # Errors
 ///
-/// That fault, or `Memory` if an allocation fails.
+/// The fault with the least number that the tree has, or `Memory` if an allocation fails.
 pub fn judge(alloc: Global, table: &Table) -> Result<(), ScenarioFault>
     ensures sound { OnOk result (inner.first_true (spec.faults (table_view table.now)) ≡ None) }
     ensures fault { IfErr result (λ f. f ≢ ScenarioFault.Memory alloc_error → inner.first_true (spec.faults (table_view table.now)) ≡ Some (scenario_fault_number f)) }

@@ -9,7 +9,10 @@ ghost use Rattle.crn_scenario.specs.Fields as spec;
 ghost use Rattle.crn_scenario.specs.Inner.Fields.{entry_of};
 
 use crate::tree::{are_integers, are_tables, are_texts, count_items, member_at};
+use crn_draw::TOTAL_LIMIT;
+use crn_limits::{PERIOD_LIMIT, REPLICATION_LIMIT};
 use crn_spelling::hex;
+use crn_stock::{ITEM_LIMIT, LEAD_LIMIT, LEVEL_LIMIT, RATE_LIMIT, SETUP_LIMIT};
 use toml::value::Array;
 use toml::{Table, Value};
 
@@ -59,6 +62,28 @@ pub enum Rule {
 /// The newest version of documents. The oldest is 1, and there are all between them.
 pub const NEWEST_VERSION: u32 = 2;
 
+// An amount of stock: the initial stock, a reorder point and an order-up-to level.
+const LEVEL: Kind = Kind::Number {
+    low: 0,
+    high: LEVEL_LIMIT,
+};
+
+// A cost of one item.
+const RATE: Kind = Kind::Number {
+    low: 0,
+    high: RATE_LIMIT as i64,
+};
+
+// Weights, whose sum is judged besides.
+const WEIGHTS: Field = Field {
+    name: "weights",
+    kind: Kind::Numbers {
+        low: 0,
+        high: TOTAL_LIMIT as i64,
+    },
+    since: 1,
+};
+
 /// The keys of the whole document.
 pub const TOP: [Field; 11] = [
     Field {
@@ -73,20 +98,23 @@ pub const TOP: [Field; 11] = [
     },
     Field {
         name: "periods",
-        kind: Kind::Number { low: 1, high: 1024 },
+        kind: Kind::Number {
+            low: 1,
+            high: PERIOD_LIMIT as i64,
+        },
         since: 1,
     },
     Field {
         name: "replications",
-        kind: Kind::Number { low: 1, high: 256 },
+        kind: Kind::Number {
+            low: 1,
+            high: REPLICATION_LIMIT as i64,
+        },
         since: 1,
     },
     Field {
         name: "initial",
-        kind: Kind::Number {
-            low: 0,
-            high: 1_000_000,
-        },
+        kind: LEVEL,
         since: 1,
     },
     Field {
@@ -127,32 +155,23 @@ pub const COSTS: [Field; 4] = [
         name: "setup",
         kind: Kind::Number {
             low: 0,
-            high: 100_000_000,
+            high: SETUP_LIMIT as i64,
         },
         since: 1,
     },
     Field {
         name: "unit",
-        kind: Kind::Number {
-            low: 0,
-            high: 10_000,
-        },
+        kind: RATE,
         since: 1,
     },
     Field {
         name: "holding",
-        kind: Kind::Number {
-            low: 0,
-            high: 10_000,
-        },
+        kind: RATE,
         since: 1,
     },
     Field {
         name: "backlog",
-        kind: Kind::Number {
-            low: 0,
-            high: 10_000,
-        },
+        kind: RATE,
         since: 1,
     },
 ];
@@ -163,35 +182,24 @@ pub const DEMAND: [Field; 2] = [
         name: "values",
         kind: Kind::Numbers {
             low: 0,
-            high: 10_000,
+            high: ITEM_LIMIT as i64,
         },
         since: 1,
     },
-    Field {
-        name: "weights",
-        kind: Kind::Numbers {
-            low: 0,
-            high: 65_536,
-        },
-        since: 1,
-    },
+    WEIGHTS,
 ];
 
 /// The keys of `lead`.
 pub const LEAD: [Field; 2] = [
     Field {
         name: "values",
-        kind: Kind::Numbers { low: 1, high: 32 },
-        since: 1,
-    },
-    Field {
-        name: "weights",
         kind: Kind::Numbers {
-            low: 0,
-            high: 65_536,
+            low: 1,
+            high: LEAD_LIMIT as i64,
         },
         since: 1,
     },
+    WEIGHTS,
 ];
 
 /// The keys of `returns`.
@@ -206,18 +214,12 @@ pub const POLICY: [Field; 3] = [
     },
     Field {
         name: "s",
-        kind: Kind::Number {
-            low: 0,
-            high: 1_000_000,
-        },
+        kind: LEVEL,
         since: 1,
     },
     Field {
         name: "S",
-        kind: Kind::Number {
-            low: 0,
-            high: 1_000_000,
-        },
+        kind: LEVEL,
         since: 1,
     },
 ];
@@ -245,7 +247,7 @@ fn is_of(kind: Kind, value: &Value) -> bool
     }
 }
 
-/// Whether a number is in a range, or there is none.
+/// Returns whether a number is in a range, or there is none.
 pub fn is_within(low: i64, high: i64, number: Option<i64>) -> bool
     ensures { result ≡ spec.is_within low high number }
 {
@@ -351,7 +353,7 @@ fn knows_all(version: u64, fields: &[Field], table: &Table) -> bool
     true
 }
 
-/// Whether a table with those of these fields that a version has keeps a rule.
+/// Returns whether a table keeps a rule, with those of these fields that a version has.
 pub fn keeps(rule: Rule, version: u64, fields: &[Field], table: &Table) -> bool
     ensures { result ≡ spec.keeps rule (spec.keys_of version (map entry_of fields.now)) (table_view table.now) }
 {

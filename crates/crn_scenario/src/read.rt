@@ -10,34 +10,15 @@ use crate::scenario_fault::ScenarioFault;
 use crn_stock::Scenario;
 use std::alloc::{AllocError, Global};
 
-/// Reads a scenario from a TOML document: any spelling of the tree that it names.
+/// Reads a scenario from a TOML document in UTF-8, in any spelling that the `toml` crate reads.
 ///
-/// The bytes are UTF-8 and a document for the `toml` crate. Each table has the keys listed here, all of them and no other.
-/// In version 2 customers return items, and the document has the table `returns` besides; version 1 has none.
-///
-/// | Table | Key | What stands there |
-/// |---|---|---|
-/// | the document | `version` | 1 or 2 |
-/// | | `key` | four texts, each of 16 digits of `0-9a-f` |
-/// | | `periods` | 1 to 1,024 |
-/// | | `replications` | 1 to 256 |
-/// | | `initial` | the stock at the beginning, 0 to 1,000,000 |
-/// | | `ring` | a power of two from 1 to 1,024 |
-/// | `costs` | `setup` | 0 to 100,000,000 |
-/// | | `unit`, `holding`, `backlog` | 0 to 10,000 |
-/// | `demand` | `values` | rising strictly, each 0 to 10,000 |
-/// | | `weights` | as many as values, each 0 to 65,536, and 1 to 65,536 in sum |
-/// | `lead` | `values` | rising strictly, each 1 to 32 |
-/// | | `weights` | as in `demand` |
-/// | `returns` | `values` | rising strictly, each 0 to 10,000 |
-/// | | `weights` | as in `demand` |
-/// | each `policy`, of 1 to 16 | `name` | 1 to 16 of `A-Z a-z 0-9 _ -`, unlike the other policies' |
-/// | | `s`, `S` | 0 to 1,000,000, with `s` at most `S` |
+/// Each table has all of its keys and no other. `fields.rt` has them with their ranges, and docs/FORMATS.md says what they
+/// mean. In version 2 customers return items, and the document has the table `returns` besides; version 1 has none.
 ///
 /// # Errors
 ///
-/// Where a rule is broken, the fault with the least number of those that hold: each [`ScenarioFault`] says its
-/// rule. `Memory` where a growth was refused. Nothing is kept.
+/// - The fault with the least number among the rules that the document breaks: see [`ScenarioFault`].
+/// - `Memory` if an allocation fails.
 pub fn read_scenario(alloc: Global, bytes: &[u8]) -> Result<Scenario, ScenarioFault>
     ensures reads { IfOk result (λ s. spec.Reads bytes.now s) }
     ensures refuses { IfErr result (λ f. spec.RefusesScenario f bytes.now) }
@@ -61,7 +42,7 @@ fn document_fault(error: &toml::de::Error) -> ScenarioFault
     }
 }
 
-// The refusal of memory that `toml` tells by a flag.
+// The failed allocation that `toml` reports by a flag.
 fn refusal_of(error: &toml::de::Error) -> Option<AllocError>
     ensures { IsSome result ↔ IsMemory error.now }
 {

@@ -2,7 +2,7 @@
 
 ghost use Rattle.std.specs.Prelude.{◌≡◌, map, nat_abs, pos, true, None, option_map, option_copied, option_and_then, codes, IfOk};
 ghost use Rattle.toml.specs.View.{view, table_view, array_view};
-ghost use Rattle.crn_draw.specs.Faults.{least_weights_fault};
+ghost use Rattle.crn_draw.specs.declared.weights.TheConstants.{TOTAL_LIMIT};
 ghost use Rattle.crn_scenario.specs.Tree.{array_at, tables_of, integers_of};
 ghost use Rattle.crn_scenario.specs.Fields.{are_within};
 ghost use Rattle.crn_scenario.specs.Faults.{HasNone, policies_at};
@@ -40,7 +40,7 @@ fn costs_of(table: Option<&Table>) -> Costs
 
 // The numbers of an array.
 fn naturals_of(alloc: Global, array: &Array) -> Result<Vec<u32>, AllocError>
-    requires { are_within (pos 0) (pos 65536) (integers_of (array_view array.now)) ≡ true }
+    requires { are_within (pos 0) (pos TOTAL_LIMIT) (integers_of (array_view array.now)) ≡ true }
     ensures { IfOk result (λ v. v.items ≡ map nat_abs (integers_of (array_view array.now))) }
 {
     let mut naturals = Vec::new(alloc);
@@ -54,7 +54,7 @@ fn naturals_of(alloc: Global, array: &Array) -> Result<Vec<u32>, AllocError>
 
 // The numbers at a key of a table.
 fn naturals_in(alloc: Global, table: Option<&Table>, key: &str) -> Result<Vec<u32>, AllocError>
-    requires { are_within (pos 0) (pos 65536) (spec.integers_in (option_and_then (array_at key.now) (option_map (λ t. table_view t.now) table))) ≡ true }
+    requires { are_within (pos 0) (pos TOTAL_LIMIT) (spec.integers_in (option_and_then (array_at key.now) (option_map (λ t. table_view t.now) table))) ≡ true }
     ensures { IfOk result (λ v. v.items ≡ spec.naturals_in key.now (option_map (λ t. table_view t.now) table.entry)) }
 {
     let Some(table) = table else {
@@ -168,7 +168,7 @@ fn model_of(alloc: Global, table: &Table) -> Result<Model, AllocError>
     ))
 }
 
-/// The scenario of a tree.
+/// Returns the scenario of a tree.
 ///
 /// # Asks
 ///
@@ -176,7 +176,7 @@ fn model_of(alloc: Global, table: &Table) -> Result<Model, AllocError>
 ///
 /// # Errors
 ///
-/// `AllocError` where a growth was refused.
+/// `AllocError` if an allocation fails.
 pub fn scenario_of(alloc: Global, table: &Table) -> Result<Scenario, AllocError>
     requires { HasNone (table_view table.now) }
     ensures { IfOk result (λ s. s ≡ spec.scenario_of (table_view table.now)) }

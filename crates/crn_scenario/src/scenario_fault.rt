@@ -5,17 +5,17 @@ ghost use Rattle.crn_scenario.specs.Reading as spec;
 
 use std::alloc::AllocError;
 
-/// Why no scenario was read. Several rules may be broken at once: the one with the least number is answered.
+/// Why no scenario was read. If several rules are broken, it is the one with the least number.
 ///
-/// Each rule but the first speaks of the document's tree alone, however it is spelt. The tables that are looked at
-/// are the document itself, what stands at `costs`, `demand`, `lead` and `returns` where it is a table, and each table
-/// in the list at `policy`. Which keys they have is told by the version: only version 2 has `returns`. A key that is
-/// absent and a value of another kind break no rule but their own.
+/// Each rule but the first is about the document's tree alone, however it is spelt, and is judged alone: a missing key and
+/// a value of another kind break no rule but their own. The tables are the document itself, those at `costs`, `demand`,
+/// `lead` and `returns`, and each one in the list at `policy`. The version says which keys they have. `fields.rt` has the
+/// keys with their kinds and ranges; `crnsim help` lists the rules.
 #[derive(Clone, Copy, Debug, PartialEq, Eq)]
 pub enum ScenarioFault {
-    /// 1: the bytes are no UTF-8, or no document for the `toml` crate.
+    /// 1: the bytes are not a TOML document in UTF-8.
     NoDocument,
-    /// 2: `version` is absent, no whole number, or not 1 or 2.
+    /// 2: `version` is missing, no whole number, or not a version that there is.
     Version,
     /// 3: a table has a key that is none of its keys.
     UnknownKey,
@@ -23,30 +23,30 @@ pub enum ScenarioFault {
     MissingKey,
     /// 5: a value, or an entry of a list, is of another kind than its key asks for.
     Kind,
-    /// 6: a number or an entry of a list of numbers is out of its range, such a list is empty, or `key` is
-    /// anything but four words of 16 digits of `0-9a-f`. `version`, `ring`, the name and the number of the policies
-    /// have faults of their own.
+    /// 6: a number or an entry of a list of numbers is out of its range, such a list is empty, or `key` is not four words
+    /// of 16 digits of `0-9a-f`.
     Range,
-    /// 7: `demand`, `lead` or `returns` has more or fewer weights than values.
+    /// 7: a table has more or fewer weights than values.
     Lengths,
-    /// 8: the values of `demand`, of `lead` or of `returns` do not rise strictly.
+    /// 8: the values of a table do not rise strictly.
     Order,
-    /// 9: the weights of `demand`, of `lead` or of `returns` are 0 or over 65,536 in sum.
+    /// 9: the weights of a table are 0 in sum, or over [`TOTAL_LIMIT`](crn_draw::TOTAL_LIMIT).
     WeightSum,
     /// 10: a policy's `s` is above its `S`.
     Levels,
-    /// 11: a policy's name is anything but 1 to 16 of `A-Z a-z 0-9 _ -`, or two policies have the same name.
+    /// 11: a policy's name does not have the form of [`is_name`](crn_spelling::names::is_name), or two policies have the
+    /// same name.
     Name,
-    /// 12: `ring` is not a power of two from 1 to 1,024.
+    /// 12: there is no ring of this size: see [`is_ring_size`](crn_limits::is_ring_size).
     RingSize,
-    /// 13: there are fewer than 1 or more than 16 policies.
+    /// 13: there is no policy, or there are more than [`POLICY_LIMIT`](crn_limits::POLICY_LIMIT).
     PolicyCount,
-    /// 90: a growth was refused. It says nothing of the text.
+    /// 90: an allocation failed. It says nothing about the text.
     Memory(AllocError),
 }
 
 impl ScenarioFault {
-    /// The number of the fault: 1 to 13 for a text that is refused, 90 for want of memory.
+    /// Returns the number of the fault: 1 to 13 for a rule that the text breaks, 90 if an allocation failed.
     pub fn number(&self) -> u8
         ensures { result ≡ spec.scenario_fault_number self.now }
     {

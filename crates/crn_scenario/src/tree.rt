@@ -8,14 +8,14 @@ ghost use Rattle.crn_scenario.specs.Tree as spec;
 use toml::value::Array;
 use toml::{Table, Value};
 
-/// What stands at a key.
+/// Returns the value at a key.
 pub fn member_at<'a>(table: &'a Table, key: &str) -> Option<&'a Value>
     ensures { option_map (λ x. view x.now) result ≡ get_member key.now (table_view table.now) }
 {
     table.get(key)
 }
 
-/// The whole number at a key, where one stands there.
+/// Returns the whole number at a key, if the value there is one.
 pub fn integer_at(table: &Table, key: &str) -> Option<i64>
     ensures { result ≡ spec.integer_at key.now (table_view table.now) }
 {
@@ -25,7 +25,7 @@ pub fn integer_at(table: &Table, key: &str) -> Option<i64>
     }
 }
 
-/// A number without its sign, and 0 where there is none. Where no fault holds none has a minus.
+/// Returns a number without its sign, and 0 if there is none. In a tree without a fault no number has a minus.
 pub fn natural(number: Option<i64>) -> u64
     ensures { result ≡ spec.natural number }
 {
@@ -35,7 +35,7 @@ pub fn natural(number: Option<i64>) -> u64
     }
 }
 
-/// The text at a key, where one stands there.
+/// Returns the text at a key, if the value there is one.
 pub fn text_at<'a>(table: &'a Table, key: &str) -> Option<&'a str>
     ensures { option_copied result ≡ spec.text_at key.now (table_view table.now) }
 {
@@ -45,7 +45,7 @@ pub fn text_at<'a>(table: &'a Table, key: &str) -> Option<&'a str>
     }
 }
 
-/// The array at a key, where one stands there.
+/// Returns the array at a key, if the value there is one.
 pub fn array_at<'a>(table: &'a Table, key: &str) -> Option<&'a Array>
     ensures { option_map (λ a. array_view a.now) result ≡ spec.array_at key.now (table_view table.now) }
 {
@@ -55,7 +55,7 @@ pub fn array_at<'a>(table: &'a Table, key: &str) -> Option<&'a Array>
     }
 }
 
-/// The table at a key, where one stands there.
+/// Returns the table at a key, if the value there is one.
 pub fn table_at<'a>(table: &'a Table, key: &str) -> Option<&'a Table>
     ensures { option_map (λ t. table_view t.now) result ≡ spec.table_at key.now (table_view table.now) }
 {
@@ -65,14 +65,14 @@ pub fn table_at<'a>(table: &'a Table, key: &str) -> Option<&'a Table>
     }
 }
 
-/// How many entries an array has.
+/// Returns how many entries an array has.
 pub fn count_items(array: &Array) -> usize
     ensures { result ≡ spec.count_items (array_view array.now) }
 {
     array.len()
 }
 
-/// Whether each entry is a whole number.
+/// Returns whether each entry is a whole number.
 pub fn are_integers(array: &Array) -> bool
     ensures { result ≡ spec.are_integers (array_view array.now) }
 {
@@ -84,7 +84,7 @@ pub fn are_integers(array: &Array) -> bool
     true
 }
 
-/// Whether each entry is a text.
+/// Returns whether each entry is a text.
 pub fn are_texts(array: &Array) -> bool
     ensures { result ≡ spec.are_texts (array_view array.now) }
 {
@@ -96,7 +96,7 @@ pub fn are_texts(array: &Array) -> bool
     true
 }
 
-/// Whether each entry is a table.
+/// Returns whether each entry is a table.
 pub fn are_tables(array: &Array) -> bool
     ensures { result ≡ spec.are_tables (array_view array.now) }
 {

@@ -1,6 +1,6 @@
 -- A state before the first period.
 use Rattle.std.proofs.Common.{◌≡◌, ℕ, List, subst}
-use Rattle.crn_stock.specs.declared.rules.Policy.{Policy}
+use Rattle.crn_stock.specs.declared.policy.Policy.{Policy}
 use Rattle.crn_stock.specs.Parts.{Parts}
 use Rattle.crn_stock.specs.Models.{ModelParts}
 use Rattle.crn_stock.specs.Draws.{At, IsOf, IsBetween, next_block}

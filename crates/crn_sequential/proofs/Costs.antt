@@ -1,9 +1,8 @@
 -- The costs of all policies where a run ends.
 use Rattle.std.proofs.Common.{◌≡◌, ℕ, suc, List, [], ◌∷◌, length, map, Some, slice_get, refl, arith}
-use Rattle.crn_stock.specs.declared.rules.Policy.{Policy}
+use Rattle.crn_stock.specs.declared.policy.Policy.{Policy}
 use Rattle.crn_stock.specs.Parts.{Parts}
-use Rattle.crn_stock.specs.Models.{total}
-use Rattle.crn_stock.specs.Scenarios.{ScenarioParts}
+use Rattle.crn_stock.specs.Models.{total, ScenarioParts}
 use Rattle.crn_stock.specs.Draws.{At}
 use Rattle.crn_sequential.specs.Runs.{EachAt, costs_of}
 

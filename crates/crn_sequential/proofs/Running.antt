@@ -1,9 +1,9 @@
 -- The state of one policy of a checkpoint, taken further.
 use Rattle.std.proofs.Common.{◌≡◌, ℕ, ◌<◌, List, length, Some, Option, slice_get, get_or, refl, subst, sym, ap, arith}
 use Rattle.std.proofs.lemmas.Option.{slice_get_read, slice_get_within, slice_get-get_or}
-use Rattle.crn_stock.specs.declared.rules.Policy.{Policy}
+use Rattle.crn_stock.specs.declared.policy.Policy.{Policy}
 use Rattle.crn_stock.specs.Parts.{Parts}
-use Rattle.crn_stock.specs.Scenarios.{ScenarioParts}
+use Rattle.crn_stock.specs.Models.{ScenarioParts}
 use Rattle.crn_stock.specs.Draws.{At, OnwardAt, next_block}
 use Rattle.crn_sequential.specs.Runs.{StandsBefore}
 

@@ -1,12 +1,11 @@
 -- The states of all policies of a scenario between two blocks.
 use Rattle.std.specs.Prelude.{◌≡◌, ℕ, List, Some, length, reverse, slice_get}
 use Rattle.crn_stock.specs.Parts.{Parts}
-use Rattle.crn_stock.specs.Models.{ModelParts, total}
-use Rattle.crn_stock.specs.Rule.{rules_of}
+use Rattle.crn_stock.specs.Models.{ModelParts, total, ScenarioParts}
+use Rattle.crn_stock.specs.Stock.{terms_of}
 use Rattle.crn_stock.specs.States.{standing, from_start}
-use Rattle.crn_stock.specs.Scenarios.{ScenarioParts}
 use Rattle.crn_stock.specs.Draws.{Draws, At, OnwardAt, IsOf, IsBetween, next_block}
-use Rattle.crn_stock.specs.declared.rules.Policy.{Policy}
+use Rattle.crn_stock.specs.declared.policy.Policy.{Policy}
 
 -- a state of the model that stands before block n
 pub record StandsBefore (m : ModelParts) (n : ℕ) (v : Parts) : Type 0 where
@@ -30,4 +29,4 @@ EachOnward s start n states = (i : ℕ) (p : Policy) (w v : Parts) → slice_get
 -- the costs by replication that a policy's state has after all blocks of the scenario
 unfoldable pub costs_of : ScenarioParts → Policy → List ℕ
 costs_of s p =
-    (standing (rules_of p s.model.costs) s.model.periods s.model.initial (from_start s.model.initial) (reverse (Draws s.model s.key 0 (total s.model)))).costs
+    (standing (terms_of p s.model.costs) s.model.periods s.model.initial (from_start s.model.initial) (reverse (Draws s.model s.key 0 (total s.model)))).costs

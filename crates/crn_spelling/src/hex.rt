@@ -21,7 +21,7 @@ fn are_hex_digits(bytes: &[u8]) -> bool
     true
 }
 
-/// Whether a text is 16 digits of 0-9a-f.
+/// Returns whether a text is 16 digits of 0-9a-f.
 #[tactic(auto, unfolding(crate::specs::Hex::is_hex_word))]
 pub fn is_hex_word(text: &str) -> bool
     ensures { result ≡ spec.is_hex_word text.now }
@@ -29,7 +29,7 @@ pub fn is_hex_word(text: &str) -> bool
     text.len() == 16 && are_hex_digits(text.as_bytes())
 }
 
-/// The number that a hexadecimal word writes, and 0 for any other text.
+/// Returns the number that a hexadecimal word spells, and 0 for any other text.
 pub fn word_of(text: &str) -> u64
     ensures { result ≡ spec.word_of text.now }
 {
@@ -53,7 +53,7 @@ fn glyph(digit: u64) -> u8
     }
 }
 
-/// The hexadecimal word that writes a number.
+/// Returns the hexadecimal word that spells a number.
 pub fn hex_word(word: u64) -> [u8; 16]
     ensures { result ≡ spec.hex_word word }
 {

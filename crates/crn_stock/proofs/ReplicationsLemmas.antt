@@ -4,16 +4,15 @@ use Rattle.std.specs.Prelude.{ℤ}
 use Rattle.std.proofs.lemmas.Bool.Decides.{nat_tests}
 use Rattle.std.proofs.lemmas.List.Elements.{All-head, All-tail}
 use Rattle.std.proofs.lemmas.List.{reverse-append, length-reverse, append-nil}
-use Rattle.crn_stock.specs.declared.rules.Policy.{Policy}
+use Rattle.crn_stock.specs.declared.policy.Policy.{Policy}
 use Rattle.crn_stock.specs.Parts.{Parts}
 use Rattle.crn_stock.specs.Models.{ModelParts}
-use Rattle.crn_stock.specs.Rule.{rules_of}
-use Rattle.crn_stock.specs.Stock.{Draw, Rules, Beginning, running}
+use Rattle.crn_stock.specs.Stock.{terms_of, Draw, Terms, Beginning, running}
 use Rattle.crn_stock.specs.States.{Standing, IsStanding, fresh_beginning, standing_after, standing, from_parts}
 use Rattle.crn_stock.specs.Draws.{StateOf, Onward}
 use Rattle.crn_stock.specs.Replications.{all_draws, replication_cost, beginning_of, IsAfterReplications, IsInSameReplication, IsInLaterReplication}
 
-module _ (p : Rules) (n : ℕ) (x : ℤ) where
+module _ (p : Terms) (n : ℕ) (x : ℤ) where
   -- the draws h after the draws g, each the newest first
   standing-append : (c : Standing) (h g : List Draw) → standing p n x c (h ++ g) ≡ standing p n x (standing p n x c g) h
   standing-append c [] g = refl
@@ -68,9 +67,9 @@ module _ (p : Rules) (n : ℕ) (x : ℤ) where
 -- the state after whole replications and a part of the next one
 pub after_replications : (m : ModelParts) (policy : Policy) (whole : List (List Draw)) (ds : List Draw) (v : Parts) → 1 ≤ m.periods
     → All (λ h. length h ≡ m.periods) whole → length ds < m.periods → StateOf m policy (all_draws whole ++ ds) v
-    → IsAfterReplications (rules_of policy m.costs) m.initial whole ds v
+    → IsAfterReplications (terms_of policy m.costs) m.initial whole ds v
 after_replications m policy whole ds v some all lt s =
-    let p = rules_of policy m.costs in
+    let p = terms_of policy m.costs in
     let at = after_whole p m.periods m.initial [] whole ds some all lt in
     let here = subst (λ (c : Standing). IsStanding p c v) at s.stands in
     record {
@@ -81,9 +80,9 @@ after_replications m policy whole ds v some all lt s =
 
 -- the state that was q, in the replication that q had under way
 pub in_same_replication : (m : ModelParts) (policy : Policy) (q : Parts) (ds : List Draw) (v : Parts) → q.period + length ds < q.periods
-    → Onward m policy q ds v → IsInSameReplication (rules_of policy m.costs) q ds v
+    → Onward m policy q ds v → IsInSameReplication (terms_of policy m.costs) q ds v
 in_same_replication m policy q ds v lt s =
-    let p = rules_of policy m.costs in
+    let p = terms_of policy m.costs in
     let at = within_one p q.periods q.initial q.costs q.period (beginning_of q) (reverse ds) (omega (arith, length-reverse ds, lt)) in
     let here = subst (λ (c : Standing). IsStanding p c v) at s.stands in
     record {
@@ -95,9 +94,9 @@ in_same_replication m policy q ds v lt s =
 -- the state that was q, in a later one
 pub in_later_replication : (m : ModelParts) (policy : Policy) (q : Parts) (first : List Draw) (whole : List (List Draw)) (ds : List Draw) (v : Parts)
     → q.period < q.periods → q.period + length first ≡ q.periods → All (λ h. length h ≡ q.periods) whole → length ds < q.periods
-    → Onward m policy q (first ++ all_draws whole ++ ds) v → IsInLaterReplication (rules_of policy m.costs) q first whole ds v
+    → Onward m policy q (first ++ all_draws whole ++ ds) v → IsInLaterReplication (terms_of policy m.costs) q first whole ds v
 in_later_replication m policy q first whole ds v under_way end all lt s =
-    let p = rules_of policy m.costs in
+    let p = terms_of policy m.costs in
     let n = q.periods in
     let x = q.initial in
     let later = all_draws whole ++ ds in

@@ -5,11 +5,10 @@ use Rattle.crn_cipher.specs.declared.stream.Stream.{Stream}
 use Rattle.crn_cipher.specs.declared.stream.Stream.TheVariants.{Demand, Lead, Returns}
 use Rattle.crn_cipher.specs.Blocks.{StreamWords}
 use Rattle.crn_draw.specs.Spread.{Weighted, Pick}
-use Rattle.crn_stock.specs.declared.rules.Policy.{Policy}
+use Rattle.crn_stock.specs.declared.policy.Policy.{Policy}
 use Rattle.crn_stock.specs.Parts.{Parts}
 use Rattle.crn_stock.specs.Models.{ModelParts, has_returns, blocks_per_replication}
-use Rattle.crn_stock.specs.Rule.{rules_of}
-use Rattle.crn_stock.specs.Stock.{Draw}
+use Rattle.crn_stock.specs.Stock.{terms_of, Draw}
 use Rattle.crn_stock.specs.States.{IsStateOf, IsOnward}
 
 -- the block of period p of replication r, whose first block is the next one after those of replication r - 1
@@ -63,7 +62,7 @@ pub record IsOf (m : ModelParts) (v : Parts) : Type 0 where
 
 -- v are the parts of a policy's state after the draws ds from the start
 abbrev pub StateOf : ModelParts → Policy → List Draw → Parts → Type 0
-StateOf m policy ds v = IsStateOf (rules_of policy m.costs) m.periods m.replications m.initial (has_returns m) ds v
+StateOf m policy ds v = IsStateOf (terms_of policy m.costs) m.periods m.replications m.initial (has_returns m) ds v
 
 -- v are the parts of a policy's state at block n: after the draws of all blocks below n
 abbrev pub At : ModelParts → Policy → List ℕ → ℕ → Parts → Type 0
@@ -71,7 +70,7 @@ At m policy key n v = StateOf m policy (Draws m key 0 n) v
 
 -- v are the parts of a policy's state that was q before the draws ds
 abbrev pub Onward : ModelParts → Policy → Parts → List Draw → Parts → Type 0
-Onward m policy q ds v = IsOnward (rules_of policy m.costs) q ds v
+Onward m policy q ds v = IsOnward (terms_of policy m.costs) q ds v
 
 -- v are the parts at block n of a policy's state that was q before its next block
 pub record OnwardAt (m : ModelParts) (policy : Policy) (key : List ℕ) (q : Parts) (n : ℕ) (v : Parts) : Type 0 where

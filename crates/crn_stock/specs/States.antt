@@ -1,14 +1,15 @@
 -- The state of a policy after a list of draws, over any number of replications.
 use Rattle.std.specs.Prelude.{◌≡◌, ℕ, ◌+◌, ◌<◌, Bool, cond, ℤ, pos, ◌+ℤ◌, List, [], ◌∷◌, ◌++◌, length, sum, reverse, slice_index, nat_eq}
+use Rattle.crn_stock.specs.declared.limits.TheConstants.{LEAD_LIMIT}
 use Rattle.crn_stock.specs.Parts.{Parts}
-use Rattle.crn_stock.specs.Stock.{Draw, Order, Rules, Beginning, position, stock, due, running}
+use Rattle.crn_stock.specs.Stock.{Draw, Order, Terms, Beginning, position, stock, due, running}
 
--- v has the parts of a replication with rules p, from a beginning b, after the draws h, the newest first
-pub record IsWithin (p : Rules) (b : Beginning) (h : List Draw) (v : Parts) : Type 0 where
+-- v has the parts of a replication with terms p, from a beginning b, after the draws h, the newest first
+pub record IsWithin (p : Terms) (b : Beginning) (h : List Draw) (v : Parts) : Type 0 where
   pub stock_is : v.stock ≡ stock p b h
   pub position_is : v.stock +ℤ pos (sum v.due) ≡ position p b h
-  pub length_is : length v.due ≡ 32
-  pub due_is : (k : ℕ) → k < 32 → slice_index v.due k ≡ due p b h k
+  pub length_is : length v.due ≡ LEAD_LIMIT
+  pub due_is : (k : ℕ) → k < LEAD_LIMIT → slice_index v.due k ≡ due p b h k
   pub running_is : v.running ≡ running p b h
 
 -- where a list of draws stands: the costs of the replications done, and of the one under way the period of
@@ -24,19 +25,19 @@ abbrev pub fresh_beginning : ℤ → Beginning
 fresh_beginning x = record { stock = x; orders = []; running = 0 }
 
 -- where one draw more stands: the n-th of a replication ends it, and the next begins with stock x
-abbrev pub standing_after : Rules → ℕ → ℤ → Draw → Standing → Standing
+abbrev pub standing_after : Terms → ℕ → ℤ → Draw → Standing → Standing
 standing_after p n x d c =
     cond (nat_eq (c.first + length c.draws + 1) n)
     (record { costs = c.costs ++ running p c.beginning (d ∷ c.draws) ∷ []; first = 0; beginning = fresh_beginning x; draws = [] })
     (record c { draws = d ∷ c.draws })
 
 -- where the draws h, the newest first, stand from a standing on
-abbrev pub standing : Rules → ℕ → ℤ → Standing → List Draw → Standing
+abbrev pub standing : Terms → ℕ → ℤ → Standing → List Draw → Standing
 standing p n x c [] = c
 standing p n x c (d ∷ h) = standing_after p n x d (standing p n x c h)
 
 -- v are the parts of a state that stands there
-pub record IsStanding (p : Rules) (c : Standing) (v : Parts) : Type 0 where
+pub record IsStanding (p : Terms) (c : Standing) (v : Parts) : Type 0 where
   pub costs_are : v.costs ≡ c.costs
   pub period_is : v.period ≡ c.first + length c.draws
   pub within : IsWithin p c.beginning c.draws v
@@ -56,7 +57,7 @@ from_parts q = record { costs = q.costs; first = q.period; beginning = record { 
 
 -- v are the parts of a state with n periods, r replications and initial stock x, with returns or without, after the
 -- draws ds, in order
-pub record IsStateOf (p : Rules) (n r : ℕ) (x : ℤ) (has_returns : Bool) (ds : List Draw) (v : Parts) : Type 0 where
+pub record IsStateOf (p : Terms) (n r : ℕ) (x : ℤ) (has_returns : Bool) (ds : List Draw) (v : Parts) : Type 0 where
   pub periods_are : v.periods ≡ n
   pub replications_are : v.replications ≡ r
   pub initial_is : v.initial ≡ x
@@ -64,7 +65,7 @@ pub record IsStateOf (p : Rules) (n r : ℕ) (x : ℤ) (has_returns : Bool) (ds 
   pub stands : IsStanding p (standing p n x (from_start x) (reverse ds)) v
 
 -- v are the parts of a state that was q before the draws ds, in order
-pub record IsOnward (p : Rules) (q : Parts) (ds : List Draw) (v : Parts) : Type 0 where
+pub record IsOnward (p : Terms) (q : Parts) (ds : List Draw) (v : Parts) : Type 0 where
   pub periods_are : v.periods ≡ q.periods
   pub replications_are : v.replications ≡ q.replications
   pub initial_is : v.initial ≡ q.initial

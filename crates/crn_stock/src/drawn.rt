@@ -1,6 +1,7 @@
 // What periods draw from the words of a block.
 
 ghost use Rattle.std.specs.Prelude.{◌≤◌};
+ghost use Rattle.crn_stock.specs.declared.limits.TheConstants.{ITEM_LIMIT, LEAD_LIMIT};
 
 use crate::model::Model;
 use crn_cipher::Block;
@@ -11,10 +12,10 @@ pub(crate) struct Drawn {
     pub demand: u32,
     pub lead: u32,
     pub returned: u32,
-    pub ghost demand_high: { demand ≤ 10000 },
+    pub ghost demand_high: { demand ≤ ITEM_LIMIT },
     pub ghost lead_low: { 1 ≤ lead },
-    pub ghost lead_high: { lead ≤ 32 },
-    pub ghost returned_high: { returned ≤ 10000 },
+    pub ghost lead_high: { lead ≤ LEAD_LIMIT },
+    pub ghost returned_high: { returned ≤ ITEM_LIMIT },
 }
 
 /// What periods draw from, one after another.
@@ -30,7 +31,7 @@ pub(crate) enum DrawSource<'a> {
 
 impl<'a> DrawSource<'a> {
     ghost use Rattle.std.specs.Prelude.{◌≡◌, ◌<◌, false};
-    ghost use Rattle.crn_stock.specs.Inner.Flows.{draw_in, nth_draw, NoneReturned};
+    ghost use Rattle.crn_stock.specs.Inner.Steps.{draw_in, nth_draw, NoneReturned};
 
     /// The draw of the period after `k` others.
     #[inline(always)]

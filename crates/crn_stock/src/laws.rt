@@ -3,11 +3,10 @@
 ghost use Rattle.std.specs.Prelude.{◌≡◌, ℕ, ◌+◌, ◌≤◌, ◌<◌, List, ◌++◌, All, length};
 ghost use Rattle.crn_stock.specs.Parts.{Parts};
 ghost use Rattle.crn_stock.specs.Models.{ModelParts};
-ghost use Rattle.crn_stock.specs.Rule.{rules_of};
-ghost use Rattle.crn_stock.specs.Stock.{Draw};
+ghost use Rattle.crn_stock.specs.Stock.{terms_of, Draw};
 ghost use Rattle.crn_stock.specs.Draws.{StateOf, Onward, OnwardAt, next_block};
 ghost use Rattle.crn_stock.specs.Replications.{all_draws, IsAfterReplications, IsInSameReplication, IsInLaterReplication};
-ghost use Rattle.crn_stock.specs.declared.rules.Policy.{Policy};
+ghost use Rattle.crn_stock.specs.declared.policy.Policy.{Policy};
 
 use crate::state::State;
 
@@ -24,15 +23,15 @@ pub fn onward_from_itself(state: &State)
 pub fn replications()
     ensures { (model : ModelParts) (policy : Policy) (whole : List (List Draw)) (ds : List Draw) (v : Parts) → 1 ≤ model.periods
         → All (λ h. length h ≡ model.periods) whole → length ds < model.periods → StateOf model policy (all_draws whole ++ ds) v
-        → IsAfterReplications (rules_of policy model.costs) model.initial whole ds v }
+        → IsAfterReplications (terms_of policy model.costs) model.initial whole ds v }
 {}
 
 /// A state that goes on from any parts stays in the replication that they had under way, or, after the draws
 /// that end it, has its cost and those of whole replications, and stands in the next one by its own draws.
 pub fn replications_onward()
     ensures same { (model : ModelParts) (policy : Policy) (q : Parts) (ds : List Draw) (v : Parts) → q.period + length ds < q.periods
-        → Onward model policy q ds v → IsInSameReplication (rules_of policy model.costs) q ds v }
+        → Onward model policy q ds v → IsInSameReplication (terms_of policy model.costs) q ds v }
     ensures later { (model : ModelParts) (policy : Policy) (q : Parts) (first : List Draw) (whole : List (List Draw)) (ds : List Draw) (v : Parts)
         → q.period < q.periods → q.period + length first ≡ q.periods → All (λ h. length h ≡ q.periods) whole → length ds < q.periods
-        → Onward model policy q (first ++ all_draws whole ++ ds) v → IsInLaterReplication (rules_of policy model.costs) q first whole ds v }
+        → Onward model policy q (first ++ all_draws whole ++ ds) v → IsInLaterReplication (terms_of policy model.costs) q first whole ds v }
 {}

@@ -6,47 +6,19 @@ use std::alloc::Global;
 use std::sync::Wait;
 use std::test::Fail;
 use std::thread::Threads;
-
-// Two replications of two blocks each.
-const TWO_REPLICATIONS: &str = "version = 1
-key = [\"0000000000000000\", \"0000000000000000\", \"0000000000000000\", \"0000000000000000\"]
-periods = 5
-replications = 2
-initial = 10
-ring = 2
-costs = { setup = 7, unit = 2, holding = 1, backlog = 4 }
-demand = { values = [3], weights = [1] }
-lead = { values = [1], weights = [1] }
-policy = [{ name = \"A\", s = 5, S = 10 }, { name = \"B\", s = 4, S = 10 }]
-";
-
-/// The checkpoint of TWO_REPLICATIONS after its first block.
-pub const CUT: &str = "checkpoint,2,1,5,2
-key,0000000000000000,0000000000000000,0000000000000000,0000000000000000
-costs,7,2,1,4
-sizes,10,1,1,2
-returns,0,-,-,-
-demand,3,1,-,-
-lead,1,1,-,-
-policy,A,5,10,-
-state,4,35,0,0
-policy,B,4,10,-
-state,-2,45,1,0
-due,4,9,-,-
-end,-,-,-,-
-";
+use tests_text::fixtures::{FIRST_LEG, TWO_REPLICATIONS};
 
 const REPORT: &str = "policy,s,S,total,per_period,diff_total,diff_mean,diff_var,cov
 A,5,10,110,11/1,0,0/1,0/1,0/1
 B,4,10,98,49/5,-12,-6/1,0/1,0/1
 ";
 
-// Whether a leg whose k-th read fails, of so many, says so and writes nothing. Where none fails it writes CUT.
+// Whether a leg whose k-th read fails, of so many, says so and writes nothing. Where none fails it writes FIRST_LEG.
 fn leg_tells_read<H: Threads + Wait + Sync>(rt: &H, alloc: Global, k: u64, reads: u64) -> bool {
     let mut reader = Trickle::new(TWO_REPLICATIONS.as_bytes(), 100, k);
     let mut out = Vec::new(alloc);
     let answer = leg(rt, alloc, 1, &mut reader, &mut out);
-    tells_read(answer, out.as_slice(), k <= reads, CUT)
+    tells_read(answer, out.as_slice(), k <= reads, FIRST_LEG)
 }
 
 #[test]
@@ -68,7 +40,7 @@ fn resume_tells_read<H: Threads + Wait + Sync>(
     reads: u64,
 ) -> bool {
     let mut reader = Trickle::new(TWO_REPLICATIONS.as_bytes(), 100, k);
-    let mut saved = Trickle::new(CUT.as_bytes(), 100, k.saturating_sub(first));
+    let mut saved = Trickle::new(FIRST_LEG.as_bytes(), 100, k.saturating_sub(first));
     let mut out = Vec::new(alloc);
     let answer = resume(rt, alloc, &mut saved, &mut reader, &mut out);
     tells_read(answer, out.as_slice(), k <= reads, REPORT)
@@ -77,7 +49,7 @@ fn resume_tells_read<H: Threads + Wait + Sync>(
 #[test]
 fn reads_of_a_resumed_run_that_fail(rt: HostRuntime) -> Result<(), Fail> {
     let first = TWO_REPLICATIONS.len() as u64 / 100 + 2;
-    let reads = first + CUT.len() as u64 / 100 + 2;
+    let reads = first + FIRST_LEG.len() as u64 / 100 + 2;
     for k in 1..reads + 2 {
         assert!(rt;
             resume_tells_read(&rt, rt.alloc(), k, first, reads),
@@ -92,12 +64,12 @@ fn leg_tells_write<H: Threads + Wait + Sync>(rt: &H, alloc: Global, k: u64) -> b
     let mut reader = TWO_REPLICATIONS.as_bytes();
     let mut out = Narrow::new(alloc, k, k % 2 == 0);
     let answer = leg(rt, alloc, 1, &mut reader, &mut out);
-    out.tells(answer, CUT)
+    out.tells(answer, FIRST_LEG)
 }
 
 #[test]
 fn writes_of_a_leg_that_fail(rt: HostRuntime) -> Result<(), Fail> {
-    for k in 1..CUT.len() as u64 + 2 {
+    for k in 1..FIRST_LEG.len() as u64 + 2 {
         assert!(rt; leg_tells_write(&rt, rt.alloc(), k), "at {k}");
     }
     Ok(())
@@ -105,7 +77,7 @@ fn writes_of_a_leg_that_fail(rt: HostRuntime) -> Result<(), Fail> {
 
 // The same of a resumed run.
 fn resume_tells_write<H: Threads + Wait + Sync>(rt: &H, alloc: Global, k: u64) -> bool {
-    let mut saved = CUT.as_bytes();
+    let mut saved = FIRST_LEG.as_bytes();
     let mut reader = TWO_REPLICATIONS.as_bytes();
     let mut out = Narrow::new(alloc, k, k % 2 == 0);
     let answer = resume(rt, alloc, &mut saved, &mut reader, &mut out);

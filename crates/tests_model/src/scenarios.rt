@@ -1,8 +1,8 @@
 // The draws, models and scenarios that several tests run.
 
 ghost use Rattle.std.specs.Prelude.{◌≡◌, ◌≤◌, ℕ, ◌∷◌, [], length, All, IfOk};
-ghost use Rattle.crn_stock.specs.Models.{IsPolicy, returned_values, total};
-ghost use Rattle.crn_stock.specs.Scenarios.{AreForScenario, IsScenarioRingSize};
+ghost use Rattle.crn_stock.specs.Models.{IsPolicy, returned_values, total, AreForScenario};
+ghost use Rattle.crn_limits.specs.Limits.{IsRingSize};
 
 use crn_draw::Weights;
 use crn_sequential::Checkpoint;
@@ -155,7 +155,7 @@ pub enum Slots {
 impl Slots {
     /// Returns that number.
     pub fn count(self) -> u64
-        ensures { IsScenarioRingSize result }
+        ensures { IsRingSize result }
     {
         match self {
             Slots::One => 1,
@@ -172,7 +172,7 @@ fn two_policies(alloc: Global, a: Levels, b: Levels) -> Result<Vec<Policy>, Allo
     requires a { (a.low ≤ a.high) × (a.high ≤ 100) }
     requires b { (b.low ≤ b.high) × (b.high ≤ 100) }
     ensures two { IfOk result (λ ps. length ps.items ≡ 2) }
-    ensures can { IfOk result (λ ps. (ring : ℕ) → IsScenarioRingSize ring → AreForScenario ring ps.items) }
+    ensures can { IfOk result (λ ps. (ring : ℕ) → IsRingSize ring → AreForScenario ring ps.items) }
 {
     let first = policy(alloc, "A", a)?;
     let second = policy(alloc, "B", b)?;

@@ -1,14 +1,17 @@
 // Examples of single periods, of blocks and of whole runs, worked out by hand from the model's rules. `returns` has those
-// with returned items, `sizes` calls at the ends of all ranges.
+// with returned items, `sizes` calls at the ends of all ranges, `checked` the calls that judge and compare.
 
 ghost use Rattle.std.specs.Prelude.{◌≡◌, ◌≤◌, ◌≤ℤ◌, pos, IfOk};
 ghost use Rattle.crn_stock.specs.Models.{IsPolicy, total};
 ghost use Rattle.crn_stock.specs.Draws.{IsOf, IsBetween};
 
+mod checked;
 mod returns;
 mod sizes;
 
-use crate::scenarios::{Levels, always, base_model, fixed_draws, policy, prints, steady_model};
+use crate::scenarios::{
+    Levels, Slots, always, base_model, fixed_draws, policy, prints, steady_model,
+};
 use crn_cipher::block;
 use crn_stock::{Costs, Model, Policy, RestoreFault, Scenario, State};
 use std::alloc::{AllocError, Global};
@@ -467,7 +470,7 @@ fn numbers_and_lines_of_faults(rt: HostRuntime) -> Result<(), Fail> {
 fn scenario(alloc: Global) -> Result<Scenario, AllocError> {
     let policies = vec![in alloc; policy(alloc, "A", Levels { low: 5, high: 10 })?]?;
     let model = twice(alloc)?;
-    Ok(Scenario::new([1, 2, 3, 4], 2, model, policies))
+    Ok(Scenario::new([1, 2, 3, 4], Slots::Two.count(), model, policies))
 }
 
 // Its key, its ring size, the total of its blocks and the number of its policies.

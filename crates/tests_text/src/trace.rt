@@ -1,5 +1,5 @@
 // A block's words, a schedule, and the numbers of faults. Reports, and schedules and traces of all sizes, are tried
-// from outside, by tests/program/cases.toml and legs.toml.
+// from outside, by tests/program/reports.toml and replays.toml.
 
 use crn_proto::Actor;
 use crn_trace::{ScheduleFault, read_schedule, words_text};

@@ -1,10 +1,9 @@
 -- States that can be restored from their amounts.
 use Rattle.std.specs.Prelude.{◌≡◌, ℕ, ℤ, List, All, length, true}
-use Rattle.crn_stock.specs.Parts.{Parts}
+use Rattle.crn_stock.specs.Parts.{Parts, restored, CanRestore}
 use Rattle.crn_stock.specs.Models.{ModelParts, IsModel, IsPolicy}
 use Rattle.crn_spelling.specs.Names.{is_name}
-use Rattle.crn_stock.specs.declared.rules.Policy.{Policy}
-use Rattle.crn_stock.specs.Restored.{restored, CanRestore}
+use Rattle.crn_stock.specs.declared.policy.Policy.{Policy}
 
 -- v is the state of a model that its own amounts restore at block `next`
 pub record IsRestorable (m : ModelParts) (next : ℕ) (v : Parts) : Type 0 where

@@ -2,7 +2,7 @@
 use Rattle.std.specs.Prelude.{Option}
 use Rattle.crn_draw.specs.Spread.{Weighted}
 use Rattle.crn_stock.specs.Models.{ModelParts}
-use Rattle.crn_checkpoint.specs.declared.models.Sizes.{Sizes}
+use Rattle.crn_checkpoint.specs.declared.read.scenario.Sizes.{Sizes}
 
 abbrev pub model_parts_of : Sizes → Weighted → Weighted → Option Weighted → ModelParts
 model_parts_of z demand lead returns = record {

@@ -2,9 +2,9 @@
 -- bytes that the checkpoint's reader has left before and after; either may tell nothing.
 use Rattle.std.specs.Prelude.{ℕ, List, Option}
 use Rattle.crn_stock.specs.Parts.{Parts}
-use Rattle.crn_stock.specs.Scenarios.{ScenarioParts}
+use Rattle.crn_stock.specs.Models.{ScenarioParts}
 use Rattle.crn_checkpoint.specs.Reading.{IsTextOf, RefusesCheckpoint}
-use Rattle.crn_checkpoint.specs.declared.checkpoint_fault.CheckpointFault.{CheckpointFault}
+use Rattle.crn_checkpoint.specs.declared.fault.CheckpointFault.{CheckpointFault}
 use Rattle.crn_engines.specs.Bytes.{ReadAll}
 use Rattle.crn_engines.specs.Resumption.{IsResumedReport, ReportsLegs}
 

@@ -1,12 +1,11 @@
 -- Which faults the steps within an engine may answer, and what each of them tells.
 use Rattle.std.specs.Prelude.{◌≢◌, ⊤, ◌<◌, ◌≤◌, ℕ, List, Option, alloc_error}
-use Rattle.crn_stock.specs.Models.{total}
+use Rattle.crn_stock.specs.Models.{total, ScenarioParts}
 use Rattle.crn_stock.specs.Parts.{Parts}
-use Rattle.crn_stock.specs.Scenarios.{ScenarioParts}
 use Rattle.crn_checkpoint.specs.Migration.{RefusesMigration}
 use Rattle.crn_checkpoint.specs.Reading.{IsTextOf, RefusesCheckpoint}
-use Rattle.crn_checkpoint.specs.declared.checkpoint_fault.CheckpointFault.TheVariants as checkpoint
-use Rattle.crn_checkpoint.specs.declared.migrate_fault.MigrateFault.TheVariants as migration
+use Rattle.crn_checkpoint.specs.declared.fault.CheckpointFault.TheVariants as checkpoint
+use Rattle.crn_checkpoint.specs.declared.fault.MigrateFault.TheVariants as migration
 use Rattle.crn_trace.specs.Schedule.{RefusesSchedule}
 use Rattle.crn_trace.specs.declared.schedule_fault.ScheduleFault.TheVariants as schedule
 use Rattle.crn_engines.specs.declared.fault.Fault.{Fault}

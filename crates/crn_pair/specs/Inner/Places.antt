@@ -1,6 +1,6 @@
 -- Sums over the replications themselves, from which the code works out the sums over their pairs.
 use Rattle.std.specs.Prelude.{◌≡◌, ℕ, ◌*◌, ◌≤◌, ℤ, pos, ◌+ℤ◌, ◌*ℤ◌, List, [], ◌∷◌, unsigned_abs}
-use Rattle.crn_pair.specs.Limits.{cost_limit}
+use Rattle.crn_pair.specs.declared.compare.TheConstants.{COST_LIMIT}
 use Rattle.crn_pair.specs.Sums.{signed_sum}
 use Rattle.crn_pair.specs.declared.moments.Moments.{Moments}
 
@@ -18,6 +18,6 @@ pub record AreSums (xs ys : List ℤ) (m : Moments) : Type 0 where
 
 -- sums over n places of values up to the limit are no higher than this
 pub record AreWithin (n : ℕ) (m : Moments) : Type 0 where
-  pub x_low : unsigned_abs m.x ≤ n * cost_limit
-  pub y_low : unsigned_abs m.y ≤ n * cost_limit
-  pub products_low : unsigned_abs m.products ≤ n * (cost_limit * cost_limit)
+  pub x_low : unsigned_abs m.x ≤ n * COST_LIMIT
+  pub y_low : unsigned_abs m.y ≤ n * COST_LIMIT
+  pub products_low : unsigned_abs m.products ≤ n * (COST_LIMIT * COST_LIMIT)

@@ -2,10 +2,9 @@
 use Rattle.std.specs.Prelude.{◌≡◌, ℕ, ◌+◌, ◌<◌, ◌≤◌, Bool, false, List, Some, length, slice_get}
 use Rattle.crn_stock.specs.Parts.{Parts}
 use Rattle.crn_stock.specs.Draws.{next_block}
-use Rattle.crn_stock.specs.Models.{total}
-use Rattle.crn_stock.specs.Scenarios.{ScenarioParts}
+use Rattle.crn_stock.specs.Models.{total, ScenarioParts}
 use Rattle.crn_ring.specs.declared.ring.Ring.{Ring}
-use Rattle.crn_ring.specs.declared.reader_end.Reader.{Reader}
+use Rattle.crn_ring.specs.declared.reader.Reader.{Reader}
 use Rattle.crn_ring.specs.Calls.{IsReaderOf, reader_number, reader_part, spec_of}
 use Rattle.crn_sequential.specs.Runs.{StandsBefore, IsCheckpointOf, EachAt, EachOnward}
 use Rattle.crn_run.specs.Ends.{EndsAs, is_held}

@@ -1,5 +1,6 @@
 use Rattle.std.proofs.Common.{◌≤◌, ℕ, rules, subst, sym}
 use Rattle.crn_stock.specs.Models.{total}
+use Rattle.crn_sequential.specs.Runs.{EachAt}
 use Rattle.crn_checkpoint.specs.Reading.{IsTextOf}
 use Rattle.crn_engines.proofs.legs.leg_text.Goals as goal
 
@@ -10,9 +11,10 @@ returns-clause-leg g c =
     let text = c.in_ok-text.text.items in
     let enough : n ≤ total s.model = search rules in
     let next = c.in_ok-reached.ensures.next in
+    let begun = subst (λ (k : ℕ). EachAt s k c.in_ok-start.start.states.items) (sym c.in_ok-start.ensures.next) c.in_ok-start.ensures.at in
     let within = subst (λ (k : ℕ). k ≤ total s.model) (sym next) enough in
     record {
       states = c.in_ok-reached.reached.states.items;
-      at = c.in_ok-reached.ensures.at;
+      at = c.in_ok-reached.ensures.at begun;
       is_text = subst (λ (k : ℕ). IsTextOf s k c.in_ok-reached.reached.states.items text) next (c.in_ok-text.ensures.in_range within);
     }

@@ -1,6 +1,6 @@
 use Rattle.std.proofs.Common.{subst}
 use Rattle.std.proofs.lemmas.Result.{IfOk-weaker}
-use Rattle.crn_stock.specs.Scenarios.{ScenarioParts}
+use Rattle.crn_stock.specs.Models.{ScenarioParts}
 use Rattle.crn_engines.specs.Resumption.{ReportsLegs}
 use Rattle.crn_engines.proofs.LegStates.{reads_one}
 use Rattle.crn_engines.proofs.Refused.{of_each, onward_of_resume, onward_silent}

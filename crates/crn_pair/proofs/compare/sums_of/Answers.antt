@@ -1,7 +1,7 @@
 use Rattle.std.proofs.Common.{◌≡◌, ◌≤◌, ◌<◌, ◌-ℤ◌, pos, unsigned_abs, length, get_or, ℤ, FitsSigned, to_z, of_z, arith, refl, ◌∙◌, subst}
 use Rattle.std.specs.Int.{w128}
 use Rattle.std.proofs.lemmas.Int.{ints, to_z-of_z}
-use Rattle.crn_pair.specs.Limits.{cost_limit}
+use Rattle.crn_pair.specs.declared.compare.TheConstants.{COST_LIMIT}
 use Rattle.crn_pair.specs.Sums.{signed, differences}
 use Rattle.crn_pair.proofs.Gathering.{gathers_more, gathers_all, cost_at, difference_at, no_difference_past, signed_at}
 use Rattle.crn_pair.proofs.compare.sums_of.Goals as goal
@@ -40,7 +40,7 @@ loop-i-preserved c =
     let is_d : to_z w128 (of_z w128 c.difference-d.result) ≡ d = to_z-of_z w128 c.difference-d.result fits_d ∙ c.difference-d.ensures.is in
     let is_x : to_z w128 (of_z w128 c.from.result) ≡ x = to_z-of_z w128 c.from.result fits_x ∙ c.from.ensures in
     let is_y : to_z w128 (of_z w128 c.from-in-loop-i.result) ≡ y = to_z-of_z w128 c.from-in-loop-i.result fits_y ∙ c.from-in-loop-i.ensures in
-    let low_d : unsigned_abs d ≤ cost_limit = subst (λ (z : ℤ). unsigned_abs z ≤ cost_limit) c.difference-d.ensures.is c.difference-d.ensures.low in
+    let low_d : unsigned_abs d ≤ COST_LIMIT = subst (λ (z : ℤ). unsigned_abs z ≤ COST_LIMIT) c.difference-d.ensures.is c.difference-d.ensures.low in
     let at_d = difference_at a b i 0 0 c.loop-i-test.true c.requires.same_length in
     let w = c.with-differences.ensures in
     let v = c.with-costs.ensures in

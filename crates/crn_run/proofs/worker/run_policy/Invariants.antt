@@ -1,6 +1,7 @@
 use Rattle.std.proofs.Common.{◌≡◌, length, false}
 use Rattle.crn_stock.specs.Draws.{next_block}
 use Rattle.crn_ring.specs.Calls.{IsReaderOf, reader_number, reader_part}
+use Rattle.crn_run.specs.declared.batch.TheConstants.{BATCH}
 use Rattle.crn_run.specs.Gates.{PassedUpTo}
 use Rattle.crn_run.specs.Inner.Ends.{Advances}
 use Rattle.crn_run.proofs.worker.run_policy.Given as goal
@@ -12,7 +13,7 @@ invariant-loop g l = record {
   running : (reader_part l.reader).seen_end ≡ false;
   taken : (reader_part l.reader).taken ≡ next_block l.state;
   advances : Advances l.scenario.model l.rules l.scenario.key l.initial.state l.state;
-  places : length l.blocks ≡ 16;
+  places : length l.blocks ≡ BATCH;
   gate : g.G.Gate.refused l.gate ≡ false;
   passed : PassedUpTo g.G.Gate.asked l.policy (next_block l.initial.state) (next_block l.state) l.initial.gate l.gate;
 }

@@ -1,5 +1,6 @@
 use Rattle.std.proofs.Common.{◌≡◌, ℕ, ◌+◌, ◌++◌, List, [], ◌∷◌, map, drop, true, nat_abs, pos, ℤ, Option, sym, ap, ◌∙◌, subst, rules, append_assoc}
 use Rattle.std.proofs.lemmas.Bool.{and_parts}
+use Rattle.crn_draw.specs.declared.weights.TheConstants.{TOTAL_LIMIT}
 use Rattle.toml.specs.Data.{as_integer}
 use Rattle.toml.specs.View.{view, items_view}
 use Rattle.crn_scenario.specs.Tree.{integers_of, kept}
@@ -11,8 +12,8 @@ use Rattle.crn_scenario.proofs.scenario.naturals_of.Goals.{in-Some+in_ok-push, i
 number_more : (made all : List ℕ) (z : ℤ) (zs rest : List ℤ) → zs ≡ z ∷ rest → made ++ map nat_abs zs ≡ all → (made ++ nat_abs z ∷ []) ++ map nat_abs rest ≡ all
 number_more made all z zs rest e h = append_assoc made (nat_abs z ∷ []) (map nat_abs rest) ∙ sym (ap (λ (l : List ℤ). made ++ map nat_abs l) e) ∙ h
 
-rest_within : (z : ℤ) (zs rest : List ℤ) → zs ≡ z ∷ rest → are_within (pos 0) (pos 65536) zs ≡ true → are_within (pos 0) (pos 65536) rest ≡ true
-rest_within z zs rest e h = (and_parts _ _ (subst (λ (l : List ℤ). are_within (pos 0) (pos 65536) l ≡ true) e h)).1
+rest_within : (z : ℤ) (zs rest : List ℤ) → zs ≡ z ∷ rest → are_within (pos 0) (pos TOTAL_LIMIT) zs ≡ true → are_within (pos 0) (pos TOTAL_LIMIT) rest ≡ true
+rest_within z zs rest e h = (and_parts _ _ (subst (λ (l : List ℤ). are_within (pos 0) (pos TOTAL_LIMIT) l ≡ true) e h)).1
 
 pub items-preserved : goal.items-preserved
 items-preserved c =

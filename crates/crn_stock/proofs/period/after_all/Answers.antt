@@ -1,5 +1,5 @@
 use Rattle.std.proofs.Common.{◌+◌, true, refl}
-use Rattle.crn_stock.specs.Inner.Flows.{rules_in}
+use Rattle.crn_stock.specs.Inner.Steps.{terms_in}
 use Rattle.crn_stock.proofs.Flows.{has_run_more}
 use Rattle.crn_stock.proofs.period.after_all.Goals as goal
 
@@ -8,5 +8,5 @@ after_one-at-requires-clause-at c = c.loop-k.invariant.kept true (λ e. absurd (
 
 pub loop-k-preserved : goal.loop-k-preserved
 loop-k-preserved c =
-    has_run_more (rules_in c.args.terms.now) c.args.draws.now c.args.period c.loop-k.k (c.args.period + c.loop-k.k) c.args.at c.loop-k.at c.after_one-at.result c.args.ring.now c.loop-k.ring c.after_one-at.new.ring c.nth.result
+    has_run_more (terms_in c.args.terms.now) c.args.draws.now c.args.period c.loop-k.k (c.args.period + c.loop-k.k) c.args.at c.loop-k.at c.after_one-at.result c.args.due.now c.loop-k.due c.after_one-at.new.due c.nth.result
     c.loop-k.invariant refl c.nth.ensures c.after_one-at.ensures.kept c.after_one-at.ensures.moved

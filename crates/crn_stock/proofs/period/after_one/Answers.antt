@@ -3,7 +3,7 @@ use Rattle.std.proofs.lemmas.Int.{ints, to_z-of_z}
 use Rattle.crn_stock.specs.declared.period.Inventory.{Inventory}
 use Rattle.crn_stock.specs.Parts.{stock_limit}
 use Rattle.crn_stock.specs.Stock.{order_quantity}
-use Rattle.crn_stock.specs.Inner.Flows.{rules_in, draw_in}
+use Rattle.crn_stock.specs.Inner.Steps.{terms_in, draw_in}
 use Rattle.crn_stock.proofs.Ranges.{limit_least}
 use Rattle.crn_stock.proofs.Flows.{inventory_more, inventory_moved}
 use Rattle.crn_stock.proofs.period.after_one.Goals as goal
@@ -24,7 +24,7 @@ returns-clause-kept c = λ has_returns none i.
     let x-is : at.stock ≡ c.args.at.stock +ℤ pos (a + g) -ℤ pos d = omega (arith, ints, ux, c.changed-stock.ensures, g-is) in
     let y-is : at.position ≡ c.args.at.position +ℤ pos (z + g) -ℤ pos d = omega (arith, ints, uy, c.changed-position.ensures, g-is) in
     let reaches = c.order_for-order.ensures.reaches (stock_limit has_returns c.args.period) (limit_least has_returns c.args.period) (omega (arith, ints, ty, i.position_high)) in
-    inventory_more has_returns c.args.period c.args.at at c.args.ring.now c.turn-arrived.new.ring a z g d c.cost_for.result
+    inventory_more has_returns c.args.period c.args.at at c.args.due.now c.turn-arrived.new.due a z g d c.cost_for.result
     i c.turn-arrived.ensures.length c.turn-arrived.ensures.sum x-is y-is refl
     c.args.drawn.now.demand_high c.args.drawn.now.returned_high none c.cost_for.ensures.cap
     (omega (arith, ints, ty, reaches)) (omega (arith, ints, ty, c.order_for-order.ensures.raises))
@@ -37,12 +37,12 @@ returns-clause-moved c = λ v.
     let ux = to_z-of_z w64 x (search rules) in
     let g = c.args.drawn.now.returned in
     let d = draw_in c.args.drawn.now in
-    let p = rules_in c.args.terms.now in
+    let p = terms_in c.args.terms.now in
     let a = c.turn-arrived.result in
     let z = c.order_for-order.result in
     let at : Inventory = record { stock = to_z w64 (of_z w64 x); position = to_z w64 (of_z w64 y); running = c.args.at.running + c.cost_for.result } in
     let g-is : c.from-returned.result ≡ g = c.from-returned.ensures in
     let x-is : at.stock ≡ c.args.at.stock +ℤ pos (a + g) -ℤ pos d.demand = omega (arith, ints, ux, c.changed-stock.ensures, g-is) in
-    inventory_moved p d v c.args.period c.args.at at c.args.ring.now c.turn-arrived.new.ring z a c.cost_for.result
+    inventory_moved p d v c.args.period c.args.at at c.args.due.now c.turn-arrived.new.due z a c.cost_for.result
     c.requires.at.position_is (c.order_for-order.ensures.value ∙ ap (order_quantity p.low p.high) ty) c.turn-arrived.ensures.arrived x-is c.turn-arrived.ensures.moved
     c.cost_for.ensures.value refl

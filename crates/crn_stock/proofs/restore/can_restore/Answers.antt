@@ -2,10 +2,10 @@ use Rattle.std.proofs.Common.{rules, ◌≡◌, ℕ, ◌*◌, ◌/◌, ◌%◌, 
 use mir.Val.{SFits}
 use Rattle.std.proofs.lemmas.Int.{to_z-of_z}
 use Rattle.crn_cipher.specs.declared.TheConstants.{STREAM_WORDS}
-use Rattle.crn_stock.specs.Parts.{period_cost_limit}
+use Rattle.crn_stock.specs.declared.limits.TheConstants.{PERIOD_COST_LIMIT}
 use Rattle.crn_stock.specs.Models.{has_returns, blocks_per_replication}
-use Rattle.crn_stock.specs.Restored.{first_period}
-use Rattle.crn_stock.specs.Inner.Restored.{HasAmounts}
+use Rattle.crn_stock.specs.Parts.{first_period}
+use Rattle.crn_stock.specs.Inner.Parts.{HasAmounts}
 use Rattle.crn_stock.proofs.Ranges.{first_period-high, has_at}
 use Rattle.crn_stock.proofs.restore.can_restore.Goals as goal
 
@@ -31,7 +31,7 @@ returns-clause-can c passed =
         position_low = h.position_low;
         position_high = h.position_high;
         running_high = h.running_high;
-        costs_high = subst (λ (k : ℕ). All (λ x. x ≤ k * period_cost_limit) c.args.costs.now) (c.from.ensures ∙ c.periods-periods.ensures.value) (c.are_within.ensures.0 costs_passed);
+        costs_high = subst (λ (k : ℕ). All (λ x. x ≤ k * PERIOD_COST_LIMIT) c.args.costs.now) (c.from.ensures ∙ c.periods-periods.ensures.value) (c.are_within.ensures.0 costs_passed);
         fresh_stock = h.fresh_stock;
         fresh_due = h.fresh_due;
       };

@@ -6,6 +6,7 @@ use Rattle.crn_ring.specs.Plays.{cut_left, cut_right}
 use Rattle.crn_ring.specs.Calls.{AllFresh}
 use Rattle.crn_ring.proofs.Beginning.{cuts}
 use Rattle.crn_ring.proofs.Fresh.{fresh_push}
+use Rattle.crn_ring.specs.Seats.{view_of}
 use Rattle.crn_ring.proofs.ring.Ring.cut_all.Goals as goal
 
 pub split_seat-cut-requires : goal.split_seat-cut-requires
@@ -22,7 +23,7 @@ loop-r-preserved c = let inv = c.loop-r.invariant in let e = c.split_seat-cut.en
   search rules,
   search rules,
   subst (AllFresh c.args.self.now) (sym c.push_reserved.ensures.items) (fresh_push c.args.self.now c.loop-r.readers.items _ inv.4
-      (let at : c.split_seat-cut.result.me.0 ≡ cut_right (opened c.args.self.now.spec c.loop-r.r) = ap (λ m. m.0) e.4 ∙ ap cut_right inv.1 in (
+      (let at : view_of c.split_seat-cut.result ≡ cut_right (opened c.args.self.now.spec c.loop-r.r) = ap (λ m. m.0) e.4 ∙ ap cut_right inv.1 in (
         (e.3 ∙ inv.0, ap (λ v. v.spec) at),
         sym inv.2,
         ap (λ v. v.reader) at,

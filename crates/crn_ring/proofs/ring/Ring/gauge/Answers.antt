@@ -6,6 +6,7 @@ use Rattle.crn_ring.specs.declared.view.View.{View}
 use Rattle.crn_proto.specs.Ring.{ProducerMay, producer_after}
 use Rattle.crn_proto.proofs.Chains.{reaches_join, reaches_more}
 use Rattle.crn_ring.proofs.Gauging.{gauged_more, least_more}
+use Rattle.crn_ring.specs.Seats.{producer_in, view_of}
 use Rattle.crn_ring.proofs.ring.Ring.gauge.Goals as goal
 
 pub loop-r-preserved : goal.loop-r-preserved
@@ -14,11 +15,11 @@ loop-r-preserved c = let inv = c.loop-r.invariant in let e = c.load_gate-count.e
     let p : Passes size c.args.n x = c.lets_in.ensures.passes c.if-not-lets_in.false in (
       e.own.0 ∙ inv.0,
       e.own.1 ∙ inv.1,
-      subst (Gauged size c.args.n (c.loop-r.r + 1) c.args.seat.now.me.0) (sym (ap (λ m. m.0) e.view))
-          (gauged_more size c.args.n c.loop-r.r x c.args.seat.now.me.0 c.loop-r.seat.me.0 inv.2 (let l : length c.loop-r.seat.me.0.producer.gates ≡ c.args.self.now.spec.readers = e.gates in omega arith) p),
+      subst (Gauged size c.args.n (c.loop-r.r + 1) (view_of c.args.seat.now)) (sym (ap (λ m. m.0) e.view))
+          (gauged_more size c.args.n c.loop-r.r x (view_of c.args.seat.now) (view_of c.loop-r.seat) inv.2 (let l : length (producer_in c.loop-r.seat).gates ≡ c.args.self.now.spec.readers = e.gates in omega arith) p),
       reaches_join (ProducerMay c.args.self.now.spec) producer_after _ _ _ c.loop-r.r 1 inv.3 e.moved,
       subst (λ (t : View × ℕ). LeastOf (c.loop-r.r + 1) t.0.producer.gates t.1) (λ i. ((sym (ap (λ m. m.0) e.view)) i, (sym c.min-least.ensures) i))
-          (least_more c.loop-r.r c.loop-r.seat.me.0.producer.gates c.loop-r.least x inv.4 (let l : length c.loop-r.seat.me.0.producer.gates ≡ c.args.self.now.spec.readers = e.gates in omega arith)),
+          (least_more c.loop-r.r (producer_in c.loop-r.seat).gates c.loop-r.least x inv.4 (let l : length (producer_in c.loop-r.seat).gates ≡ c.args.self.now.spec.readers = e.gates in omega arith)),
     )
 
 pub returns-then-not-lets_in-clause-moved : goal.returns-then-not-lets_in-clause-moved

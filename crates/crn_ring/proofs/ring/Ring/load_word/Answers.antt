@@ -3,15 +3,16 @@ use Rattle.crn_proto.proofs.Chains.{reaches_one}
 use Rattle.crn_proto.specs.Ring.{ReaderMay, reader_after, LoadWord, place}
 use Rattle.crn_ring.proofs.Allowed.{loads_word}
 use Rattle.crn_ring.proofs.Rows.{place_from}
+use Rattle.crn_ring.specs.Seats.{reader_in}
 use Rattle.crn_ring.proofs.ring.Ring.load_word.Goals as goal
 
 pub load-requires : goal.load-requires
 load-requires c = let at = c.requires.at in let spec = c.args.self.now.spec in (
   search rules,
   (let room = c.requires.base.1 in let i = at.2 in omega (arith, c.args.self.now.counted)),
-  rw c.args.self.now.keyed (loads_word _ _ _ _ c.requires.own.0.1 c.requires.own.1 _ (place_from spec c.args.n c.args.i c.args.base c.requires.base.0 ∙ (λ i. place spec (at.1 i) (at.2 i))) (at.0, subst (λ (z : ℕ). z < c.args.seat.now.me.0.reader.seen) at.1 at.3)),
+  rw c.args.self.now.keyed (loads_word _ _ _ _ c.requires.own.0.1 c.requires.own.1 _ (place_from spec c.args.n c.args.i c.args.base c.requires.base.0 ∙ (λ i. place spec (at.1 i) (at.2 i))) (at.0, subst (λ (z : ℕ). z < (reader_in c.args.seat.now).seen) at.1 at.3)),
 )
 
 pub returns-clause-moved : goal.returns-clause-moved
 returns-clause-moved c = let at = c.requires.at in let spec = c.args.self.now.spec in
-    reaches_one ReaderMay reader_after LoadWord c.load.result c.args.seat.now.me.0.reader _ (at.0, subst (λ (z : ℕ). z < c.args.seat.now.me.0.reader.seen) at.1 at.3) (ap (λ m. m.0.reader) c.load.ensures.2.0.view)
+    reaches_one ReaderMay reader_after LoadWord c.load.result (reader_in c.args.seat.now) _ (at.0, subst (λ (z : ℕ). z < (reader_in c.args.seat.now).seen) at.1 at.3) (ap (λ m. m.0.reader) c.load.ensures.2.0.view)

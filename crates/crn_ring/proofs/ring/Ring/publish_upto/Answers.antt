@@ -4,10 +4,11 @@ use Rattle.crn_cipher.specs.declared.TheConstants.{BLOCK_WORDS}
 use Rattle.crn_proto.specs.Ring.{ProducerMay, producer_after, Publish}
 use Rattle.crn_ring.proofs.Allowed.{publishes}
 use Rattle.crn_ring.specs.Plays.{by_producer, publishing}
+use Rattle.crn_ring.specs.Seats.{producer_in, view_of}
 use Rattle.crn_ring.proofs.ring.Ring.publish_upto.Goals as goal
 
 pub store-requires : goal.store-requires
-store-requires c = let at = c.requires.at in let p = c.args.seat.now.me.0.producer in
+store-requires c = let at = c.requires.at in let p = producer_in c.args.seat.now in
     let stored : p.stored ≡ BLOCK_WORDS * c.args.count = at.1 in
     let some = at.2 in
     let upto : c.args.n ≡ p.published + c.args.count = at.3 in
@@ -19,14 +20,14 @@ store-requires c = let at = c.requires.at in let p = c.args.seat.now.me.0.produc
     )
 
 pub returns-clause-moved : goal.returns-clause-moved
-returns-clause-moved c = let at = c.requires.at in let spec = c.args.self.now.spec in let p = c.args.seat.now.me.0.producer in
+returns-clause-moved c = let at = c.requires.at in let spec = c.args.self.now.spec in let p = producer_in c.args.seat.now in
     let stored : p.stored ≡ BLOCK_WORDS * c.args.count = at.1 in
     let some = at.2 in
     let whole : p.stored ≡ BLOCK_WORDS * (p.stored / BLOCK_WORDS) = omega arith in
-    reaches_one (ProducerMay spec) producer_after (publishing c.args.seat.now.me.0) 0 p _ (at.0, whole, omega arith) (ap (λ m. m.0.producer) c.store.ensures.2.view)
+    reaches_one (ProducerMay spec) producer_after (publishing (view_of c.args.seat.now)) 0 p _ (at.0, whole, omega arith) (ap (λ m. m.0.producer) c.store.ensures.2.view)
 
 pub returns-clause-view : goal.returns-clause-view
-returns-clause-view c = let p = c.args.seat.now.me.0.producer in
+returns-clause-view c = let p = producer_in c.args.seat.now in
     let stored : p.stored ≡ BLOCK_WORDS * c.args.count = c.requires.at.1 in
     let many : p.stored / BLOCK_WORDS ≡ c.args.count = omega arith in
-    subst (λ (z : ℕ). c.store.new.seat.me ≡ (by_producer (Publish z) 0 c.args.seat.now.me.0, c.args.seat.now.me.1)) many c.store.ensures.2.view
+    subst (λ (z : ℕ). c.store.new.seat.me ≡ (by_producer (Publish z) 0 (view_of c.args.seat.now), c.args.seat.now.me.1)) many c.store.ensures.2.view

@@ -6,17 +6,18 @@ use Rattle.crn_proto.specs.Ring.{ProducerMay, producer_after}
 use Rattle.crn_proto.proofs.Chains.{reaches_join, reaches_more}
 use Rattle.crn_ring.specs.Inner.Plays.{wrote_many}
 use Rattle.crn_ring.proofs.Filling.{wrote_many_join}
+use Rattle.crn_ring.specs.Seats.{producer_in}
 use Rattle.crn_ring.proofs.ring.Ring.store_rows.Goals as goal
 
 pub store_row-requires-clause-room : goal.store_row-requires-clause-room
 store_row-requires-clause-room c = λ r h ne.
     let k : ℕ = c.loop-k.k in
-    let old : List ℕ = c.args.seat.now.me.0.producer.gates in
-    let gate : slice_index c.loop-k.seat.me.0.producer.gates r ≡ slice_index old r = ap (λ m. slice_index m.0.producer.gates r) c.loop-k.invariant.2 in
+    let old : List ℕ = (producer_in c.args.seat.now).gates in
+    let gate : slice_index (producer_in c.loop-k.seat).gates r ≡ slice_index old r = ap (λ m. slice_index m.0.producer.gates r) c.loop-k.invariant.2 in
     let at : slice_get c.args.blocks.now k ≡ Some c.index-blocks-k.result =
     slice_get-get_or c.args.blocks.now k c.index-blocks-k.result (let few = c.requires.blocks.0 in let inside = c.loop-k-test.true in omega arith) ∙ ap Some (sym c.index-blocks-k.is) in
     let number = (c.requires.blocks.1 k c.index-blocks-k.result (let few = c.requires.blocks.0 in let inside = c.loop-k-test.true in omega arith) at).1 in
-    let low : c.args.seat.now.me.0.producer.published + c.args.count ≤ slice_index old r + c.args.self.now.spec.size = c.requires.room r h (λ e. ne (gate ∙ e)) in
+    let low : (producer_in c.args.seat.now).published + c.args.count ≤ slice_index old r + c.args.self.now.spec.size = c.requires.room r h (λ e. ne (gate ∙ e)) in
     let inside = c.loop-k-test.true in
     omega arith
 

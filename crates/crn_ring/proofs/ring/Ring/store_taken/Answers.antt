@@ -4,10 +4,11 @@ use Rattle.crn_cipher.specs.declared.TheConstants.{BLOCK_WORDS}
 use Rattle.crn_proto.specs.Ring.{ReaderMay, reader_after, Take}
 use Rattle.crn_ring.proofs.Allowed.{stores_taken}
 use Rattle.crn_ring.specs.Plays.{by_reader, taking}
+use Rattle.crn_ring.specs.Seats.{reader_in, view_of}
 use Rattle.crn_ring.proofs.ring.Ring.store_taken.Goals as goal
 
 pub store-requires : goal.store-requires
-store-requires c = let at = c.requires.at in let q = c.args.seat.now.me.0.reader in
+store-requires c = let at = c.requires.at in let q = reader_in c.args.seat.now in
     let read : length q.read ≡ BLOCK_WORDS * c.args.count = c.requires.whole.0 in
     let some = c.requires.whole.1 in
     let upto : c.args.n ≡ q.taken + c.args.count = c.requires.whole.2 in
@@ -19,14 +20,14 @@ store-requires c = let at = c.requires.at in let q = c.args.seat.now.me.0.reader
     )
 
 pub returns-clause-moved : goal.returns-clause-moved
-returns-clause-moved c = let at = c.requires.at in let q = c.args.seat.now.me.0.reader in
+returns-clause-moved c = let at = c.requires.at in let q = reader_in c.args.seat.now in
     let read : length q.read ≡ BLOCK_WORDS * c.args.count = c.requires.whole.0 in
     let some = c.requires.whole.1 in
     let whole : length q.read ≡ BLOCK_WORDS * (length q.read / BLOCK_WORDS) = omega arith in
-    reaches_one ReaderMay reader_after (taking c.args.seat.now.me.0) 0 q _ (at.0, whole, omega arith) (ap (λ m. m.0.reader) c.store.ensures.2.view)
+    reaches_one ReaderMay reader_after (taking (view_of c.args.seat.now)) 0 q _ (at.0, whole, omega arith) (ap (λ m. m.0.reader) c.store.ensures.2.view)
 
 pub returns-clause-view : goal.returns-clause-view
-returns-clause-view c = let q = c.args.seat.now.me.0.reader in
+returns-clause-view c = let q = reader_in c.args.seat.now in
     let read : length q.read ≡ BLOCK_WORDS * c.args.count = c.requires.whole.0 in
     let many : length q.read / BLOCK_WORDS ≡ c.args.count = omega arith in
-    subst (λ (z : ℕ). c.store.new.seat.me ≡ (by_reader (Take z) 0 c.args.seat.now.me.0, c.args.seat.now.me.1)) many c.store.ensures.2.view
+    subst (λ (z : ℕ). c.store.new.seat.me ≡ (by_reader (Take z) 0 (view_of c.args.seat.now), c.args.seat.now.me.1)) many c.store.ensures.2.view

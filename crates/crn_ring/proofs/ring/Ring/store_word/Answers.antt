@@ -4,6 +4,7 @@ use Rattle.crn_cipher.specs.Blocks.{block_word}
 use Rattle.crn_proto.specs.Ring.{ProducerMay, producer_after, StoreWord, PassesGates, place}
 use Rattle.crn_ring.proofs.Allowed.{stores_word}
 use Rattle.crn_ring.proofs.Rows.{place_from}
+use Rattle.crn_ring.specs.Seats.{producer_in}
 use Rattle.crn_ring.proofs.ring.Ring.store_word.Goals as goal
 
 pub store-requires : goal.store-requires
@@ -11,9 +12,9 @@ store-requires c = let at = c.requires.at in let spec = c.args.self.now.spec in 
   search rules,
   (let room = c.requires.base.1 in let i = at.2 in omega (arith, c.args.self.now.counted)),
   rw c.args.self.now.keyed (stores_word _ _ _ _ c.requires.own.0.1 c.requires.own.1 _ _ (place_from spec c.args.n c.args.i c.args.base c.requires.base.0 ∙ (λ i. place spec (at.1 i) (at.2 i))) (c.requires.word ∙ (λ i. block_word spec.id.key (at.1 i) (at.2 i)))
-      (at.0, subst (λ (z : ℕ). z < spec.id.total) at.1 c.requires.below, subst (PassesGates spec c.args.seat.now.me.0.producer) at.1 c.requires.room)),
+      (at.0, subst (λ (z : ℕ). z < spec.id.total) at.1 c.requires.below, subst (PassesGates spec (producer_in c.args.seat.now)) at.1 c.requires.room)),
 )
 
 pub returns-clause-moved : goal.returns-clause-moved
 returns-clause-moved c = let at = c.requires.at in let spec = c.args.self.now.spec in
-    reaches_one (ProducerMay spec) producer_after StoreWord 0 c.args.seat.now.me.0.producer _ (at.0, subst (λ (z : ℕ). z < spec.id.total) at.1 c.requires.below, subst (PassesGates spec c.args.seat.now.me.0.producer) at.1 c.requires.room) (ap (λ m. m.0.producer) c.store.ensures.2.view)
+    reaches_one (ProducerMay spec) producer_after StoreWord 0 (producer_in c.args.seat.now) _ (at.0, subst (λ (z : ℕ). z < spec.id.total) at.1 c.requires.below, subst (PassesGates spec (producer_in c.args.seat.now)) at.1 c.requires.room) (ap (λ m. m.0.producer) c.store.ensures.2.view)

@@ -1,11 +1,22 @@
 use Rattle.std.proofs.Common.{refl, arith}
 use Rattle.tests_model.proofs.scenarios.Slots.count.Goals as goal
 
+pub returns-in-One : goal.returns-in-One
+unfolding lib.Count.ones
+returns-in-One c = (refl, omega arith)
+
+pub returns-in-Two : goal.returns-in-Two
+unfolding lib.Count.ones
+returns-in-Two c = (refl, omega arith)
+
 pub returns-in-SixtyFour : goal.returns-in-SixtyFour
-returns-in-SixtyFour c = record { exponent = 6; high = omega arith; is = refl }
+unfolding lib.Count.ones
+returns-in-SixtyFour c = (refl, omega arith)
 
 pub returns-in-LeastLarge : goal.returns-in-LeastLarge
-returns-in-LeastLarge c = record { exponent = 7; high = omega arith; is = refl }
+unfolding lib.Count.ones
+returns-in-LeastLarge c = (refl, omega arith)
 
 pub returns-in-Most : goal.returns-in-Most
-returns-in-Most c = record { exponent = 10; high = omega arith; is = refl }
+unfolding lib.Count.ones
+returns-in-Most c = (refl, omega arith)

@@ -1,5 +1,0 @@
-use Rattle.std.proofs.Common.{rules}
-use Rattle.crn_checkpoint.proofs.amounts.after_amount.Goals as goal
-
-pub returns-then-amount-gt0 : goal.returns-then-amount-gt0
-returns-then-amount-gt0 c = search rules

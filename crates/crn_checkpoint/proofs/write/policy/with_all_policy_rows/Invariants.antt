@@ -1,0 +1,7 @@
+use Rattle.std.proofs.Common.{◌≡◌, ◌++◌, drop}
+use Rattle.crn_rows.specs.Rows.{rows_text}
+use Rattle.crn_checkpoint.specs.CheckpointText.{all_policy_rows}
+use Rattle.crn_checkpoint.proofs.write.policy.with_all_policy_rows.Given as goal
+
+abbrev pub invariant-loop-i : goal.invariant-loop-i
+invariant-loop-i l = l.sheet ++ rows_text (all_policy_rows (drop l.i l.policies) (drop l.i l.states)) ≡ l.initial.sheet ++ rows_text (all_policy_rows l.policies l.states)

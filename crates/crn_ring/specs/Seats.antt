@@ -1,0 +1,23 @@
+-- What the seat of an actor knows of the ring.
+use Rattle.atomic_table.specs.declared.shared.Seat.{Seat}
+use Rattle.crn_proto.specs.declared.spec.RingSpec.{RingSpec}
+use Rattle.crn_proto.specs.declared.actor_parts.ProducerPart.{ProducerPart}
+use Rattle.crn_proto.specs.declared.actor_parts.ReaderPart.{ReaderPart}
+use Rattle.crn_ring.specs.declared.view.View.{View}
+
+abbrev pub Place : Type 0
+Place = Seat (Unit {0}) View
+
+abbrev pub view_of : Place → View
+view_of seat = seat.me.0
+
+-- the ring, as it was opened
+abbrev pub spec_in : Place → RingSpec
+spec_in seat = (view_of seat).spec
+
+-- the part of the ring's state that is the producer's, or a reader's
+abbrev pub producer_in : Place → ProducerPart
+producer_in seat = (view_of seat).producer
+
+abbrev pub reader_in : Place → ReaderPart
+reader_in seat = (view_of seat).reader

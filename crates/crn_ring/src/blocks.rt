@@ -1,0 +1,87 @@
+//! Stores and loads the blocks in the slots of a ring, word by word.
+ghost use Rattle.std.specs.Prelude.{◌≡◌, ℕ, ◌+◌, ◌*◌, ◌%◌, ◌<◌, ◌≤◌, false, List, [], drop, length};
+ghost use Rattle.crn_cipher.specs.Blocks.{BlockWords};
+ghost use Rattle.crn_proto.specs.Ring.{PassesGates, reading, storing};
+ghost use Rattle.crn_proto.specs.Chains.{ProducerReaches, ReaderReaches};
+ghost use Rattle.crn_ring.specs.Seats.{producer_in, reader_in, view_of};
+ghost use Rattle.crn_ring.specs.Gates.{HaveRoom};
+ghost use Rattle.crn_ring.specs.Inner.Plays.{read_many, wrote_many};
+ghost use Rattle.crn_ring.specs.Inner.Seats.{IsProducerSeat, IsReaderSeat, SameSeat, ViewBecomes};
+ghost use Rattle.crn_ring.specs.Calls.{FollowOn};
+
+use crate::ring::{Place, Ring};
+use crn_cipher::{BLOCK_WORDS, Block};
+use crn_limits::BLOCK_LIMIT;
+
+impl Ring {
+    // Stores the words of a block in its slot.
+    #[inline(always)]
+    pub(crate) fn store_row(&self, seat: &mut Place, block: &Block)
+        requires own { IsProducerSeat self.now seat.old }
+        requires at { ((producer_in seat.old).ended ≡ false) × (storing (producer_in seat.old) ≡ block.now.number) × ((producer_in seat.old).stored % BLOCK_WORDS ≡ 0) }
+        requires block { (block.now.key ≡ self.now.spec.id.key) × (block.now.number < self.now.spec.id.total) }
+        requires room { PassesGates self.now.spec (producer_in seat.old) block.now.number }
+        ensures own { SameSeat seat.old seat.new }
+        ensures moved { ProducerReaches self.now.spec (producer_in seat.old) BLOCK_WORDS (producer_in seat.new) }
+        ensures view { ViewBecomes seat.old seat.new (wrote_many BLOCK_WORDS (view_of seat.old)) }
+    {
+        let number = block.number;
+        let base = self.base(number);
+        for i in 0..BLOCK_WORDS {
+            self.store_word(seat, base, number, i, block.word(i));
+        }
+    }
+
+    // Stores the words of the first `count` blocks, which are consecutive, in their slots.
+    pub(crate) fn store_rows(&self, seat: &mut Place, blocks: &[Block], count: usize)
+        requires own { IsProducerSeat self.now seat.old }
+        requires at { ((producer_in seat.old).ended ≡ false) × ((producer_in seat.old).stored ≡ 0) }
+        requires blocks { (count ≤ length blocks.now) × FollowOn self.now.spec (producer_in seat.old).published (length blocks.now) blocks.now }
+        requires below { (producer_in seat.old).published + count ≤ self.now.spec.id.total }
+        requires room { HaveRoom self.now.spec (producer_in seat.old) count }
+        ensures own { SameSeat seat.old seat.new }
+        ensures moved { ProducerReaches self.now.spec (producer_in seat.old) (BLOCK_WORDS * count) (producer_in seat.new) }
+        ensures view { ViewBecomes seat.old seat.new (wrote_many (BLOCK_WORDS * count) (view_of seat.old)) }
+    {
+        for k in 0..count {
+            self.store_row(seat, &blocks[k]);
+        }
+    }
+
+    // Loads the words of block n from its slot. The ring cursor has shown that it is published.
+    #[inline(always)]
+    pub(crate) fn load_row(&self, seat: &mut Place, n: u64) -> [u64; BLOCK_WORDS]
+        requires own { IsReaderSeat self.now seat.old }
+        requires at { ((reader_in seat.old).left ≡ false) × (n ≡ reading (reader_in seat.old)) × (length (reader_in seat.old).read % BLOCK_WORDS ≡ 0) × (n < (reader_in seat.old).seen) }
+        ensures own { SameSeat seat.old seat.new }
+        ensures view { ViewBecomes seat.old seat.new (read_many result (view_of seat.old)) }
+        ensures moved { ReaderReaches (reader_in seat.old) BLOCK_WORDS (reader_in seat.new) }
+        ensures words { result ≡ BlockWords self.now.spec.id.key n }
+    {
+        let base = self.base(n);
+        let mut words = [0u64; BLOCK_WORDS];
+        for i in 0..words.len() {
+            words[i] = self.load_word(seat, base, n, i);
+        }
+        words
+    }
+
+    // Loads `count` blocks, from n on, into the first places of `out`.
+    pub(crate) fn load_rows(&self, seat: &mut Place, n: u64, out: &mut [Block], count: usize)
+        requires own { IsReaderSeat self.now seat.old }
+        requires at { ((reader_in seat.old).left ≡ false) × ((reader_in seat.old).taken ≡ n) × ((reader_in seat.old).read ≡ []) × (n + count ≤ (reader_in seat.old).seen) }
+        requires room { (count ≤ length out.old) × (n + count ≤ BLOCK_LIMIT) }
+        ensures own { SameSeat seat.old seat.new }
+        ensures view { (ns : List ℕ) × (length ns ≡ BLOCK_WORDS * count) × ViewBecomes seat.old seat.new (read_many ns (view_of seat.old)) }
+        ensures moved { ReaderReaches (reader_in seat.old) (BLOCK_WORDS * count) (reader_in seat.new) }
+        ensures blocks { FollowOn self.now.spec n count out.new }
+        ensures rest { drop count out.new ≡ drop count out.old }
+    {
+        let key = self.spec.id.key;
+        for k in 0..count {
+            let number = n + k as u64;
+            let words = self.load_row(seat, number);
+            out[k] = Block::from_words(key, number, words);
+        }
+    }
+}
