@@ -10,7 +10,7 @@ use lib.Signed.{mag}
 use Rattle.crn_draw.specs.Faults.{least_weights_fault}
 use Rattle.crn_draw.specs.Spread.{Weighted}
 use Rattle.crn_stock.specs.declared.policy.Policy.{Policy}
-use Rattle.crn_stock.specs.declared.costs.Costs.{Costs}
+use Rattle.crn_stock.specs.declared.model.Costs.{Costs}
 use Rattle.crn_stock.specs.Parts.{Parts, AreInRange, stock_limit}
 use Rattle.crn_stock.specs.declared.limits.TheConstants.{PERIOD_COST_LIMIT}
 use Rattle.crn_stock.specs.Models.{ModelParts, IsModel, IsPolicy, AreCosts, blocks_per_replication, returned_values, total, ScenarioParts}

@@ -3,7 +3,7 @@
 use Rattle.std.specs.Prelude.{ℕ, zero, suc, ◌+◌, List, [], ◌∷◌, ◌++◌, Option, Some, None, length, slice_index, codes, decimal}
 use Rattle.std.specs.Fmt.{signed_decimal}
 use Rattle.crn_draw.specs.Spread.{Weighted}
-use Rattle.crn_stock.specs.declared.costs.Costs.{Costs}
+use Rattle.crn_stock.specs.declared.model.Costs.{Costs}
 use Rattle.crn_stock.specs.declared.policy.Policy.{Policy}
 use Rattle.crn_stock.specs.Parts.{Parts}
 use Rattle.crn_stock.specs.Models.{ModelParts, returned_values, ScenarioParts}

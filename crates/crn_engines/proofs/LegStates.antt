@@ -3,7 +3,7 @@ use Rattle.std.proofs.Common.{◌≡◌, ◌∙◌, ℕ, List, ap, subst, sym, s
 use Rattle.crn_stock.specs.declared.policy.Policy.{Policy}
 use Rattle.crn_stock.specs.Parts.{Parts}
 use Rattle.crn_stock.specs.Models.{ModelParts, ScenarioParts, IsSameButRing}
-use Rattle.crn_stock.specs.Draws.{At}
+use Rattle.crn_stock.specs.Stock.{At}
 use Rattle.crn_sequential.specs.Runs.{EachAt}
 use Rattle.crn_checkpoint.specs.Reading.{IsAnyTextOf, IsLegOf}
 use Rattle.crn_scenario.specs.Reading.{Reads, scenario_of}

@@ -6,7 +6,7 @@ use Rattle.crn_ring.specs.Calls.{FollowOn}
 use Rattle.crn_stock.specs.declared.policy.Policy.{Policy}
 use Rattle.crn_stock.specs.Parts.{Parts}
 use Rattle.crn_stock.specs.Models.{ModelParts, ScenarioParts}
-use Rattle.crn_stock.specs.Draws.{At, OnwardAt, next_block}
+use Rattle.crn_stock.specs.Stock.{At, OnwardAt, next_block}
 use Rattle.crn_sequential.specs.Runs.{StandsBefore}
 use Rattle.crn_run.specs.Ends.{IsRun}
 use Rattle.crn_run.specs.Inner.Ends.{Advances, FollowFrom}

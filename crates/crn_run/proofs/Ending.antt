@@ -10,7 +10,7 @@ use Rattle.std.proofs.lemmas.List.Folds.{list_any_at}
 use Rattle.crn_stock.specs.Parts.{Parts}
 use Rattle.crn_stock.specs.Models.{ScenarioParts}
 use Rattle.crn_proto.specs.declared.actor_parts.ReaderPart.{ReaderPart}
-use Rattle.crn_stock.specs.Draws.{At, OnwardAt, next_block}
+use Rattle.crn_stock.specs.Stock.{At, OnwardAt, next_block}
 use Rattle.crn_proto.specs.declared.spec.RingSpec.{RingSpec}
 use Rattle.crn_ring.specs.declared.ring.Ring.{Ring}
 use Rattle.crn_ring.specs.declared.reader.Reader.{Reader}

@@ -2,7 +2,7 @@
 use Rattle.std.specs.Prelude.{◌≡◌, ℕ, ◌<◌, Bool, true, false, Some, slice_get}
 use Rattle.crn_stock.specs.Parts.{Parts}
 use Rattle.crn_stock.specs.Models.{ScenarioParts}
-use Rattle.crn_stock.specs.Draws.{At, OnwardAt, next_block}
+use Rattle.crn_stock.specs.Stock.{At, OnwardAt, next_block}
 use Rattle.crn_stock.specs.declared.policy.Policy.{Policy}
 use Rattle.crn_ring.specs.declared.ring.Ring.{Ring}
 use Rattle.crn_ring.specs.declared.reader.Reader.{Reader}

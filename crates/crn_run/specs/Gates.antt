@@ -1,7 +1,7 @@
 -- What a policy's gate was asked. `asked` is what the gate's type says of one call: of the value before, the policy, the
 -- block, the answer and the value after.
 use Rattle.std.specs.Prelude.{◌≡◌, ℕ, zero, suc, ◌+◌, ◌<◌, Bool, true, false, List, Some, slice_get}
-use Rattle.crn_stock.specs.Draws.{next_block}
+use Rattle.crn_stock.specs.Stock.{next_block}
 use Rattle.crn_run.specs.declared.worker.PolicyEnd.{PolicyEnd}
 use Rattle.crn_run.specs.declared.worker.PolicyEnd.TheVariants.{Reached, Short, Held}
 

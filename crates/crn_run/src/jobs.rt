@@ -1,6 +1,6 @@
 //! Jobs: the policies' runs that are still to start.
 ghost use Rattle.std.specs.Prelude.{◌≡◌, ◌<◌, ◌≤◌, false, length, slice_get, Some, IfOk, IfErr};
-ghost use Rattle.crn_stock.specs.Draws.{next_block};
+ghost use Rattle.crn_stock.specs.Stock.{next_block};
 ghost use Rattle.crn_stock.specs.Models.{total};
 ghost use Rattle.crn_ring.specs.Calls.{AllFresh, IsOpened, reader_number, spec_of};
 ghost use Rattle.crn_sequential.specs.Runs.{IsCheckpointOf};

@@ -1,7 +1,7 @@
 //! The run of one policy, on the calling thread.
 ghost use Rattle.std.specs.Prelude.{◌≡◌, ◌≢◌, ◌+◌, ◌<◌, ◌≤◌, true, false, not, length};
 ghost use Rattle.crn_stock.specs.Models.{IsPolicy, total};
-ghost use Rattle.crn_stock.specs.Draws.{next_block};
+ghost use Rattle.crn_stock.specs.Stock.{next_block};
 ghost use Rattle.crn_ring.specs.Calls.{IsReaderOf, reader_number, reader_part, spec_of};
 ghost use Rattle.crn_sequential.specs.Runs.{StandsBefore};
 ghost use Rattle.crn_run.specs.declared.worker.PolicyEnd.TheVariants.{Reached, Short};

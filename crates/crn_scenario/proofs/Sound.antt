@@ -9,7 +9,7 @@ use Rattle.crn_limits.specs.declared.TheConstants.{PERIOD_LIMIT, REPLICATION_LIM
 use Rattle.crn_stock.specs.declared.limits.TheConstants.{ITEM_LIMIT, LEAD_LIMIT, RATE_LIMIT, SETUP_LIMIT}
 use Rattle.toml.specs.Data.{Members, get_member}
 use Rattle.crn_stock.specs.Models.{IsModel, AreCosts, ModelParts, returned_values}
-use Rattle.crn_stock.specs.declared.costs.Costs.{Costs}
+use Rattle.crn_stock.specs.declared.model.Costs.{Costs}
 use Rattle.crn_draw.specs.Spread.{Weighted}
 use Rattle.crn_scenario.specs.Tree.{integer_at, natural, table_at}
 use Rattle.crn_scenario.specs.Fields.{Entry, entry, number, greatest_level}

@@ -4,7 +4,7 @@ use Rattle.std.specs.Prelude.{◌≡◌, ℕ, ℤ, pos, List, [], ◌∷◌, map
 use Rattle.toml.specs.Data.{Data, Items, Members, at, get_member, as_str}
 use Rattle.toml.specs.Parse.{parse_document}
 use Rattle.crn_draw.specs.Spread.{Weighted}
-use Rattle.crn_stock.specs.declared.costs.Costs.{Costs}
+use Rattle.crn_stock.specs.declared.model.Costs.{Costs}
 use Rattle.crn_stock.specs.declared.policy.Policy.{Policy}
 use Rattle.crn_stock.specs.Models.{ModelParts, ScenarioParts}
 use Rattle.crn_scenario.specs.declared.scenario_fault.ScenarioFault.{ScenarioFault}

@@ -3,7 +3,7 @@ use Rattle.std.proofs.Common.{◌≡◌, ℕ, List, subst}
 use Rattle.crn_stock.specs.declared.policy.Policy.{Policy}
 use Rattle.crn_stock.specs.Parts.{Parts}
 use Rattle.crn_stock.specs.Models.{ModelParts}
-use Rattle.crn_stock.specs.Draws.{At, IsOf, IsBetween, next_block}
+use Rattle.crn_stock.specs.Stock.{At, IsOf, IsBetween, next_block}
 use Rattle.crn_sequential.specs.Runs.{StandsBefore}
 
 -- before block 0, whatever the policy

@@ -3,7 +3,7 @@ use Rattle.std.proofs.Common.{◌≡◌, ℕ, suc, List, [], ◌∷◌, length, 
 use Rattle.crn_stock.specs.declared.policy.Policy.{Policy}
 use Rattle.crn_stock.specs.Parts.{Parts}
 use Rattle.crn_stock.specs.Models.{total, ScenarioParts}
-use Rattle.crn_stock.specs.Draws.{At}
+use Rattle.crn_stock.specs.Stock.{At}
 use Rattle.crn_sequential.specs.Runs.{EachAt, costs_of}
 
 at_end : (s : ScenarioParts) (p : Policy) (v : Parts) → At s.model p s.key (total s.model) v → v.costs ≡ costs_of s p

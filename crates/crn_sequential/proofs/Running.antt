@@ -4,7 +4,7 @@ use Rattle.std.proofs.lemmas.Option.{slice_get_read, slice_get_within, slice_get
 use Rattle.crn_stock.specs.declared.policy.Policy.{Policy}
 use Rattle.crn_stock.specs.Parts.{Parts}
 use Rattle.crn_stock.specs.Models.{ScenarioParts}
-use Rattle.crn_stock.specs.Draws.{At, OnwardAt, next_block}
+use Rattle.crn_stock.specs.Stock.{At, OnwardAt, next_block}
 use Rattle.crn_sequential.specs.Runs.{StandsBefore}
 
 -- v is the state that policy i's state of `start` at block `from` becomes at block `upto`

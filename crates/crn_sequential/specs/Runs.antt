@@ -2,9 +2,7 @@
 use Rattle.std.specs.Prelude.{◌≡◌, ℕ, List, Some, length, reverse, slice_get}
 use Rattle.crn_stock.specs.Parts.{Parts}
 use Rattle.crn_stock.specs.Models.{ModelParts, total, ScenarioParts}
-use Rattle.crn_stock.specs.Stock.{terms_of}
-use Rattle.crn_stock.specs.States.{standing, from_start}
-use Rattle.crn_stock.specs.Draws.{Draws, At, OnwardAt, IsOf, IsBetween, next_block}
+use Rattle.crn_stock.specs.Stock.{terms_of, standing, from_start, Draws, At, OnwardAt, IsOf, IsBetween, next_block}
 use Rattle.crn_stock.specs.declared.policy.Policy.{Policy}
 
 -- a state of the model that stands before block n

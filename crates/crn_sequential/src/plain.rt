@@ -1,6 +1,6 @@
 ghost use Rattle.std.specs.Prelude.{◌≡◌, ◌≤◌, IfOk};
 ghost use Rattle.crn_stock.specs.Models.{IsPolicy, total};
-ghost use Rattle.crn_stock.specs.Draws.{At, OnwardAt, next_block};
+ghost use Rattle.crn_stock.specs.Stock.{At, OnwardAt, next_block};
 ghost use Rattle.crn_sequential.specs.Runs.{IsCheckpointOf, StandsBefore, EachAt, EachOnward};
 
 use crate::checkpoint::Checkpoint;

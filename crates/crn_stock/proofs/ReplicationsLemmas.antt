@@ -7,9 +7,7 @@ use Rattle.std.proofs.lemmas.List.{reverse-append, length-reverse, append-nil}
 use Rattle.crn_stock.specs.declared.policy.Policy.{Policy}
 use Rattle.crn_stock.specs.Parts.{Parts}
 use Rattle.crn_stock.specs.Models.{ModelParts}
-use Rattle.crn_stock.specs.Stock.{terms_of, Draw, Terms, Beginning, running}
-use Rattle.crn_stock.specs.States.{Standing, IsStanding, fresh_beginning, standing_after, standing, from_parts}
-use Rattle.crn_stock.specs.Draws.{StateOf, Onward}
+use Rattle.crn_stock.specs.Stock.{terms_of, Draw, Terms, Beginning, running, Standing, IsStanding, fresh_beginning, standing_after, standing, from_parts, StateOf, Onward}
 use Rattle.crn_stock.specs.Replications.{all_draws, replication_cost, beginning_of, IsAfterReplications, IsInSameReplication, IsInLaterReplication}
 
 module _ (p : Terms) (n : ℕ) (x : ℤ) where

@@ -4,7 +4,7 @@ use Rattle.std.proofs.lemmas.Int.{ints}
 use Rattle.crn_stock.specs.declared.state.State.TheInside.{Inside}
 use Rattle.crn_stock.specs.contracts.state.State.{the_view, the_invariant}
 use Rattle.crn_stock.specs.Parts.{AreInRange}
-use Rattle.crn_stock.proofs.Ranges.{sum-rotated}
+use Rattle.crn_stock.proofs.Steps.{sum-rotated}
 use Rattle.crn_stock.proofs.Due.{length-rotated}
 
 pub in_range : (f : Inside) → the_invariant f → AreInRange (the_view f)

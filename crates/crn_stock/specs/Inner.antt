@@ -1,3 +1,2 @@
 -- Definitions that no public contract states: of private functions, of proofs and of what a type keeps by its invariant.
-pub mod Parts
 pub mod Steps

@@ -1,12 +1,12 @@
 -- A model as a value, and the ranges of cost rates, policies and models.
-use Rattle.std.specs.Prelude.{ℕ, ◌+◌, ◌-◌, ◌*◌, ◌/◌, ◌≤◌, ℤ, pos, ◌≤ℤ◌, Bool, List, [], Option, Some, None, is_some, All, ◌≡◌, ◌≢◌, ◌^◌, true, ◌&&◌, ◌||◌, length, nat_le, nat_eq}
+use Rattle.std.specs.Prelude.{ℕ, ◌+◌, ◌-◌, ◌*◌, ◌/◌, ◌≤◌, ℤ, pos, ◌≤ℤ◌, Bool, List, [], Option, Some, None, is_some, All, ◌≡◌, ◌≢◌, true, length}
 use Rattle.crn_cipher.specs.declared.TheConstants.{STREAM_WORDS}
 use Rattle.crn_limits.specs.declared.TheConstants.{PERIOD_LIMIT, REPLICATION_LIMIT, POLICY_LIMIT}
 use Rattle.crn_draw.specs.Spread.{Weighted}
 use Rattle.crn_stock.specs.declared.limits.TheConstants.{ITEM_LIMIT, LEAD_LIMIT, LEVEL_LIMIT, SETUP_LIMIT, RATE_LIMIT}
-use Rattle.crn_stock.specs.declared.costs.Costs.{Costs}
+use Rattle.crn_stock.specs.declared.model.Costs.{Costs}
 use Rattle.crn_stock.specs.declared.policy.Policy.{Policy}
-use Rattle.std.specs.List.{AllPairs, list_all}
+use Rattle.std.specs.List.{AllPairs}
 use Rattle.crn_limits.specs.Limits.{IsRingSize}
 use Rattle.crn_spelling.specs.Names.{is_name}
 

@@ -1,8 +1,7 @@
 -- What the draws of whole replications, and of a part of the next one, lead to.
 use Rattle.std.specs.Prelude.{◌≡◌, ℕ, ◌+◌, ℤ, List, [], ◌∷◌, ◌++◌, length, map, reverse}
 use Rattle.crn_stock.specs.Parts.{Parts}
-use Rattle.crn_stock.specs.Stock.{Draw, Terms, Beginning, running}
-use Rattle.crn_stock.specs.States.{IsWithin, fresh_beginning, from_parts}
+use Rattle.crn_stock.specs.Stock.{Draw, Terms, Beginning, running, IsWithin, fresh_beginning, from_parts}
 
 -- the draws of several replications, one after another
 abbrev pub all_draws : List (List Draw) → List Draw

@@ -3,8 +3,7 @@
 ghost use Rattle.std.specs.Prelude.{◌≡◌, ℕ, ◌+◌, ◌≤◌, ◌<◌, List, ◌++◌, All, length};
 ghost use Rattle.crn_stock.specs.Parts.{Parts};
 ghost use Rattle.crn_stock.specs.Models.{ModelParts};
-ghost use Rattle.crn_stock.specs.Stock.{terms_of, Draw};
-ghost use Rattle.crn_stock.specs.Draws.{StateOf, Onward, OnwardAt, next_block};
+ghost use Rattle.crn_stock.specs.Stock.{terms_of, Draw, StateOf, Onward, OnwardAt, next_block};
 ghost use Rattle.crn_stock.specs.Replications.{all_draws, IsAfterReplications, IsInSameReplication, IsInLaterReplication};
 ghost use Rattle.crn_stock.specs.declared.policy.Policy.{Policy};
 

@@ -1,11 +1,12 @@
-// What decides a policy's periods.
+// What decides a policy's periods: its terms, and what each period draws.
 
-ghost use Rattle.std.specs.Prelude.{pos, ◌≤ℤ◌};
+ghost use Rattle.std.specs.Prelude.{pos, ◌≤◌, ◌≤ℤ◌};
 ghost use Rattle.crn_stock.specs.Models.{AreCosts};
-ghost use Rattle.crn_stock.specs.declared.limits.TheConstants.{LEVEL_LIMIT};
+ghost use Rattle.crn_stock.specs.declared.limits.TheConstants.{ITEM_LIMIT, LEAD_LIMIT, LEVEL_LIMIT};
 
-use crate::costs::Costs;
+use crate::model::{Costs, Model};
 use crate::policy::Policy;
+use crn_cipher::Block;
 
 /// What decides each period of a policy: its levels and the model's cost rates, read once for all periods of a block.
 #[derive(Clone, Copy)]
@@ -36,6 +37,55 @@ impl Terms {
             low: policy.low,
             high: policy.high,
             costs: *costs,
+        }
+    }
+}
+
+/// What one period draws: the demand, the lead time of an order placed in it, and the items that customers return.
+#[derive(Clone, Copy)]
+pub(crate) struct Drawn {
+    pub demand: u32,
+    pub lead: u32,
+    pub returned: u32,
+    pub ghost demand_high: { demand ≤ ITEM_LIMIT },
+    pub ghost lead_low: { 1 ≤ lead },
+    pub ghost lead_high: { lead ≤ LEAD_LIMIT },
+    pub ghost returned_high: { returned ≤ ITEM_LIMIT },
+}
+
+/// What periods draw from, one after another.
+#[derive(Clone, Copy)]
+pub(crate) enum DrawSource<'a> {
+    /// The draw of a single period, as it is given.
+    Given(Drawn),
+    /// The words of a block: each period draws by its word of each stream.
+    Words(&'a Model, &'a Block),
+    /// The words of a block where customers return nothing, so that no period has to ask.
+    WordsWithoutReturns(&'a Model, &'a Block),
+}
+
+impl<'a> DrawSource<'a> {
+    ghost use Rattle.std.specs.Prelude.{◌≡◌, ◌<◌, false};
+    ghost use Rattle.crn_stock.specs.Inner.Steps.{draw_in, nth_draw, NoneReturned};
+
+    /// The draw of the period after `k` others.
+    #[inline(always)]
+    pub(crate) fn nth(&self, k: usize) -> Drawn
+        requires { k < 4 }
+        ensures { draw_in result ≡ nth_draw self.now k }
+    {
+        match self {
+            DrawSource::Given(drawn) => *drawn,
+            DrawSource::Words(model, block) => Drawn {
+                demand: model.demand().pick(block.demand[k]),
+                lead: model.lead().pick(block.lead[k]),
+                returned: model.returned(block.returns[k]),
+            },
+            DrawSource::WordsWithoutReturns(model, block) => Drawn {
+                demand: model.demand().pick(block.demand[k]),
+                lead: model.lead().pick(block.lead[k]),
+                returned: 0,
+            },
         }
     }
 }

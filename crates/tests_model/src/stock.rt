@@ -3,7 +3,7 @@
 
 ghost use Rattle.std.specs.Prelude.{◌≡◌, ◌≤◌, ◌≤ℤ◌, pos, IfOk};
 ghost use Rattle.crn_stock.specs.Models.{IsPolicy, total};
-ghost use Rattle.crn_stock.specs.Draws.{IsOf, IsBetween};
+ghost use Rattle.crn_stock.specs.Stock.{IsOf, IsBetween};
 
 mod checked;
 mod returns;

@@ -4,7 +4,7 @@ use Rattle.std.specs.List.{list_any}
 use Rattle.crn_cipher.specs.declared.stream.Block.{Block}
 use Rattle.crn_stock.specs.Parts.{Parts}
 use Rattle.crn_stock.specs.Models.{ModelParts}
-use Rattle.crn_stock.specs.Draws.{At, OnwardAt, next_block}
+use Rattle.crn_stock.specs.Stock.{At, OnwardAt, next_block}
 use Rattle.crn_stock.specs.declared.policy.Policy.{Policy}
 use Rattle.crn_sequential.specs.Runs.{StandsBefore}
 use Rattle.crn_run.specs.Ends.{is_held}

@@ -1,7 +1,7 @@
 -- The runs of all policies over one ring, each by a reader and on a thread of its own.
 use Rattle.std.specs.Prelude.{◌≡◌, ℕ, ◌+◌, ◌<◌, ◌≤◌, Bool, false, List, Some, length, slice_get}
 use Rattle.crn_stock.specs.Parts.{Parts}
-use Rattle.crn_stock.specs.Draws.{next_block}
+use Rattle.crn_stock.specs.Stock.{next_block}
 use Rattle.crn_stock.specs.Models.{total, ScenarioParts}
 use Rattle.crn_ring.specs.declared.ring.Ring.{Ring}
 use Rattle.crn_ring.specs.declared.reader.Reader.{Reader}

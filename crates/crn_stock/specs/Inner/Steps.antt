@@ -3,16 +3,15 @@
 use Rattle.std.specs.Prelude.{ℕ, ◌+◌, ◌-◌, cond, pos, ◌+ℤ◌, ◌-ℤ◌, List, [], ◌∷◌, ◌++◌, sum, replicate, slice_index, slice_set, drop, nat_eq, ◌≡◌, zero, suc, ◌*◌, ◌%◌, ◌≤◌, ◌<◌, Bool, false, ◌≤ℤ◌, length}
 use Rattle.crn_stock.specs.declared.limits.TheConstants.{LEAD_LIMIT, ITEM_LIMIT, PERIOD_COST_LIMIT}
 use Rattle.crn_stock.specs.Parts.{Parts, rotated, stock_limit}
-use Rattle.crn_stock.specs.Stock.{Draw, Terms, order_quantity, cost_of}
+use Rattle.crn_stock.specs.Stock.{Draw, Terms, order_quantity, cost_of, returned_by}
 use Rattle.crn_cipher.specs.declared.stream.Block.{Block}
 use Rattle.crn_draw.specs.Spread.{Pick}
 use Rattle.crn_stock.specs.declared.terms.Terms as code
-use Rattle.crn_stock.specs.declared.drawn.Drawn.{Drawn}
-use Rattle.crn_stock.specs.declared.drawn.DrawSource.{DrawSource}
-use Rattle.crn_stock.specs.declared.drawn.DrawSource.TheVariants.{Given, Words, WordsWithoutReturns}
+use Rattle.crn_stock.specs.declared.terms.Drawn.{Drawn}
+use Rattle.crn_stock.specs.declared.terms.DrawSource.{DrawSource}
+use Rattle.crn_stock.specs.declared.terms.DrawSource.TheVariants.{Given, Words, WordsWithoutReturns}
 use Rattle.crn_stock.specs.declared.period.Inventory.{Inventory}
 use Rattle.crn_stock.specs.Models.{ModelParts}
-use Rattle.crn_stock.specs.Draws.{returned_by}
 
 -- the amounts due one period on: the first has arrived, and an order of z with lead time l, from 1 to the limit, is added
 abbrev pub next_due : List ℕ → ℕ → ℕ → List ℕ

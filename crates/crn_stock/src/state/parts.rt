@@ -4,7 +4,7 @@ ghost use Rattle.std.specs.Prelude.{◌≡◌, ◌*◌, ◌≤◌, ◌<◌, ◌�
 ghost use Rattle.crn_stock.specs.Parts.{AreInRange};
 ghost use Rattle.crn_stock.specs.declared.limits.TheConstants.{LEAD_LIMIT, PERIOD_COST_LIMIT};
 ghost use Rattle.crn_limits.specs.declared.TheConstants.{PERIOD_LIMIT};
-ghost use Rattle.crn_stock.specs.Draws.{next_block};
+ghost use Rattle.crn_stock.specs.Stock.{next_block};
 
 use super::State;
 use crate::limits::DUE_PERIODS;

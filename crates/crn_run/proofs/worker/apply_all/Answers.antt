@@ -1,6 +1,6 @@
 use Rattle.std.proofs.Common.{rules, ◌≡◌, ◌∙◌, Some, slice_get, length, refl, sym, arith}
 use Rattle.std.proofs.lemmas.Option.{slice_get_read}
-use Rattle.crn_stock.specs.Draws.{next_block}
+use Rattle.crn_stock.specs.Stock.{next_block}
 use Rattle.crn_run.proofs.Asking.{held_next, passed_next, passed_none}
 use Rattle.crn_run.proofs.Advancing.{advances_none, advances_then, next_but}
 use Rattle.crn_run.proofs.worker.apply_all.Goals as goal

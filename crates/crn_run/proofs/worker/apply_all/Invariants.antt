@@ -1,5 +1,5 @@
 use Rattle.std.proofs.Common.{◌≡◌, ◌+◌, false}
-use Rattle.crn_stock.specs.Draws.{next_block}
+use Rattle.crn_stock.specs.Stock.{next_block}
 use Rattle.crn_run.specs.Gates.{PassedUpTo}
 use Rattle.crn_run.specs.Inner.Ends.{Advances}
 use Rattle.crn_run.proofs.worker.apply_all.Given as goal

@@ -1,5 +1,5 @@
 use Rattle.std.proofs.Common.{◌≡◌, length, false}
-use Rattle.crn_stock.specs.Draws.{next_block}
+use Rattle.crn_stock.specs.Stock.{next_block}
 use Rattle.crn_ring.specs.Calls.{IsReaderOf, reader_number, reader_part}
 use Rattle.crn_run.specs.declared.batch.TheConstants.{BATCH}
 use Rattle.crn_run.specs.Gates.{PassedUpTo}

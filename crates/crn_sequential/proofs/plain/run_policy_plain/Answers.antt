@@ -1,5 +1,5 @@
 use Rattle.std.proofs.Common.{rules, ◌≡◌, ℕ, subst}
-use Rattle.crn_stock.specs.Draws.{At, OnwardAt}
+use Rattle.crn_stock.specs.Stock.{At, OnwardAt}
 use Rattle.crn_sequential.proofs.plain.run_policy_plain.Goals as goal
 
 pub returns-clause-at : goal.returns-clause-at

@@ -1,4 +1,4 @@
-use Rattle.crn_stock.specs.Draws.{At, OnwardAt, next_block}
+use Rattle.crn_stock.specs.Stock.{At, OnwardAt, next_block}
 use Rattle.crn_sequential.specs.Runs.{StandsBefore}
 use Rattle.crn_sequential.proofs.plain.run_policy_plain.Given as goal
 

@@ -1,6 +1,6 @@
 use Rattle.std.proofs.Common.{◌+◌, true, refl}
 use Rattle.crn_stock.specs.Inner.Steps.{terms_in}
-use Rattle.crn_stock.proofs.Flows.{has_run_more}
+use Rattle.crn_stock.proofs.Steps.{has_run_more}
 use Rattle.crn_stock.proofs.period.after_all.Goals as goal
 
 pub after_one-at-requires-clause-at : goal.after_one-at-requires-clause-at

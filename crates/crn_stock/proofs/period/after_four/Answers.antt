@@ -1,6 +1,6 @@
 use Rattle.std.proofs.Common.{◌≡◌, ◌+◌, ℕ, true, refl, subst, arith}
 use Rattle.crn_stock.specs.Inner.Steps.{terms_in, IsInventory}
-use Rattle.crn_stock.proofs.Flows.{has_run_none, has_run_more}
+use Rattle.crn_stock.proofs.Steps.{has_run_none, has_run_more}
 use Rattle.crn_stock.proofs.period.after_four.Goals as goal
 
 pub after_one-at-requires-2-clause-at : goal.after_one-at-requires-2-clause-at

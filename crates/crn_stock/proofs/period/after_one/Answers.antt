@@ -4,8 +4,7 @@ use Rattle.crn_stock.specs.declared.period.Inventory.{Inventory}
 use Rattle.crn_stock.specs.Parts.{stock_limit}
 use Rattle.crn_stock.specs.Stock.{order_quantity}
 use Rattle.crn_stock.specs.Inner.Steps.{terms_in, draw_in}
-use Rattle.crn_stock.proofs.Ranges.{limit_least}
-use Rattle.crn_stock.proofs.Flows.{inventory_more, inventory_moved}
+use Rattle.crn_stock.proofs.Steps.{limit_least, inventory_more, inventory_moved}
 use Rattle.crn_stock.proofs.period.after_one.Goals as goal
 
 pub returns-clause-kept : goal.returns-clause-kept

@@ -1,6 +1,5 @@
-use Rattle.std.proofs.Common.{rules, ◌≡◌, ℕ}
+use Rattle.std.proofs.Common.{rules}
 use Rattle.std.proofs.lemmas.Slice.Eq.{slice_eq-Decides}
-use Rattle.crn_stock.specs.declared.policy.Policy.{Policy}
 use Rattle.crn_stock.proofs.scenario.are_same.Goals as goal
 
 pub returns : goal.returns

@@ -1,4 +1,4 @@
-use Rattle.crn_stock.specs.Draws.{IsOf, IsBetween}
+use Rattle.crn_stock.specs.Stock.{IsOf, IsBetween}
 use Rattle.tests_model.proofs.stock.ends.Given as goal
 
 abbrev pub invariant-loop-number : goal.invariant-loop-number
