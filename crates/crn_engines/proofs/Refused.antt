@@ -10,13 +10,8 @@ use Rattle.std.specs.declared.alloc.AllocError.{AllocError}
 use Rattle.crn_checkpoint.specs.Reading.{IsTextOf}
 use Rattle.crn_engines.specs.Bytes.{ReadAll}
 use Rattle.crn_engines.specs.Inputs.{HasScenario, ReadScenario}
-use Rattle.crn_engines.specs.Legs.{HasEnough, MadeLeg, RefusesLeg}
-use Rattle.crn_engines.specs.Migration.{RefusesMigrate}
-use Rattle.crn_engines.specs.Replay.{RefusesReplay}
+use Rattle.crn_engines.specs.Commands.{HasEnough, MadeLeg, RefusesLeg, RefusesMigrate, RefusesReplay, HasCheckpoint, MadeResumed, RefusesResume, MadeReport, RefusesSimulation, is_writing}
 use Rattle.crn_engines.specs.Refusals.{RefusesOutput, RefusesScenarioInput}
-use Rattle.crn_engines.specs.Resumption.{HasCheckpoint, MadeResumed, RefusesResume}
-use Rattle.crn_engines.specs.Simulation.{MadeReport, RefusesSimulation}
-use Rattle.crn_engines.specs.Statuses.{is_writing}
 use Rattle.crn_engines.specs.Inner.Refusals.{RefusesLegRun, RefusesOldText, RefusesOnward, RefusesOnwardRun, RefusesRun, RefusesScheduleText, RefusesTrace}
 
 -- what follows of each fault of an answer

@@ -1,11 +1,5 @@
-pub mod Statuses
 pub mod Bytes
 pub mod Inputs
 pub mod Refusals
-pub mod Simulation
-pub mod Legs
-pub mod Resumption
-pub mod Migration
-pub mod Replay
 pub mod Commands
 pub mod Inner

@@ -1,6 +1,6 @@
 -- Which faults the steps that engines share may return, and what each of them says of what was read: `reading` and
 -- `reading'` are the bytes that a reader has left before and after; either may tell nothing. What the faults of an engine say
--- stands in the engine's file, as `RefusesLeg` in `Legs`.
+-- stands in `Commands`, as `RefusesLeg`.
 --
 -- No definition can say that a system refused something. Such a fault carries what reported the refusal in its place.
 use Rattle.std.specs.Prelude.{◌≢◌, ⊤, ℕ, List, Option, alloc_error}

@@ -3,7 +3,7 @@ ghost use Rattle.std.specs.Io.KnownBytes.{Appends, Keeps};
 ghost use Rattle.crn_trace.specs.BlockWords.{words_text};
 ghost use Rattle.crn_engines.specs.Bytes.{AppendsFront};
 ghost use Rattle.crn_engines.specs.Refusals.{RefusesWords};
-ghost use Rattle.crn_engines.specs.Statuses.{is_writing};
+ghost use Rattle.crn_engines.specs.Commands.{is_writing};
 
 use crate::fault::Fault;
 use crate::steps::send;

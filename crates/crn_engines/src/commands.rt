@@ -2,8 +2,7 @@
 
 ghost use Rattle.std.specs.Prelude.{◌≡◌, ◌⊎◌, true, false, IfErr, OnOk, alloc_error};
 ghost use Rattle.std.specs.Io.KnownBytes.{Keeps};
-ghost use Rattle.crn_engines.specs.Commands.{Streams, Answered, AnsweredFront, Refuses};
-ghost use Rattle.crn_engines.specs.Statuses.{is_writing};
+ghost use Rattle.crn_engines.specs.Commands.{Streams, Answered, AnsweredFront, Refuses, is_writing};
 
 use crate::block_words::write_words;
 use crate::fault::Fault;

@@ -1,5 +1,5 @@
 ghost use Rattle.std.specs.Prelude.{◌≡◌};
-ghost use Rattle.crn_engines.specs.Statuses.{status_of};
+ghost use Rattle.crn_engines.specs.Commands.{status_of};
 
 use crate::input::ReadFault;
 use crate::output::WriteFault;
@@ -89,7 +89,7 @@ impl From<WriteFault> for Fault {
 impl From<ScenarioFault> for Fault {
     ghost use Rattle.crn_scenario.specs.declared.scenario_fault.ScenarioFault.TheVariants.{Memory};
     ghost use Rattle.crn_engines.specs.declared.fault.Fault.TheVariants.{Scenario};
-    ghost use Rattle.crn_engines.specs.Statuses.{HandsOn};
+    ghost use Rattle.crn_engines.specs.Commands.{HandsOn};
 
     ghost from_gives = { λ e f. HandsOn Memory Scenario e f };
 
@@ -104,7 +104,7 @@ impl From<ScenarioFault> for Fault {
 impl From<CheckpointFault> for Fault {
     ghost use Rattle.crn_checkpoint.specs.declared.fault.CheckpointFault.TheVariants.{Memory};
     ghost use Rattle.crn_engines.specs.declared.fault.Fault.TheVariants.{Checkpoint};
-    ghost use Rattle.crn_engines.specs.Statuses.{HandsOn};
+    ghost use Rattle.crn_engines.specs.Commands.{HandsOn};
 
     ghost from_gives = { λ e f. HandsOn Memory Checkpoint e f };
 
@@ -119,7 +119,7 @@ impl From<CheckpointFault> for Fault {
 impl From<MigrateFault> for Fault {
     ghost use Rattle.crn_checkpoint.specs.declared.fault.MigrateFault.TheVariants.{Memory};
     ghost use Rattle.crn_engines.specs.declared.fault.Fault.TheVariants.{Migration};
-    ghost use Rattle.crn_engines.specs.Statuses.{HandsOn};
+    ghost use Rattle.crn_engines.specs.Commands.{HandsOn};
 
     ghost from_gives = { λ e f. HandsOn Memory Migration e f };
 
@@ -134,7 +134,7 @@ impl From<MigrateFault> for Fault {
 impl From<ScheduleFault> for Fault {
     ghost use Rattle.crn_trace.specs.declared.schedule_fault.ScheduleFault.TheVariants.{Memory};
     ghost use Rattle.crn_engines.specs.declared.fault.Fault.TheVariants.{Schedule};
-    ghost use Rattle.crn_engines.specs.Statuses.{HandsOn};
+    ghost use Rattle.crn_engines.specs.Commands.{HandsOn};
 
     ghost from_gives = { λ e f. HandsOn Memory Schedule e f };
 
@@ -147,7 +147,7 @@ impl From<ScheduleFault> for Fault {
 }
 
 impl From<RunFault> for Fault {
-    ghost use Rattle.crn_engines.specs.Statuses.{fault_of_run};
+    ghost use Rattle.crn_engines.specs.Commands.{fault_of_run};
 
     ghost from_gives = { λ e f. f ≡ fault_of_run e };
 
@@ -161,7 +161,7 @@ impl From<RunFault> for Fault {
 }
 
 impl From<RingFault> for Fault {
-    ghost use Rattle.crn_engines.specs.Statuses.{fault_of_ring};
+    ghost use Rattle.crn_engines.specs.Commands.{fault_of_ring};
 
     ghost from_gives = { λ e f. f ≡ fault_of_ring e };
 
@@ -174,7 +174,7 @@ impl From<RingFault> for Fault {
 }
 
 impl From<CommandLineFault> for Fault {
-    ghost use Rattle.crn_engines.specs.Statuses.{fault_of_words};
+    ghost use Rattle.crn_engines.specs.Commands.{fault_of_words};
 
     ghost from_gives = { λ e f. f ≡ fault_of_words e };
 

@@ -3,8 +3,7 @@ ghost use Rattle.std.specs.Io.KnownBytes.{Keeps};
 ghost use Rattle.crn_stock.specs.Models.{total};
 ghost use Rattle.crn_sequential.specs.Runs.{IsCheckpointOf, EachAt};
 ghost use Rattle.crn_checkpoint.specs.Reading.{IsLegOf};
-ghost use Rattle.crn_engines.specs.Legs.{MadeLeg, WroteLeg, WroteLegFront, RefusesLeg};
-ghost use Rattle.crn_engines.specs.Statuses.{is_writing};
+ghost use Rattle.crn_engines.specs.Commands.{MadeLeg, WroteLeg, WroteLegFront, RefusesLeg, is_writing};
 ghost use Rattle.crn_engines.specs.Inner.Refusals.{RefusesLegRun, RefusesRun};
 
 use crate::fault::Fault;

@@ -1,8 +1,7 @@
 ghost use Rattle.std.specs.Prelude.{◌≡◌, true, false, IfOk, IfErr, OnOk};
 ghost use Rattle.std.specs.Io.KnownBytes.{Keeps};
 ghost use Rattle.crn_checkpoint.specs.Migration.{IsMigrated};
-ghost use Rattle.crn_engines.specs.Migration.{MadeMigrated, MigratesLegs, WroteMigrated, WroteMigratedFront, RefusesMigrate};
-ghost use Rattle.crn_engines.specs.Statuses.{is_writing};
+ghost use Rattle.crn_engines.specs.Commands.{MadeMigrated, MigratesLegs, WroteMigrated, WroteMigratedFront, RefusesMigrate, is_writing};
 ghost use Rattle.crn_engines.specs.Inner.Refusals.{RefusesOldText};
 
 use crate::fault::Fault;

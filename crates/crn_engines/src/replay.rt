@@ -2,8 +2,7 @@ ghost use Rattle.std.specs.Prelude.{◌≡◌, ◌↔◌, ◌⊎◌, true, false
 ghost use Rattle.std.specs.Io.KnownBytes.{Keeps};
 ghost use Rattle.crn_proto.specs.Machine.{open_machine};
 ghost use Rattle.crn_proto.specs.Opening.{CanOpen};
-ghost use Rattle.crn_engines.specs.Replay.{replayed, MadeTrace, IsTraceFor, WroteTrace, WroteTraceFront, RefusesReplay};
-ghost use Rattle.crn_engines.specs.Statuses.{is_writing};
+ghost use Rattle.crn_engines.specs.Commands.{replayed, MadeTrace, IsTraceFor, WroteTrace, WroteTraceFront, RefusesReplay, is_writing};
 ghost use Rattle.crn_engines.specs.Inner.Refusals.{RefusesScheduleText, RefusesTrace};
 
 use crate::fault::Fault;

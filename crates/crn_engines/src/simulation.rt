@@ -1,9 +1,8 @@
 ghost use Rattle.std.specs.Prelude.{◌≡◌, true, false, IfOk, IfErr, OnOk};
 ghost use Rattle.std.specs.Io.KnownBytes.{Keeps};
 ghost use Rattle.crn_report.specs.Report.{IsReportOf};
-ghost use Rattle.crn_engines.specs.Statuses.{is_writing};
+ghost use Rattle.crn_engines.specs.Commands.{is_writing, MadeReport, WroteReport, WroteFront, RefusesSimulation};
 ghost use Rattle.crn_engines.specs.Inner.Refusals.{RefusesRun};
-ghost use Rattle.crn_engines.specs.Simulation.{MadeReport, WroteReport, WroteFront, RefusesSimulation};
 
 use crate::fault::Fault;
 use crate::steps::{run_and_report, scenario_from, send_made};

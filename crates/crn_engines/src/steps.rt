@@ -8,7 +8,7 @@ ghost use Rattle.crn_report.specs.Report.{IsReportOf};
 ghost use Rattle.crn_engines.specs.Bytes.{AppendsFront};
 ghost use Rattle.crn_engines.specs.Inputs.{ReadScenario};
 ghost use Rattle.crn_engines.specs.Refusals.{RefusesOutput, RefusesScenarioInput};
-ghost use Rattle.crn_engines.specs.Resumption.{IsReportOnward};
+ghost use Rattle.crn_engines.specs.Commands.{IsReportOnward};
 ghost use Rattle.crn_engines.specs.Inner.Refusals.{RefusesRun};
 
 use crate::fault::Fault;

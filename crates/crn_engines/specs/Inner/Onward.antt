@@ -6,7 +6,7 @@ use Rattle.crn_stock.specs.Models.{ScenarioParts}
 use Rattle.crn_checkpoint.specs.Reading.{IsTextOf, RefusesCheckpoint}
 use Rattle.crn_checkpoint.specs.declared.fault.CheckpointFault.{CheckpointFault}
 use Rattle.crn_engines.specs.Bytes.{ReadAll}
-use Rattle.crn_engines.specs.Resumption.{IsResumedReport, ReportsLegs}
+use Rattle.crn_engines.specs.Commands.{IsResumedReport, ReportsLegs}
 
 -- the bytes were read whole, and the text is the report onward from them
 pub record MadeOnward (s : ScenarioParts) (saved saved' : Option (List ℕ)) (text : List ℕ) : Type 0 where

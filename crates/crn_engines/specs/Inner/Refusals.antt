@@ -11,7 +11,7 @@ use Rattle.crn_trace.specs.declared.schedule_fault.ScheduleFault.TheVariants as 
 use Rattle.crn_engines.specs.declared.fault.Fault.{Fault}
 use Rattle.crn_engines.specs.declared.fault.Fault.TheVariants as fault
 use Rattle.crn_engines.specs.Inner.Onward.{HasOnward, RefusedOnward}
-use Rattle.crn_engines.specs.Replay.{ReadRefusedSchedule}
+use Rattle.crn_engines.specs.Commands.{ReadRefusedSchedule}
 use Rattle.crn_engines.specs.declared.input.ReadFault.TheVariants as read
 use Rattle.crn_engines.specs.Refusals.{RefusesInput}
 

@@ -1,4 +1,4 @@
-use Rattle.crn_engines.specs.Legs.{RefusesLeg}
+use Rattle.crn_engines.specs.Commands.{RefusesLeg}
 use Rattle.crn_engines.proofs.Refused.{of_each, run_to_leg, to_leg}
 use Rattle.crn_engines.proofs.Sent.{handed}
 use Rattle.crn_engines.proofs.legs.leg_from.Goals as goal

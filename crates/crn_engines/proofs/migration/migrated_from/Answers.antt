@@ -1,6 +1,6 @@
 use Rattle.std.proofs.Common.{ℕ, List, subst}
 use Rattle.crn_checkpoint.specs.Migration.{IsMigrated}
-use Rattle.crn_engines.specs.Migration.{MigratesLegs}
+use Rattle.crn_engines.specs.Commands.{MigratesLegs}
 use Rattle.crn_engines.specs.Inner.Refusals.{RefusesOldText}
 use Rattle.crn_engines.proofs.Refused.{of_each, old_of_migrate, old_silent}
 use Rattle.crn_engines.proofs.Sent.{both_ok}

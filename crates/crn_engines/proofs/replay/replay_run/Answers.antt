@@ -1,7 +1,7 @@
 use Rattle.std.proofs.Common.{ℕ, ap, subst}
 use Rattle.crn_proto.specs.Machine.{MachineState}
 use Rattle.crn_proto.specs.declared.spec.RingSpec.{RingSpec}
-use Rattle.crn_engines.specs.Replay.{MadeTrace, RefusesReplay}
+use Rattle.crn_engines.specs.Commands.{MadeTrace, RefusesReplay}
 use Rattle.crn_engines.specs.Inner.Refusals.{RefusesTrace}
 use Rattle.crn_engines.proofs.Refused.{of_each, output_of_replay, trace_of_replay}
 use Rattle.crn_engines.proofs.Sent.{handed, sent, sent_front}

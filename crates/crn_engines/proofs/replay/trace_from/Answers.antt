@@ -1,6 +1,6 @@
 use Rattle.std.proofs.Common.{ℕ, List, subst}
 use Rattle.std.proofs.lemmas.Result.{IfOk-weaker}
-use Rattle.crn_engines.specs.Replay.{IsTraceFor}
+use Rattle.crn_engines.specs.Commands.{IsTraceFor}
 use Rattle.crn_engines.specs.Inner.Refusals.{RefusesScheduleText}
 use Rattle.crn_engines.proofs.Refused.{of_each, schedule_silent, text_of_trace}
 use Rattle.crn_engines.proofs.replay.trace_from.Goals as goal

@@ -1,7 +1,7 @@
 use Rattle.std.proofs.Common.{subst}
 use Rattle.std.proofs.lemmas.Result.{IfOk-weaker}
 use Rattle.crn_stock.specs.Models.{ScenarioParts}
-use Rattle.crn_engines.specs.Resumption.{ReportsLegs}
+use Rattle.crn_engines.specs.Commands.{ReportsLegs}
 use Rattle.crn_engines.proofs.LegStates.{reads_one}
 use Rattle.crn_engines.proofs.Refused.{of_each, onward_of_resume, onward_silent}
 use Rattle.crn_engines.proofs.resumption.report_from.Goals as goal

@@ -1,5 +1,5 @@
 use Rattle.std.proofs.Common.{ℕ, List, subst}
-use Rattle.crn_engines.specs.Resumption.{IsResumedReport, ReportsLegs}
+use Rattle.crn_engines.specs.Commands.{IsResumedReport, ReportsLegs}
 use Rattle.crn_engines.specs.Inner.Refusals.{RefusesOnwardRun}
 use Rattle.crn_engines.proofs.Refused.{of_each, text_of_onward}
 use Rattle.crn_engines.proofs.Sent.{both_ok}

@@ -1,4 +1,4 @@
-use Rattle.crn_engines.specs.Simulation.{RefusesSimulation}
+use Rattle.crn_engines.specs.Commands.{RefusesSimulation}
 use Rattle.crn_engines.proofs.Refused.{of_each, run_silent, run_to_simulation, to_simulation}
 use Rattle.crn_engines.proofs.Sent.{handed}
 use Rattle.crn_engines.proofs.simulation.report_from.Goals as goal

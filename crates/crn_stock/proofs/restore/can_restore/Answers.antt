@@ -4,7 +4,8 @@ use Rattle.std.proofs.lemmas.Int.{to_z-of_z}
 use Rattle.crn_cipher.specs.declared.TheConstants.{STREAM_WORDS}
 use Rattle.crn_stock.specs.declared.limits.TheConstants.{PERIOD_COST_LIMIT}
 use Rattle.crn_stock.specs.Models.{has_returns}
-use Rattle.crn_stock.specs.Parts.{first_period, HasAmounts}
+use Rattle.crn_stock.specs.Parts.{first_period}
+use Rattle.crn_stock.specs.Inner.Steps.{HasAmounts}
 use Rattle.crn_stock.proofs.Steps.{first_period-high, has_at}
 use Rattle.crn_stock.proofs.restore.can_restore.Goals as goal
 
