@@ -1,7 +1,7 @@
 //! The run of one policy, on the calling thread.
 ghost use Rattle.std.specs.Prelude.{◌≡◌, ◌≢◌, ◌+◌, ◌<◌, ◌≤◌, true, false, not, length};
 ghost use Rattle.crn_stock.specs.Models.{IsPolicy, total};
-ghost use Rattle.crn_stock.specs.Stock.{next_block};
+ghost use Rattle.crn_stock.specs.Stock.{next_block, terms_in, terms_of};
 ghost use Rattle.crn_ring.specs.Calls.{IsReaderOf, reader_number, reader_part, spec_of};
 ghost use Rattle.crn_sequential.specs.Runs.{StandsBefore};
 ghost use Rattle.crn_run.specs.declared.worker.PolicyEnd.TheVariants.{Reached, Short};
@@ -15,7 +15,7 @@ use crate::waiting::Waiting;
 use crn_cipher::Block;
 use crn_ring::{Batch, LeftReader, Reader, Ring};
 use crn_stock::laws::onward_from_itself;
-use crn_stock::{Policy, Scenario, State};
+use crn_stock::{Policy, Scenario, State, Terms};
 use std::sync::Wait;
 
 /// How the run of one policy has ended.
@@ -131,11 +131,12 @@ fn apply_all<G: Gate>(
     ensures passed { result ≡ true → PassedUpTo G.asked policy (next_block state.old) (next_block state.new) gate.old gate.new }
     ensures held { result ≡ false → (next_block state.new < next_block state.old + count) × HeldAt G.asked policy (next_block state.old) (next_block state.new) gate.old gate.new }
 {
+    let terms = Terms::of(rules, scenario.model().costs());
     for k in 0..count {
         let next = &blocks[k];
         match ask(gate, policy, next.number) {
             None => return false,
-            Some(permit) => apply(scenario, rules, policy, next, permit, state),
+            Some(permit) => apply(scenario, &terms, rules, policy, next, permit, state),
         }
     }
     true
@@ -145,6 +146,7 @@ fn apply_all<G: Gate>(
 #[inline(always)]
 fn apply(
     scenario: &Scenario,
+    terms: &Terms,
     rules: &Policy,
     policy: u32,
     block: &Block,
@@ -153,6 +155,7 @@ fn apply(
 )
     requires permit { (permit.policy ≡ policy) × (permit.block ≡ block.now.number) }
     requires rules { IsPolicy rules.now }
+    requires terms { terms_in terms.now ≡ terms_of rules.now scenario.now.model.costs }
     requires stands { StandsBefore scenario.now.model (next_block state.old) state.old }
     requires next { (block.now.number ≡ next_block state.old) × (block.now.key ≡ scenario.now.key) }
     requires below { block.now.number < total scenario.now.model }
@@ -160,5 +163,5 @@ fn apply(
     ensures next { next_block state.new ≡ block.now.number + 1 }
 {
     drop(permit);
-    state.take_block(scenario.model(), rules, block);
+    state.take_block_by(terms, scenario.model(), rules, block);
 }

@@ -8,12 +8,13 @@ use crate::model::{Costs, Model};
 use crate::policy::Policy;
 use crn_cipher::Block;
 
-/// What decides each period of a policy: its levels and the model's cost rates, read once for all periods of a block.
+/// What decides each period of a policy: its levels and the model's cost rates, read once for many blocks
+/// ([`State::take_block_by`](crate::State::take_block_by)).
 #[derive(Clone, Copy)]
-pub(crate) struct Terms {
-    pub low: i64,
-    pub high: i64,
-    pub costs: Costs,
+pub struct Terms {
+    pub(crate) low: i64,
+    pub(crate) high: i64,
+    pub(crate) costs: Costs,
     pub ghost low_range: { pos 0 ≤ℤ low },
     pub ghost order: { low ≤ℤ high },
     pub ghost high_range: { high ≤ℤ LEVEL_LIMIT },
@@ -23,12 +24,15 @@ pub(crate) struct Terms {
 impl Terms {
     ghost use Rattle.std.specs.Prelude.{◌≡◌};
     ghost use Rattle.crn_stock.specs.Models.{IsPolicy};
-    ghost use Rattle.crn_stock.specs.Stock.{terms_of};
-    ghost use Rattle.crn_stock.specs.Inner.Steps.{terms_in};
+    ghost use Rattle.crn_stock.specs.Stock.{terms_of, terms_in};
 
-    /// Those of a policy under cost rates.
+    /// Returns the terms of a policy under cost rates. Takes no memory.
+    ///
+    /// # Asks
+    ///
+    /// The policy's levels and the cost rates are within their ranges.
     #[inline(always)]
-    pub(crate) fn of(policy: &Policy, costs: &Costs) -> Terms
+    pub fn of(policy: &Policy, costs: &Costs) -> Terms
         requires policy { IsPolicy policy.now }
         requires costs { AreCosts costs.now }
         ensures { terms_in result ≡ terms_of policy.now costs.now }

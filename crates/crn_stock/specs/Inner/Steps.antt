@@ -7,7 +7,6 @@ use Rattle.crn_stock.specs.Parts.{Parts, rotated, stock_limit}
 use Rattle.crn_stock.specs.Stock.{Draw, Terms, order_quantity, cost_of, returned_by}
 use Rattle.crn_cipher.specs.declared.stream.Block.{Block}
 use Rattle.crn_draw.specs.Spread.{Pick}
-use Rattle.crn_stock.specs.declared.terms.Terms as code
 use Rattle.crn_stock.specs.declared.terms.Drawn.{Drawn}
 use Rattle.crn_stock.specs.declared.terms.DrawSource.{DrawSource}
 use Rattle.crn_stock.specs.declared.terms.DrawSource.TheVariants.{Given, Words, WordsWithoutReturns}
@@ -35,10 +34,6 @@ after_draw p d v = let w = after_period p d v in cond (nat_eq w.period w.periods
 
 -- ---- Periods one after another as the code runs them, which private code meets: what decides them, what they draw, and what
 -- stands between two of them.
-
--- the terms that the code has
-abbrev pub terms_in : code.Terms → Terms
-terms_in t = record { low = t.low; high = t.high; setup = t.costs.setup; unit = t.costs.unit; holding = t.costs.holding; backlog = t.costs.backlog }
 
 -- the draw of a period
 abbrev pub draw_in : Drawn → Draw

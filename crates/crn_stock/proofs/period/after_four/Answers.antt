@@ -1,5 +1,6 @@
 use Rattle.std.proofs.Common.{◌≡◌, ◌+◌, ℕ, true, refl, subst, arith}
-use Rattle.crn_stock.specs.Inner.Steps.{terms_in, IsInventory}
+use Rattle.crn_stock.specs.Inner.Steps.{IsInventory}
+use Rattle.crn_stock.specs.Stock.{terms_in}
 use Rattle.crn_stock.proofs.Steps.{has_run_none, has_run_more}
 use Rattle.crn_stock.proofs.period.after_four.Goals as goal
 
@@ -28,7 +29,7 @@ returns c =
     let x = c.args.at in
     let due = c.args.due.now in
     let at : t ≡ t + 0 = omega arith in
-    let one = has_run_more p ds t 0 t x x c.after_one-at.result due due c.after_one-at.new.due c.nth.result (has_run_none p ds t x due) at c.nth.ensures c.after_one-at.ensures.kept c.after_one-at.ensures.moved in
-    let two = has_run_more p ds t 1 (t + 1) x c.after_one-at.result c.after_one-at-2.result due c.after_one-at.new.due c.after_one-at-2.new.due c.nth-2.result one refl c.nth-2.ensures c.after_one-at-2.ensures.kept c.after_one-at-2.ensures.moved in
-    let three = has_run_more p ds t 2 (t + 2) x c.after_one-at-2.result c.after_one-at-3.result due c.after_one-at-2.new.due c.after_one-at-3.new.due c.nth-3.result two refl c.nth-3.ensures c.after_one-at-3.ensures.kept c.after_one-at-3.ensures.moved in
-    has_run_more p ds t 3 (t + 3) x c.after_one-at-3.result c.after_one.result due c.after_one-at-3.new.due c.after_one.new.due c.nth-4.result three refl c.nth-4.ensures c.after_one.ensures.kept c.after_one.ensures.moved
+    let one = has_run_more p ds t 0 t x x c.after_one-at.result due due c.after_one-at.new.due c.nth-first.result (has_run_none p ds t x due) at c.nth-first.ensures c.after_one-at.ensures.kept c.after_one-at.ensures.moved in
+    let two = has_run_more p ds t 1 (t + 1) x c.after_one-at.result c.after_one-at-2.result due c.after_one-at.new.due c.after_one-at-2.new.due c.nth-second.result one refl c.nth-second.ensures c.after_one-at-2.ensures.kept c.after_one-at-2.ensures.moved in
+    let three = has_run_more p ds t 2 (t + 2) x c.after_one-at-2.result c.after_one-at-3.result due c.after_one-at-2.new.due c.after_one-at-3.new.due c.nth-third.result two refl c.nth-third.ensures c.after_one-at-3.ensures.kept c.after_one-at-3.ensures.moved in
+    has_run_more p ds t 3 (t + 3) x c.after_one-at-3.result c.after_one.result due c.after_one-at-3.new.due c.after_one.new.due c.nth-fourth.result three refl c.nth-fourth.ensures c.after_one.ensures.kept c.after_one.ensures.moved

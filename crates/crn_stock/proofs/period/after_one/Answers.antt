@@ -2,8 +2,8 @@ use Rattle.std.proofs.Common.{rules, ◌≡◌, ◌∙◌, ◌+◌, ap, refl, ar
 use Rattle.std.proofs.lemmas.Int.{ints, to_z-of_z}
 use Rattle.crn_stock.specs.declared.period.Inventory.{Inventory}
 use Rattle.crn_stock.specs.Parts.{stock_limit}
-use Rattle.crn_stock.specs.Stock.{order_quantity}
-use Rattle.crn_stock.specs.Inner.Steps.{terms_in, draw_in}
+use Rattle.crn_stock.specs.Stock.{order_quantity, terms_in}
+use Rattle.crn_stock.specs.Inner.Steps.{draw_in}
 use Rattle.crn_stock.proofs.Steps.{limit_least, inventory_more, inventory_moved}
 use Rattle.crn_stock.proofs.period.after_one.Goals as goal
 
