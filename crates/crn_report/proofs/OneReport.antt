@@ -1,8 +1,7 @@
 -- The costs of a scenario's policies have one report.
 use Rattle.std.proofs.Common.{◌≡◌, ℕ, zero, suc, ◌*◌, ◌≤◌, ℤ, pos, List, [], ◌∷◌, ◌++◌, length, Option, Some, slice_get, slice_index_or, sum, refl, sym, ap, ◌∙◌, arith}
-use Rattle.crn_pair.specs.Pairs.{variance_parts, covariance_parts}
-use Rattle.crn_pair.specs.Sums.{signed, differences, over_pairs, IsQuotient, IsQuotientIfAny}
-use Rattle.crn_pair.specs.Sums as pairs
+use Rattle.crn_pair.specs.Pairs.{variance_parts, covariance_parts, signed, differences, over_pairs, IsQuotient, IsQuotientIfAny}
+use Rattle.crn_pair.specs.Pairs as pairs
 use Rattle.crn_pair.specs.declared.fraction.Fraction.{Fraction}
 use Rattle.crn_stock.specs.Models.{ModelParts, ScenarioParts}
 use Rattle.crn_stock.specs.declared.policy.Policy.{Policy}

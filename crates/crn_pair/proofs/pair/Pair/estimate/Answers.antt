@@ -2,7 +2,7 @@ use Rattle.std.proofs.Common.{ℤ, pos, ◌*ℤ◌, ap, ◌∙◌, arith}
 use Rattle.std.specs.Int.{w128}
 use Rattle.std.proofs.lemmas.Int.{to_z-of_z}
 use Rattle.crn_pair.proofs.Estimates.{estimated}
-use Rattle.crn_pair.proofs.pair.estimate.Goals as goal
+use Rattle.crn_pair.proofs.pair.Pair.estimate.Goals as goal
 
 pub returns : goal.returns
 returns c =

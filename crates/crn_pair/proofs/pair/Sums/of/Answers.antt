@@ -2,9 +2,9 @@ use Rattle.std.proofs.Common.{◌≡◌, ◌≤◌, ◌<◌, ◌-ℤ◌, pos, un
 use Rattle.std.specs.Int.{w128}
 use Rattle.std.proofs.lemmas.Int.{ints, to_z-of_z}
 use Rattle.crn_pair.specs.declared.compare.TheConstants.{COST_LIMIT}
-use Rattle.crn_pair.specs.Sums.{signed, differences}
+use Rattle.crn_pair.specs.Pairs.{signed, differences}
 use Rattle.crn_pair.proofs.Gathering.{gathers_more, gathers_all, cost_at, difference_at, no_difference_past, signed_at}
-use Rattle.crn_pair.proofs.compare.sums_of.Goals as goal
+use Rattle.crn_pair.proofs.pair.Sums.of.Goals as goal
 
 pub difference-d-requires-clause-a : goal.difference-d-requires-clause-a
 difference-d-requires-clause-a c = cost_at c.args.a.now c.loop-i.i 0 c.requires.a c.loop-i-test.true

@@ -1,6 +1,6 @@
-use Rattle.crn_pair.specs.Sums.{signed, differences}
+use Rattle.crn_pair.specs.Pairs.{signed, differences}
 use Rattle.crn_pair.proofs.Gathering.{Gathers}
-use Rattle.crn_pair.proofs.compare.sums_of.Given as goal
+use Rattle.crn_pair.proofs.pair.Sums.of.Given as goal
 
 abbrev pub invariant-loop-i : goal.invariant-loop-i
 invariant-loop-i l = record {

@@ -1,7 +1,7 @@
 use Rattle.std.proofs.Common.{◌-ℤ◌, ◌*ℤ◌, arith, ap, ◌∙◌, ℤ}
 use Rattle.std.proofs.lemmas.Int.{ints}
 use Rattle.crn_pair.proofs.Stripped.{difference_is, difference_within}
-use Rattle.crn_pair.proofs.moments.Moments.over_pairs.Goals as goal
+use Rattle.crn_pair.proofs.pair.Moments.over_pairs.Goals as goal
 
 pub overflow_sub-result : goal.overflow_sub-result
 overflow_sub-result c =
