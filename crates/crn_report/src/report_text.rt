@@ -158,35 +158,6 @@ fn estimate_text(alloc: Global, estimate: Option<Fraction>) -> Result<Vec<u8>, A
     }
 }
 
-// The texts of those of a policy's figures that are fractions.
-#[derive(Drop)]
-struct FractionTexts {
-    per_period: Vec<u8>,
-    diff_mean: Vec<u8>,
-    diff_var: Vec<u8>,
-    cov: Vec<u8>,
-}
-
-// Those texts of the figures.
-fn fraction_texts(alloc: Global, figures: &Figures) -> Result<FractionTexts, AllocError>
-    ensures per_period { IfOk result (λ t. t.per_period.items ≡ spec.fraction_text figures.now.per_period) }
-    ensures diff_mean { IfOk result (λ t. t.diff_mean.items ≡ spec.fraction_text figures.now.diff_mean) }
-    ensures diff_var { IfOk result (λ t. t.diff_var.items ≡ spec.estimate_text figures.now.diff_var) }
-    ensures cov { IfOk result (λ t. t.cov.items ≡ spec.estimate_text figures.now.cov) }
-    ensures plain { IfOk result (λ t. are_plain (t.per_period.items ∷ t.diff_mean.items ∷ t.diff_var.items ∷ t.cov.items ∷ []) ≡ true) }
-{
-    let per_period = fraction_text(alloc, figures.per_period)?;
-    let diff_mean = fraction_text(alloc, figures.diff_mean)?;
-    let diff_var = estimate_text(alloc, figures.diff_var)?;
-    let cov = estimate_text(alloc, figures.cov)?;
-    Ok(FractionTexts {
-        per_period,
-        diff_mean,
-        diff_var,
-        cov,
-    })
-}
-
 // ---- The rows.
 
 // The sheet with the row of the fields' names.
@@ -207,6 +178,7 @@ fn with_header(sheet: Sheet) -> Result<Sheet, AllocError>
 }
 
 // The sheet with the row of a policy and its figures.
+#[tactic(auto, using(crn_rows::proofs::PlainFields::name_plain))]
 fn with_policy_row(
     alloc: Global,
     sheet: Sheet,
@@ -216,20 +188,22 @@ fn with_policy_row(
     requires { is_name policy.now.name ≡ true }
     ensures { IfOk result (λ after. after ≡ sheet ++ row_text (fields policy.now figures.now)) }
 {
-    let texts = fraction_texts(alloc, figures)?;
     let (mut low, mut high) = (Buffer::new(), Buffer::new());
     let (mut total, mut diff_total) = (Buffer::new(), Buffer::new());
-    let name = policy.name.as_str().as_bytes();
-    let low = signed_field(&mut low, i128::from(policy.low));
-    let high = signed_field(&mut high, i128::from(policy.high));
-    let total = decimal_field(&mut total, figures.total);
-    let per_period = texts.per_period.as_slice();
-    let diff_total = signed_field(&mut diff_total, figures.diff_total);
-    let diff_mean = texts.diff_mean.as_slice();
-    let diff_var = texts.diff_var.as_slice();
-    let cov = texts.cov.as_slice();
+    let per_period = fraction_text(alloc, figures.per_period)?;
+    let diff_mean = fraction_text(alloc, figures.diff_mean)?;
+    let diff_var = estimate_text(alloc, figures.diff_var)?;
+    let cov = estimate_text(alloc, figures.cov)?;
     sheet.with_row(&[
-        name, low, high, total, per_period, diff_total, diff_mean, diff_var, cov,
+        policy.name.as_str().as_bytes(),
+        signed_field(&mut low, i128::from(policy.low)),
+        signed_field(&mut high, i128::from(policy.high)),
+        decimal_field(&mut total, figures.total),
+        per_period.as_slice(),
+        signed_field(&mut diff_total, figures.diff_total),
+        diff_mean.as_slice(),
+        diff_var.as_slice(),
+        cov.as_slice(),
     ])
 }
 
