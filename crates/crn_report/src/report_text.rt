@@ -1,7 +1,7 @@
 // The report of a scenario: each policy's figures, their texts, and the rows that have them.
 
-ghost use Rattle.std.specs.Prelude.{◌≡◌, ◌+◌, ◌*◌, ◌≤◌, ◌<◌, ◌^◌, ◌++◌, ◌∷◌, [], true, ℕ, List, length, map, sum, slice_get};
-ghost use Rattle.std.specs.Prelude.{All, IfOk, OnOk, Some, decimal};
+ghost use Rattle.std.specs.Prelude.{◌≡◌, ◌*◌, ◌≤◌, ◌<◌, ◌^◌, ◌++◌, true, ℕ, length, map, sum, slice_get, decimal};
+ghost use Rattle.std.specs.Prelude.{All, IfOk, Some};
 ghost use Rattle.std.specs.Fmt.{signed_decimal};
 ghost use Rattle.crn_limits.specs.declared.TheConstants.{PERIOD_LIMIT, REPLICATION_LIMIT};
 ghost use Rattle.crn_spelling.specs.Names.{is_name};
@@ -10,7 +10,7 @@ ghost use Rattle.crn_stock.specs.Parts.{Parts};
 ghost use Rattle.crn_stock.specs.declared.limits.TheConstants.{PERIOD_COST_LIMIT};
 ghost use Rattle.crn_pair.specs.Pairs.{IsPairOf};
 ghost use Rattle.crn_sequential.specs.Runs.{StandsBefore, IsCheckpointOf};
-ghost use Rattle.crn_rows.specs.Plain.{is_plain, are_plain};
+ghost use Rattle.crn_rows.specs.Plain.{is_plain};
 ghost use Rattle.crn_rows.specs.Rows.{row_text};
 ghost use Rattle.crn_report.specs.Report.{IsFigures, AreFigures, header, fields, policy_rows_text, IsReportText};
 ghost use Rattle.crn_report.specs.Report as spec;
