@@ -7,7 +7,7 @@ use Rattle.crn_stock.specs.Models.{ModelParts, ScenarioParts}
 use Rattle.crn_stock.specs.declared.policy.Policy.{Policy}
 use Rattle.crn_rows.specs.Rows.{row_text}
 use Rattle.crn_report.specs.Report.{fraction_text, estimate_text, fields, header, policy_rows_text, IsReportText, IsFigures}
-use Rattle.crn_report.specs.declared.figures.Figures.{Figures}
+use Rattle.crn_report.specs.declared.report_text.Figures.{Figures}
 
 -- what `crn_pair::laws::one_fraction` says
 pub record OneFraction : Type 0 where

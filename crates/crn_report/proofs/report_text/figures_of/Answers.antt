@@ -1,5 +1,5 @@
 use Rattle.std.proofs.Common.{rules}
-use Rattle.crn_report.proofs.figures.figures_of.Goals as goal
+use Rattle.crn_report.proofs.report_text.figures_of.Goals as goal
 
 pub returns : goal.returns
 returns c = search rules

@@ -1,7 +1,7 @@
 use Rattle.std.proofs.Common.{◌≡◌, length, map}
 use Rattle.crn_sequential.proofs.Growing.{HoldsOfEach}
 use Rattle.crn_report.proofs.FiguresOf.{FiguresAt}
-use Rattle.crn_report.proofs.figures.all_figures.Given as goal
+use Rattle.crn_report.proofs.report_text.all_figures.Given as goal
 
 abbrev pub invariant-loop-i : goal.invariant-loop-i
 invariant-loop-i l = record {

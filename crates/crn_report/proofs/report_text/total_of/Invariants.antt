@@ -1,7 +1,7 @@
 use Rattle.std.proofs.Common.{◌≡◌, ◌*◌, ◌≤◌, sum, take}
 use Rattle.crn_limits.specs.declared.TheConstants.{PERIOD_LIMIT}
 use Rattle.crn_stock.specs.declared.limits.TheConstants.{PERIOD_COST_LIMIT}
-use Rattle.crn_report.proofs.figures.total_of.Given as goal
+use Rattle.crn_report.proofs.report_text.total_of.Given as goal
 
 abbrev pub invariant-loop-cost : goal.invariant-loop-cost
 invariant-loop-cost l = record {

@@ -2,7 +2,7 @@ use Rattle.std.proofs.Common.{rules, ◌≡◌, ◌++◌, ◌∷◌, [], map, ar
 use Rattle.std.proofs.lemmas.Grind.{common_steps}
 use Rattle.crn_sequential.proofs.Growing.{each-grown}
 use Rattle.crn_report.proofs.FiguresOf.{FiguresAt, figures_at, stands_at}
-use Rattle.crn_report.proofs.figures.all_figures.Goals as goal
+use Rattle.crn_report.proofs.report_text.all_figures.Goals as goal
 
 pub loop-i-preserved : goal.loop-i-preserved
 loop-i-preserved c =

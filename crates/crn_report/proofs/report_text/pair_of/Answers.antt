@@ -1,5 +1,5 @@
 use Rattle.crn_report.proofs.Costs.{no_fault}
-use Rattle.crn_report.proofs.figures.pair_of.Goals as goal
+use Rattle.crn_report.proofs.report_text.pair_of.Goals as goal
 
 pub unreachable-requires : goal.unreachable-requires
 unreachable-requires c =
