@@ -12,8 +12,7 @@ use Rattle.crn_draw.specs.Faults.{least_weights_fault, rises}
 use Rattle.crn_scenario.specs.Tree.{array_at, count_items, are_integers, integers_of, kept}
 use Rattle.crn_scenario.specs.Fields.{is_within, are_within}
 use Rattle.crn_scenario.specs.Fields as fields
-use Rattle.crn_scenario.specs.Faults.{have_other_lengths, have_other_order, have_other_total, has_other_lengths_in, has_other_order_in, has_other_total_in, rise_above, total_of}
-use Rattle.crn_scenario.specs.Reading.{integers_in, naturals_in}
+use Rattle.crn_scenario.specs.Reading.{have_other_lengths, have_other_order, have_other_total, has_other_lengths_in, has_other_order_in, has_other_total_in, rise_above, total_of, integers_in, naturals_in}
 use Rattle.crn_scenario.specs.Inner.Reading.{AreDraws}
 use Rattle.crn_scenario.proofs.Bools.{passed, and_true}
 use Rattle.crn_scenario.proofs.Kept.{nowhere, Kept, kept_at, IsList, list_kept, within_parts}

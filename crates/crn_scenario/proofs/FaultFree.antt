@@ -22,7 +22,7 @@ use Rattle.crn_scenario.specs.declared.fields.Kind.{Kind}
 use Rattle.crn_scenario.specs.declared.fields.Kind.TheVariants as kind
 use Rattle.crn_scenario.specs.declared.fields.Rule.{Rule}
 use Rattle.crn_scenario.specs.declared.fields.Rule.TheVariants as rule
-use Rattle.crn_scenario.specs.Faults.{HasNone, faults, holds_at, version_of, inner_keep, all_keep, keeps_in, policies_in, policies_at, is_version, has_other_version, has_unknown_key, lacks_key, has_other_kind, breaks_range, have_other_lengths, have_other_order, have_other_total, has_other_lengths_in, has_other_order_in, has_other_total_in, has_other_lengths, has_values_out_of_order, has_weights_out_of_range, rise_above, total_of, are_in_order, has_levels_in_order, has_low_above_high, names_in, names_at, are_good_names, has_bad_name, is_ring_size, is_other_ring, has_other_ring, is_other_count, has_other_policy_count}
+use Rattle.crn_scenario.specs.Reading.{HasNone, faults, holds_at, version_of, inner_keep, all_keep, keeps_in, policies_in, policies_at, is_version, has_other_version, has_unknown_key, lacks_key, has_other_kind, breaks_range, have_other_lengths, have_other_order, have_other_total, has_other_lengths_in, has_other_order_in, has_other_total_in, has_other_lengths, has_values_out_of_order, has_weights_out_of_range, rise_above, total_of, are_in_order, has_levels_in_order, has_low_above_high, names_in, names_at, are_good_names, has_bad_name, is_ring_size, is_other_ring, has_other_ring, is_other_count, has_other_policy_count}
 use Rattle.crn_scenario.specs.Reading as reading
 use Rattle.crn_scenario.specs.Sound.{items_of, numbers, tables, HasNoOther, IsNumber, AreWords, AreRates, AreWeighted, IsPolicyTable, IsFirst, IsSecond, IsSound}
 use Rattle.crn_scenario.proofs.Bools.{and_true, or_false}

@@ -13,7 +13,7 @@ use Rattle.crn_scenario.specs.declared.fields.Kind.{Kind}
 use Rattle.crn_scenario.specs.declared.fields.Kind.TheVariants as kind
 use Rattle.crn_scenario.specs.declared.fields.Rule.{Rule}
 use Rattle.crn_scenario.specs.declared.fields.Rule.TheVariants as rule
-use Rattle.crn_scenario.specs.Faults.{HasNone, version_of, inner_keep, all_keep, keeps_in, policies_at, is_version, has_other_version, has_unknown_key, lacks_key, has_other_kind, breaks_range}
+use Rattle.crn_scenario.specs.Reading.{HasNone, version_of, inner_keep, all_keep, keeps_in, policies_at, is_version, has_other_version, has_unknown_key, lacks_key, has_other_kind, breaks_range}
 use Rattle.crn_scenario.proofs.Bools.{passed, failed}
 
 -- ---- no fault

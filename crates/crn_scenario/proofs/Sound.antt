@@ -14,8 +14,7 @@ use Rattle.crn_draw.specs.Spread.{Weighted}
 use Rattle.crn_scenario.specs.Tree.{integer_at, natural, table_at}
 use Rattle.crn_scenario.specs.Fields.{Entry, entry, number, greatest_level}
 use Rattle.crn_scenario.specs.Fields as fields
-use Rattle.crn_scenario.specs.Faults.{HasNone, drawn, has_other_lengths, has_values_out_of_order, has_weights_out_of_range, has_other_lengths_in, has_other_order_in, has_other_total_in}
-use Rattle.crn_scenario.specs.Reading.{integer, naturals_in, cost_rates_of, weighted_of, returns_of, model_of}
+use Rattle.crn_scenario.specs.Reading.{HasNone, drawn, has_other_lengths, has_values_out_of_order, has_weights_out_of_range, has_other_lengths_in, has_other_order_in, has_other_total_in, integer, naturals_in, cost_rates_of, weighted_of, returns_of, model_of}
 use Rattle.crn_scenario.specs.Inner.Reading.{AreDraws, MayBeDraws}
 use Rattle.crn_scenario.proofs.Bools.{neither}
 use Rattle.crn_scenario.proofs.Kept.{nowhere, Kept, kept_at, top_at, IsNumber, number_kept, costs_kept, demand_kept, lead_kept, returns_kept, one}

@@ -19,7 +19,7 @@ use Rattle.crn_scenario.specs.Fields.{Entry, keys_of, number, greatest_level, ke
 use Rattle.crn_scenario.specs.Fields as fields
 use Rattle.crn_scenario.specs.declared.fields.Kind.TheVariants as kind
 use Rattle.crn_scenario.specs.declared.fields.Rule.TheVariants as rule
-use Rattle.crn_scenario.specs.Faults.{HasNone, keeps_in, policies_in, are_in_order, names_in, names_at, all_differ, are_good_names, rise_above, total_of, has_other_lengths_in, has_other_order_in, has_other_total_in, is_ring_size, is_other_ring, is_other_count}
+use Rattle.crn_scenario.specs.Reading.{HasNone, keeps_in, policies_in, are_in_order, names_in, names_at, all_differ, are_good_names, rise_above, total_of, has_other_lengths_in, has_other_order_in, has_other_total_in, is_ring_size, is_other_ring, is_other_count}
 use Rattle.crn_scenario.specs.Reading as reading
 use Rattle.crn_scenario.specs.Sound.{items_of, HasNoOther, IsNumber, IsSize, AreWords, AreRates, AreWeighted, IsPolicyTable, ArePolicyTables, IsFirst, IsSecond, IsSound}
 use Rattle.crn_scenario.proofs.Bools.{passed}
