@@ -11,7 +11,7 @@ import formats
 import oracle
 import readers
 from paths import TOP
-from scenarios import swapped
+from scenarios import CUTS, swapped
 from shown import Shown, refused
 
 HERE = os.path.dirname(os.path.abspath(__file__))
@@ -24,8 +24,6 @@ LIMIT = formats.MOST_BYTES
 # The policies of the scenario of five periods, A and B, and the last row of a checkpoint.
 POLICIES = (b'{ name = "%s", s = 5, S = 10 }', b'{ name = "%s", s = 4, S = 10 }')
 END = b"end,-,-,-,-\n"
-# A stored checkpoint of one run in each version, the oldest first.
-CUTS = ["tests/program/five_periods_old_cut.csv", "tests/program/five_periods_cut.csv"]
 
 
 def start_text(said):

@@ -14,8 +14,8 @@ from typing import NamedTuple
 
 import paths
 import formats
-from commands import CUTS, HERE, LIMIT, READS, stored, words_of, written
-from scenarios import swapped
+from commands import HERE, LIMIT, READS, stored, words_of, written
+from scenarios import CUTS, swapped
 
 MOST = (1.0, 128)
 MOST_OF_TABLES = (5.0, 768)
