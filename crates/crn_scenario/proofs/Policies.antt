@@ -22,8 +22,7 @@ use Rattle.crn_scenario.specs.Fields as fields
 use Rattle.crn_scenario.specs.declared.fields.Rule.TheVariants as rule
 use Rattle.crn_scenario.specs.Reading.{HasNone, policies_in, policies_at, has_levels_in_order, are_in_order, has_low_above_high, names_in, names_at, is_among, all_differ, are_good_names, has_bad_name, is_ring_size, is_other_ring, has_other_ring, is_other_count, has_other_policy_count, integer, text, key_of, model_of, policy_of, scenario_of}
 use Rattle.crn_scenario.proofs.Bools.{passed, failed, neither}
-use Rattle.crn_scenario.proofs.Kept.{nowhere, Kept, kept_at, top_at, present, kinds, ranges, one, IsNumber, number_kept, IsText, text_kept, tables_kept, IsInteger, integer_kept}
-use Rattle.crn_scenario.proofs.Sound.{taken, from_low, to_high}
+use Rattle.crn_scenario.proofs.Kept.{nowhere, Kept, kept_at, top_at, present, kinds, ranges, one, IsNumber, number_kept, IsText, text_kept, tables_kept, IsInteger, integer_kept, taken, from_low, to_high}
 
 -- ---- a policy
 

@@ -4,7 +4,7 @@ use Rattle.toml.specs.Data.{Members}
 use Rattle.toml.specs.View.{table_view}
 use Rattle.crn_stock.specs.Models.{IsModel}
 use Rattle.crn_scenario.specs.Inner.Reading.{AreDraws, MayBeDraws}
-use Rattle.crn_scenario.proofs.Sound.{demand_draws, lead_draws, returns_draws, model_fits, same_model, periods, replications}
+use Rattle.crn_scenario.proofs.Kept.{demand_draws, lead_draws, returns_draws, model_fits, same_model, periods, replications}
 use Rattle.crn_scenario.proofs.scenario.model_of.Goals as goal
 
 pub weights_of-requires : goal.weights_of-requires
