@@ -13,10 +13,8 @@ use Rattle.toml.specs.Data.{Data, string, integer, float, boolean, datetime, arr
 use Rattle.crn_limits.specs.declared.TheConstants.{PERIOD_LIMIT, REPLICATION_LIMIT}
 use Rattle.crn_draw.specs.declared.weights.TheConstants.{TOTAL_LIMIT}
 use Rattle.crn_draw.specs.Faults.{least_weights_fault, rises}
-use Rattle.crn_draw.specs.Spread.{Weighted}
 use Rattle.crn_stock.specs.declared.limits.TheConstants.{ITEM_LIMIT, LEAD_LIMIT, RATE_LIMIT, SETUP_LIMIT}
-use Rattle.crn_stock.specs.Models.{IsModel, AreCosts, ModelParts, returned_values}
-use Rattle.crn_stock.specs.declared.costs.Costs.{Costs}
+use Rattle.crn_stock.specs.Models.{IsModel, AreCosts, returned_values}
 use Rattle.crn_scenario.specs.Tree.{integer_at, natural, table_at, count_items, are_integers, are_tables, integers_of, array_at, kept}
 use Rattle.crn_scenario.specs.Fields.{Entry, entry, keys_of, number, numbers_within, keeps, keeps_at, keeps_at_all, is_within, are_within, greatest_level}
 use Rattle.crn_scenario.specs.Fields as fields
@@ -592,10 +590,3 @@ model_fits ms h =
       lead_high = subst (λ (o : Option Members). All (λ v. v ≤ LEAD_LIMIT) (naturals_in (codes "values") o)) (sym l.is) (values_high 1 LEAD_LIMIT l.members l.kept);
       returns = returned_high (table_at (codes "returns") ms) (λ t e. returns_kept ms t h e);
     }
-
-abbrev pub parts : ℕ → ℕ → ℤ → Costs → Weighted → Weighted → Option Weighted → ModelParts
-parts p r i c d l g = record { periods = p; replications = r; initial = i; costs = c; demand = d; lead = l; returns = g }
-
--- a model with the parts that the tree says
-pub same_model : (ms : Members) (p r : ℕ) (i : ℤ) (c : Costs) (d l : Weighted) (g : Option Weighted) → p ≡ natural (integer_at (codes "periods") ms) → r ≡ natural (integer_at (codes "replications") ms) → i ≡ reading.integer (integer_at (codes "initial") ms) → c ≡ cost_rates_of (table_at (codes "costs") ms) → d ≡ weighted_of (table_at (codes "demand") ms) → l ≡ weighted_of (table_at (codes "lead") ms) → g ≡ returns_of (table_at (codes "returns") ms) → parts p r i c d l g ≡ model_of ms
-same_model ms p r i c d l g e f h k m n o = cc
