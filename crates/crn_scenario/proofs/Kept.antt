@@ -1,6 +1,6 @@
 -- What a tree without a fault gives: what stands in its tables, values and weights that can be drawn from, and the
 -- conditions of a model.
-use Rattle.std.proofs.Common.{◌≡◌, ℕ, zero, suc, ◌<◌, ◌≤◌, ◌⊎◌, inl, inr, Bool, true, false, not, cond, ◌||◌, ◌==◌, List, [], ◌∷◌, length, slice_index_or, sym, ap, subst, Option, Some, None, refl, arith, lit<, ℤ, pos, negsuc, codes, ◌+◌, map, sum, ◌∙◌, nat_abs, All, nat_le, nat_lt, nat_eq}
+use Rattle.std.proofs.Common.{◌≡◌, ℕ, zero, suc, ◌<◌, ◌≤◌, Bool, true, false, not, cond, ◌||◌, ◌==◌, List, [], ◌∷◌, length, slice_index_or, sym, ap, subst, Option, Some, None, refl, arith, lit<, ℤ, pos, negsuc, codes, ◌+◌, map, sum, ◌∙◌, nat_abs, All, nat_le, nat_lt, nat_eq}
 use Rattle.std.proofs.lemmas.Bool.{false≢true, and_parts}
 use Rattle.std.proofs.lemmas.Bool.Decides.{nat_tests}
 use Rattle.std.proofs.lemmas.Int.{ints}
@@ -18,6 +18,7 @@ use Rattle.crn_stock.specs.Models.{IsModel, AreCosts, returned_values}
 use Rattle.crn_scenario.specs.Tree.{integer_at, natural, table_at, count_items, are_integers, are_tables, integers_of, array_at, kept}
 use Rattle.crn_scenario.specs.Fields.{Entry, entry, keys_of, number, numbers_within, keeps, keeps_at, keeps_at_all, is_within, are_within, greatest_level}
 use Rattle.crn_scenario.specs.Fields as fields
+use Rattle.crn_scenario.specs.declared.fields.TheConstants.{NEWEST_VERSION}
 use Rattle.crn_scenario.specs.declared.fields.Kind.{Kind}
 use Rattle.crn_scenario.specs.declared.fields.Kind.TheVariants as kind
 use Rattle.crn_scenario.specs.declared.fields.Rule.{Rule}
@@ -35,10 +36,6 @@ one true h = absurd (h refl)
 
 -- ---- the version
 
--- which versions there are
-abbrev pub IsVersion : Option ℤ → Type 0
-IsVersion o = (o ≡ Some (pos 1)) ⊎ (o ≡ Some (pos 2))
-
 pub within_parts : (low high n : ℕ) → is_within (pos low) (pos high) (Some (pos n)) ≡ true → (low ≤ n) × (n ≤ high)
 within_parts low high n h =
     let parts : (int_le (pos low) (pos n) ≡ true) × (int_le (pos n) (pos high) ≡ true) = and_parts _ _ h in
@@ -46,12 +43,18 @@ within_parts low high n h =
     let k : int_le (pos n) (pos high) ≡ true = parts.1 in
     (grind (arith, ints, nat_tests, l), grind (arith, ints, nat_tests, k))
 
+-- one of the versions that there are
+pub record IsVersion (o : Option ℤ) : Type 0 where
+  pub number : ℕ
+  pub is : o ≡ Some (pos number)
+  pub at_least : 1 ≤ number
+  pub at_most : number ≤ NEWEST_VERSION
+
 is_one : (o : Option ℤ) → is_version o ≡ true → IsVersion o
 is_one None h = absurd (false≢true h)
-is_one (Some (pos zero)) h = absurd (false≢true h)
-is_one (Some (pos (suc zero))) h = inl refl
-is_one (Some (pos (suc (suc zero)))) h = inr refl
-is_one (Some (pos (suc (suc (suc n))))) h = let high = (within_parts 1 2 (suc (suc (suc n))) h).1 in absurd (omega (arith, high))
+is_one (Some (pos n)) h =
+    let parts = within_parts 1 NEWEST_VERSION n h in
+    record { number = n; is = refl; at_least = parts.0; at_most = parts.1 }
 is_one (Some (negsuc n)) h = absurd (false≢true h)
 
 pub version : (ms : Members) → HasNone ms → IsVersion (integer_at (codes "version") ms)
@@ -70,17 +73,15 @@ pub record AreOld (version : ℕ) : Type 0 where
   pub returns : keys_of version fields.returns ≡ fields.returns
   pub policy : keys_of version fields.policy ≡ fields.policy
 
-first_is_old : AreOld 1
+are_old : (version : ℕ) → nat_le 1 version ≡ true → AreOld version
 unfolding keys_of
-first_is_old = record { costs = refl; demand = refl; lead = refl; returns = refl; policy = refl }
+are_old version e = record { costs = rw e refl; demand = rw e refl; lead = rw e refl; returns = rw e refl; policy = rw e refl }
 
-second_is_old : AreOld 2
-unfolding keys_of
-second_is_old = record { costs = refl; demand = refl; lead = refl; returns = refl; policy = refl }
+has_first : (ms : Members) → IsVersion (integer_at (codes "version") ms) → nat_le 1 (version_of ms) ≡ true
+has_first ms v = let low : 1 ≤ v.number = v.at_least in subst (λ (n : ℕ). nat_le 1 n ≡ true) (sym (version_is ms v.number v.is)) (grind (arith, nat_tests, low))
 
 pub old : (ms : Members) → IsVersion (integer_at (codes "version") ms) → AreOld (version_of ms)
-old ms (inl e) = subst AreOld (sym (version_is ms 1 e)) first_is_old
-old ms (inr e) = subst AreOld (sym (version_is ms 2 e)) second_is_old
+old ms v = are_old (version_of ms) (has_first ms v)
 
 -- ---- the rules of all tables
 
@@ -192,10 +193,6 @@ held_at ms i h lt since = record {
   kinds = one_held rule.Kinds (version_of ms) fields.top_table ms i (kinds ms h).top lt since;
   ranges = one_held rule.Ranges (version_of ms) fields.top_table ms i (ranges ms h).top lt since;
 }
-
-has_first : (ms : Members) → IsVersion (integer_at (codes "version") ms) → nat_le 1 (version_of ms) ≡ true
-has_first ms (inl e) = subst (λ (n : ℕ). nat_le 1 n ≡ true) (sym (version_is ms 1 e)) refl
-has_first ms (inr e) = subst (λ (n : ℕ). nat_le 1 n ≡ true) (sym (version_is ms 2 e)) refl
 
 -- a key of all versions
 pub top_at : (ms : Members) (i : ℕ) → HasNone ms → i < length fields.top_table → (slice_index_or fields.top_table i nowhere).since ≡ 1 → KeptAt (slice_index_or fields.top_table i nowhere).kind (get_member (slice_index_or fields.top_table i nowhere).name ms)

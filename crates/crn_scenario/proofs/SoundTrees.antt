@@ -1,5 +1,5 @@
 -- The trees without a fault are those that say a scenario, key by key.
-use Rattle.std.proofs.Common.{◌≡◌, ◌≢◌, ℕ, ◌<◌, ◌≤◌, ◌⊎◌, inl, inr, true, false, ◌==◌, List, [], ◌∷◌, length, map, sum, All, AllPairs, Option, Some, None, codes, nat_abs, nat_le, refl, sym, ap, subst, ◌∙◌, arith, lit<, ℤ, pos, negsuc, suc, Bool, not, ◌&&◌, ◌||◌, ◌++◌}
+use Rattle.std.proofs.Common.{◌≡◌, ◌≢◌, ℕ, zero, suc, ◌<◌, ◌≤◌, ◌⊎◌, inl, inr, true, false, ◌==◌, List, [], ◌∷◌, length, map, sum, All, AllPairs, Option, Some, None, codes, nat_abs, nat_le, refl, sym, ap, subst, ◌∙◌, arith, lit<, ℤ, pos, negsuc, Bool, not, ◌&&◌, ◌||◌, ◌++◌}
 use Rattle.std.proofs.lemmas.Bool.{false≢true, and_parts}
 use Rattle.std.proofs.lemmas.Bool.Decides.{nat_tests}
 use Rattle.std.proofs.lemmas.Int.{ints}
@@ -21,6 +21,7 @@ use Rattle.crn_scenario.specs.Fields.{Entry, keys_of, number, greatest_level, ke
 use Rattle.crn_scenario.specs.Fields as fields
 use Rattle.crn_scenario.specs.declared.fields.Kind.TheVariants as kind
 use Rattle.crn_scenario.specs.declared.fields.Rule.TheVariants as rule
+use Rattle.crn_scenario.specs.declared.fields.TheConstants.{NEWEST_VERSION}
 use Rattle.crn_scenario.specs.declared.fields.Kind.{Kind}
 use Rattle.crn_scenario.specs.declared.fields.Rule.{Rule}
 use Rattle.crn_scenario.specs.Reading.{HasNone, keeps_in, policies_in, are_in_order, names_in, names_at, all_differ, are_good_names, rise_above, total_of, has_other_lengths_in, has_other_order_in, has_other_total_in, is_ring_size, is_other_ring, is_other_count, faults, holds_at, version_of, inner_keep, all_keep, policies_at, is_version, has_other_version, has_unknown_key, lacks_key, has_other_kind, breaks_range, have_other_lengths, have_other_order, have_other_total, has_other_lengths, has_values_out_of_order, has_weights_out_of_range, has_levels_in_order, has_low_above_high, has_bad_name, has_other_ring, has_other_policy_count}
@@ -283,13 +284,16 @@ second ms h e =
       returns = weighted_at 0 ITEM_LIMIT o (table_at (codes "returns") ms) t refl (known ms h).returns (lengths ms h).returns (orders ms h).returns (totals ms h).returns;
     }
 
-versions : (ms : Members) → HasNone ms → IsVersion (integer_at (codes "version") ms) → IsFirst ms ⊎ IsSecond ms
-versions ms h (inl e) = inl (first ms h e)
-versions ms h (inr e) = inr (second ms h e)
+-- of the version with this number, which is one that there is
+versions : (ms : Members) (n : ℕ) → HasNone ms → integer_at (codes "version") ms ≡ Some (pos n) → 1 ≤ n → n ≤ NEWEST_VERSION → IsFirst ms ⊎ IsSecond ms
+versions ms zero h e low high = absurd (omega (arith, low))
+versions ms (suc zero) h e low high = inl (first ms h e)
+versions ms (suc (suc zero)) h e low high = inr (second ms h e)
+versions ms (suc (suc (suc n))) h e low high = absurd (omega (arith, high))
 
 pub sound_tree : (ms : Members) → HasNone ms → IsSound ms
-sound_tree ms h = record {
-  version = versions ms h (version ms h);
+sound_tree ms h = let v = version ms h in record {
+  version = versions ms v.number h v.is v.at_least v.at_most;
   key = words_at (get_member (codes "key") ms) (top_at ms 1 h (lit< tt) refl);
   periods = number_at 1 PERIOD_LIMIT (get_member (codes "periods") ms) (top_at ms 2 h (lit< tt) refl);
   replications = number_at 1 REPLICATION_LIMIT (get_member (codes "replications") ms) (top_at ms 3 h (lit< tt) refl);
@@ -537,10 +541,8 @@ top_stands ms z more h version rest = (
 
 -- what the version says of the top and of what customers return
 record HasVersion (ms : Members) : Type 0 where
-  number : ℕ
-  is : integer_at (codes "version") ms ≡ Some (pos number)
   one : IsVersion (integer_at (codes "version") ms)
-  top : (r : Rule) → keeps r (keys_of number fields.top_table) ms ≡ true
+  top : (r : Rule) → keeps r (keys_of one.number fields.top_table) ms ≡ true
   returns : (r : Rule) → keeps_in r fields.returns (table_at (codes "returns") ms) ≡ true
   drawn : AreDrawable (table_at (codes "returns") ms)
 
@@ -559,9 +561,7 @@ of_first ms h v =
     let is : integer_at (codes "version") ms ≡ Some (pos 1) = ap (option_and_then as_integer) v.version in
     let none : table_at (codes "returns") ms ≡ None = ap (option_and_then as_table) (absent ms v) in
     record {
-      number = 1;
-      is = is;
-      one = inl is;
+      one = record { number = 1; is = is; at_least = omega arith; at_most = omega arith };
       top = λ r. keeps_all r (keys_of 1 fields.top_table) ms v.keys (top_stands ms (pos 1) [] h v.version tt);
       returns = λ r. subst (λ (o : Option Members). keeps_in r fields.returns o ≡ true) (sym none) refl;
       drawn = subst AreDrawable (sym none) (record { lengths = refl; order = refl; total = refl });
@@ -572,9 +572,7 @@ unfolding keys_of
 of_second ms h v =
     let is : integer_at (codes "version") ms ≡ Some (pos 2) = ap (option_and_then as_integer) v.version in
     record {
-      number = 2;
-      is = is;
-      one = inr is;
+      one = record { number = 2; is = is; at_least = omega arith; at_most = omega arith };
       top = λ r. keeps_all r (keys_of 2 fields.top_table) ms v.keys (top_stands ms (pos 2) (fields.entry_since 2 (codes "returns") kind.Table ∷ []) h v.version (table_stands _ _ v.returns.are, tt));
       returns = λ r. keeps_inner r fields.returns v.returns.draws (get_member (codes "returns") ms) v.returns.are v.returns.keys (draws_stand 0 ITEM_LIMIT _ v.returns);
       drawn = drawable 0 ITEM_LIMIT _ v.returns;
@@ -611,19 +609,18 @@ keep : (r : Rule) (ms : Members) → IsSound ms → all_keep r ms ≡ true
 unfolding all_keep
 keep r ms h =
     let v = has_version ms h in
-    let top : keeps r (keys_of (version_of ms) fields.top_table) ms ≡ true = subst (λ (n : ℕ). keeps r (keys_of n fields.top_table) ms ≡ true) (sym (version_is ms v.number v.is)) (v.top r) in
+    let top : keeps r (keys_of (version_of ms) fields.top_table) ms ≡ true = subst (λ (n : ℕ). keeps r (keys_of n fields.top_table) ms ≡ true) (sym (version_is ms v.one.number v.one.is)) (v.top r) in
     let policies : list_all (keeps r fields.policy) (policies_at ms) ≡ true = subst (λ (ts : List Members). list_all (keeps r fields.policy) ts ≡ true) (sym (policies_are ms h)) (policies_keep r h.policy.policies h.policy.each) in
     and_true _ _
     (and_true _ _ top (inner r ms h))
     (subst (λ (es : List Entry). list_all (keeps r es) (policies_at ms) ≡ true) (sym (old ms v.one).policy) policies)
 
-is_known : (o : Option ℤ) → IsVersion o → not (is_version o) ≡ false
-is_known o (inl e) = subst (λ (x : Option ℤ). not (is_version x) ≡ false) (sym e) refl
-is_known o (inr e) = subst (λ (x : Option ℤ). not (is_version x) ≡ false) (sym e) refl
+is_known : (o : Option ℤ) → IsVersion o → is_version o ≡ true
+is_known o v = subst (λ (x : Option ℤ). is_version x ≡ true) (sym v.is) ((within 1 NEWEST_VERSION v.number).1 (v.at_least, v.at_most))
 
 no_other_version : (ms : Members) → IsSound ms → has_other_version ms ≡ false
 unfolding has_other_version
-no_other_version ms h = is_known (integer_at (codes "version") ms) (has_version ms h).one
+no_other_version ms h = not_true _ (is_known (integer_at (codes "version") ms) (has_version ms h).one)
 
 unknown : (ms : Members) → IsSound ms → has_unknown_key ms ≡ false
 unfolding has_unknown_key
