@@ -1,4 +1,9 @@
-"""Scenarios for tries of the built program: stored texts with something else at one place."""
+"""Scenarios and checkpoints for tries of the built program: stored texts, also with something else at one place."""
+import formats
+
+# A checkpoint of one run in each version, the oldest first. The program of its time wrote each old one.
+CUTS = [*(f"tests/program/five_periods_cut_{it}.csv" for it in formats.CHECKPOINT_VERSIONS[:-1]),
+        "tests/program/five_periods_cut.csv"]
 
 
 def swapped(text, old, new):

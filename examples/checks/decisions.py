@@ -19,11 +19,11 @@ PARTS = {"longer": lambda rows: [*rows, changed(rows[4], "both", "more")], "shor
          "turned_end": lambda rows: [*rows[:3], rows[4], rows[3]],
          "another_s": lambda rows: [it.replace("lower,7", "lower,8") for it in rows],
          "another_name": lambda rows: [it.replace("both", "each") for it in rows],
-         "no_fraction": lambda rows: [*rows[:2], rows[2].rsplit(",", 1)[0] + ",1e9\n"],
+         "no_fraction": lambda rows: [*rows[:2], changed(rows[2], "1729205/336", "1e9")],
          "one_alone": lambda rows: rows[:2],
          "huge": lambda rows: [*rows[:2], changed(rows[2], "202390", "9" * 5000)],
          "no_bytes": lambda rows: [*rows[:2], "\u00ff\n"], "empty": lambda rows: [],
-         "free": lambda rows: [rows[0], "today,1,2,0,0/1,0,0/1,0/1,0/1\n"]}
+         "free": lambda rows: [rows[0], changed(rows[1], "207110,103555/3328", "0,0/1", "2175953/144", "0/1")]}
 
 
 def cases():

@@ -8,30 +8,30 @@ from fractions import Fraction
 from itertools import combinations
 
 from histories import answer_of
+import formats
 from tries import HERE, changed, priced, run, text_of, tool, write
 
 KEYS = ["00000000000000a1", "00000000000000a2"]
+
+
+def report(*rows):
+    """Returns a report of these rows. In a column that check.py does not pool there is no figure."""
+    count = formats.HEADER.count(",")
+    return "".join(f"{row}{',-' * (count - row.count(','))}\n" for row in [formats.HEADER, *rows])
+
+
 # A program that writes two reports, worked by hand. Costs of A and B in two replications: 10 and 11, 12 and 15 with the
 # first key; 20 and 25, 20 and 27 with the second one.
-CANNED = """#!/bin/sh
-if grep -q {0}; then cat <<END
-policy,s,S,total,per_period,diff_total,diff_mean,diff_var,cov
-A,20,40,22,11/4,0,0/1,0/1,2/1
-B,60,80,26,13/4,4,2/1,1/1,4/1
-END
+CANNED = f"""#!/bin/sh
+if grep -q {KEYS[0]}; then cat <<END
+{report("A,20,40,22,11/4,0,0/1,0/1,2/1", "B,60,80,26,13/4,4,2/1,1/1,4/1")}END
 else cat <<END
-policy,s,S,total,per_period,diff_total,diff_mean,diff_var,cov
-A,20,40,40,5/1,0,0/1,0/1,0/1
-B,60,80,52,13/2,12,6/1,1/1,0/1
-END
+{report("A,20,40,40,5/1,0,0/1,0/1,0/1", "B,60,80,52,13/2,12,6/1,1/1,0/1")}END
 fi
 """
 # The differences are 1, 3, 5 and 7: mean 4, sum of squares about it 20, so 20/3/4 for the variance of the mean. A costs
 # 10, 12, 20, 20 and B 11, 15, 25, 27: means 31/2 and 39/2, sums about them 83 (squares) and 121 (products), over 3.
-POOLED = """policy,s,S,total,per_period,diff_total,diff_mean,diff_var,cov
-A,20,40,62,31/8,0,0/1,0/1,83/3
-B,60,80,78,39/8,16,4/1,5/3,121/3
-"""
+POOLED = report("A,20,40,62,31/8,0,0/1,0/1,83/3", "B,60,80,78,39/8,16,4/1,5/3,121/3")
 # The difference is 16 of 62, 25.81%. Its standard error is the root of 5/3, 1.29099. Tables have 3.18245 for 0.975 and
 # 2.35336 for 0.95 with 3 degrees of freedom: 4 -+ 4.10852 and 4 -+ 3.03818. The squares of B's costs about 39/2 sum to
 # 179, so the standard error of its mean is the root of 179/3/4, 3.86221. A replication has four periods, so B costs
@@ -120,7 +120,7 @@ def direct_tries(room):
 
 def canned_tries(room):
     """Two reports worked by hand."""
-    write(f"{room}/canned", CANNED.format(KEYS[0]))
+    write(f"{room}/canned", CANNED)
     os.chmod(f"{room}/canned", 0o755)
     for level, row, sentence in VERDICTS:
         folder = f"{room}/canned_{level}"

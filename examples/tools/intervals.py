@@ -22,10 +22,11 @@ HEADER = list(formats.COLUMNS)
 MOST_REPLICATIONS, MOST_KEYS = formats.limits("", "replications")[1], 64
 WHOLE = re.compile("-?[0-9]{1,40}")
 FRACTION = re.compile("-?[0-9]{1,60}/[1-9][0-9]{0,59}")
-# The kind of each column's cells, and how a message names it. `-` stands for no figure with one replication.
+# The kind of each column's cells, and how a message names it. `-` stands for no figure: with one replication, or of what
+# pooling.py does not know.
 KINDS = {name: FRACTION if name in formats.FRACTIONS else WHOLE for name in HEADER if name != "policy"}
 WORDS = {WHOLE: "a whole number", FRACTION: "a fraction such as 359/4"}
-MAY_LACK = ("diff_var", "cov")
+MUST_HAVE = ("s", "S", "total", "per_period", "diff_total", "diff_mean")
 
 
 def central_probability(angle, degrees):
@@ -75,7 +76,7 @@ def row_of(cells, place):
     for _, _, reason in name_faults("", row["policy"]):
         raise Refused(f"{place}: column policy: {reason}")
     for name, kind in KINDS.items():
-        if row[name] == "-" and name in MAY_LACK:
+        if row[name] == "-" and name not in MUST_HAVE:
             row[name] = None
         elif kind.fullmatch(row[name]):
             row[name] = int(row[name]) if kind is WHOLE else Fraction(row[name])

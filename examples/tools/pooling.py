@@ -10,7 +10,8 @@ covariance:
 
 These sums are added over all keys. With n replications in all, the pooled variance of the mean is
 (sum of d^2 - D^2 / n) / (n (n - 1)), and the pooled covariance (sum of a b - A B / n) / (n - 1). So an interval from it
-has n - 1 degrees of freedom. All is computed in fractions, without rounding.
+has n - 1 degrees of freedom. All is computed in fractions, without rounding. A column of the report that these sums do
+not give has no figure: `-`.
 
 This is not proved; crnsim's figures are.
 """
@@ -52,9 +53,11 @@ def pooled_fields(row, sums, periods):
     count, difference = sums.replications, sums.total - sums.base
     variance = (sums.squares - Fraction(difference**2, count)) / (count * (count - 1))
     covariance = (sums.products - Fraction(sums.total * sums.base, count)) / (count - 1)
-    fractions = [Fraction(difference, count), variance, covariance]
-    return [row["policy"], str(row["s"]), str(row["S"]), str(sums.total),
-            fraction_text(Fraction(sums.total, count * periods)), str(difference), *map(fraction_text, fractions)]
+    fields = {"policy": row["policy"], "s": row["s"], "S": row["S"], "total": sums.total, "diff_total": difference}
+    fractions = {"per_period": Fraction(sums.total, count * periods), "diff_mean": Fraction(difference, count),
+                 "diff_var": variance, "cov": covariance}
+    fields |= {name: fraction_text(value) for name, value in fractions.items()}
+    return [str(fields.get(name, "-")) for name in HEADER]
 
 
 def pooled_text(reports, replications, periods):

@@ -9,7 +9,7 @@ from shell import Room
 from tables import usages
 
 # A file that is there for an example, as kept from an older crnsim.
-KEPT = {"old_cut.csv": "tests/program/five_periods_old_cut.csv"}
+KEPT = {"old_cut.csv": "tests/program/five_periods_cut_1.csv"}
 
 
 def examples_of(text):

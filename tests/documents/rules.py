@@ -1,10 +1,12 @@
 """The rules by which scenarios and checkpoints are refused: each example of FORMATS and of the guide is tried, and the
 names in the sources and the help say the same of each number."""
+import itertools
 import re
 
 import formats
 from pages import blocks_of, rows_of, text_of
 from program import judged
+from scenarios import CUTS
 
 FORMATS, GUIDE = "docs/FORMATS.md", "docs/GUIDE.md"
 LINE = r"`([A-Za-z]+ = [^`]+)`"
@@ -12,12 +14,13 @@ LINE = r"`([A-Za-z]+ = [^`]+)`"
 EXAMPLE = re.compile(r"(no line |for |write |(?:a table `\w+`|`\[\w+\]`) with )?"
                      rf"{LINE}(?: with {LINE})?( with nothing after it)?")
 NAMED = [("crn_scenario", "scenario_fault"), ("crn_checkpoint", "fault")]
-OLD = [("checkpoint,2,", "checkpoint,1,"), ("returns,0,-,-,-\n", "")]
 # What is done with the checkpoint that FORMATS shows, by the number with which it is then refused; 0 where it is taken.
 EDITS = [(1, "resume", [("costs,7,2,1,4", "costs,07,2,1,4")]), (1, "resume", [("\n", "\r\n")]),
          (1, "resume", [("end,-,-,-,-\n", "end,-,-,-,-")]), (1, "resume", [("state,4,35,0,0", "state,1000001,35,0,0")]),
-         (1, "migrate", [("end,-,-,-,-\n", "")]), (2, "resume", [("0000\ncosts", "0001\ncosts")]), (4, "resume", OLD),
-         (5, "migrate", []), (0, "resume", [("state,4,35,0,0", "state,5,35,0,0")]), (0, "migrate", OLD)]
+         (1, "migrate", [("end,-,-,-,-\n", "")]), (2, "resume", [("0000\ncosts", "0001\ncosts")]),
+         (5, "migrate", []), (0, "resume", [("state,4,35,0,0", "state,5,35,0,0")])]
+# What is done with the same one in each older version, as it is stored.
+OLD_EDITS = [(4, "resume"), (0, "migrate")]
 
 
 def rule_tables():
@@ -123,21 +126,31 @@ def name_tries():
     yield f"{FORMATS}: the names of the rules", len(page & source) == len(source) > 0
 
 
-def checkpoint_tries(program):
-    """The rules by which checkpoints are refused."""
-    shown = next((it for it in blocks_of(FORMATS) if it.startswith("checkpoint,2,")), "")
-    scenario = text_of("tests/program/five_periods.toml")
-    cells = {int(row[0]): row[3] for row in rule_tables()[1]}
-    yield f"{FORMATS}: the numbers of refused checkpoints", set(cells) == {number for number, *_ in EDITS} - {0}
-    tried = {number: "" for number in cells}
+def checkpoint_texts():
+    """A number, a command, a name and a text, which the command refuses with the number."""
+    version = formats.CHECKPOINT_VERSIONS[-1]
+    shown = next((it for it in blocks_of(FORMATS) if it.startswith(f"checkpoint,{version},")), "")
+    yield 0, "resume", "as it is", shown
     for number, command, edits in EDITS:
         text = shown
         for old, new in edits:
             text = text.replace(old, new) if old in text else ""
+        yield number, command, str(edits), text
+    for name, (number, command) in itertools.product(CUTS[:-1], OLD_EDITS):
+        yield number, command, name, text_of(name)
+
+
+def checkpoint_tries(program):
+    """The rules by which checkpoints are refused."""
+    scenario = text_of("tests/program/five_periods.toml")
+    cells = {int(row[0]): row[3] for row in rule_tables()[1]}
+    tried = {}
+    for number, command, name, text in checkpoint_texts():
         tried[number] = tried.get(number, "") + text
         told = program.ask(f"{command} FILE", scenario if command == "resume" else "", file=text)
         right = (told.status, told.errors) == ((4, f"crnsim: checkpoint {number}\n") if number else (0, ""))
-        yield f"{FORMATS}: checkpoint {number}: {command}, {edits}", right or f"{told.status}, {told.errors!r}"
+        yield f"{FORMATS}: checkpoint {number}: {command}, {name}", right or f"{told.status}, {told.errors!r}"
+    yield f"{FORMATS}: the numbers of refused checkpoints", set(cells) == tried.keys() - {0}
     for number, cell in cells.items():
         for example in re.findall("`([a-z]+,[^`]*)`", cell):
             yield f"{FORMATS}: checkpoint {number}: {example}", f"{example}\n" in tried[number] or "this is not tried"

@@ -19,7 +19,7 @@ import tempfile
 # Compiled text is not to stand in the repository.
 sys.dont_write_bytecode = True
 TOP = os.path.dirname(os.path.dirname(os.path.dirname(os.path.abspath(__file__))))
-sys.path += [f"{TOP}/{it}" for it in ("tools", "examples/tools", "tests/program", "tests/hostile")]
+sys.path += [f"{TOP}/{it}" for it in ("tools", "examples/tools", "tests", "tests/program", "tests/hostile")]
 from believed import believed_tries, inner_tries
 from commands import command_tries, option_tries, toml_tries
 from docstrings import docstring_tries

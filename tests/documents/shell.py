@@ -16,7 +16,8 @@ TOOLS = [("GNU parallel", r"^parallel ", [(["parallel", "--version"], SHELL)]),
          ("R", r"\bread\.csv\(", [(["Rscript", "--version"], RUNNERS["r"])]),
          ("matplotlib (Debian's python3-matplotlib)", r" --(plot|map|out) \S+\.(png|svg)\b",
           [(["/usr/bin/python3", "-c", "import matplotlib"], SHELL)]),
-         ("numpy (Debian's python3-numpy)", r"suggest|\bwith_unit\.csv --scenario", [(["/usr/bin/python3", "-c", "import numpy"], SHELL)])]
+         ("numpy (Debian's python3-numpy)", r"suggest|\bwith_unit\.csv --scenario",
+          [(["/usr/bin/python3", "-c", "import numpy"], SHELL)])]
 # A script for a scheduler's array is run as this task of it.
 TASK = {"SLURM_ARRAY_TASK_ID": "3"}
 # What a sweep tells of its progress.

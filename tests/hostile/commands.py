@@ -1,16 +1,17 @@
-"""The commands of the program as the tries use them: words, input, and the right bytes.
+"""The commands of the program as the tries use them: what each reads, and each with an input and the right bytes.
 
-Right bytes are stored reports and checkpoints, or texts worked by hand. Only of_policies looks into the form of
-a scenario, a report or a checkpoint.
+READS and all_commands are the only places of these tries that know a command. Right bytes are stored reports and
+checkpoints, or texts worked by hand. Only of_policies looks into the form of a scenario, a report or a checkpoint.
 """
 import os
 import subprocess
-from typing import NamedTuple, Optional
+from typing import Callable, NamedTuple, Optional
 
 import formats
 import oracle
+import readers
 from paths import TOP
-from scenarios import swapped
+from scenarios import CUTS, swapped
 from shown import Shown, refused
 
 HERE = os.path.dirname(os.path.abspath(__file__))
@@ -23,8 +24,62 @@ LIMIT = formats.MOST_BYTES
 # The policies of the scenario of five periods, A and B, and the last row of a checkpoint.
 POLICIES = (b'{ name = "%s", s = 5, S = 10 }', b'{ name = "%s", s = 4, S = 10 }')
 END = b"end,-,-,-,-\n"
-# A stored checkpoint of one run in each version, the oldest first.
-CUTS = ["tests/program/five_periods_old_cut.csv", "tests/program/five_periods_cut.csv"]
+
+
+def start_text(said):
+    """The checkpoint at block 0, in which the scenario stands."""
+    return readers.text_of(readers.start_of(said["scenario"]))
+
+
+def report_lines(said):
+    """The beginnings of a report's lines."""
+    return [formats.HEADER, *(f"{it['name']},{it['s']},{it['S']}," for it in said["scenario"]["policy"])]
+
+
+def newest_text(said):
+    """The checkpoint in the newest version."""
+    return readers.text_of(said["checkpoint"]._replace(spelling=readers.NEWEST))
+
+
+def trace_lines(said):
+    """The beginnings of a trace's lines: each turn has one, which begins with the turn itself."""
+    turns, count = said["schedule"]
+    return [*(f"{it.decode()} " for it in turns), "published ", *(f"reader {it} taken " for it in range(count))]
+
+
+class Reads(NamedTuple):
+    """What a command reads: the kind of its input and that of FILE, empty if there is none. Of a checkpoint it takes
+    these versions, and refuses others with a number. If it takes what it reads, `shown` makes of what that says, by
+    kinds, the whole output or the beginnings of its lines; without `shown` any output is right."""
+
+    input: str = ""
+    file: str = ""
+    versions: list = []
+    number: int = 0
+    shown: Optional[Callable] = None
+
+
+# By the words of each command. A run of any scenario takes too long to be judged.
+READS = {"": Reads("scenario"),
+         "run": Reads("scenario"),
+         "leg N": Reads("scenario", shown=start_text),
+         "resume FILE": Reads("scenario", "checkpoint", formats.CHECKPOINT_VERSIONS[-1:], 4, report_lines),
+         "migrate FILE": Reads("", "checkpoint", formats.CHECKPOINT_VERSIONS[:-1], 5, newest_text),
+         "words K0 K1 K2 K3 N": Reads(),
+         "replay SIZE READERS TOTAL": Reads("schedule", shown=trace_lines),
+         "help": Reads()}
+# What stands for the names in these words, where a try has nothing else.
+VALUES = {"N": "0", "SIZE": "1", "READERS": "1", "TOTAL": "0", **{f"K{it}": "0" * 16 for it in range(4)}}
+
+
+def usages_with(**kinds):
+    """The words of the commands that read texts of these kinds."""
+    return [it for it in READS if all(getattr(READS[it], place) == kind for place, kind in kinds.items())]
+
+
+def words_of(usage, **values):
+    """The words of a command, with values for the names in them."""
+    return [{**VALUES, **values}.get(it, it) for it in usage.split()]
 
 
 class Command(NamedTuple):
@@ -39,6 +94,11 @@ class Command(NamedTuple):
     file: Optional[bytes] = None
     starts: int = 0
     fault: Optional[Shown] = None
+
+    @property
+    def reads(self):
+        """What the command reads."""
+        return next(READS[it] for it in READS if it.split()[:1] == self.words[:1])
 
     def is_right(self, shown):
         """Whether a run shows the right bytes, and nothing else."""
@@ -120,7 +180,7 @@ def migrations(room):
 def all_commands(room):
     """Returns each command once, with its right bytes. The words of the zero key are the oracle's, the trace was worked by
     hand."""
-    words = Command("words", ["words", *["0" * 16] * 4, "0"], output=oracle.words_text((0, 0, 0, 0), 0).encode())
+    words = Command("words", words_of("words K0 K1 K2 K3 N"), output=oracle.words_text((0, 0, 0, 0), 0).encode())
     replay = Command("replay", ["replay", "1", "2", "0"], b"r0\np\nr1\nl0\ne\nr0\n", b"""\
 r0 R1 0 0000000000000000
 p P3 0 0000000000000001
@@ -134,7 +194,8 @@ reader 1 taken 0 left 0 ended 1
 """)
     names = [it.split()[0] for it in formats.COMMANDS]
     help_text = Command("help", ["help"], parts=tuple(f"\n  {it} ".encode() for it in names))
-    base = Command("run of the stored run", ["run"], stored("crates/crnsim/stdin"), stored("crates/crnsim/stdout"), starts=2)
+    scenario, report = stored("crates/crnsim/stdin"), stored("crates/crnsim/stdout")
+    base = Command("run of the stored run", ["run"], scenario, report, starts=2)
     return [*runs_of_policies(2, room), base, *migrations(room), words, replay, help_text]
 
 
@@ -151,3 +212,11 @@ def refused_commands(room):
              ("command line", ["walk"], b""),
              ("reading", ["resume", f"{room}/none"], scenario)]
     return [Command(f"{words[0]}, {fault}", words, data, fault=refused(fault)) for fault, words, data in cases]
+
+
+def tries(_program, room):
+    """Each command of docs/FORMATS.md is known here, with what it reads and with right bytes, and no other one is."""
+    names = [{it.split()[0] for it in READS if it}, {it.words[0] for it in all_commands(room)}]
+    for usage in sorted({*formats.COMMANDS, *filter(None, READS)}):
+        known = usage in READS and usage in formats.COMMANDS and all(usage.split()[0] in it for it in names)
+        yield usage, None if known else "the page, READS or all_commands lacks it"

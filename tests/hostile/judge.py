@@ -23,7 +23,7 @@ import ends
 import formats
 import readers
 import trees
-from commands import Shown, refused, run, stored, unlike, written
+from commands import READS, Shown, refused, run, stored, unlike, usages_with, words_of, written
 from scenarios import swapped
 
 LONG_LEADS = b"""\
@@ -44,22 +44,21 @@ CUTS = [(LONG_LEADS, (0, 1, 2, 3, 4, 8, 9)), (WITH_RETURNS, (0, 1, 2, 5, 9))]
 STORED_CUTS = [("tests/program/five_periods.toml", (0, 1, 2, 3, 4)), ("examples/spare_part.toml", (27,))]
 STORED = ["examples/two_policies.toml", "examples/spare_part.toml", "examples/mail_order.toml",
           "tests/program/five_periods.toml"]
-# The answers that two thousand cases meet.
-ANSWERS = {*(f"scenario {it}" for it in range(1, 14)), "checkpoint 1", "checkpoint 2", "checkpoint 4",
-           "migrate 1", "migrate 5", "schedule 1", "schedule 2",
-           *(f"{it} taken" for it in ("scenario", "checkpoint", "migrate", "schedule"))}
+# The commands that read a checkpoint, and those that say what they read of a scenario.
+FILE_USAGES = usages_with(file="checkpoint")
+SAYING_USAGES = [it for it in usages_with(input="scenario", file="") if READS[it].shown]
 
 
 class Case(NamedTuple):
-    """A run and what is wanted of it: a fault, the whole output, or the beginnings of its lines. `rule` names the
-    answer."""
+    """A run and what is wanted of it: a fault, the whole output, the beginnings of its lines, or any output. `rule`
+    names the answer."""
 
     rule: str
     words: list
     data: bytes
     fault: Optional[Shown] = None
     output: Optional[bytes] = None
-    lines: tuple = ()
+    lines: Optional[list] = None
     file: Optional[bytes] = None
 
 
@@ -79,45 +78,61 @@ def answered(shown, case):
         return False
     if case.output is not None:
         return shown.output == case.output
+    if case.lines is None:
+        return True
     lines = shown.output.decode("latin-1").split("\n")
     return len(lines) == len(case.lines) + 1 and all(map(str.startswith, lines, case.lines))
 
 
-def refusal(kind, number):
-    """What a run shows that refuses a text with a number."""
-    return refused(f"{kind} {number}")
+def name_of(usage, kind):
+    """What answers to a text of this kind are called: those to the input by its kind, those to FILE by the command."""
+    return kind if kind == READS[usage].input else usage.split()[0]
+
+
+def faults_in(usage, data, file, count):
+    """The faults of what a command reads, in the order in which it reads: by the kind of each text its number, 0 where
+    there is none, and what it says. `count` readers are there for a schedule."""
+    reads, scenario = READS[usage], None
+    if reads.input == "scenario":
+        fault, scenario = readers.scenario_of(data)
+        yield "scenario", fault, scenario
+    if reads.input == "schedule":
+        fault, turns = readers.schedule_of(data, count)
+        yield "schedule", fault, (turns, count)
+    if reads.file == "checkpoint":
+        checkpoint = readers.checkpoint_of(file)
+        yield "checkpoint", readers.checkpoint_fault(checkpoint, reads.versions, reads.number, scenario), checkpoint
+
+
+def case_with(room, usage, data=b"", file=None, count=1, **values):
+    """A command with its input and FILE: it refuses the first text with a fault, or shows what it makes of all."""
+    words, said = words_of(usage, FILE=f"{room}/FILE", READERS=str(count), **values), {}
+    for kind, fault, said[kind] in faults_in(usage, data, file, count):
+        if fault:
+            return Case(f"{name_of(usage, kind)} {fault}", words, data, refused(f"{kind} {fault}"), file=file)
+    shown, rule = READS[usage].shown, f"{name_of(usage, kind)} taken"
+    if shown is None:
+        return Case(rule, words, data, file=file)
+    shown = shown(said)
+    whole = isinstance(shown, bytes)
+    return Case(rule, words, data, output=shown if whole else None, lines=None if whole else shown, file=file)
+
+
+def answers():
+    """The answers that two thousand cases meet."""
+    for usage, reads in ((it, READS[it]) for it in READS if READS[it].shown):
+        yield from (f"{reads.input} {it}" for it in {"scenario": range(1, 14), "schedule": (1, 2)}.get(reads.input, ()))
+        of_file = (1, 2 if reads.input else 0, reads.number) if reads.file else ()
+        yield from (f"{name_of(usage, reads.file)} {it}" for it in of_file if it)
+        yield f"{name_of(usage, reads.file or reads.input)} taken"
 
 
 def scenario_case(chance, text, room):
-    """A scenario: a fault is any command's, and without one its checkpoint at block 0 stands in the scenario itself."""
-    fault, scenario = readers.scenario_of(text)
-    if fault:
-        words = chance.choice([["run"], [], ["leg", "0"], ["leg", "99999999"], ["resume", f"{room}/FILE"]])
-        return Case(f"scenario {fault}", words, text, refusal("scenario", fault), file=b"")
-    return Case("scenario taken", ["leg", "0"], text, output=readers.text_of(readers.start_of(scenario)))
-
-
-def resume_case(data, file, room):
-    """A checkpoint that is resumed for a scenario's text."""
-    words = ["resume", f"{room}/FILE"]
-    fault, scenario = readers.scenario_of(data)
-    if fault:
-        return Case(f"scenario {fault}", words, data, refusal("scenario", fault), file=file)
-    number = readers.resume_fault(readers.checkpoint_of(file), scenario)
-    if number:
-        return Case(f"checkpoint {number}", words, data, refusal("checkpoint", number), file=file)
-    lines = tuple(f"{it['name']},{it['s']},{it['S']}," for it in scenario["policy"])
-    return Case("checkpoint taken", words, data, lines=(formats.HEADER, *lines), file=file)
-
-
-def migrate_case(file, room):
-    """A checkpoint that is written anew."""
-    checkpoint, words = readers.checkpoint_of(file), ["migrate", f"{room}/FILE"]
-    number = readers.migrate_fault(checkpoint)
-    if number:
-        return Case(f"migrate {number}", words, b"", refusal("checkpoint", number), file=file)
-    output = readers.text_of(checkpoint._replace(spelling=readers.NEWEST))
-    return Case("migrate taken", words, b"", output=output, file=file)
+    """A scenario: a fault is any command's, and without one a command says what it has read."""
+    if readers.scenario_of(text)[0]:
+        usage, block = chance.choice(usages_with(input="scenario")), chance.choice(["0", "99999999"])
+        return case_with(room, usage, text, b"", N=block)
+    return case_with(room, chance.choice(SAYING_USAGES), text)
 
 
 def ends_of(checkpoint):
@@ -132,23 +147,27 @@ def ends_of(checkpoint):
 
 
 def changed_file(chance, cut, spelling):
-    """The checkpoint of a cut in a spelling, or sometimes in the other, with changes."""
+    """The checkpoint of a cut in a spelling, or sometimes in another, with changes."""
     others = [it for it in formats.CHECKPOINT_VERSIONS if it != spelling]
-    spelling = spelling if chance.random() < 0.9 else chance.choice(others)
+    spelling = spelling if chance.random() < 0.8 else chance.choice(others)
     text = readers.text_of(cut.checkpoint._replace(spelling=spelling))
     return changes.changed_checkpoint(chance, text, ends_of(cut.checkpoint))
 
 
-def schedule_case(chance):
-    """A changed schedule. The trace of a good one has a line for each turn, which begins with the turn itself."""
-    count = chance.choice([1, 2, 16])
-    text = changes.changed_schedule(chance, count)
-    words = ["replay", str(2**chance.randint(0, 4)), str(count), str(chance.choice([0, 1, 2, 65536]))]
-    fault, turns = readers.schedule_of(text, count)
-    if fault:
-        return Case(f"schedule {fault}", words, text, refusal("schedule", fault))
-    shown = ["published ", *(f"reader {it} taken " for it in range(count))]
-    return Case("schedule taken", words, text, lines=(*(f"{it.decode()} " for it in turns), *shown))
+def file_case(chance, cuts, room):
+    """A changed checkpoint, sometimes beside a scenario that is changed."""
+    usage = chance.choice(FILE_USAGES)
+    version = chance.choice(READS[usage].versions)
+    cut = chance.choice([it for it in cuts if version in readers.versions_of(it.scenario)])
+    data = changes.with_other_number(chance, cut.text) if chance.random() < 0.15 else cut.text
+    return case_with(room, usage, data if READS[usage].input else b"", changed_file(chance, cut, version))
+
+
+def schedule_case(chance, room):
+    """A changed schedule."""
+    count, usage = chance.choice([1, 2, 16]), chance.choice(usages_with(input="schedule"))
+    size, total = str(2**chance.randint(0, 4)), str(chance.choice([0, 1, 2, 65536]))
+    return case_with(room, usage, changes.changed_schedule(chance, count), count=count, SIZE=size, TOTAL=total)
 
 
 def cuts_of(program):
@@ -160,7 +179,7 @@ def cuts_of(program):
             _, scenario = readers.scenario_of(text)
             made = run(program, ["leg", str(block)], text)
             checkpoint = readers.checkpoint_of(made.output)
-            if made.status != 0 or readers.resume_fault(checkpoint, scenario) != 0:
+            if made.status != 0 or readers.checkpoint_fault(checkpoint, [readers.NEWEST], None, scenario) != 0:
                 return None
             if checkpoint.block != block or readers.text_of(checkpoint) != made.output:
                 return None
@@ -176,14 +195,15 @@ def case_of(seed, number, texts, cuts, room):
         while not trees.is_for_both(text := changes.changed_scenario(chance, texts)):
             pass
         return scenario_case(chance, text, room)
-    if kind < 0.7:
-        cut = chance.choice(cuts)
-        data = changes.with_other_number(chance, cut.text) if chance.random() < 0.15 else cut.text
-        return resume_case(data, changed_file(chance, cut, readers.NEWEST), room)
-    if kind < 0.85:
-        cut = chance.choice([it for it in cuts if "returns" not in it.scenario])
-        return migrate_case(changed_file(chance, cut, 1), room)
-    return schedule_case(chance)
+    return file_case(chance, cuts, room) if kind < 0.85 else schedule_case(chance, room)
+
+
+def end_files(cut, checkpoint, room):
+    """Each command that reads a checkpoint, with this one of a cut in each version that it takes."""
+    for usage in FILE_USAGES:
+        for version in set(READS[usage].versions) & set(readers.versions_of(cut.scenario)):
+            text = readers.text_of(checkpoint._replace(spelling=version))
+            yield case_with(room, usage, cut.text if READS[usage].input else b"", text)
 
 
 def end_cases(cuts, room):
@@ -194,9 +214,7 @@ def end_cases(cuts, room):
     for cut in cuts:
         if cut.text in (LONG_LEADS, WITH_RETURNS) and cut.checkpoint.block in (1, 5, 8):
             for checkpoint in ends.checkpoint_ends(cut.checkpoint):
-                yield resume_case(cut.text, readers.text_of(checkpoint), room)
-                if "returns" not in cut.scenario:
-                    yield migrate_case(readers.text_of(checkpoint._replace(spelling=1)), room)
+                yield from end_files(cut, checkpoint, room)
     yield from (scenario_case(chance, it, room) for it in ends.damaged(stored("examples/two_policies.toml")))
 
 
@@ -224,7 +242,7 @@ def judged(program, room, seed, cases):
         met[case.rule] += 1
         yield name, None if answered(shown, case) else f"wanted {case.rule}: {unlike(shown)}"
     print(", ".join(f"{rule}: {met[rule]}" for rule in sorted(met)), flush=True)
-    yield "every answer was wanted", ", ".join(sorted(ANSWERS - met.keys())) or None
+    yield "every answer was wanted", ", ".join(sorted({*answers()} - met.keys())) or None
 
 
 def show(case):

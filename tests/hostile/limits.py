@@ -48,8 +48,8 @@ def long_commands():
     front = b"#\n" * (LIMIT // 2 - 500)
     trace = b"e P3 0 0000000000000001\n" + b"e - - -\n" * (LIMIT // 2 - 1)
     trace += b"published 0 ended 1\nreader 0 taken 0 left 0 ended 0\n"
-    return [Command("run of a long text", ["run"], front + stored("tests/program/base.toml"),
-                    stored("tests/program/base.csv"), starts=2),
+    return [Command("run of a long text", ["run"], front + stored("crates/crnsim/stdin"),
+                    stored("crates/crnsim/stdout"), starts=2),
             Command("long replay", ["replay", "1", "1", "0"], b"e\n" * (LIMIT // 2), trace)]
 
 

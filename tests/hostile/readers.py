@@ -229,18 +229,19 @@ def text_of(checkpoint):
     return "".join(",".join([*map(str, it), *["-"] * (5 - len(it))]) + "\n" for it in [*rows, ("end",)]).encode()
 
 
-def resume_fault(checkpoint, scenario):
-    """The number with which `resume` refuses a checkpoint for a scenario without fault, 0 where it goes on."""
+def versions_of(scenario):
+    """The versions in which there are checkpoints of a scenario."""
+    return [it for it in formats.CHECKPOINT_VERSIONS if it > 1 or "returns" not in scenario]
+
+
+def checkpoint_fault(checkpoint, versions, number, scenario=None):
+    """The number with which a text is refused by a command that takes checkpoints of these versions, and refuses others
+    with this number, for a scenario where it reads one; 0 where it is taken."""
     if checkpoint is None:
         return 1
-    if checkpoint.scenario != start_of(scenario).scenario:
+    if scenario is not None and checkpoint.scenario != start_of(scenario).scenario:
         return 2
-    return 4 if checkpoint.spelling < NEWEST else 0
-
-
-def migrate_fault(checkpoint):
-    """The number with which `migrate` refuses a text, 0 where it writes it anew."""
-    return 1 if checkpoint is None else 5 if checkpoint.spelling == NEWEST else 0
+    return 0 if checkpoint.spelling in versions else number
 
 
 def schedule_of(data, readers):

@@ -10,6 +10,7 @@ import tempfile
 import time
 
 import paths
+import commands
 import crates
 import crowd
 import judge
@@ -17,10 +18,10 @@ import limits
 import refusals
 import streams
 import texts
-from commands import SKIPPED
 
 SEED, CASES = 20250101, 2000
 PARTS = {
+    "commands": commands.tries,
     "refusals": refusals.tries,
     "crates": crates.tries,
     "limits": limits.tries,
@@ -38,8 +39,8 @@ def main(program, names):
         begun, before = time.monotonic(), dict(counts)
         with tempfile.TemporaryDirectory(prefix="crnsim-") as room:
             for name, wrong in PARTS[part](program, room):
-                counts["skipped" if wrong == SKIPPED else "failed" if wrong else "passed"] += 1
-                if wrong == SKIPPED:
+                counts["skipped" if wrong == commands.SKIPPED else "failed" if wrong else "passed"] += 1
+                if wrong == commands.SKIPPED:
                     print(f"SKIPPED {part}: {name}", flush=True)
                 elif wrong:
                     print(f"FAILED {part}: {name}: {wrong}", flush=True)

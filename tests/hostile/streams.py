@@ -63,11 +63,9 @@ def run_dribbled(program, words, text):
 
 def front_answer(command, front):
     """What a command shows of a front of its input: a front that is a whole text is answered as such."""
-    if command.name == "replay":
-        fault, _ = readers.schedule_of(front, 2)
-        return refused(f"schedule {fault}") if fault else None
-    fault, _ = readers.scenario_of(front)
-    return refused(f"scenario {fault}") if fault else None
+    kind = command.reads.input
+    fault, _ = readers.schedule_of(front, 2) if kind == "schedule" else readers.scenario_of(front)
+    return refused(f"{kind} {fault}") if fault else None
 
 
 def input_tries(program, commands):
@@ -217,7 +215,7 @@ def file_tries(program, commands, room):
         shown = run(program, [command.name, pipe], command.data)
         writer.join()
         yield f"{name} a pipe, byte by byte", right(command, shown)
-        for size, wanted in ((LIMIT, refused("checkpoint 1")), (LIMIT + 1, READING)):
+        for size, wanted in ((LIMIT, refused(f"{command.reads.file} 1")), (LIMIT + 1, READING)):
             file = written(room, "long", command.file.ljust(size, b"x"))
             yield f"{name} of {size} bytes", verdict(run(program, [command.name, file], command.data), wanted)
 
@@ -227,7 +225,7 @@ def file_tries(program, commands, room):
 
 def size_tries(program, commands):
     """Inputs of the most bytes and of one more. What counts stands at their ends, behind comments or other turns."""
-    for command in (it for it in commands if it.name in ("run", "leg", "resume")):
+    for command in (it for it in commands if it.reads.input == "scenario"):
         text = (b"#" * 99 + b"\n") * (LIMIT // 100)
         text = text[:LIMIT - len(command.data) - 1] + b"\n" + command.data
         yield f"{command.name}, input of the most bytes", right(command, run(program, command.words, text))

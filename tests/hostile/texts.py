@@ -1,6 +1,6 @@
 #!/usr/bin/env python3
 """Texts of 1,048,576 bytes that are made to cost time or memory: each is answered within a second of processor time and
-128 MB.
+128 MB, by each command that reads texts of its kind.
 
 Scenarios of many small tables are beyond that, as the program's reader of TOML takes a kilobyte for each table, and a
 table needs two bytes. They have limits of their own, and a line tells what each took. tests/hostile/texts.py PROGRAM
@@ -14,22 +14,22 @@ from typing import NamedTuple
 
 import paths
 import formats
-from commands import CUTS, HERE, LIMIT, stored, written
-from scenarios import swapped
+from commands import HERE, LIMIT, READS, stored, words_of, written
+from scenarios import CUTS, swapped
 
 MOST = (1.0, 128)
 MOST_OF_TABLES = (5.0, 768)
 
 
 class Text(NamedTuple):
-    """A text, the command that gets it (FILE where it is not the input), the fault with which it is refused (empty
-    where it is answered), and the seconds and megabytes that it may take."""
+    """A text, the fault with which it is refused (empty where it is answered), the seconds and megabytes that it may
+    take, and values for the words of the command that gets it."""
 
     name: str
-    words: str
     text: bytes
     fault: str = ""
     most: tuple = MOST
+    values: dict = {}
 
 
 class Cost(NamedTuple):
@@ -70,47 +70,47 @@ def scenario_texts():
     a_table = b'[[policy]]\nname = "p%d"\ns = 1\nS = 2\n'
     key = b"0" * 16
     return [
-        Text("lists in lists", "run", nested(b"[", b"]"), "scenario 1"),
-        Text("lists that are not closed", "run", filled(b"[", b"a = "), "scenario 1"),
-        Text("tables in tables", "run", nested(b"{a=", b"}", b"a = {b="), "scenario 1"),
-        Text("lists and tables in each other", "run", nested(b"[{a=", b"}]"), "scenario 1"),
-        Text("a dotted key of many parts", "run", filled(b"a.", end=b"a = 1\n"), "scenario 1"),
-        Text("a header of many parts", "run", filled(b"a.", b"[", b"a]\n"), "scenario 1"),
-        Text("many headers below each other", "run", listed(lambda it: b"[" + b"a." * it + b"a]\n"), "scenario 1"),
-        Text("many dotted keys of fifty parts", "run", listed(lambda it: b"a." * 50 + b"b%d = 1\n" % it), "scenario 2"),
-        Text("many policies", "run", listed(lambda it: a_table % it, tables), "scenario 13"),
-        Text("many policies of one name", "run", filled(a_table % 1, tables), "scenario 11"),
-        Text("many empty policies", "run", filled(b"{},", front + b"policy = [", b"]\n"), "scenario 4"),
-        Text("many policies in a list", "run",
+        Text("lists in lists", nested(b"[", b"]"), "scenario 1"),
+        Text("lists that are not closed", filled(b"[", b"a = "), "scenario 1"),
+        Text("tables in tables", nested(b"{a=", b"}", b"a = {b="), "scenario 1"),
+        Text("lists and tables in each other", nested(b"[{a=", b"}]"), "scenario 1"),
+        Text("a dotted key of many parts", filled(b"a.", end=b"a = 1\n"), "scenario 1"),
+        Text("a header of many parts", filled(b"a.", b"[", b"a]\n"), "scenario 1"),
+        Text("many headers below each other", listed(lambda it: b"[" + b"a." * it + b"a]\n"), "scenario 1"),
+        Text("many dotted keys of fifty parts", listed(lambda it: b"a." * 50 + b"b%d = 1\n" % it), "scenario 2"),
+        Text("many policies", listed(lambda it: a_table % it, tables), "scenario 13"),
+        Text("many policies of one name", filled(a_table % 1, tables), "scenario 11"),
+        Text("many empty policies", filled(b"{},", front + b"policy = [", b"]\n"), "scenario 4"),
+        Text("many policies in a list",
              listed(lambda it: b'{name="%x",s=0,S=0},' % it, front + b"policy=[", b"]\n"), "scenario 13"),
-        Text("a policy with many keys", "run", listed(lambda it: b"k%d=1\n" % it, tables + a_table % 1), "scenario 3"),
-        Text("a million digits", "run", filled(b"1", b"version = ", b"\n"), "scenario 1"),
-        Text("a million digits of a fraction", "run", filled(b"1", b"version = 0.", b"\n"), "scenario 2"),
-        Text("a million digits and underscores", "run", filled(b"1_", b"version = ", b"1\n"), "scenario 1"),
-        Text("a key of a million bytes", "run", filled(b"k", good, b" = 1\n"), "scenario 3"),
-        Text("a quoted key of a million escapes", "run", filled(b"\\n", good + b'"', b'" = 1\n'), "scenario 3"),
-        Text("a name of a million bytes", "run",
+        Text("a policy with many keys", listed(lambda it: b"k%d=1\n" % it, tables + a_table % 1), "scenario 3"),
+        Text("a million digits", filled(b"1", b"version = ", b"\n"), "scenario 1"),
+        Text("a million digits of a fraction", filled(b"1", b"version = 0.", b"\n"), "scenario 2"),
+        Text("a million digits and underscores", filled(b"1_", b"version = ", b"1\n"), "scenario 1"),
+        Text("a key of a million bytes", filled(b"k", good, b" = 1\n"), "scenario 3"),
+        Text("a quoted key of a million escapes", filled(b"\\n", good + b'"', b'" = 1\n'), "scenario 3"),
+        Text("a name of a million bytes",
              filled(b"n", tables + b'[[policy]]\ns = 1\nS = 1\nname = "', b'"\n'), "scenario 11"),
-        Text("a text of many lines", "run", filled(b"\n", good + b'name = """', b'"""\n'), "scenario 3"),
-        Text("a text that is not closed", "run", filled(b'""', good + b'name = """'), "scenario 1"),
-        Text("many keys", "run", listed(lambda it: b"k%d=1\n" % it), "scenario 2"),
-        Text("many keys that begin alike", "run", listed(lambda it: b"k" * 1000 + b"%d=1\n" % it), "scenario 2"),
-        Text("many keys from the last on", "run", listed(lambda it: b"k%06d=1\n" % (999999 - it)), "scenario 2"),
-        Text("many tables", "run", listed(lambda it: b"[k%d]\n" % it), "scenario 2"),
-        Text("many tables of one list", "run", filled(b"[[a]]\n"), "scenario 2"),
-        Text("many tables of a table", "run", listed(lambda it: b"[a.b.c.k%d]\n" % it), "scenario 2"),
-        Text("many words of the key", "run", filled(b'"%s",' % key, b"key = [", b"]\n"), "scenario 2"),
-        Text("many demands", "run", filled(b"0,", swapped(good, b"demand = { values = [3]", b"demand = { values = [#")
+        Text("a text of many lines", filled(b"\n", good + b'name = """', b'"""\n'), "scenario 3"),
+        Text("a text that is not closed", filled(b'""', good + b'name = """'), "scenario 1"),
+        Text("many keys", listed(lambda it: b"k%d=1\n" % it), "scenario 2"),
+        Text("many keys that begin alike", listed(lambda it: b"k" * 1000 + b"%d=1\n" % it), "scenario 2"),
+        Text("many keys from the last on", listed(lambda it: b"k%06d=1\n" % (999999 - it)), "scenario 2"),
+        Text("many tables", listed(lambda it: b"[k%d]\n" % it), "scenario 2"),
+        Text("many tables of one list", filled(b"[[a]]\n"), "scenario 2"),
+        Text("many tables of a table", listed(lambda it: b"[a.b.c.k%d]\n" % it), "scenario 2"),
+        Text("many words of the key", filled(b'"%s",' % key, b"key = [", b"]\n"), "scenario 2"),
+        Text("many demands", filled(b"0,", swapped(good, b"demand = { values = [3]", b"demand = { values = [#")
                                            .partition(b"#")[0], good.partition(b"values = [")[2]), "scenario 7"),
-        Text("many comments", "run", filled(b"#\n", end=good)),
-        Text("one long comment", "run", filled(b"#", end=b"\n" + good)),
-        Text("many empty lines", "run", filled(b"\n", end=good)),
-        Text("many spaces", "run", filled(b" ", end=good)),
-        Text("many carriage returns", "run", filled(b"\r\n", end=good)),
-        Text("no bytes but zeros", "run", filled(b"\0"), "scenario 1"),
-        Text("no UTF-8", "run", filled(b"\xff"), "scenario 1"),
-        Text("policies that are no list", "run", filled(b"[", front + b"policy = "), "scenario 1"),
-        Text("many quoted names", "leg 0",
+        Text("many comments", filled(b"#\n", end=good)),
+        Text("one long comment", filled(b"#", end=b"\n" + good)),
+        Text("many empty lines", filled(b"\n", end=good)),
+        Text("many spaces", filled(b" ", end=good)),
+        Text("many carriage returns", filled(b"\r\n", end=good)),
+        Text("no bytes but zeros", filled(b"\0"), "scenario 1"),
+        Text("no UTF-8", filled(b"\xff"), "scenario 1"),
+        Text("policies that are no list", filled(b"[", front + b"policy = "), "scenario 1"),
+        Text("many quoted names",
              listed(lambda it: b'{name="\\u004%d",s=1,S=1},' % (it % 10), front + b"policy=[", b"]"), "scenario 11"),
     ]
 
@@ -131,12 +131,11 @@ def table_texts():
         "headers below tables of a list": filled(b"[[a]]\n[a.b.b.b.b.b]\n"),
     }
     fault_of = {it: "scenario 3" if "policies" in it else "scenario 2" for it in texts}
-    return [Text(it, "run", texts[it], fault_of[it], MOST_OF_TABLES) for it in texts]
+    return [Text(it, texts[it], fault_of[it], MOST_OF_TABLES) for it in texts]
 
 
-def checkpoint_texts(words, name):
-    """Checkpoints made from a stored one, for a command that reads FILE: none of them is one."""
-    good = stored(name)
+def checkpoint_texts(good):
+    """Checkpoints made from a good one: none of them is one."""
     spelling = good.split(b",")[1]
     front, state = good.partition(b"demand,")[0], good.partition(b"state,")[0]
     policies = state.rpartition(b"policy,")[0]
@@ -162,30 +161,28 @@ def checkpoint_texts(words, name):
         "a name of a million bytes": filled(b"n", policies + b"policy,", b",4,10,-\n"),
         "counts beyond all rows": filled(b"demand,3,1,-,-\n", front.replace(b",1,1,2\n", b",4294967295,1,2\n")),
     }
-    return [Text(it, words, texts[it], "checkpoint 1") for it in texts]
+    return [Text(it, texts[it], "checkpoint 1") for it in texts]
 
 
 def schedule_texts():
     """Schedules, of which a good one has a trace of up to thirty times its size."""
-    ring, small = "replay 1024 16 65536", "replay 1 1 0"
+    ring, readers = {"SIZE": "1024", "READERS": "16", "TOTAL": "65536"}, b"".join(b"r%d\n" % it for it in range(16))
     return [
-        Text("a producer alone", ring, filled(b"p\n")),
-        Text("readers by turns", ring, filled(b"".join(b"r%d\n" % it for it in range(16)))),
-        Text("producer and readers by turns", ring, filled(b"p\n" + b"".join(b"r%d\n" % it for it in range(16)))),
-        Text("readers that leave", ring, filled(b"".join(b"l%d\n" % it for it in range(16)))),
-        Text("ends", small, filled(b"e\n")),
-        Text("an actor of a million digits", small, filled(b"1", b"r", b"\n"), "schedule 1"),
-        Text("a reader that is not there, at last", small, filled(b"p\n", end=b"r1"), "schedule 2"),
-        Text("a line of another form, at last", small, filled(b"p\n", end=b"r4294967296"), "schedule 1"),
-        Text("many empty turns", small, filled(b"\n"), "schedule 1"),
-        Text("many high readers", small, filled(b"r4294967295\n"), "schedule 2"),
+        Text("a producer alone", filled(b"p\n"), values=ring),
+        Text("readers by turns", filled(readers), values=ring),
+        Text("producer and readers by turns", filled(b"p\n" + readers), values=ring),
+        Text("readers that leave", filled(b"".join(b"l%d\n" % it for it in range(16))), values=ring),
+        Text("ends", filled(b"e\n")),
+        Text("an actor of a million digits", filled(b"1", b"r", b"\n"), "schedule 1"),
+        Text("a reader that is not there, at last", filled(b"p\n", end=b"r1"), "schedule 2"),
+        Text("a line of another form, at last", filled(b"p\n", end=b"r4294967296"), "schedule 1"),
+        Text("many empty turns", filled(b"\n"), "schedule 1"),
+        Text("many high readers", filled(b"r4294967295\n"), "schedule 2"),
     ]
 
 
-def cost_of(program, words, text, room):
-    """What the answer to a text takes."""
-    data = stored("tests/program/five_periods.toml") if "FILE" in words else text
-    words = [written(room, "FILE", text) if it == "FILE" else it for it in words.split()]
+def cost_of(program, words, data, room):
+    """What the answer to an input takes."""
     how = [sys.executable, "-S", f"{HERE}/cost.py", written(room, "input", data), f"{room}/errors", program, *words]
     took = subprocess.run(how, capture_output=True, check=True).stdout.split()
     with open(f"{room}/errors", "rb") as it:
@@ -211,28 +208,37 @@ def told(cost):
 
 
 def all_texts():
-    """All texts. A checkpoint in the older spelling is read by `resume` as well, but only `migrate` wants one."""
-    *olds, new = CUTS
-    return [*scenario_texts(), *table_texts(), *checkpoint_texts("resume FILE", new),
-            *(text for it in olds for text in checkpoint_texts("migrate FILE", it)), *schedule_texts()]
+    """Each command with each text of a kind that it reads: its input and FILE. What stands beside the text is good."""
+    texts = {"scenario": scenario_texts() + table_texts(), "schedule": schedule_texts()}
+    for usage, reads in READS.items():
+        cuts = [stored(CUTS[it - 1]) for it in reads.versions]
+        yield from ((usage, it, it.text, cuts[-1] if cuts else b"") for it in texts.get(reads.input, []) if usage)
+        for text in (text for cut in cuts for text in checkpoint_texts(cut)):
+            yield usage, text, stored("tests/program/five_periods.toml") if reads.input else b"", text.text
+
+
+def costs(program, room):
+    """What each answer takes: its name, its text and its cost."""
+    for usage, text, data, file in all_texts():
+        assert LIMIT - 2000 < len(text.text) <= LIMIT, text.name
+        words = words_of(usage, FILE=written(room, "FILE", file), **text.values)
+        yield f"{usage}, {text.name}", text, cost_of(program, words, data, room)
 
 
 def tries(program, room):
     """All texts, and a line for each that took more than the others may."""
-    for text in all_texts():
-        assert LIMIT - 2000 < len(text.text) <= LIMIT, text.name
-        cost = cost_of(program, text.words, text.text, room)
+    for name, text, cost in costs(program, room):
         if is_over(cost, MOST):
-            print(f"OVER texts: {text.words}, {text.name}: {told(cost)}", flush=True)
-        yield f"{text.words}, {text.name}", wrong_cost(text, cost)
+            print(f"OVER texts: {name}: {told(cost)}", flush=True)
+        yield name, wrong_cost(text, cost)
 
 
 def main(program):
     """Says of each text what its answer took, the costliest last."""
     with tempfile.TemporaryDirectory(prefix="crnsim-") as room:
-        costs = [(cost_of(program, it.words, it.text, room), it) for it in all_texts()]
-    for cost, text in sorted(costs, key=lambda it: it[0][:2]):
-        print(f"{told(cost)}: {text.words}, {text.name}")
+        found = [(cost, name) for name, _, cost in costs(program, room)]
+    for cost, name in sorted(found, key=lambda it: it[0][:2]):
+        print(f"{told(cost)}: {name}")
 
 
 if __name__ == "__main__":

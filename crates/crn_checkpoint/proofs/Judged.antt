@@ -16,7 +16,7 @@ use Rattle.crn_checkpoint.specs.Reading.{IsInRange, IsTextIn, IsTextOf, IsNoChec
 use Rattle.crn_checkpoint.specs.Migration.{IsMigrated, RefusesMigration}
 use Rattle.crn_checkpoint.specs.Faults.{reading_fault, migration_fault}
 use Rattle.crn_checkpoint.specs.Inner.Judging.{IsRefusedFor}
-use Rattle.crn_checkpoint.proofs.Cuts.{any_text, text_of_same}
+use Rattle.crn_checkpoint.proofs.Rows.{any_text, text_of_same}
 
 -- whatever checkpoint a text may be of, nothing is read of it only for memory
 abbrev pub ReadsUnlessMemory : Unread → List ℕ → Type 0

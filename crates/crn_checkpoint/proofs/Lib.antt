@@ -1,13 +1,10 @@
 pub mod Lengths
-pub mod PlainRows
 pub mod WrittenRows
 mod Places
-mod WholeRows
+mod Rows
 mod Words
-mod ListRows
 mod Dues
 mod Restoring
 mod Turns
 mod Restorable
-mod Cuts
 mod Judged

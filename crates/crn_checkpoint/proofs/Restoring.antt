@@ -7,7 +7,7 @@ use Rattle.crn_stock.specs.Parts.{Parts, restored, CanRestore, first_period}
 use Rattle.crn_stock.specs.Models.{ModelParts, has_returns, blocks_per_replication}
 use Rattle.crn_checkpoint.specs.Inner.Amounts.{IsRestorable}
 use Rattle.crn_checkpoint.proofs.Lengths.{each_below}
-use Rattle.crn_checkpoint.proofs.WholeRows.{limit_high, small_stock}
+use Rattle.crn_checkpoint.proofs.Rows.{limit_high, small_stock}
 
 pub period_is : (m : ModelParts) (n : ℕ) (v : Parts) → IsRestorable m n v → first_period m n ≡ v.period
 period_is m n v h = sym (ap (λ (w : Parts). w.period) h.same)

@@ -6,9 +6,9 @@ use Rattle.std.proofs.Math.Nat.{mul-le-mul_left}
 use Rattle.crn_pair.specs.Limits.{are_costs}
 use Rattle.crn_pair.specs.declared.compare.TheConstants.{COST_LIMIT}
 use Rattle.crn_pair.specs.Inner.Places.{products, AreSums, AreWithin}
-use Rattle.crn_pair.specs.Sums.{signed, differences, signed_sum, over_pairs}
+use Rattle.crn_pair.specs.Pairs.{signed, differences, signed_sum, over_pairs}
 use Rattle.crn_pair.proofs.Products.{pairs_are}
-use Rattle.crn_pair.specs.declared.moments.Moments.{Moments}
+use Rattle.crn_pair.specs.declared.pair.Moments.{Moments}
 
 -- the sums over the first i places, by what is left to gather
 pub record Gathers (xs ys : List ℤ) (i : ℕ) (m : Moments) : Type 0 where

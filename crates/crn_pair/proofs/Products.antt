@@ -4,7 +4,7 @@ use Rattle.std.proofs.lemmas.Int.{ints}
 use Rattle.std.proofs.Math.IntN.{*ℤ_comm, suc_ℤ-*ℤ}
 use borrow.Author.Differences.{up, down, sum_is_lem}
 use Rattle.crn_pair.specs.Inner.Places.{products}
-use Rattle.crn_pair.specs.Sums.{signed_sum, against, over_pairs}
+use Rattle.crn_pair.specs.Pairs.{signed_sum, against, over_pairs}
 
 sum_left : (a b c : ℤ) → (a +ℤ b) *ℤ c ≡ a *ℤ c +ℤ b *ℤ c
 sum_left a b c =

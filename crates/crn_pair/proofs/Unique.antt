@@ -5,7 +5,7 @@ use Rattle.std.proofs.lemmas.Nat.Gcd.{IsGcd-from_zero, IsGcd-from_mod, same_from
 use Rattle.std.proofs.Math.Nat.{div-add-mod, mul-le-mul_left, mod-lt, mod-eq_of_lt, add-mul-mod_self_right}
 use Rattle.std.specs.Int.{IsGcd}
 use Rattle.crn_pair.specs.LowestTerms.{AreInLowestTerms}
-use Rattle.crn_pair.specs.Sums.{IsQuotient}
+use Rattle.crn_pair.specs.Pairs.{IsQuotient}
 use Rattle.crn_pair.specs.declared.fraction.Fraction.{Fraction}
 use borrow.Author.Differences.{up, down}
 

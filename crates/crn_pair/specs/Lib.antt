@@ -2,5 +2,4 @@ pub mod Limits
 pub mod LowestTerms
 pub mod Pairs
 pub mod Refused
-pub mod Sums
 pub mod Inner

@@ -1,7 +1,7 @@
 //! Laws of the definitions that contracts cite. They compute nothing.
 
 ghost use Rattle.std.specs.Prelude.{◌≡◌, ◌↔◌, ℕ, ℤ, ◌≤◌, List, None};
-ghost use Rattle.crn_pair.specs.Sums.{IsQuotient};
+ghost use Rattle.crn_pair.specs.Pairs.{IsQuotient};
 ghost use Rattle.crn_pair.specs.Refused.{least_costs_fault, AreComparable};
 ghost use Rattle.crn_pair.specs.declared.fraction.Fraction.{Fraction};
 

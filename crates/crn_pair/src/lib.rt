@@ -6,7 +6,6 @@ mod compare;
 mod fault;
 mod fraction;
 pub mod laws;
-mod moments;
 mod pair;
 
 pub use compare::COST_LIMIT;

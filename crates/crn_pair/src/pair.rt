@@ -1,8 +1,11 @@
-ghost use Rattle.std.specs.Prelude.{◌≤◌};
-ghost use Rattle.crn_pair.specs.Sums.{IsQuotient, IsQuotientIfAny};
+// Two policies' costs as a pair, and the sums that it is made of. A `ghost use` of definitions that name these structs
+// stands in an `impl`: a struct imports each `ghost use` of the whole file, so there it would be a circle.
+
+ghost use Rattle.std.specs.Prelude.{◌≡◌, ◌≤◌, ◌+ℤ◌, ◌-ℤ◌, ◌*ℤ◌, ◌-◌, pos, unsigned_abs};
+ghost use Rattle.crn_pair.specs.declared.compare.TheConstants.{COST_LIMIT};
 ghost use Rattle.crn_limits.specs.declared.TheConstants.{REPLICATION_LIMIT};
 
-use crate::compare::{least_fault, sums_of};
+use crate::compare::least_fault;
 use crate::fault::PairFault;
 use crate::fraction::Fraction;
 
@@ -25,7 +28,8 @@ pub struct Pair {
 }
 
 impl Pair {
-    ghost use Rattle.std.specs.Prelude.{◌≡◌, IfOk, IfErr, Some, None};
+    ghost use Rattle.std.specs.Prelude.{IfOk, IfErr, Some, None};
+    ghost use Rattle.crn_pair.specs.Pairs.{IsQuotient, IsQuotientIfAny};
     ghost use Rattle.crn_pair.specs.Pairs as spec;
     ghost use Rattle.crn_pair.specs.Refused as refused;
 
@@ -54,7 +58,7 @@ impl Pair {
         requires { refused.least_costs_fault a.now b.now ≡ None }
         ensures { spec.IsPairOf a.now b.now result }
     {
-        let sums = sums_of(a, b);
+        let sums = Sums::of(a, b);
         let replications = a.len() as u64;
         Pair {
             replications,
@@ -85,7 +89,7 @@ impl Pair {
         ensures { IsQuotientIfAny (spec.squares_of self.now) (spec.variance_parts (spec.replications_of self.now)) result }
     {
         let count = self.replications;
-        estimate(self.squares, count * count * (count - 1))
+        Pair::estimate(self.squares, count * count * (count - 1))
     }
 
     /// The covariance of the two policies' costs, estimated from the sample: with R replications the sum
@@ -95,16 +99,111 @@ impl Pair {
         ensures { IsQuotientIfAny (spec.products_of self.now) (spec.covariance_parts (spec.replications_of self.now)) result }
     {
         let count = self.replications;
-        estimate(self.products, count * (count - 1))
+        Pair::estimate(self.products, count * (count - 1))
+    }
+
+    // A sum over as many parts, none where there are none.
+    fn estimate(sum: i128, parts: u64) -> Option<Fraction>
+        ensures { IsQuotientIfAny sum parts result }
+    {
+        if parts == 0 {
+            return None;
+        }
+        Some(Fraction::new(sum, parts))
     }
 }
 
-// A sum over as many parts, none where there are none.
-fn estimate(sum: i128, parts: u64) -> Option<Fraction>
-    ensures { IsQuotientIfAny sum parts result }
-{
-    if parts == 0 {
-        return None;
+// The sums of the differences with themselves, and of the costs.
+#[derive(Clone, Copy)]
+struct Sums {
+    differences: Moments,
+    costs: Moments,
+}
+
+impl Sums {
+    ghost use Rattle.std.specs.Prelude.{length, true};
+    ghost use Rattle.crn_pair.specs.Limits.{are_costs};
+    ghost use Rattle.crn_pair.specs.Pairs.{signed, differences};
+    ghost use Rattle.crn_pair.specs.Inner.Places.{AreSums, AreWithin};
+
+    // Those of two policies' costs.
+    fn of(a: &[u64], b: &[u64]) -> Sums
+        requires same_length { length b.now ≡ length a.now }
+        requires few { length a.now ≤ REPLICATION_LIMIT }
+        requires a { are_costs a.now ≡ true }
+        requires b { are_costs b.now ≡ true }
+        ensures differences { AreSums (differences a.now b.now) (differences a.now b.now) result.differences }
+        ensures differences_low { AreWithin REPLICATION_LIMIT result.differences }
+        ensures costs { AreSums (signed a.now) (signed b.now) result.costs }
+        ensures costs_low { AreWithin REPLICATION_LIMIT result.costs }
+    {
+        let mut differences = Moments::none();
+        let mut costs = Moments::none();
+        for i in 0..a.len() {
+            let d = difference(a[i], b[i]);
+            differences = differences.with(d, d);
+            costs = costs.with(i128::from(a[i]), i128::from(b[i]));
+        }
+        Sums { differences, costs }
     }
-    Some(Fraction::new(sum, parts))
+}
+
+// A cost less the other policy's in the same replication.
+fn difference(a: u64, b: u64) -> i128
+    requires a { a ≤ COST_LIMIT }
+    requires b { b ≤ COST_LIMIT }
+    ensures is { result ≡ (pos a -ℤ pos b) }
+    ensures low { unsigned_abs result ≤ COST_LIMIT }
+{
+    i128::from(a) - i128::from(b)
+}
+
+// The sums of the values of two lists, and of their products place by place.
+#[derive(Clone, Copy)]
+struct Moments {
+    x: i128,
+    y: i128,
+    products: i128,
+}
+
+impl Moments {
+    ghost use Rattle.crn_pair.specs.Inner.Places.{AreWithin};
+
+    // The sums over no place.
+    fn none() -> Moments
+        ensures x { result.x ≡ pos 0 }
+        ensures y { result.y ≡ pos 0 }
+        ensures products { result.products ≡ pos 0 }
+    {
+        Moments {
+            x: 0,
+            y: 0,
+            products: 0,
+        }
+    }
+
+    // The sums with one more place.
+    fn with(self, x: i128, y: i128) -> Moments
+        requires x { unsigned_abs x ≤ COST_LIMIT }
+        requires y { unsigned_abs y ≤ COST_LIMIT }
+        requires within { AreWithin (REPLICATION_LIMIT - 1) self }
+        ensures x { result.x ≡ self.x +ℤ x }
+        ensures y { result.y ≡ self.y +ℤ y }
+        ensures products { result.products ≡ self.products +ℤ (x *ℤ y) }
+    {
+        Moments {
+            x: self.x + x,
+            y: self.y + y,
+            products: self.products + x * y,
+        }
+    }
+
+    // The sum over the pairs of `count` places.
+    fn over_pairs(self, count: u64) -> i128
+        requires few { count ≤ REPLICATION_LIMIT }
+        requires within { AreWithin REPLICATION_LIMIT self }
+        ensures { result ≡ ((pos count *ℤ self.products) -ℤ (self.x *ℤ self.y)) }
+    {
+        i128::from(count) * self.products - self.x * self.y
+    }
 }

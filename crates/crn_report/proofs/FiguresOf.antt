@@ -4,7 +4,7 @@ use Rattle.std.proofs.lemmas.Option.{slice_get_read, slice_get-map}
 use Rattle.crn_stock.specs.Parts.{Parts}
 use Rattle.crn_stock.specs.Models.{ModelParts, total}
 use Rattle.crn_sequential.specs.Runs.{StandsBefore}
-use Rattle.crn_report.specs.declared.figures.Figures.{Figures}
+use Rattle.crn_report.specs.declared.report_text.Figures.{Figures}
 use Rattle.crn_report.specs.Report.{IsFigures}
 
 abbrev pub FiguresAt : ModelParts → List (List ℕ) → ℕ → Figures → Type 0

@@ -1,14 +1,13 @@
 -- The costs of a scenario's policies have one report.
 use Rattle.std.proofs.Common.{◌≡◌, ℕ, zero, suc, ◌*◌, ◌≤◌, ℤ, pos, List, [], ◌∷◌, ◌++◌, length, Option, Some, slice_get, slice_index_or, sum, refl, sym, ap, ◌∙◌, arith}
-use Rattle.crn_pair.specs.Pairs.{variance_parts, covariance_parts}
-use Rattle.crn_pair.specs.Sums.{signed, differences, over_pairs, IsQuotient, IsQuotientIfAny}
-use Rattle.crn_pair.specs.Sums as pairs
+use Rattle.crn_pair.specs.Pairs.{variance_parts, covariance_parts, signed, differences, over_pairs, IsQuotient, IsQuotientIfAny}
+use Rattle.crn_pair.specs.Pairs as pairs
 use Rattle.crn_pair.specs.declared.fraction.Fraction.{Fraction}
 use Rattle.crn_stock.specs.Models.{ModelParts, ScenarioParts}
 use Rattle.crn_stock.specs.declared.policy.Policy.{Policy}
 use Rattle.crn_rows.specs.Rows.{row_text}
 use Rattle.crn_report.specs.Report.{fraction_text, estimate_text, fields, header, policy_rows_text, IsReportText, IsFigures}
-use Rattle.crn_report.specs.declared.figures.Figures.{Figures}
+use Rattle.crn_report.specs.declared.report_text.Figures.{Figures}
 
 -- what `crn_pair::laws::one_fraction` says
 pub record OneFraction : Type 0 where

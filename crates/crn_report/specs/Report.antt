@@ -6,10 +6,9 @@ use Rattle.crn_stock.specs.declared.policy.Policy.{Policy}
 use Rattle.crn_stock.specs.Models.{ScenarioParts, ModelParts}
 use Rattle.crn_sequential.specs.Runs.{costs_of}
 use Rattle.crn_rows.specs.Rows.{row_text}
-use Rattle.crn_report.specs.declared.figures.Figures.{Figures}
-use Rattle.crn_pair.specs.Sums.{signed, differences, over_pairs, IsQuotient, IsQuotientIfAny}
-use Rattle.crn_pair.specs.Pairs.{variance_parts, covariance_parts}
-use Rattle.crn_pair.specs.Sums as pairs
+use Rattle.crn_report.specs.declared.report_text.Figures.{Figures}
+use Rattle.crn_pair.specs.Pairs.{signed, differences, over_pairs, IsQuotient, IsQuotientIfAny, variance_parts, covariance_parts}
+use Rattle.crn_pair.specs.Pairs as pairs
 
 -- ---- The figures of a report's rows.
 

@@ -1,8 +1,6 @@
 //! The report of a run as CSV: each policy's cost and how it differs from the first policy's.
 #![tactic(auto)]
 
-mod field_texts;
-mod figures;
 pub mod laws;
 mod report_text;
 

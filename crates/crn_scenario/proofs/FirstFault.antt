@@ -5,11 +5,10 @@ use Rattle.std.proofs.lemmas.Bool.Decides.{nat_tests}
 use Rattle.std.specs.Prelude.{⊤, Result, Ok, Err, IfErr, alloc_error}
 use Rattle.std.specs.Result.{IsErr, IsErrAnd}
 use Rattle.toml.specs.Data.{Members}
-use Rattle.crn_scenario.specs.Faults.{holds_at, faults, IsLeast, HasNone}
-use Rattle.crn_scenario.specs.Inner.Faults.{first_true}
+use Rattle.crn_scenario.specs.Reading.{holds_at, faults, IsLeast, HasNone, scenario_fault_number, IsDocument, RefusesScenario}
+use Rattle.crn_scenario.specs.Inner.Reading.{first_true}
 use Rattle.crn_scenario.specs.declared.scenario_fault.ScenarioFault.{ScenarioFault}
 use Rattle.crn_scenario.specs.declared.scenario_fault.ScenarioFault.TheVariants as fault
-use Rattle.crn_scenario.specs.Reading.{scenario_fault_number, IsDocument, RefusesScenario}
 
 abbrev AreAbove : ℕ → List (ℕ × Bool) → Type 0
 AreAbove n [] = ⊤

@@ -13,7 +13,7 @@ use Rattle.std.specs.Str.{bytes_eq}
 use Rattle.toml.specs.Data.{Data, string, integer, float, boolean, datetime, array, table, Items, no_items, item, Members}
 use Rattle.crn_scenario.specs.Tree.{count_items, are_integers, are_texts, are_tables, integers_of, texts_of, tables_of}
 use Rattle.crn_scenario.specs.Fields.{is_within, are_within}
-use Rattle.crn_scenario.specs.Faults.{rise_above, total_of, is_among, all_differ}
+use Rattle.crn_scenario.specs.Reading.{rise_above, total_of, is_among, all_differ}
 use Rattle.crn_scenario.specs.Sound.{items_of}
 use Rattle.crn_scenario.proofs.KnownKeys.{more, fewer}
 

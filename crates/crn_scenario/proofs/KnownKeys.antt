@@ -61,10 +61,10 @@ no_other es (member l d ms) h k found =
       | inr later ↦ no_other es ms parts.1 k later
     ]
 
-pub known : (es : List Entry) (ms : Members) → HasNoOther (names_of es) ms → knows_all es ms ≡ true
-known es no_members h = refl
-known es (member l d ms) h =
+pub knows_the_keys : (es : List Entry) (ms : Members) → HasNoOther (names_of es) ms → knows_all es ms ≡ true
+knows_the_keys es no_members h = refl
+knows_the_keys es (member l d ms) h =
     let itself : is_eq (slice_cmp nat_cmp l l) ≡ true = is_eq-slice_cmp l l ∙ (bytes_eq-Decides l l).1 refl in
     and_true (is_key es l) (knows_all es ms)
     ((key_decides es l).1 (h l (found_here (slice_cmp nat_cmp l l) d (get_member l ms) itself)))
-    (known es ms (λ k found. h k (found_later (slice_cmp nat_cmp k l) d (get_member k ms) found)))
+    (knows_the_keys es ms (λ k found. h k (found_later (slice_cmp nat_cmp k l) d (get_member k ms) found)))

@@ -6,7 +6,7 @@ use Rattle.std.specs.BTreeSet.{BTreeSet, contains, Updates}
 use Rattle.std.specs.Cmp.Lexicographic.{slice_cmp}
 use Rattle.std.specs.Ordering.{nat_cmp}
 use Rattle.std.specs.Str.{bytes_eq}
-use Rattle.crn_scenario.specs.Faults.{is_among, all_differ}
+use Rattle.crn_scenario.specs.Reading.{is_among, all_differ}
 
 -- the texts of the last k
 abbrev pub last_names : ℕ → List (Bor (List ℕ)) → List (List ℕ)

@@ -3,11 +3,8 @@ pub mod FirstFault
 pub mod LaterNames
 pub mod ItemFacts
 pub mod Kept
-pub mod Draws
-pub mod Sound
 pub mod Policies
 mod Glyphs
 mod KnownKeys
 mod ItemLists
 mod SoundTrees
-mod FaultFree

@@ -14,17 +14,15 @@ use Rattle.crn_limits.specs.declared.TheConstants.{POLICY_LIMIT, SLOT_LIMIT}
 use Rattle.crn_limits.specs.Limits.{IsRingSize}
 use Rattle.toml.specs.Data.{Items, no_items, item, Members, get_member, as_table}
 use Rattle.crn_stock.specs.declared.policy.Policy.{Policy}
-use Rattle.crn_stock.specs.Models.{IsPolicy, ModelParts, AreForScenario, ScenarioParts}
+use Rattle.crn_stock.specs.Models.{IsPolicy, AreForScenario}
 use Rattle.crn_spelling.specs.Names.{is_name}
 use Rattle.crn_scenario.specs.Tree.{integer_at, natural, text_at, array_at, tables_of, count_items, are_tables, kept}
 use Rattle.crn_scenario.specs.Fields.{Entry, entry, keeps, keeps_at_all, greatest_level}
 use Rattle.crn_scenario.specs.Fields as fields
 use Rattle.crn_scenario.specs.declared.fields.Rule.TheVariants as rule
-use Rattle.crn_scenario.specs.Faults.{HasNone, policies_in, policies_at, has_levels_in_order, are_in_order, has_low_above_high, names_in, names_at, is_among, all_differ, are_good_names, has_bad_name, is_ring_size, is_other_ring, has_other_ring, is_other_count, has_other_policy_count}
-use Rattle.crn_scenario.specs.Reading.{integer, text, key_of, model_of, policy_of, scenario_of}
+use Rattle.crn_scenario.specs.Reading.{HasNone, policies_in, policies_at, has_levels_in_order, are_in_order, has_low_above_high, names_in, names_at, is_among, all_differ, are_good_names, has_bad_name, is_ring_size, is_other_ring, has_other_ring, is_other_count, has_other_policy_count, integer, text, policy_of}
 use Rattle.crn_scenario.proofs.Bools.{passed, failed, neither}
-use Rattle.crn_scenario.proofs.Kept.{nowhere, Kept, kept_at, top_at, present, kinds, ranges, one, IsNumber, number_kept, IsText, text_kept, tables_kept, IsInteger, integer_kept}
-use Rattle.crn_scenario.proofs.Sound.{taken, from_low, to_high}
+use Rattle.crn_scenario.proofs.Kept.{nowhere, Kept, kept_at, top_at, present, kinds, ranges, one, IsNumber, number_kept, IsText, text_kept, tables_kept, IsInteger, integer_kept, taken, from_low, to_high}
 
 -- ---- a policy
 
@@ -221,10 +219,3 @@ scenario_fits ms h =
 pub fits_as : (ms : Members) (ring : ℕ) (policies : List Policy) → ring ≡ natural (integer_at (codes "ring") ms) → policies ≡ map policy_of (policies_at ms) → AreForScenario (natural (integer_at (codes "ring") ms)) (map policy_of (policies_at ms)) → AreForScenario ring policies
 fits_as ms ring policies e f h =
     subst (λ (n : ℕ). AreForScenario n policies) (sym e) (subst (λ (ps : List Policy). AreForScenario (natural (integer_at (codes "ring") ms)) ps) (sym f) h)
-
-abbrev pub parts : List ℕ → ℕ → ModelParts → List Policy → ScenarioParts
-parts k r m ps = record { key = k; ring = r; model = m; policies = ps }
-
-pub same_scenario : (ms : Members) (key : List ℕ) (ring : ℕ) (model : ModelParts) (policies : List Policy) → key ≡ key_of (get_member (codes "key") ms) → ring ≡ natural (integer_at (codes "ring") ms) → model ≡ model_of ms → policies ≡ map policy_of (policies_at ms) → parts key ring model policies ≡ scenario_of ms
-unfolding scenario_of
-same_scenario ms key ring model policies e f g h = cc

@@ -1,6 +1,5 @@
 pub mod Tree
 pub mod Fields
-pub mod Faults
 pub mod Reading
 pub mod Sound
 pub mod Inner

@@ -7,9 +7,8 @@ ghost use Rattle.crn_spelling.specs.Names.{is_name};
 ghost use Rattle.crn_scenario.specs.Tree.{table_at, integers_of, tables_of};
 ghost use Rattle.crn_scenario.specs.Fields as tables;
 ghost use Rattle.crn_scenario.specs.Inner.Fields.{entry_of};
-ghost use Rattle.crn_scenario.specs.Faults as spec;
-ghost use Rattle.crn_scenario.specs.Inner.Faults as inner;
-ghost use Rattle.crn_scenario.specs.Reading.{scenario_fault_number};
+ghost use Rattle.crn_scenario.specs.Reading as spec;
+ghost use Rattle.crn_scenario.specs.Inner.Reading as inner;
 
 use crate::fields::{
     COSTS, DEMAND, Field, LEAD, NEWEST_VERSION, POLICY, RETURNS, Rule, TOP, is_within, keeps,
@@ -25,7 +24,7 @@ use toml::value::Array;
 use toml::{Table, Value};
 
 // The version that a document names, without its sign, and 0 where it names none.
-#[tactic(auto, unfolding(crate::specs::Faults::version_of))]
+#[tactic(auto, unfolding(crate::specs::Reading::version_of))]
 fn version_of(table: &Table) -> u64
     ensures { result ≡ spec.version_of (table_view table.now) }
 {
@@ -88,7 +87,7 @@ fn returns_keep(rule: Rule, version: u64, table: &Table) -> bool
 }
 
 // Whether each table in the document keeps a rule.
-#[tactic(auto, unfolding(crate::specs::Faults::inner_keep))]
+#[tactic(auto, unfolding(crate::specs::Reading::inner_keep))]
 fn inner_keep(rule: Rule, version: u64, table: &Table) -> bool
     ensures { result ≡ spec.inner_keep rule version (table_view table.now) }
 {
@@ -99,7 +98,7 @@ fn inner_keep(rule: Rule, version: u64, table: &Table) -> bool
 }
 
 // Whether each table that is looked at keeps a rule: the document, the tables in it and its policies.
-#[tactic(auto, unfolding(crate::specs::Faults::all_keep))]
+#[tactic(auto, unfolding(crate::specs::Reading::all_keep))]
 fn all_keep(rule: Rule, table: &Table) -> bool
     ensures { result ≡ spec.all_keep rule (table_view table.now) }
 {
@@ -113,7 +112,7 @@ fn all_keep(rule: Rule, table: &Table) -> bool
 }
 
 // Fault 2: the version is none of those that there are.
-#[tactic(auto, unfolding(crate::specs::Faults::has_other_version))]
+#[tactic(auto, unfolding(crate::specs::Reading::has_other_version))]
 fn has_other_version(table: &Table) -> bool
     ensures { result ≡ spec.has_other_version (table_view table.now) }
 {
@@ -124,7 +123,7 @@ fn has_other_version(table: &Table) -> bool
 }
 
 // Fault 3: a table has a key that is not one of its keys.
-#[tactic(auto, unfolding(crate::specs::Faults::has_unknown_key))]
+#[tactic(auto, unfolding(crate::specs::Reading::has_unknown_key))]
 fn has_unknown_key(table: &Table) -> bool
     ensures { result ≡ spec.has_unknown_key (table_view table.now) }
 {
@@ -132,7 +131,7 @@ fn has_unknown_key(table: &Table) -> bool
 }
 
 // Fault 4: a table lacks one of its keys.
-#[tactic(auto, unfolding(crate::specs::Faults::lacks_key))]
+#[tactic(auto, unfolding(crate::specs::Reading::lacks_key))]
 fn lacks_key(table: &Table) -> bool
     ensures { result ≡ spec.lacks_key (table_view table.now) }
 {
@@ -140,7 +139,7 @@ fn lacks_key(table: &Table) -> bool
 }
 
 // Fault 5: a value, or an entry of an array, is not of its kind.
-#[tactic(auto, unfolding(crate::specs::Faults::has_other_kind))]
+#[tactic(auto, unfolding(crate::specs::Reading::has_other_kind))]
 fn has_other_kind(table: &Table) -> bool
     ensures { result ≡ spec.has_other_kind (table_view table.now) }
 {
@@ -148,7 +147,7 @@ fn has_other_kind(table: &Table) -> bool
 }
 
 // Fault 6: a number, a list or the key is out of its range.
-#[tactic(auto, unfolding(crate::specs::Faults::breaks_range))]
+#[tactic(auto, unfolding(crate::specs::Reading::breaks_range))]
 fn breaks_range(table: &Table) -> bool
     ensures { result ≡ spec.breaks_range (table_view table.now) }
 {
@@ -234,7 +233,7 @@ fn have_other_total(draws: &Table) -> bool
 }
 
 // Fault 7: a table has not as many weights as values.
-#[tactic(auto, unfolding(crate::specs::Faults::has_other_lengths))]
+#[tactic(auto, unfolding(crate::specs::Reading::has_other_lengths))]
 fn has_other_lengths(table: &Table) -> bool
     ensures { result ≡ spec.has_other_lengths (table_view table.now) }
 {
@@ -244,7 +243,7 @@ fn has_other_lengths(table: &Table) -> bool
 }
 
 // Fault 8: the values of a table do not rise strictly.
-#[tactic(auto, unfolding(crate::specs::Faults::has_values_out_of_order))]
+#[tactic(auto, unfolding(crate::specs::Reading::has_values_out_of_order))]
 fn has_values_out_of_order(table: &Table) -> bool
     ensures { result ≡ spec.has_values_out_of_order (table_view table.now) }
 {
@@ -254,7 +253,7 @@ fn has_values_out_of_order(table: &Table) -> bool
 }
 
 // Fault 9: the weights of a table are 0 in sum, or too much.
-#[tactic(auto, unfolding(crate::specs::Faults::has_weights_out_of_range))]
+#[tactic(auto, unfolding(crate::specs::Reading::has_weights_out_of_range))]
 fn has_weights_out_of_range(table: &Table) -> bool
     ensures { result ≡ spec.has_weights_out_of_range (table_view table.now) }
 {
@@ -287,7 +286,7 @@ fn have_levels_in_order(policies: &Array) -> bool
 }
 
 // Fault 10: a policy's s is above its S.
-#[tactic(auto, unfolding(crate::specs::Faults::has_low_above_high))]
+#[tactic(auto, unfolding(crate::specs::Reading::has_low_above_high))]
 fn has_low_above_high(table: &Table) -> bool
     ensures { result ≡ spec.has_low_above_high (table_view table.now) }
 {
@@ -346,7 +345,7 @@ fn all_differ(alloc: Global, names: &[&str]) -> Result<bool, AllocError>
 }
 
 // Fault 11: a policy's name has not the form of one, or stands twice.
-#[tactic(auto, unfolding(crate::specs::Faults::has_bad_name))]
+#[tactic(auto, unfolding(crate::specs::Reading::has_bad_name))]
 fn has_bad_name(alloc: Global, table: &Table) -> Result<bool, AllocError>
     ensures { IfOk result (λ b. b ≡ spec.has_bad_name (table_view table.now)) }
 {
@@ -361,7 +360,7 @@ fn has_bad_name(alloc: Global, table: &Table) -> Result<bool, AllocError>
 }
 
 // Whether a number is the size of a ring.
-#[tactic(auto, unfolding(crate::specs::Faults::is_ring_size))]
+#[tactic(auto, unfolding(crate::specs::Reading::is_ring_size))]
 fn is_ring_size(number: i64) -> bool
     ensures { result ≡ spec.is_ring_size number }
 {
@@ -372,7 +371,7 @@ fn is_ring_size(number: i64) -> bool
 }
 
 // Fault 12: there is no ring of this size.
-#[tactic(auto, unfolding(crate::specs::Faults::has_other_ring))]
+#[tactic(auto, unfolding(crate::specs::Reading::has_other_ring))]
 fn has_other_ring(table: &Table) -> bool
     ensures { result ≡ spec.has_other_ring (table_view table.now) }
 {
@@ -383,7 +382,7 @@ fn has_other_ring(table: &Table) -> bool
 }
 
 // Fault 13: there is no policy, or there are too many.
-#[tactic(auto, unfolding(crate::specs::Faults::has_other_policy_count))]
+#[tactic(auto, unfolding(crate::specs::Reading::has_other_policy_count))]
 fn has_other_policy_count(table: &Table) -> bool
     ensures { result ≡ spec.has_other_policy_count (table_view table.now) }
 {
@@ -407,7 +406,7 @@ fn refuse_where(holds: bool, fault: ScenarioFault) -> Result<(), ScenarioFault>
 // Refuses a tree whose tables, keys or single values have a fault, with the first of these.
 fn judge_form(table: &Table) -> Result<(), ScenarioFault>
     ensures sound { OnOk result (inner.first_true (inner.form_faults (table_view table.now)) ≡ None) }
-    ensures fault { IfErr result (λ f. inner.first_true (inner.form_faults (table_view table.now)) ≡ Some (scenario_fault_number f)) }
+    ensures fault { IfErr result (λ f. inner.first_true (inner.form_faults (table_view table.now)) ≡ Some (spec.scenario_fault_number f)) }
 {
     refuse_where(has_other_version(table), ScenarioFault::Version)?;
     refuse_where(has_unknown_key(table), ScenarioFault::UnknownKey)?;
@@ -419,7 +418,7 @@ fn judge_form(table: &Table) -> Result<(), ScenarioFault>
 // Refuses a tree whose values or weights have a fault as lists, with the first of these.
 fn judge_draws(table: &Table) -> Result<(), ScenarioFault>
     ensures sound { OnOk result (inner.first_true (inner.draw_faults (table_view table.now)) ≡ None) }
-    ensures fault { IfErr result (λ f. inner.first_true (inner.draw_faults (table_view table.now)) ≡ Some (scenario_fault_number f)) }
+    ensures fault { IfErr result (λ f. inner.first_true (inner.draw_faults (table_view table.now)) ≡ Some (spec.scenario_fault_number f)) }
 {
     refuse_where(has_other_lengths(table), ScenarioFault::Lengths)?;
     refuse_where(has_values_out_of_order(table), ScenarioFault::Order)?;
@@ -429,7 +428,7 @@ fn judge_draws(table: &Table) -> Result<(), ScenarioFault>
 // Refuses a tree whose policies or ring have a fault, with the first of these.
 fn judge_policies(alloc: Global, table: &Table) -> Result<(), ScenarioFault>
     ensures sound { OnOk result (inner.first_true (inner.policy_faults (table_view table.now)) ≡ None) }
-    ensures fault { IfErr result (λ f. f ≢ ScenarioFault.Memory alloc_error → inner.first_true (inner.policy_faults (table_view table.now)) ≡ Some (scenario_fault_number f)) }
+    ensures fault { IfErr result (λ f. f ≢ ScenarioFault.Memory alloc_error → inner.first_true (inner.policy_faults (table_view table.now)) ≡ Some (spec.scenario_fault_number f)) }
 {
     refuse_where(has_low_above_high(table), ScenarioFault::Levels)?;
     refuse_where(has_bad_name(alloc, table)?, ScenarioFault::Name)?;
@@ -444,7 +443,7 @@ fn judge_policies(alloc: Global, table: &Table) -> Result<(), ScenarioFault>
 /// The fault with the least number that the tree has, or `Memory` if an allocation fails.
 pub fn judge(alloc: Global, table: &Table) -> Result<(), ScenarioFault>
     ensures sound { OnOk result (inner.first_true (spec.faults (table_view table.now)) ≡ None) }
-    ensures fault { IfErr result (λ f. f ≢ ScenarioFault.Memory alloc_error → inner.first_true (spec.faults (table_view table.now)) ≡ Some (scenario_fault_number f)) }
+    ensures fault { IfErr result (λ f. f ≢ ScenarioFault.Memory alloc_error → inner.first_true (spec.faults (table_view table.now)) ≡ Some (spec.scenario_fault_number f)) }
 {
     judge_form(table)?;
     judge_draws(table)?;

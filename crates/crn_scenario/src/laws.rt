@@ -2,7 +2,7 @@
 
 ghost use Rattle.std.specs.Prelude.{◌↔◌};
 ghost use Rattle.toml.specs.Data.{Members};
-ghost use Rattle.crn_scenario.specs.Faults.{HasNone};
+ghost use Rattle.crn_scenario.specs.Reading.{HasNone};
 ghost use Rattle.crn_scenario.specs.Sound.{IsSound};
 
 /// The trees without a fault are those that say a scenario, key by key: every key is there and no other, numbers and

@@ -5,7 +5,6 @@ ghost use Rattle.toml.specs.View.{view, table_view, array_view};
 ghost use Rattle.crn_draw.specs.declared.weights.TheConstants.{TOTAL_LIMIT};
 ghost use Rattle.crn_scenario.specs.Tree.{array_at, tables_of, integers_of};
 ghost use Rattle.crn_scenario.specs.Fields.{are_within};
-ghost use Rattle.crn_scenario.specs.Faults.{HasNone, policies_at};
 ghost use Rattle.crn_scenario.specs.Reading as spec;
 ghost use Rattle.crn_scenario.specs.Inner.Reading.{AreDraws, MayBeDraws};
 
@@ -115,7 +114,7 @@ fn policies_of(alloc: Global, array: &Array) -> Result<Vec<Policy>, AllocError>
 }
 
 fn policies_at(alloc: Global, table: &Table) -> Result<Vec<Policy>, AllocError>
-    ensures { IfOk result (λ v. v.items ≡ map spec.policy_of (policies_at (table_view table.now))) }
+    ensures { IfOk result (λ v. v.items ≡ map spec.policy_of (spec.policies_at (table_view table.now))) }
 {
     match array_at(table, "policy") {
         Some(array) => policies_of(alloc, array),
@@ -151,7 +150,7 @@ fn key_of(value: Option<&Value>) -> [u64; 4]
 }
 
 fn model_of(alloc: Global, table: &Table) -> Result<Model, AllocError>
-    requires { HasNone (table_view table.now) }
+    requires { spec.HasNone (table_view table.now) }
     ensures { IfOk result (λ m. m ≡ spec.model_of (table_view table.now)) }
 {
     let demand = weights_of(alloc, table_at(table, "demand"))?;
@@ -178,7 +177,7 @@ fn model_of(alloc: Global, table: &Table) -> Result<Model, AllocError>
 ///
 /// `AllocError` if an allocation fails.
 pub fn scenario_of(alloc: Global, table: &Table) -> Result<Scenario, AllocError>
-    requires { HasNone (table_view table.now) }
+    requires { spec.HasNone (table_view table.now) }
     ensures { IfOk result (λ s. s ≡ spec.scenario_of (table_view table.now)) }
 {
     let model = model_of(alloc, table)?;

@@ -5,8 +5,8 @@ ghost use Rattle.crn_cipher.specs.Blocks.{BlockWords};
 
 mod vectors;
 
-use crate::words::{ONES_BLOCK, ZERO_BLOCK};
-use crn_cipher::{BLOCK_WORDS, Block, STREAMS, Stream, block, threefry, unthreefry};
+use crate::words::{BLOCK_VECTORS, NAMES_AND_COUNTERS, ONES_BLOCK, ZERO_BLOCK, words_by_stream};
+use crn_cipher::{BLOCK_WORDS, Block, STREAMS, block, threefry, unthreefry};
 use vectors::VECTORS;
 
 // The words of a line, of 16 hexadecimal digits each: four of the key, four of the counter and four of the output. None
@@ -22,12 +22,15 @@ fn words_in(line: &str) -> Option<[u64; 12]> {
 
 // The words of the block and the stream of a counter, if a block has words at that counter.
 fn in_block(key: [u64; 4], ctr: [u64; 4]) -> Option<[u64; 4]> {
-    match ctr {
-        [number, 0, 0, 0] => Some(block(key, number).demand),
-        [number, 1, 0, 0] => Some(block(key, number).lead),
-        [number, 2, 0, 0] => Some(block(key, number).returns),
-        _ => None,
+    let [number, second, 0, 0] = ctr else {
+        return None;
+    };
+    for (stream, (_, counter)) in STREAMS.iter().zip(NAMES_AND_COUNTERS) {
+        if second == *counter {
+            return Some(*block(key, number).words(*stream));
+        }
     }
+    None
 }
 
 // How many blocks have a line's output at its counter, 0 or 1. None if the cipher, its inverse or the block has other words.
@@ -60,7 +63,9 @@ fn lines_and_blocks(text: &str) -> Result<(u32, u32), &str> {
 
 #[test]
 fn outputs_of_random123(rt: HostRuntime) {
-    assert_eq!(rt; lines_and_blocks(VECTORS), Ok((200, 12)));
+    assert_eq!(rt; lines_and_blocks(VECTORS), Ok((188, 0)));
+    let of_blocks = STREAMS.len() as u32 * 4;
+    assert_eq!(rt; lines_and_blocks(BLOCK_VECTORS), Ok((of_blocks, of_blocks)));
 }
 
 #[test]
@@ -73,64 +78,39 @@ fn first_block_of_the_zero_key(rt: HostRuntime) {
 const ONES: [u64; 4] = [u64::MAX; 4];
 
 // The words of a block, read one by one.
-#[tactic(auto, using(crn_cipher::proofs::Blocks::listed))]
-fn words_of(block: Block) -> [u64; BLOCK_WORDS]
-    ensures { result ≡ BlockWords block.key block.number }
+fn words_of(block: &Block) -> [u64; BLOCK_WORDS]
+    ensures { result ≡ BlockWords block.now.key block.now.number }
 {
-    [
-        block.word(0),
-        block.word(1),
-        block.word(2),
-        block.word(3),
-        block.word(4),
-        block.word(5),
-        block.word(6),
-        block.word(7),
-        block.word(8),
-        block.word(9),
-        block.word(10),
-        block.word(11),
-    ]
+    let mut words = [0; BLOCK_WORDS];
+    for i in 0..BLOCK_WORDS {
+        words[i] = block.word(i);
+    }
+    words
 }
 
 #[test]
 fn words_of_a_block_in_order(rt: HostRuntime) {
-    assert_eq!(rt; words_of(block(ONES, 0)), ONES_BLOCK);
-}
-
-// The name of a stream, and its words in a block.
-fn name_and_words(made: &Block, stream: Stream) -> (&'static str, [u64; 4]) {
-    let words = *made.words(stream);
-    (stream.name(), words)
+    assert_eq!(rt; words_of(&block(ONES, 0)), ONES_BLOCK);
 }
 
 #[test]
 fn words_of_each_stream(rt: HostRuntime) {
-    let [d0, d1, d2, d3, l0, l1, l2, l3, r0, r1, r2, r3] = ONES_BLOCK;
-    let want = [
-        ("demand", [d0, d1, d2, d3]),
-        ("lead", [l0, l1, l2, l3]),
-        ("returns", [r0, r1, r2, r3]),
-    ];
-    let made = block(ONES, 0);
-    let [first, second, third] = STREAMS;
-    let found = [
-        name_and_words(&made, first),
-        name_and_words(&made, second),
-        name_and_words(&made, third),
-    ];
-    assert_eq!(rt; found, want);
+    assert_eq!(rt; words_by_stream(&block(ONES, 0)), Some(ONES_BLOCK));
+    assert_eq!(rt; NAMES_AND_COUNTERS.len(), STREAMS.len());
+    for (stream, (name, counter)) in STREAMS.iter().zip(NAMES_AND_COUNTERS) {
+        assert_eq!(rt; (stream.name(), stream.counter()), (*name, *counter));
+    }
 }
 
 // The block of the same key and number as another, from its words.
-fn again(made: Block) -> Block {
+fn again(made: &Block) -> Block {
     Block::from_words(made.key, made.number, words_of(made))
 }
 
 #[test]
 fn a_block_from_its_words(rt: HostRuntime) {
     let made = block(ONES, 0);
-    let again = again(made);
+    let again = again(&made);
     assert_eq!(rt; (again.key, again.number), (ONES, 0));
     assert_eq!(rt; again, made);
 }

@@ -5,7 +5,7 @@ ghost use Rattle.std.specs.List.{All};
 ghost use Rattle.crn_proto.specs.Machine.{IsActor};
 
 use crate::rings::ring_of;
-use crn_cipher::StreamId;
+use crn_cipher::{BLOCK_WORDS, StreamId};
 use crn_proto::{Actor, Kind, LEFT, Machine, RingFault, RingSpec, Step, replay};
 use std::alloc::{AllocError, Global};
 use std::test::Fail;
@@ -19,8 +19,17 @@ fn step(kind: Kind, word: u64, value: u64) -> Option<Step> {
     Some(Step { kind, word, value })
 }
 
+// The steps of the producer before it publishes a block for one reader: a load of the reader's cursor and the words.
+const WORD_STEPS: usize = BLOCK_WORDS + 1;
+
+// The steps of one block between the producer and one reader: those and a store of a cursor.
+const BLOCK_STEPS: usize = WORD_STEPS + 1;
+
+// The same and the next step.
+const STEPS: usize = BLOCK_STEPS + 1;
+
 // The first answers to a schedule, with None for each that is missing.
-type Answers = [Option<Step>; 15];
+type Answers = [Option<Step>; STEPS];
 
 // The machine of a ring after a schedule.
 fn played(alloc: Global, spec: RingSpec, actors: &[Actor]) -> Result<Machine, RingFault>
@@ -34,7 +43,7 @@ fn played(alloc: Global, spec: RingSpec, actors: &[Actor]) -> Result<Machine, Ri
 
 // Copies these answers.
 fn first_of(answers: &[Option<Step>]) -> Answers {
-    let mut first = [None; 15];
+    let mut first = [None; STEPS];
     for (place, answer) in first.iter_mut().zip(answers) {
         *place = *answer;
     }
@@ -142,47 +151,47 @@ fn one_block() -> RingSpec
 
 #[test]
 fn a_producer_stores_a_block(rt: HostRuntime) -> Result<(), Fail> {
-    let stores = answers(rt.alloc(), one_block(), &[P; 15])?;
+    let stores = answers(rt.alloc(), one_block(), &[P; STEPS])?;
     let want = [
         step(Kind::P1, 1, 0),
         step(Kind::P3, 0, 2),
         step(Kind::P3, 0, 3),
     ];
     assert!(rt; are_steps(&stores, Kind::P2, &ZERO_BLOCK));
-    assert_eq!(rt; [stores[0], stores[13], stores[14]], want);
+    assert_eq!(rt; [stores[0], stores[WORD_STEPS], stores[BLOCK_STEPS]], want);
     Ok(())
 }
 
 #[test]
 fn a_reader_loads_a_block(rt: HostRuntime) -> Result<(), Fail> {
-    let loads = answers_after(rt.alloc(), one_block(), &[P; 15], &[R0; 15])?;
+    let loads = answers_after(rt.alloc(), one_block(), &[P; STEPS], &[R0; STEPS])?;
     let want = [
         step(Kind::R1, 0, 3),
         step(Kind::R3, 1, 1),
         step(Kind::R1, 0, 3),
     ];
     assert!(rt; are_steps(&loads, Kind::R2, &ZERO_BLOCK));
-    assert_eq!(rt; [loads[0], loads[13], loads[14]], want);
+    assert_eq!(rt; [loads[0], loads[WORD_STEPS], loads[BLOCK_STEPS]], want);
     Ok(())
 }
 
 #[test]
 fn a_block_goes_through_its_slot(rt: HostRuntime) -> Result<(), Fail> {
-    let shown = shown_after(rt.alloc(), one_block(), &[P; 15], &[R0; 15])?;
+    let shown = shown_after(rt.alloc(), one_block(), &[P; STEPS], &[R0; STEPS])?;
     assert_eq!(rt; shown, (1, true, (1, false, true)));
     Ok(())
 }
 
 #[test]
 fn a_reader_loads_no_end_before_it_is_stored(rt: HostRuntime) -> Result<(), Fail> {
-    let loads = answers_after(rt.alloc(), one_block(), &[P; 14], &[R0; 15])?;
-    assert_eq!(rt; loads[14], step(Kind::R1, 0, 2));
+    let loads = answers_after(rt.alloc(), one_block(), &[P; BLOCK_STEPS], &[R0; STEPS])?;
+    assert_eq!(rt; loads[BLOCK_STEPS], step(Kind::R1, 0, 2));
     Ok(())
 }
 
 #[test]
 fn a_reader_waits_for_the_end(rt: HostRuntime) -> Result<(), Fail> {
-    let shown = shown_after(rt.alloc(), one_block(), &[P; 14], &[R0; 15])?;
+    let shown = shown_after(rt.alloc(), one_block(), &[P; BLOCK_STEPS], &[R0; STEPS])?;
     assert_eq!(rt; shown, (1, false, (1, false, false)));
     Ok(())
 }
@@ -197,26 +206,30 @@ fn block_of_ones() -> RingSpec
 
 #[test]
 fn all_words_of_a_block_are_stored_in_order(rt: HostRuntime) -> Result<(), Fail> {
-    let stores = answers(rt.alloc(), block_of_ones(), &[P; 13])?;
+    let stores = answers(rt.alloc(), block_of_ones(), &[P; WORD_STEPS])?;
     assert!(rt; are_steps(&stores, Kind::P2, &ONES_BLOCK));
     Ok(())
 }
 
 // The first and the last word of the slot that the block of ones is stored in.
 fn ends_of_ones(alloc: Global) -> Result<[u64; 2], RingFault> {
-    let machine = played(alloc, block_of_ones(), &[P; 13])?;
-    Ok([machine.word(2), machine.word(13)])
+    let machine = played(alloc, block_of_ones(), &[P; WORD_STEPS])?;
+    Ok([machine.word(2), machine.word(BLOCK_WORDS as u64 + 1)])
 }
 
 #[test]
 fn all_words_of_a_block_stand_in_order(rt: HostRuntime) -> Result<(), Fail> {
-    assert_eq!(rt; ends_of_ones(rt.alloc())?, [ONES_BLOCK[0], ONES_BLOCK[11]]);
+    assert_eq!(rt;
+        ends_of_ones(rt.alloc())?,
+        [ONES_BLOCK[0], ONES_BLOCK[BLOCK_WORDS - 1]]
+    );
     Ok(())
 }
 
-// The answer of reader 0 to its first step after the producer's first 13, and what the machine then shows.
+// The answer of reader 0 to its first step after those of the producer before it publishes, and what the machine then
+// shows.
 fn load_of_unpublished(alloc: Global) -> Result<(Option<Step>, Shown), RingFault> {
-    let mut machine = played(alloc, one_block(), &[P; 13])?;
+    let mut machine = played(alloc, one_block(), &[P; WORD_STEPS])?;
     let load = machine.step(R0);
     Ok((load, shown(&machine)))
 }
@@ -277,25 +290,30 @@ fn two_blocks() -> RingSpec
 
 #[test]
 fn a_full_ring_waits_for_its_reader(rt: HostRuntime) -> Result<(), Fail> {
-    let stores = answers(rt.alloc(), two_blocks(), &[P; 15])?;
-    assert_eq!(rt; stores[14], step(Kind::P1, 1, 0));
+    let stores = answers(rt.alloc(), two_blocks(), &[P; STEPS])?;
+    assert_eq!(rt; stores[BLOCK_STEPS], step(Kind::P1, 1, 0));
     Ok(())
 }
 
 #[test]
 fn a_reader_leaves_a_full_ring(rt: HostRuntime) -> Result<(), Fail> {
-    let found = steps_after(rt.alloc(), two_blocks(), &[P; 15], Actor::Leave(0), P)?;
+    let found = steps_after(rt.alloc(), two_blocks(), &[P; STEPS], Actor::Leave(0), P)?;
     let steps = [step(Kind::R3, 1, 1 << 63), step(Kind::P1, 1, 1 << 63)];
     assert_eq!(rt; found, (steps, (1, false, (0, true, false))));
     Ok(())
 }
 
-const LEAVE_ONE_SLOT: [Actor; 15] = [Actor::Leave(0), P, P, P, P, P, P, P, P, P, P, P, P, P, P];
+// The answers to the producer of a full ring once its reader has left.
+fn answers_once_left(alloc: Global) -> Result<Answers, RingFault> {
+    let mut machine = played(alloc, two_blocks(), &[P; STEPS])?;
+    replay(alloc, &mut machine, &[Actor::Leave(0)])?;
+    answers_of(alloc, &mut machine, &[P; BLOCK_STEPS])
+}
 
 #[test]
 fn a_full_ring_goes_on_once_its_reader_left(rt: HostRuntime) -> Result<(), Fail> {
-    let rest = answers_after(rt.alloc(), two_blocks(), &[P; 15], &LEAVE_ONE_SLOT)?;
-    assert_eq!(rt; rest[14], step(Kind::P3, 0, 4));
+    let rest = answers_once_left(rt.alloc())?;
+    assert_eq!(rt; rest[WORD_STEPS], step(Kind::P3, 0, 4));
     Ok(())
 }
 
@@ -308,22 +326,22 @@ fn two_readers() -> RingSpec
 
 #[test]
 fn a_producer_publishes_a_block(rt: HostRuntime) -> Result<(), Fail> {
-    let stores = answers(rt.alloc(), two_readers(), &[P; 15])?;
-    assert_eq!(rt; stores[14], step(Kind::P3, 0, 2));
+    let stores = answers(rt.alloc(), two_readers(), &[P; STEPS])?;
+    assert_eq!(rt; stores[BLOCK_STEPS], step(Kind::P3, 0, 2));
     Ok(())
 }
 
 #[test]
 fn one_of_two_readers_takes_a_block(rt: HostRuntime) -> Result<(), Fail> {
-    let loads = answers_after(rt.alloc(), two_readers(), &[P; 15], &[R0; 14])?;
-    assert_eq!(rt; loads[13], step(Kind::R3, 1, 1));
+    let loads = answers_after(rt.alloc(), two_readers(), &[P; STEPS], &[R0; BLOCK_STEPS])?;
+    assert_eq!(rt; loads[WORD_STEPS], step(Kind::R3, 1, 1));
     Ok(())
 }
 
 // Three more steps of the producer after reader 0 has taken block 0, and how many blocks each reader has taken.
 fn gates_of_two(alloc: Global) -> Result<([Option<Step>; 3], [u64; 2]), RingFault> {
-    let mut machine = played(alloc, two_readers(), &[P; 15])?;
-    replay(alloc, &mut machine, &[R0; 14])?;
+    let mut machine = played(alloc, two_readers(), &[P; STEPS])?;
+    replay(alloc, &mut machine, &[R0; BLOCK_STEPS])?;
     let loads = [machine.step(P), machine.step(P), machine.step(P)];
     Ok((loads, [machine.taken(0), machine.taken(1)]))
 }
@@ -377,7 +395,13 @@ fn no_step_of_a_reader_that_left(rt: HostRuntime) -> Result<(), Fail> {
 
 #[test]
 fn no_leaving_within_a_block(rt: HostRuntime) -> Result<(), Fail> {
-    let (steps, _) = steps_after(rt.alloc(), one_slot(), &[P; 14], R0, Actor::Leave(0))?;
+    let (steps, _) = steps_after(
+        rt.alloc(),
+        one_slot(),
+        &[P; BLOCK_STEPS],
+        R0,
+        Actor::Leave(0),
+    )?;
     assert_eq!(rt; steps, [step(Kind::R1, 0, 2), None]);
     Ok(())
 }

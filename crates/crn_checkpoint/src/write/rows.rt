@@ -10,7 +10,7 @@ use itoa::Buffer;
 use std::alloc::AllocError;
 
 /// The sheet with a row of four numbers under a name.
-#[tactic(auto, using(crate::proofs::PlainRows::numbers_plain))]
+#[tactic(auto, using(crate::proofs::Rows::numbers_plain))]
 pub(crate) fn with_numbers_row(
     sheet: Sheet,
     name: &[u8],
@@ -36,7 +36,7 @@ pub(crate) fn with_numbers_row(
 }
 
 /// The sheet with a row of two numbers under a name.
-#[tactic(auto, using(crate::proofs::PlainRows::pair_plain))]
+#[tactic(auto, using(crate::proofs::Rows::pair_plain))]
 pub(crate) fn with_pair_row(
     sheet: Sheet,
     name: &[u8],

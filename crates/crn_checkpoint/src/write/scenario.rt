@@ -37,7 +37,7 @@ fn with_head_row(
 }
 
 // The sheet with the row of the key.
-#[tactic(auto, using(crate::proofs::PlainRows::words_plain))]
+#[tactic(auto, using(crate::proofs::Rows::words_plain))]
 fn with_key_row(sheet: Sheet, key: [u64; 4]) -> Result<Sheet, AllocError>
     ensures { IfOk result (λ after. after ≡ sheet ++ row_text (spec.key_row key)) }
 {

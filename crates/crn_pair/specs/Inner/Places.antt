@@ -1,8 +1,8 @@
 -- Sums over the replications themselves, from which the code works out the sums over their pairs.
 use Rattle.std.specs.Prelude.{◌≡◌, ℕ, ◌*◌, ◌≤◌, ℤ, pos, ◌+ℤ◌, ◌*ℤ◌, List, [], ◌∷◌, unsigned_abs}
 use Rattle.crn_pair.specs.declared.compare.TheConstants.{COST_LIMIT}
-use Rattle.crn_pair.specs.Sums.{signed_sum}
-use Rattle.crn_pair.specs.declared.moments.Moments.{Moments}
+use Rattle.crn_pair.specs.Pairs.{signed_sum}
+use Rattle.crn_pair.specs.declared.pair.Moments.{Moments}
 
 -- the sum of the products of two lists place by place
 abbrev pub products : List ℤ → List ℤ → ℤ

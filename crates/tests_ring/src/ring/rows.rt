@@ -5,18 +5,7 @@ use crn_cipher::Block;
 use crn_proto::{LEFT, RingFault, RingSpec};
 use crn_ring::{Closing, Publish, Reader, Ring, Take};
 use std::alloc::Global;
-use tests_model::words::ZERO_BLOCK;
-
-// The words of a block, stream after stream.
-fn words_of(block: Block) -> [[u64; 4]; 3] {
-    let Block {
-        demand,
-        lead,
-        returns,
-        ..
-    } = block;
-    [demand, lead, returns]
-}
+use tests_model::words::{ZERO_BLOCK, words_by_stream};
 
 // The first block of a ring of one slot, as it is taken.
 fn first_block(alloc: Global) -> Option<Block> {
@@ -29,12 +18,10 @@ fn first_block(alloc: Global) -> Option<Block> {
 
 #[test]
 fn the_words_of_every_stream_arrive(rt: HostRuntime) {
-    let [d0, d1, d2, d3, l0, l1, l2, l3, r0, r1, r2, r3] = ZERO_BLOCK;
-    let want = [[d0, d1, d2, d3], [l0, l1, l2, l3], [r0, r1, r2, r3]];
     let Some(arrived) = first_block(rt.alloc()) else {
         panic!(rt; "no block")
     };
-    assert_eq!(rt; words_of(arrived), want);
+    assert_eq!(rt; words_by_stream(&arrived), Some(ZERO_BLOCK));
 }
 
 // Passes two blocks through one slot, and returns whether each answer was right.

@@ -1,6 +1,6 @@
 use Rattle.crn_checkpoint.specs.declared.version.Version.TheVariants.{First, Second}
 use Rattle.std.proofs.Common.{sym, refl, arith}
-use Rattle.crn_checkpoint.proofs.Cuts.{same_text}
+use Rattle.crn_checkpoint.proofs.Rows.{same_text}
 use Rattle.crn_checkpoint.proofs.Judged.{handed, migration_refuses, old_text, new_text, migrated, not_migrated}
 use Rattle.crn_checkpoint.proofs.migrate.migrate_checkpoint.Goals as goal
 

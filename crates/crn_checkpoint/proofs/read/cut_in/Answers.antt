@@ -1,4 +1,4 @@
-use Rattle.crn_checkpoint.proofs.Cuts.{rows_of_text}
+use Rattle.crn_checkpoint.proofs.Rows.{rows_of_text}
 use Rattle.crn_checkpoint.proofs.read.cut_in.Goals as goal
 
 pub returns-clause-reads : goal.returns-clause-reads

@@ -1,6 +1,6 @@
 use Rattle.std.proofs.Common.{◌∙◌, sym, inl, inr}
 use Rattle.crn_checkpoint.specs.declared.version.Version.TheVariants.{First, Second}
-use Rattle.crn_checkpoint.proofs.Cuts.{same_too, text_of_same}
+use Rattle.crn_checkpoint.proofs.Rows.{same_too, text_of_same}
 use Rattle.crn_checkpoint.proofs.Judged.{handed, refuses, reading_refuses}
 use Rattle.crn_checkpoint.proofs.read.read_checkpoint.Goals as goal
 

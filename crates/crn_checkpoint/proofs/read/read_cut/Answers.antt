@@ -1,8 +1,7 @@
 use Rattle.std.proofs.Common.{◌∙◌, ap}
 use Rattle.crn_checkpoint.specs.CheckpointText.{checkpoint_text}
-use Rattle.crn_checkpoint.proofs.Cuts.{same_text}
+use Rattle.crn_checkpoint.proofs.Rows.{same_text, handed_on}
 use Rattle.crn_checkpoint.proofs.Judged.{told}
-use Rattle.crn_checkpoint.proofs.WholeRows.{handed_on}
 use Rattle.crn_checkpoint.proofs.read.read_cut.Goals as goal
 
 pub returns-in_err-cut-clause-reads : goal.returns-in_err-cut-clause-reads

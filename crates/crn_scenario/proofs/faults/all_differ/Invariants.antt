@@ -1,5 +1,5 @@
 use Rattle.std.proofs.Common.{◌≡◌, true}
-use Rattle.crn_scenario.specs.Faults.{all_differ}
+use Rattle.crn_scenario.specs.Reading.{all_differ}
 use Rattle.crn_scenario.proofs.LaterNames.{last_names, Holds}
 use Rattle.crn_scenario.proofs.faults.all_differ.Given as goal
 

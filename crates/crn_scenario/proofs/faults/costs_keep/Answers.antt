@@ -1,7 +1,7 @@
 use Rattle.std.proofs.Common.{subst, ◌≡◌, Option}
 use Rattle.toml.specs.Data.{Members}
 use Rattle.crn_scenario.specs.Fields.{keys_of, costs}
-use Rattle.crn_scenario.specs.Faults.{keeps_in}
+use Rattle.crn_scenario.specs.Reading.{keeps_in}
 use Rattle.crn_scenario.proofs.faults.costs_keep.Goals as goal
 
 pub returns : goal.returns

@@ -2,9 +2,8 @@ use Rattle.std.proofs.Common.{◌≡◌, ◌≢◌, ℕ, ◌++◌, Option, Some,
 use Rattle.std.specs.Prelude.{IfErr, OnOk, alloc_error}
 use Rattle.toml.specs.View.{table_view}
 use Rattle.crn_scenario.specs.declared.scenario_fault.ScenarioFault.TheVariants.{Memory}
-use Rattle.crn_scenario.specs.Faults.{faults}
-use Rattle.crn_scenario.specs.Inner.Faults.{first_true, form_faults, draw_faults, policy_faults}
-use Rattle.crn_scenario.specs.Reading.{scenario_fault_number}
+use Rattle.crn_scenario.specs.Reading.{faults, scenario_fault_number}
+use Rattle.crn_scenario.specs.Inner.Reading.{first_true, form_faults, draw_faults, policy_faults}
 use Rattle.crn_scenario.proofs.FirstFault.{first_of, first_after, handed_on}
 use Rattle.crn_scenario.proofs.faults.judge.Goals as goal
 

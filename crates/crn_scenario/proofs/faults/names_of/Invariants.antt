@@ -1,6 +1,6 @@
 use Rattle.std.proofs.Common.{◌≡◌, ◌++◌, map, drop}
 use Rattle.toml.specs.View.{items_view}
-use Rattle.crn_scenario.specs.Faults.{names_in}
+use Rattle.crn_scenario.specs.Reading.{names_in}
 use Rattle.crn_scenario.proofs.faults.names_of.Given as goal
 
 abbrev pub invariant-items : goal.invariant-items

@@ -2,7 +2,7 @@ use Rattle.std.proofs.Common.{◌≡◌, drop, pos, ◌*◌, ◌^◌}
 use Rattle.std.specs.Prelude.{◌+ℤ◌, ◌≤ℤ◌}
 use Rattle.toml.specs.View.{items_view}
 use Rattle.crn_scenario.specs.Tree.{integers_of}
-use Rattle.crn_scenario.specs.Faults.{total_of}
+use Rattle.crn_scenario.specs.Reading.{total_of}
 use Rattle.crn_scenario.proofs.faults.total_of.Given as goal
 
 abbrev pub invariant-items : goal.invariant-items

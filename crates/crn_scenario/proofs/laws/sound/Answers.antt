@@ -1,5 +1,4 @@
-use Rattle.crn_scenario.proofs.FaultFree.{fault_free}
-use Rattle.crn_scenario.proofs.SoundTrees.{sound_tree}
+use Rattle.crn_scenario.proofs.SoundTrees.{fault_free, sound_tree}
 use Rattle.crn_scenario.proofs.laws.sound.Goals as goal
 
 pub returns : goal.returns

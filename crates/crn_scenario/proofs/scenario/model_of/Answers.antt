@@ -4,7 +4,7 @@ use Rattle.toml.specs.Data.{Members}
 use Rattle.toml.specs.View.{table_view}
 use Rattle.crn_stock.specs.Models.{IsModel}
 use Rattle.crn_scenario.specs.Inner.Reading.{AreDraws, MayBeDraws}
-use Rattle.crn_scenario.proofs.Sound.{demand_draws, lead_draws, returns_draws, model_fits, same_model, periods, replications}
+use Rattle.crn_scenario.proofs.Kept.{demand_draws, lead_draws, returns_draws, model_fits, periods, replications}
 use Rattle.crn_scenario.proofs.scenario.model_of.Goals as goal
 
 pub weights_of-requires : goal.weights_of-requires
@@ -23,6 +23,4 @@ pub overflow_cast-natural-2 : goal.overflow_cast-natural-2
 overflow_cast-natural-2 c = let h = (replications (table_view c.args.table.now) c.requires).high_is in grind (arith, h, c.natural-2.ensures, c.integer_at-2.ensures)
 
 pub new-requires : goal.new-requires
-new-requires c =
-    subst IsModel (sym (same_model (table_view c.args.table.now) _ _ _ _ _ _ _ (search rules) (search rules) (search (rules, to_z-of_z)) (search rules) (search rules) (search rules) (search rules)))
-    (model_fits (table_view c.args.table.now) c.requires)
+new-requires c = subst IsModel (sym (search (rules, to_z-of_z))) (model_fits (table_view c.args.table.now) c.requires)

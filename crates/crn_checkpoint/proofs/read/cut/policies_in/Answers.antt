@@ -1,8 +1,7 @@
 use Rattle.std.proofs.Common.{◌∙◌, subst, arith, rules}
 use Rattle.crn_stock.specs.Models.{AreForScenario}
 use Rattle.crn_checkpoint.proofs.Restorable.{policies_are}
-use Rattle.crn_checkpoint.proofs.Cuts.{for_scenario, within}
-use Rattle.crn_checkpoint.proofs.WholeRows.{handed_on}
+use Rattle.crn_checkpoint.proofs.Rows.{for_scenario, within, handed_on}
 use Rattle.crn_checkpoint.proofs.read.cut.policies_in.Goals as goal
 
 pub returns-then-not-can_be-clause-reads : goal.returns-then-not-can_be-clause-reads

@@ -2,7 +2,7 @@ use Rattle.std.proofs.Common.{◌∙◌, ◌++◌, length, ap, sym, drop, append
 use Rattle.crn_checkpoint.specs.Inner.Cells.{cell}
 use Rattle.crn_checkpoint.specs.CheckpointText.{due_rows, cost_rows}
 use Rattle.crn_checkpoint.proofs.Lengths.{length_due}
-use Rattle.crn_checkpoint.proofs.WholeRows.{drop_of, count_of_costs}
+use Rattle.crn_checkpoint.proofs.Rows.{drop_of, count_of_costs}
 use Rattle.crn_checkpoint.proofs.read.policy.after_policy.Goals as goal
 
 pub returns : goal.returns

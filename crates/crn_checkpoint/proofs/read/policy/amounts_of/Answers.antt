@@ -3,7 +3,7 @@ use Rattle.crn_rows.proofs.Fields.{back}
 use Rattle.crn_checkpoint.specs.Inner.Cells.{cell}
 use Rattle.crn_checkpoint.specs.CheckpointText.{due_rows, cost_rows}
 use Rattle.crn_checkpoint.proofs.Lengths.{length_due}
-use Rattle.crn_checkpoint.proofs.WholeRows.{take_of, drop_of, count_of_costs, costs_read}
+use Rattle.crn_checkpoint.proofs.Rows.{take_of, drop_of, count_of_costs, costs_read}
 use Rattle.crn_checkpoint.proofs.Restoring.{period_is, stock_small, due_small, running_small, costs_small, few_costs}
 use Rattle.crn_checkpoint.proofs.read.policy.amounts_of.Goals as goal
 

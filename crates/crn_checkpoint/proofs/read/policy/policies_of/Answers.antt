@@ -1,7 +1,7 @@
 use Rattle.std.proofs.Common.{◌∙◌, ◌++◌, ◌∷◌, [], length, refl, sym, arith}
 use Rattle.crn_sequential.specs.Runs.{StandsBefore}
 use Rattle.crn_sequential.proofs.Growing.{each-grown}
-use Rattle.crn_checkpoint.proofs.WholeRows.{handed_on}
+use Rattle.crn_checkpoint.proofs.Rows.{handed_on}
 use Rattle.crn_checkpoint.proofs.Restoring.{few_costs}
 use Rattle.crn_checkpoint.proofs.Turns.{turn_at, same_count}
 use Rattle.crn_checkpoint.proofs.read.policy.policies_of.Goals as goal

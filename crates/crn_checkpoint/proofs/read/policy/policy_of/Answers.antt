@@ -2,7 +2,7 @@ use Rattle.std.proofs.Common.{◌∙◌, ap, arith}
 use Rattle.std.proofs.lemmas.Int.{ints}
 use Rattle.crn_rows.proofs.Fields.{back}
 use Rattle.crn_checkpoint.specs.Inner.Cells.{cell}
-use Rattle.crn_checkpoint.proofs.WholeRows.{small_amount, same_policy}
+use Rattle.crn_checkpoint.proofs.Rows.{small_amount, same_policy}
 use Rattle.crn_checkpoint.proofs.Words.{plain_utf8}
 use Rattle.crn_rows.proofs.PlainFields.{name_plain}
 use Rattle.crn_checkpoint.proofs.read.policy.policy_of.Goals as goal

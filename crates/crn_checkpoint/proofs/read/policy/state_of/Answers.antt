@@ -1,7 +1,7 @@
 use Rattle.std.proofs.Common.{◌∙◌}
 use Rattle.crn_rows.proofs.Fields.{back}
 use Rattle.crn_checkpoint.proofs.Restoring.{stock_small, same_state, can_too}
-use Rattle.crn_checkpoint.proofs.WholeRows.{unrestored_memory}
+use Rattle.crn_checkpoint.proofs.Rows.{unrestored_memory}
 use Rattle.crn_checkpoint.proofs.read.policy.state_of.Goals as goal
 
 pub returns-in-Ok-clause-reads : goal.returns-in-Ok-clause-reads

@@ -1,7 +1,6 @@
 use Rattle.std.proofs.Common.{◌∙◌, ap, sym, codes, drop}
 use Rattle.crn_checkpoint.specs.CheckpointText.{drawn_rows}
-use Rattle.crn_checkpoint.proofs.ListRows.{demand_rows_count}
-use Rattle.crn_checkpoint.proofs.WholeRows.{drop_of}
+use Rattle.crn_checkpoint.proofs.Rows.{demand_rows_count, drop_of}
 use Rattle.crn_checkpoint.proofs.read.scenario.after_demand.Goals as goal
 
 pub returns : goal.returns

@@ -1,7 +1,7 @@
 use Rattle.std.proofs.Common.{ap, length}
 use Rattle.crn_checkpoint.specs.CheckpointText.{checkpoint_rows}
 use Rattle.crn_checkpoint.specs.Inner.Cells.{cell}
-use Rattle.crn_checkpoint.proofs.ListRows.{demands_few}
+use Rattle.crn_checkpoint.proofs.Rows.{demands_few}
 use Rattle.crn_checkpoint.proofs.read.scenario.demand_count.Goals as goal
 
 pub returns : goal.returns

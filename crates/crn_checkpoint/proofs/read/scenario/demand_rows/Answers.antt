@@ -1,7 +1,6 @@
 use Rattle.std.proofs.Common.{◌∙◌, ap, sym, codes, take}
 use Rattle.crn_checkpoint.specs.CheckpointText.{drawn_rows}
-use Rattle.crn_checkpoint.proofs.ListRows.{demand_rows_count}
-use Rattle.crn_checkpoint.proofs.WholeRows.{take_of}
+use Rattle.crn_checkpoint.proofs.Rows.{demand_rows_count, take_of}
 use Rattle.crn_checkpoint.proofs.read.scenario.demand_rows.Goals as goal
 
 pub returns : goal.returns

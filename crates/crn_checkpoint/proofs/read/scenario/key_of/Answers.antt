@@ -2,7 +2,7 @@ use Rattle.std.proofs.Common.{◌≡◌, ◌∙◌, ◌∷◌, [], ap, arith, ge
 use Rattle.crn_checkpoint.specs.CheckpointText.{checkpoint_rows}
 use Rattle.crn_checkpoint.specs.Inner.Cells.{cell}
 use Rattle.crn_checkpoint.proofs.Words.{word_read}
-use Rattle.crn_checkpoint.proofs.WholeRows.{four_words}
+use Rattle.crn_checkpoint.proofs.Rows.{four_words}
 use Rattle.crn_checkpoint.proofs.read.scenario.key_of.Goals as goal
 
 pub returns : goal.returns

@@ -1,6 +1,6 @@
 use Rattle.std.proofs.Common.{◌∙◌, ap}
 use Rattle.crn_checkpoint.specs.CheckpointText.{checkpoint_rows}
-use Rattle.crn_checkpoint.proofs.ListRows.{lists_of_first, lists_of_second}
+use Rattle.crn_checkpoint.proofs.Rows.{lists_of_first, lists_of_second}
 use Rattle.crn_checkpoint.proofs.read.scenario.lists.Goals as goal
 
 pub returns-in-First : goal.returns-in-First

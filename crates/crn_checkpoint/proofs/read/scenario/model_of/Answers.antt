@@ -1,8 +1,7 @@
 use Rattle.std.proofs.Common.{◌∙◌, sym, subst, codes}
 use Rattle.std.proofs.lemmas.Result.{IfOk-weaker}
 use Rattle.crn_stock.specs.Models.{IsModel}
-use Rattle.crn_checkpoint.proofs.ListRows.{demands_small, leads_small, returned_small}
-use Rattle.crn_checkpoint.proofs.WholeRows.{handed_on, same_model_parts, answered}
+use Rattle.crn_checkpoint.proofs.Rows.{demands_small, leads_small, returned_small, handed_on, same_model_parts, answered}
 use Rattle.crn_checkpoint.proofs.read.scenario.model_of.Goals as goal
 
 pub returns-in_err-demand-clause-model : goal.returns-in_err-demand-clause-model

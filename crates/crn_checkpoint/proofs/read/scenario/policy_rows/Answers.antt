@@ -1,7 +1,6 @@
 use Rattle.std.proofs.Common.{◌∙◌, ap, sym, drop}
 use Rattle.crn_checkpoint.specs.CheckpointText.{returned_rows}
-use Rattle.crn_checkpoint.proofs.ListRows.{returned_rows_count}
-use Rattle.crn_checkpoint.proofs.WholeRows.{drop_of}
+use Rattle.crn_checkpoint.proofs.Rows.{returned_rows_count, drop_of}
 use Rattle.crn_checkpoint.proofs.read.scenario.policy_rows.Goals as goal
 
 pub returns : goal.returns

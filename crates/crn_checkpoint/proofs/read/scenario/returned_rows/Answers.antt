@@ -1,7 +1,6 @@
 use Rattle.std.proofs.Common.{◌∙◌, ap, sym, take}
 use Rattle.crn_checkpoint.specs.CheckpointText.{returned_rows}
-use Rattle.crn_checkpoint.proofs.ListRows.{returned_rows_count}
-use Rattle.crn_checkpoint.proofs.WholeRows.{take_of}
+use Rattle.crn_checkpoint.proofs.Rows.{returned_rows_count, take_of}
 use Rattle.crn_checkpoint.proofs.read.scenario.returned_rows.Goals as goal
 
 pub returns-clause-are : goal.returns-clause-are

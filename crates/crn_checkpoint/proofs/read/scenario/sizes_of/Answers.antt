@@ -2,7 +2,7 @@ use Rattle.std.proofs.Common.{ap, arith}
 use Rattle.crn_rows.proofs.Fields.{back}
 use Rattle.crn_checkpoint.specs.CheckpointText.{checkpoint_rows}
 use Rattle.crn_checkpoint.specs.Inner.Cells.{cell}
-use Rattle.crn_checkpoint.proofs.WholeRows.{small_amount, same_parts}
+use Rattle.crn_checkpoint.proofs.Rows.{small_amount, same_parts}
 use Rattle.crn_checkpoint.proofs.read.scenario.sizes_of.Goals as goal
 
 pub returns : goal.returns

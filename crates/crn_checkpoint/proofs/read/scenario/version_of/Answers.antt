@@ -1,5 +1,5 @@
 use Rattle.std.proofs.Common.{rules}
-use Rattle.crn_checkpoint.proofs.Cuts.{version_read, version_small, is_first, is_second, is_some_version}
+use Rattle.crn_checkpoint.proofs.Rows.{version_read, version_small, is_first, is_second, is_some_version}
 use Rattle.crn_checkpoint.proofs.read.scenario.version_of.Goals as goal
 
 pub returns-in-1 : goal.returns-in-1

@@ -1,6 +1,6 @@
 use Rattle.std.proofs.Common.{◌∙◌, ◌^◌, List, ℕ, [], get_or, map, ap, arith}
 use Rattle.crn_checkpoint.proofs.Lengths.{each_below, lengths_of, sum_of}
-use Rattle.crn_checkpoint.proofs.WholeRows.{values_read, weights_read, no_fault, same_weighted, undrawn_memory}
+use Rattle.crn_checkpoint.proofs.Rows.{values_read, weights_read, no_fault, same_weighted, undrawn_memory}
 use Rattle.crn_checkpoint.proofs.read.scenario.weights_of.Goals as goal
 
 pub returns-in-Ok : goal.returns-in-Ok

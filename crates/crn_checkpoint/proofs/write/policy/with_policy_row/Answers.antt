@@ -1,6 +1,6 @@
 use Rattle.std.proofs.Common.{rules, ◌≡◌}
 use Rattle.std.specs.Fmt.{signed_decimal}
-use Rattle.crn_checkpoint.proofs.PlainRows.{policy_plain}
+use Rattle.crn_checkpoint.proofs.Rows.{policy_plain}
 use Rattle.crn_checkpoint.proofs.write.policy.with_policy_row.Goals as goal
 
 pub with_row-requires : goal.with_row-requires

@@ -2,7 +2,7 @@ use Rattle.std.proofs.Common.{rules, ◌≡◌, ◌<◌, ◌^◌, length, decima
 use Rattle.std.specs.Fmt.{signed_decimal}
 use lib.Signed.{mag}
 use Rattle.crn_checkpoint.specs.CheckpointText.{due_rows}
-use Rattle.crn_checkpoint.proofs.PlainRows.{amounts_plain}
+use Rattle.crn_checkpoint.proofs.Rows.{amounts_plain}
 use Rattle.crn_checkpoint.proofs.write.policy.with_state_row.Goals as goal
 
 pub with_row-requires : goal.with_row-requires

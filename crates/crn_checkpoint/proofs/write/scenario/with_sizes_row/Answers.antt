@@ -1,7 +1,7 @@
 use Rattle.std.proofs.Common.{rules, ◌≡◌, ◌<◌, ◌^◌, length, decimal}
 use Rattle.std.specs.Fmt.{signed_decimal}
 use lib.Signed.{mag}
-use Rattle.crn_checkpoint.proofs.PlainRows.{counts_plain}
+use Rattle.crn_checkpoint.proofs.Rows.{counts_plain}
 use Rattle.crn_checkpoint.proofs.write.scenario.with_sizes_row.Goals as goal
 
 pub with_row-requires : goal.with_row-requires

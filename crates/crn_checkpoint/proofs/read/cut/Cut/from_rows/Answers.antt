@@ -2,8 +2,7 @@ use Rattle.std.proofs.Common.{◌∙◌, ◌≤◌, ap, sym, subst, length}
 use Rattle.crn_stock.specs.Models.{ModelParts, total, ScenarioParts}
 use Rattle.crn_sequential.specs.Runs.{StandsBefore}
 use Rattle.crn_checkpoint.specs.Reading.{CanTell}
-use Rattle.crn_checkpoint.proofs.WholeRows.{handed_on}
-use Rattle.crn_checkpoint.proofs.Cuts.{is_version, rows_in, next_read}
+use Rattle.crn_checkpoint.proofs.Rows.{handed_on, is_version, rows_in, next_read}
 use Rattle.crn_checkpoint.proofs.read.cut.Cut.from_rows.Goals as goal
 
 pub returns-in_err-policies-clause-reads : goal.returns-in_err-policies-clause-reads

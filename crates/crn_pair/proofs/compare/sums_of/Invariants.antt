@@ -1,9 +1,0 @@
-use Rattle.crn_pair.specs.Sums.{signed, differences}
-use Rattle.crn_pair.proofs.Gathering.{Gathers}
-use Rattle.crn_pair.proofs.compare.sums_of.Given as goal
-
-abbrev pub invariant-loop-i : goal.invariant-loop-i
-invariant-loop-i l = record {
-  differences : Gathers (differences l.fn.a l.fn.b) (differences l.fn.a l.fn.b) l.i l.differences;
-  costs : Gathers (signed l.fn.a) (signed l.fn.b) l.i l.costs;
-}

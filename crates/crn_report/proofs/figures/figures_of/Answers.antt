@@ -1,5 +1,0 @@
-use Rattle.std.proofs.Common.{rules}
-use Rattle.crn_report.proofs.figures.figures_of.Goals as goal
-
-pub returns : goal.returns
-returns c = search rules
