@@ -7,7 +7,7 @@ use Rattle.std.proofs.lemmas.Int.{ints}
 use Rattle.std.proofs.lemmas.List.{length-map}
 use Rattle.std.proofs.lemmas.List.Elements.{All-cons, All-nil}
 use Rattle.std.proofs.lemmas.List.Sums.{sum_by-cons}
-use Rattle.std.specs.Prelude.{int_le, nat_le, option_and_then, int_lt, is_some, ◌≤ℤ◌}
+use Rattle.std.specs.Prelude.{nat_le, option_and_then, int_lt, is_some, ◌≤ℤ◌}
 use Rattle.std.specs.List.{list_all, list_any}
 use Rattle.toml.specs.Data.{Data, string, integer, float, boolean, datetime, array, table, Items, Members, get_member, as_integer, as_str, as_array, as_table, no_items, item}
 use Rattle.crn_limits.specs.declared.TheConstants.{PERIOD_LIMIT, REPLICATION_LIMIT}
@@ -27,6 +27,7 @@ use Rattle.crn_scenario.specs.Reading.{HasNone, version_of, inner_keep, all_keep
 use Rattle.crn_scenario.specs.Reading as reading
 use Rattle.crn_scenario.specs.Inner.Reading.{AreDraws, MayBeDraws}
 use Rattle.crn_scenario.proofs.Bools.{passed, failed, and_true, neither}
+use Rattle.crn_scenario.proofs.ItemLists.{within}
 
 -- ---- a fault that does not hold
 
@@ -35,13 +36,6 @@ one false h = refl
 one true h = absurd (h refl)
 
 -- ---- the version
-
-pub within_parts : (low high n : ℕ) → is_within (pos low) (pos high) (Some (pos n)) ≡ true → (low ≤ n) × (n ≤ high)
-within_parts low high n h =
-    let parts : (int_le (pos low) (pos n) ≡ true) × (int_le (pos n) (pos high) ≡ true) = and_parts _ _ h in
-    let l : int_le (pos low) (pos n) ≡ true = parts.0 in
-    let k : int_le (pos n) (pos high) ≡ true = parts.1 in
-    (grind (arith, ints, nat_tests, l), grind (arith, ints, nat_tests, k))
 
 -- one of the versions that there are
 pub record IsVersion (o : Option ℤ) : Type 0 where
@@ -53,7 +47,7 @@ pub record IsVersion (o : Option ℤ) : Type 0 where
 is_one : (o : Option ℤ) → is_version o ≡ true → IsVersion o
 is_one None h = absurd (false≢true h)
 is_one (Some (pos n)) h =
-    let parts = within_parts 1 NEWEST_VERSION n h in
+    let parts = (within 1 NEWEST_VERSION n).0 h in
     record { number = n; is = refl; at_least = parts.0; at_most = parts.1 }
 is_one (Some (negsuc n)) h = absurd (false≢true h)
 
@@ -211,7 +205,7 @@ pub number_kept : (low high : ℕ) (o : Option Data) → KeptAt (number low high
 number_kept low high None h = absurd (false≢true h.present)
 number_kept low high (Some (string s)) h = absurd (false≢true h.kinds)
 number_kept low high (Some (integer (pos n))) h =
-    let parts = within_parts low high n h.ranges in
+    let parts = (within low high n).0 h.ranges in
     record { value = n; is = refl; at_least = parts.0; at_most = parts.1 }
 number_kept low high (Some (integer (negsuc n))) h = absurd (false≢true h.ranges)
 number_kept low high (Some (float x)) h = absurd (false≢true h.kinds)
@@ -355,12 +349,9 @@ record IsHead (low high : ℕ) (z : ℤ) (zs : List ℤ) : Type 0 where
 head_within : (low high : ℕ) (z : ℤ) (zs : List ℤ) → are_within (pos low) (pos high) (z ∷ zs) ≡ true → IsHead low high z zs
 head_within low high (pos n) zs h =
     let parts = and_parts (is_within (pos low) (pos high) (Some (pos n))) (are_within (pos low) (pos high) zs) h in
-    let range = within_parts low high n parts.0 in
+    let range = (within low high n).0 parts.0 in
     record { value = n; is = refl; at_least = range.0; at_most = range.1; rest = parts.1 }
 head_within low high (negsuc n) zs h = absurd (false≢true h)
-
-within_one : (low high n : ℕ) → low ≤ n → n ≤ high → is_within (pos low) (pos high) (Some (pos n)) ≡ true
-within_one low high n l h = grind (arith, ints, nat_tests)
 
 pub widened : (low high : ℕ) (zs : List ℤ) → high ≤ TOTAL_LIMIT → are_within (pos low) (pos high) zs ≡ true → are_within (pos 0) (pos TOTAL_LIMIT) zs ≡ true
 widened low high [] le h = refl
@@ -368,7 +359,7 @@ widened low high (z ∷ zs) le h =
     let f = head_within low high z zs h in
     let n : ℕ = f.value in
     let top : n ≤ high = f.at_most in
-    let here : is_within (pos 0) (pos TOTAL_LIMIT) (Some z) ≡ true = subst (λ (x : ℤ). is_within (pos 0) (pos TOTAL_LIMIT) (Some x) ≡ true) (sym f.is) (within_one 0 TOTAL_LIMIT n (omega arith) (omega arith)) in
+    let here : is_within (pos 0) (pos TOTAL_LIMIT) (Some z) ≡ true = subst (λ (x : ℤ). is_within (pos 0) (pos TOTAL_LIMIT) (Some x) ≡ true) (sym f.is) ((within 0 TOTAL_LIMIT n).1 (omega arith, omega arith)) in
     and_true _ _ here (widened low high zs le f.rest)
 
 pub all_high : (low high : ℕ) (zs : List ℤ) → are_within (pos low) (pos high) zs ≡ true → All (λ v. v ≤ high) (map nat_abs zs)
@@ -444,7 +435,7 @@ no_weights_fault low high vs ws iv iw some same wv ww order total =
     let alike : length (map nat_abs (integers_of vs)) ≡ length (map nat_abs (integers_of ws)) = long ∙ same ∙ sym (m ∙ length_integers ws iw) in
     let filled : (length (map nat_abs (integers_of vs)) == 0) ≡ false = rw long some in
     let summed = subst (λ (x : ℤ). is_within (pos 1) (pos TOTAL_LIMIT) (Some x) ≡ true) (total-sum 0 TOTAL_LIMIT (integers_of ws) ww) total in
-    let range = within_parts 1 TOTAL_LIMIT (sum (map nat_abs (integers_of ws))) summed in
+    let range = (within 1 TOTAL_LIMIT (sum (map nat_abs (integers_of ws)))).0 summed in
     none_of (map nat_abs (integers_of vs)) (map nat_abs (integers_of ws)) filled alike (do_rise low high (integers_of vs) wv order) range.0 range.1
 
 -- the values at a key, once it is known what stands there

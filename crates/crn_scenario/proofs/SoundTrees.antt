@@ -28,7 +28,7 @@ use Rattle.crn_scenario.specs.Reading.{HasNone, keeps_in, policies_in, are_in_or
 use Rattle.crn_scenario.specs.Reading as reading
 use Rattle.crn_scenario.specs.Sound.{items_of, HasNoOther, IsNumber, IsSize, AreWords, AreRates, AreWeighted, IsPolicyTable, ArePolicyTables, IsFirst, IsSecond, IsSound, numbers, tables}
 use Rattle.crn_scenario.proofs.Bools.{passed, and_true, or_false}
-use Rattle.crn_scenario.proofs.Kept.{nowhere, Kept, KeptAt, kept_at, IsVersion, version, version_is, held_at, top_at, known, number_kept, integer_kept, text_kept, table_kept, tables_kept, IsKept, costs_kept, demand_kept, lead_kept, returns_kept, within_parts, values_kept, weights_kept, lengths_agree, order_kept, total_kept, lengths, orders, totals, old, same_in}
+use Rattle.crn_scenario.proofs.Kept.{nowhere, Kept, KeptAt, kept_at, IsVersion, version, version_is, held_at, top_at, known, number_kept, integer_kept, text_kept, table_kept, tables_kept, IsKept, costs_kept, demand_kept, lead_kept, returns_kept, values_kept, weights_kept, lengths_agree, order_kept, total_kept, lengths, orders, totals, old, same_in}
 use Rattle.crn_scenario.proofs.Policies.{IsGood, AreGood, all_good, name_in, names_are, good_names_at, count_at, ring_at, ring_is}
 use Rattle.crn_scenario.proofs.Glyphs.{word, name}
 use Rattle.crn_scenario.proofs.KnownKeys.{names_of, no_other, key_decides, knows_the_keys}
@@ -163,7 +163,7 @@ weighted low high o t is keys k a b c =
     let rise : rise_above None (integers_of v.items) ≡ true = order_kept (array_at (codes "values") t) v.items v.is b in
     let total = total_kept (array_at (codes "weights") t) w.items w.is c in
     let sums : total_of (integers_of w.items) ≡ pos (sum weights.list) = ap total_of weights.integers ∙ total-numbers weights.list in
-    let bounds = within_parts 1 TOTAL_LIMIT (sum weights.list) (subst (λ (z : ℤ). fields.is_within (pos 1) (pos TOTAL_LIMIT) (Some z) ≡ true) sums total) in
+    let bounds = (within 1 TOTAL_LIMIT (sum weights.list)).0 (subst (λ (z : ℤ). fields.is_within (pos 1) (pos TOTAL_LIMIT) (Some z) ≡ true) sums total) in
     let filled : (count_items v.items == 0) ≡ false = v.some in
     let some : 1 ≤ count_items v.items = grind (arith, nat_tests, filled) in
     record {

@@ -6,12 +6,7 @@ use std::alloc::Global;
 use std::sync::Wait;
 use std::test::Fail;
 use std::thread::Threads;
-use tests_text::fixtures::{FIRST_LEG, TWO_REPLICATIONS};
-
-const REPORT: &str = "policy,s,S,total,per_period,diff_total,diff_mean,diff_var,cov
-A,5,10,110,11/1,0,0/1,0/1,0/1
-B,4,10,98,49/5,-12,-6/1,0/1,0/1
-";
+use tests_text::fixtures::{FIRST_LEG, TWO_REPLICATIONS, TWO_REPLICATIONS_REPORT};
 
 // Whether a leg whose k-th read fails, of so many, says so and writes nothing. Where none fails it writes FIRST_LEG.
 fn leg_tells_read<H: Threads + Wait + Sync>(rt: &H, alloc: Global, k: u64, reads: u64) -> bool {
@@ -43,7 +38,7 @@ fn resume_tells_read<H: Threads + Wait + Sync>(
     let mut saved = Trickle::new(FIRST_LEG.as_bytes(), 100, k.saturating_sub(first));
     let mut out = Vec::new(alloc);
     let answer = resume(rt, alloc, &mut saved, &mut reader, &mut out);
-    tells_read(answer, out.as_slice(), k <= reads, REPORT)
+    tells_read(answer, out.as_slice(), k <= reads, TWO_REPLICATIONS_REPORT)
 }
 
 #[test]
@@ -81,12 +76,12 @@ fn resume_tells_write<H: Threads + Wait + Sync>(rt: &H, alloc: Global, k: u64) -
     let mut reader = TWO_REPLICATIONS.as_bytes();
     let mut out = Narrow::new(alloc, k, k % 2 == 0);
     let answer = resume(rt, alloc, &mut saved, &mut reader, &mut out);
-    out.tells(answer, REPORT)
+    out.tells(answer, TWO_REPLICATIONS_REPORT)
 }
 
 #[test]
 fn writes_of_a_resumed_run_that_fail(rt: HostRuntime) -> Result<(), Fail> {
-    for k in 1..REPORT.len() as u64 + 2 {
+    for k in 1..TWO_REPLICATIONS_REPORT.len() as u64 + 2 {
         assert!(rt; resume_tells_write(&rt, rt.alloc(), k), "at {k}");
     }
     Ok(())

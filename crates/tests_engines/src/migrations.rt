@@ -1,14 +1,14 @@
-// Checkpoints of version 1 that are migrated, where a read or a write fails.
+// Checkpoints of old versions that are migrated, where a read or a write fails.
 
 use crate::fakes::{Narrow, Trickle, tells_read};
 use crn_engines::migrate;
 use std::alloc::Global;
 use std::test::Fail;
-use tests_text::fixtures::{FIRST_LEG, OLD_FIRST_LEG};
+use tests_text::fixtures::{FIRST_LEG, OLD_FIRST_LEGS};
 
 // Whether a migration whose k-th read fails, of so many, says so and writes nothing. Where none fails it writes FIRST_LEG.
-fn migrate_tells_read(alloc: Global, k: u64, reads: u64) -> bool {
-    let mut reader = Trickle::new(OLD_FIRST_LEG.as_bytes(), 50, k);
+fn migrate_tells_read(alloc: Global, old: &str, k: u64, reads: u64) -> bool {
+    let mut reader = Trickle::new(old.as_bytes(), 50, k);
     let mut out = Vec::new(alloc);
     let answer = migrate(alloc, &mut reader, &mut out);
     tells_read(answer, out.as_slice(), k <= reads, FIRST_LEG)
@@ -16,16 +16,19 @@ fn migrate_tells_read(alloc: Global, k: u64, reads: u64) -> bool {
 
 #[test]
 fn reads_of_a_migration_that_fail(rt: HostRuntime) -> Result<(), Fail> {
-    let reads = OLD_FIRST_LEG.len() as u64 / 50 + 2;
-    for k in 1..reads + 2 {
-        assert!(rt; migrate_tells_read(rt.alloc(), k, reads), "at {k}");
+    assert!(rt; !OLD_FIRST_LEGS.is_empty());
+    for old in OLD_FIRST_LEGS {
+        let reads = old.len() as u64 / 50 + 2;
+        for k in 1..reads + 2 {
+            assert!(rt; migrate_tells_read(rt.alloc(), old, k, reads), "at {k}");
+        }
     }
     Ok(())
 }
 
 // Whether a migration whose k-th write fails, or takes no byte, says so and has written just what went out before.
-fn migrate_tells_write(alloc: Global, k: u64) -> bool {
-    let mut reader = OLD_FIRST_LEG.as_bytes();
+fn migrate_tells_write(alloc: Global, old: &str, k: u64) -> bool {
+    let mut reader = old.as_bytes();
     let mut out = Narrow::new(alloc, k, k % 2 == 0);
     let answer = migrate(alloc, &mut reader, &mut out);
     out.tells(answer, FIRST_LEG)
@@ -33,8 +36,10 @@ fn migrate_tells_write(alloc: Global, k: u64) -> bool {
 
 #[test]
 fn writes_of_a_migration_that_fail(rt: HostRuntime) -> Result<(), Fail> {
-    for k in 1..FIRST_LEG.len() as u64 + 2 {
-        assert!(rt; migrate_tells_write(rt.alloc(), k), "at {k}");
+    for old in OLD_FIRST_LEGS {
+        for k in 1..FIRST_LEG.len() as u64 + 2 {
+            assert!(rt; migrate_tells_write(rt.alloc(), old, k), "at {k}");
+        }
     }
     Ok(())
 }

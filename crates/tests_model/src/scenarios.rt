@@ -1,7 +1,7 @@
 // The draws, models and scenarios that several tests run.
 
 ghost use Rattle.std.specs.Prelude.{◌≡◌, ◌≤◌, ℕ, ◌∷◌, [], length, All, IfOk};
-ghost use Rattle.crn_stock.specs.Models.{IsPolicy, returned_values, total, AreForScenario};
+ghost use Rattle.crn_stock.specs.Models.{IsModel, IsPolicy, model_of, returned_values, total, AreForScenario};
 ghost use Rattle.crn_limits.specs.Limits.{IsRingSize};
 
 use crn_draw::Weights;
@@ -49,6 +49,51 @@ pub fn fixed_draws(alloc: Global, demand: u32, lead: u32) -> Result<(Weights, We
     Ok((demands, leads))
 }
 
+/// Returns costs of these rates.
+pub fn costs_of(setup: u64, unit: u64, holding: u64, backlog: u64) -> Costs
+    ensures { (result.setup ≡ setup) × (result.unit ≡ unit) × (result.holding ≡ holding) × (result.backlog ≡ backlog) }
+{
+    Costs {
+        setup,
+        unit,
+        holding,
+        backlog,
+    }
+}
+
+/// Returns the model of these parts. Tests make all models here and by `checked_model`, so that a new key of a scenario
+/// changes no other call.
+///
+/// # Asks
+///
+/// The parts are as `Model::new` asks for.
+pub fn model_with(
+    periods: u32,
+    replications: u32,
+    initial: i64,
+    costs: Costs,
+    demand: Weights,
+    lead: Weights,
+    returns: Option<Weights>,
+) -> Model
+    requires { IsModel (model_of periods replications initial costs demand lead returns) }
+    ensures { result ≡ model_of periods replications initial costs demand lead returns }
+{
+    Model::new(periods, replications, initial, costs, demand, lead, returns)
+}
+
+/// Returns what `Model::checked` answers to these parts, for a model without returns.
+pub fn checked_model(
+    periods: u64,
+    replications: u64,
+    initial: i64,
+    costs: Costs,
+    demand: Weights,
+    lead: Weights,
+) -> Option<Model> {
+    Model::checked(periods, replications, initial, costs, demand, lead, None)
+}
+
 /// Returns the base model: an initial stock of 60, demands of 1 to 4 with the weights 1, 2, 2 and 1, and lead times of 1.
 ///
 /// # Asks
@@ -63,15 +108,10 @@ pub fn base_model(alloc: Global, periods: u32, replications: u32) -> Result<Mode
     requires replications { (1 ≤ replications) × (replications ≤ 256) }
     ensures { IfOk result (λ m. (m.periods ≡ periods) × (m.replications ≡ replications)) }
 {
-    let costs = Costs {
-        setup: 32,
-        unit: 3,
-        holding: 1,
-        backlog: 5,
-    };
+    let costs = costs_of(32, 3, 1, 5);
     let demand = draws(alloc, &[1, 2, 3, 4], &[1, 2, 2, 1])?;
     let lead = always(alloc, 1)?;
-    Ok(Model::new(periods, replications, 60, costs, demand, lead, None))
+    Ok(model_with(periods, replications, 60, costs, demand, lead, None))
 }
 
 /// Returns a model with an initial stock of 10, demands of 3, and these lead times and returned items.
@@ -97,14 +137,9 @@ pub fn steady_model(
     requires returns { All (λ v. v ≤ 10000) (returned_values returns) }
     ensures { IfOk result (λ m. (m.periods ≡ periods) × (m.replications ≡ replications)) }
 {
-    let costs = Costs {
-        setup: 7,
-        unit: 2,
-        holding: 1,
-        backlog: 4,
-    };
+    let costs = costs_of(7, 2, 1, 4);
     let (demand, lead) = fixed_draws(alloc, 3, lead)?;
-    Ok(Model::new(periods, replications, 10, costs, demand, lead, returns))
+    Ok(model_with(periods, replications, 10, costs, demand, lead, returns))
 }
 
 /// The levels s and S of a policy.
@@ -114,6 +149,22 @@ pub struct Levels {
     pub low: u32,
     /// The order-up-to level S.
     pub high: u32,
+}
+
+/// Returns a policy of any levels.
+///
+/// # Errors
+///
+/// `AllocError` if an allocation fails.
+pub fn policy_of(alloc: Global, name: &str, low: i64, high: i64) -> Result<Policy, AllocError>
+    ensures name { IfOk result (λ p. p.name ≡ name.now) }
+    ensures levels { IfOk result (λ p. (p.low ≡ low) × (p.high ≡ high)) }
+{
+    Ok(Policy {
+        name: Name::from_string(name.to_string(alloc)?),
+        low,
+        high,
+    })
 }
 
 /// Returns a policy.
@@ -130,11 +181,7 @@ pub fn policy(alloc: Global, name: &str, levels: Levels) -> Result<Policy, Alloc
     ensures ranges { IfOk result IsPolicy }
     ensures name { IfOk result (λ p. p.name ≡ name.now) }
 {
-    Ok(Policy {
-        name: Name::from_string(name.to_string(alloc)?),
-        low: i64::from(levels.low),
-        high: i64::from(levels.high),
-    })
+    policy_of(alloc, name, i64::from(levels.low), i64::from(levels.high))
 }
 
 /// The number of slots of a ring.

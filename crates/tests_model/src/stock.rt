@@ -10,7 +10,8 @@ mod returns;
 mod sizes;
 
 use crate::scenarios::{
-    Levels, Slots, always, base_model, fixed_draws, policy, prints, steady_model,
+    Levels, Slots, always, base_model, costs_of, fixed_draws, model_with, policy, prints,
+    steady_model,
 };
 use crn_cipher::block;
 use crn_stock::{Costs, Model, Policy, RestoreFault, Scenario, State};
@@ -23,14 +24,9 @@ fn late(alloc: Global, periods: u32, replications: u32, initial: i64) -> Result<
     requires replications { (1 ≤ replications) × (replications ≤ 256) }
     requires initial { (pos 0 ≤ℤ initial) × (initial ≤ℤ pos 1000000) }
 {
-    let costs = Costs {
-        setup: 10,
-        unit: 1,
-        holding: 1,
-        backlog: 4,
-    };
+    let costs = costs_of(10, 1, 1, 4);
     let (demand, lead) = fixed_draws(alloc, 2, 2)?;
-    Ok(Model::new(periods, replications, initial, costs, demand, lead, None))
+    Ok(model_with(periods, replications, initial, costs, demand, lead, None))
 }
 
 // Two replications of five periods, so that each ends within its second block.

@@ -2,7 +2,7 @@
 // that are refused and texts with one byte changed are tried from outside, by tests/program/checkpoints.toml and
 // legs.toml.
 
-use crate::fixtures::{FIRST_LEG, OLD_FIRST_LEG, TWO_REPLICATIONS};
+use crate::fixtures::{FIRST_LEG, OLD_FIRST_LEGS, TWO_REPLICATIONS};
 use crn_checkpoint::{
     CheckpointFault, MigrateFault, migrate_checkpoint, read_checkpoint, write_checkpoint,
 };
@@ -31,10 +31,13 @@ fn the_first_leg_returns(rt: HostRuntime) -> Result<(), Fail> {
 
 #[test]
 fn the_first_leg_migrates(rt: HostRuntime) -> Result<(), Fail> {
-    let Ok(text) = migrate_checkpoint(rt.alloc(), OLD_FIRST_LEG.as_bytes()) else {
-        return Err(Fail::from("the old text is refused"));
-    };
-    assert_eq!(rt; text.as_slice(), FIRST_LEG.as_bytes());
+    assert!(rt; !OLD_FIRST_LEGS.is_empty());
+    for old in OLD_FIRST_LEGS {
+        let Ok(text) = migrate_checkpoint(rt.alloc(), old.as_bytes()) else {
+            return Err(Fail::from("the old text is refused"));
+        };
+        assert_eq!(rt; text.as_slice(), FIRST_LEG.as_bytes());
+    }
     Ok(())
 }
 

@@ -1,21 +1,16 @@
 // A block's words, a schedule, and the numbers of faults. Reports, and schedules and traces of all sizes, are tried
 // from outside, by tests/program/reports.toml and replays.toml.
 
+use crate::fixtures::FIRST_WORDS;
 use crn_proto::Actor;
 use crn_trace::{ScheduleFault, read_schedule, words_text};
 use std::alloc::AllocError;
 use std::test::Fail;
 
-// The words of block 0 of the zero key, by Random123.
-const WORDS: &str = "demand 09218ebde6c85537 55941f5266d86105 4bd25e16282434dc ee29ec846bd2e40b
-lead ca29e96305009de4 1cc27861f52c604b a1e7adf87d24b5b5 fc2291a0341a674c
-returns 5539277864380943 86dc4496ff6c4bf6 b6a16a294c09b67c 3572aa99bcf71983
-";
-
 #[test]
 fn words_of_a_block(rt: HostRuntime) -> Result<(), Fail> {
     let text = words_text(rt.alloc(), [0; 4], 0)?;
-    assert_eq!(rt; text.as_slice(), WORDS.as_bytes());
+    assert_eq!(rt; text.as_slice(), FIRST_WORDS.as_bytes());
     Ok(())
 }
 

@@ -1,17 +1,12 @@
 // The calls that judge and compare: on parts within their ranges, at the ends of the ranges, and just beyond.
 
 use super::*;
-use crate::scenarios::draws;
+use crate::scenarios::{checked_model, draws, policy_of};
 use crn_stock::Name;
 
 // Cost rates that are all the same but for the setup cost.
 fn rates(setup: u64, rate: u64) -> Costs {
-    Costs {
-        setup,
-        unit: rate,
-        holding: rate,
-        backlog: rate,
-    }
+    costs_of(setup, rate, rate, rate)
 }
 
 #[test]
@@ -25,11 +20,7 @@ fn costs_at_the_ends_of_their_ranges(rt: HostRuntime) -> Result<(), Fail> {
 
 // Whether a policy with these levels is within its range.
 fn has_levels(alloc: Global, low: i64, high: i64) -> Result<bool, AllocError> {
-    let policy = Policy {
-        name: Name::from_string("P".to_string(alloc)?),
-        low,
-        high,
-    };
+    let policy = policy_of(alloc, "P", low, high)?;
     Ok(policy.is_in_range())
 }
 
@@ -53,15 +44,7 @@ fn has_model(
     lead: u32,
 ) -> Result<bool, AllocError> {
     let (demand, lead) = fixed_draws(alloc, 10_000, lead)?;
-    let made = Model::checked(
-        periods,
-        replications,
-        initial,
-        rates(1, 1),
-        demand,
-        lead,
-        None,
-    );
+    let made = checked_model(periods, replications, initial, rates(1, 1), demand, lead);
     Ok(made.is_some())
 }
 

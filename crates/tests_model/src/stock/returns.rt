@@ -39,14 +39,9 @@ fn varying_draws(alloc: Global) -> Result<(Weights, Weights), AllocError>
 fn drawn(alloc: Global, returns: Option<Weights>) -> Result<Model, AllocError>
     requires { All (λ v. v ≤ 10000) (returned_values returns) }
 {
-    let costs = Costs {
-        setup: 32,
-        unit: 3,
-        holding: 1,
-        backlog: 5,
-    };
+    let costs = costs_of(32, 3, 1, 5);
     let (demand, lead) = varying_draws(alloc)?;
-    Ok(Model::new(10, 3, 12, costs, demand, lead, returns))
+    Ok(model_with(10, 3, 12, costs, demand, lead, returns))
 }
 
 // Returned items of 0, 1, 2 or 5 with the weights 4, 3, 2 and 1.
@@ -57,15 +52,10 @@ fn with_drawn_returns(alloc: Global) -> Result<Model, AllocError> {
 
 // No demand, and the most returned items in every period.
 fn filling(alloc: Global) -> Result<Model, AllocError> {
-    let costs = Costs {
-        setup: 0,
-        unit: 0,
-        holding: 10_000,
-        backlog: 0,
-    };
+    let costs = costs_of(0, 0, 10_000, 0);
     let (demand, lead) = fixed_draws(alloc, 0, 1)?;
     let returns = always(alloc, 10_000)?;
-    Ok(Model::new(1_024, 1, 1_000_000, costs, demand, lead, Some(returns)))
+    Ok(model_with(1_024, 1, 1_000_000, costs, demand, lead, Some(returns)))
 }
 
 // Whether a model has no returned items, for any word.

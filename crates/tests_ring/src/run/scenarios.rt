@@ -1,9 +1,11 @@
 // Scenarios of the zero key with policies A and B.
 ghost use Rattle.std.specs.Prelude.{◌≡◌, ◌≤◌, ◌∷◌, [], length, IfOk};
 
-use crn_stock::{Costs, Model, Scenario};
+use crn_stock::{Model, Scenario};
 use std::alloc::{AllocError, Global};
-use tests_model::scenarios::{Levels, Slots, fixed_draws, scenario_of, steady_model};
+use tests_model::scenarios::{
+    Levels, Slots, costs_of, fixed_draws, model_with, scenario_of, steady_model,
+};
 
 // Replications of the steady model with lead times of 1.
 pub(super) fn steady(
@@ -26,14 +28,9 @@ pub(super) fn steady(
 
 // The largest model: an initial stock of 1 that no demand changes and that costs 1 a period.
 fn largest_model(alloc: Global) -> Result<Model, AllocError> {
-    let costs = Costs {
-        setup: 0,
-        unit: 0,
-        holding: 1,
-        backlog: 0,
-    };
+    let costs = costs_of(0, 0, 1, 0);
     let (demand, lead) = fixed_draws(alloc, 0, 1)?;
-    Ok(Model::new(1_024, 256, 1, costs, demand, lead, None))
+    Ok(model_with(1_024, 256, 1, costs, demand, lead, None))
 }
 
 // All 65,536 blocks of the largest model.
