@@ -39,6 +39,10 @@ after_draw p d v = let w = after_period p d v in cond (nat_eq w.period w.periods
 abbrev pub draw_in : Drawn → Draw
 draw_in d = record { demand = d.demand; lead = d.lead; returned = d.returned }
 
+-- the lead times of the first n draws are within their range
+abbrev pub HaveLeads : (ℕ → Draw) → ℕ → Type 0
+HaveLeads f n = (k : ℕ) → k < n → (1 ≤ (f k).lead) × ((f k).lead ≤ LEAD_LIMIT)
+
 -- the draw of a period from the words of its block
 abbrev pub drawn_from : ModelParts → Block → ℕ → Draw
 drawn_from m block j = record {
@@ -91,7 +95,7 @@ after_draws p f (suc n) v = after_draw p (f n) (after_draws p f n v)
 pub record HasRunPeriods (p : Terms) (ds : DrawSource) (t k : ℕ) (x x' : Inventory) (due due' : List ℕ) : Type 0 where
   pub kept : (has_returns : Bool) → (has_returns ≡ false → NoneReturned ds) → IsInventory has_returns t x due → IsInventory has_returns (t + k) x' due'
   pub moved : (v : Parts) → with_inventory v (t + k) x' due' ≡ after_periods p (nth_draw ds) k (with_inventory v t x due)
-  pub leads : (j : ℕ) → j < k → (1 ≤ (nth_draw ds j).lead) × ((nth_draw ds j).lead ≤ LEAD_LIMIT)
+  pub leads : HaveLeads (nth_draw ds) k
 
 -- ---- how a state keeps its numbers within their ranges
 

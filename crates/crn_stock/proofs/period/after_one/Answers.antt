@@ -1,9 +1,10 @@
-use Rattle.std.proofs.Common.{rules, ◌≡◌, ◌∙◌, ◌+◌, ap, refl, arith, to_z, of_z, w64, pos, ◌+ℤ◌, ◌-ℤ◌}
+use Rattle.std.proofs.Common.{rules, ◌≡◌, ◌∙◌, ◌+◌, ◌%◌, ℕ, slice_index, ap, refl, subst, arith, to_z, of_z, w64, pos, ◌+ℤ◌, ◌-ℤ◌}
 use Rattle.std.proofs.lemmas.Int.{ints, to_z-of_z}
 use Rattle.crn_stock.specs.declared.period.Inventory.{Inventory}
-use Rattle.crn_stock.specs.Parts.{stock_limit}
+use Rattle.crn_stock.specs.Parts.{stock_limit, rotated}
 use Rattle.crn_stock.specs.Stock.{order_quantity, terms_in}
-use Rattle.crn_stock.specs.Inner.Steps.{draw_in}
+use Rattle.crn_stock.specs.Inner.Steps.{draw_in, next_due}
+use Rattle.crn_stock.specs.declared.limits.TheConstants.{LEAD_LIMIT}
 use Rattle.crn_stock.proofs.Steps.{limit_least, inventory_more, inventory_moved}
 use Rattle.crn_stock.proofs.period.after_one.Goals as goal
 
@@ -17,7 +18,7 @@ returns-clause-kept c = λ has_returns none i.
     let g = c.args.drawn.now.returned in
     let d = c.args.drawn.now.demand in
     let a = c.turn-arrived.result in
-    let z = c.order_for-order.result in
+    let z = c.order_for-order.result.quantity in
     let at : Inventory = record { stock = to_z w64 (of_z w64 x); position = to_z w64 (of_z w64 y); running = c.args.at.running + c.cost_for.result } in
     let g-is : c.from-returned.result ≡ g = c.from-returned.ensures in
     let x-is : at.stock ≡ c.args.at.stock +ℤ pos (a + g) -ℤ pos d = omega (arith, ints, ux, c.changed-stock.ensures, g-is) in
@@ -38,10 +39,15 @@ returns-clause-moved c = λ v.
     let d = draw_in c.args.drawn.now in
     let p = terms_in c.args.terms.now in
     let a = c.turn-arrived.result in
-    let z = c.order_for-order.result in
+    let z = c.order_for-order.result.quantity in
     let at : Inventory = record { stock = to_z w64 (of_z w64 x); position = to_z w64 (of_z w64 y); running = c.args.at.running + c.cost_for.result } in
     let g-is : c.from-returned.result ≡ g = c.from-returned.ensures in
     let x-is : at.stock ≡ c.args.at.stock +ℤ pos (a + g) -ℤ pos d.demand = omega (arith, ints, ux, c.changed-stock.ensures, g-is) in
-    inventory_moved p d v c.args.period c.args.at at c.args.due.now c.turn-arrived.new.due z a c.cost_for.result
-    c.requires.at.position_is (c.order_for-order.ensures.value ∙ ap (order_quantity p.low p.high) ty) c.turn-arrived.ensures.arrived x-is c.turn-arrived.ensures.moved
+    let here : c.args.place ≡ c.args.period % LEAD_LIMIT = c.requires.place in
+    let due = c.args.due.now in
+    let arrived : a ≡ slice_index (rotated due (c.args.period % LEAD_LIMIT)) 0 = subst (λ (i : ℕ). a ≡ slice_index (rotated due i) 0) here c.turn-arrived.ensures.arrived in
+    let moved : rotated c.turn-arrived.new.due ((c.args.period % LEAD_LIMIT + 1) % LEAD_LIMIT) ≡ next_due (rotated due (c.args.period % LEAD_LIMIT)) d.lead z =
+    subst (λ (i : ℕ). rotated c.turn-arrived.new.due ((i + 1) % LEAD_LIMIT) ≡ next_due (rotated due i) d.lead z) here c.turn-arrived.ensures.moved in
+    inventory_moved p d v c.args.period c.args.at at due c.turn-arrived.new.due z a c.cost_for.result
+    c.requires.at.position_is (c.order_for-order.ensures.value ∙ ap (order_quantity p.low p.high) ty) arrived x-is moved
     c.cost_for.ensures.value refl

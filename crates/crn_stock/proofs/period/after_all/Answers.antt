@@ -2,17 +2,17 @@ use Rattle.std.proofs.Common.{◌≡◌, ℕ, ◌+◌, true, refl, subst, arith}
 use Rattle.crn_stock.specs.Inner.Steps.{HasRunPeriods}
 use Rattle.crn_stock.specs.Stock.{terms_in}
 use Rattle.crn_stock.proofs.Steps.{has_run_more}
-use Rattle.crn_stock.proofs.period.after_some.Goals as goal
+use Rattle.crn_stock.proofs.period.after_all.Goals as goal
 
 pub after_one-at-requires-clause-at : goal.after_one-at-requires-clause-at
 after_one-at-requires-clause-at c = c.loop-k.invariant.kept true (λ e. absurd (cc e)) c.requires.at
 
 pub loop-k-preserved : goal.loop-k-preserved
 loop-k-preserved c =
-    has_run_more (terms_in c.args.terms) c.args.draws.now c.args.period c.loop-k.k (c.args.period + c.loop-k.k) c.args.at c.loop-k.at c.after_one-at.result c.args.due.now c.loop-k.due c.after_one-at.new.due c.nth.result
+    has_run_more (terms_in c.args.terms.now) c.args.draws.now c.args.period c.loop-k.k (c.args.period + c.loop-k.k) c.args.at c.loop-k.at c.after_one-at.result c.args.due.now c.loop-k.due c.after_one-at.new.due c.nth.result
     c.loop-k.invariant refl c.nth.ensures c.after_one-at.ensures.kept c.after_one-at.ensures.moved
 
 pub returns : goal.returns
 returns c =
     let all : c.loop-k.k ≡ c.args.count = omega (arith, c.loop-k-test.false, c.loop-k.auto.k-end) in
-    subst (λ (n : ℕ). HasRunPeriods (terms_in c.args.terms) c.args.draws.now c.args.period n c.args.at c.loop-k.at c.args.due.now c.loop-k.due) all c.loop-k.invariant
+    subst (λ (n : ℕ). HasRunPeriods (terms_in c.args.terms.now) c.args.draws.now c.args.period n c.args.at c.loop-k.at c.args.due.now c.loop-k.due) all c.loop-k.invariant
