@@ -77,7 +77,6 @@ pub fn index_of(runs: &[Run], from: usize, place: u32) -> usize
 /// # Asks
 ///
 /// The place lies in one of the runs from `first` to `last`; the runs begin one after another.
-#[inline(never)]
 pub fn value_at(runs: &[Run], first: u16, last: u16, place: u32) -> u32
     requires bracket { IsBracket runs.now place place first last }
     requires rising { StartsRise runs.now }
