@@ -22,7 +22,7 @@ in, at each place. steps: of changes of the input that are made one after the ot
 comes next. What the oracle, a second program (oracle.py), can tell of a case is tried too: it has to write the output
 that is wanted, so to agree with what was worked by hand, and the program has to write the same.
 
-At the end the longest run is timed on rings of several sizes (waits.py).
+At the end the longest run is timed on rings of several sizes (waits.py), and the program's symbols are looked at (symbols.py).
 """
 import contextlib
 import itertools
@@ -42,6 +42,7 @@ import formats
 import made
 import oracle
 import pieces
+import symbols
 import waits
 from scenarios import on_ring
 from shown import refused
@@ -332,7 +333,7 @@ def tries(program, groups, room):
 
 
 def all_tries(program, room):
-    """Yields the tries of all cases, and those of the time that the longest run takes."""
+    """Yields the tries of all cases, those of the time that the longest run takes, and that of the program's symbols."""
     groups = []
     for file in FILES:
         with open(f"{HERE}/{file}", "rb") as it:
@@ -340,6 +341,7 @@ def all_tries(program, room):
     yield from tries(program, groups, room)
     with open(f"{TOP}/{LONGEST}", "rb") as it:
         yield from waits.tries(program, it.read())
+    yield from symbols.tries(program)
 
 
 def main(program):

@@ -8,14 +8,22 @@ beside the time that the thread runs. Where the system reports neither, all of t
 On a ring of 64 slots a thread that waits yields. If it spun, it would use up its turn on the processor while the others have
 nothing to run on. So the run is also made on one processor, where it takes 0.1 processor seconds on either ring, on an idle
 machine and on a busy one, and 20 and more with threads that spin.
+
+After 16 yields in vain a thread sleeps there too. If it went on, all threads would be busy with yields for as long as one of them
+waits for its processor behind other work. So in one more run a library holds the first thread that yields for 0.3 seconds (held.c).
+Meanwhile the others yield some hundreds of times, and 100,000 times and more if they never sleep.
 """
 import os
 import resource
+import shutil
 import subprocess
+import tempfile
 import threading
 import time
 
 from scenarios import on_ring
+
+HERE = os.path.dirname(os.path.abspath(__file__))
 
 # The size of the ring on which threads yield, and the sizes on which they sleep.
 SMALL, LARGE = 64, (128, 512, 1024)
@@ -24,6 +32,8 @@ SMALL, LARGE = 64, (128, 512, 1024)
 MOST_ASLEEP, ROUNDS = 4, 3
 # A run that yields may take so many times the processor time of one that sleeps, and so many seconds more.
 TIMES, MORE = 8, 1.0
+# So often the threads of a run may yield while one of them is held.
+MOST_YIELDS = 2_000
 # After so long a run is ended, and after so many seconds of processor time.
 SECONDS, PROCESSOR_SECONDS = 60, 20
 
@@ -75,8 +85,20 @@ def yields_on_small_ring(program, text):
     return small <= TIMES * large + MORE
 
 
+def sleeps_while_one_is_held(program, text):
+    """Returns whether the threads of a run on the small ring sleep while one of them is held."""
+    with tempfile.TemporaryDirectory(prefix="crnsim-") as room:
+        library = f"{room}/held.so"
+        subprocess.run(["cc", "-O1", "-shared", "-fPIC", "-o", library, f"{HERE}/held.c"], check=True)
+        told = subprocess.run([program], input=on_ring(text, SMALL), capture_output=True, check=True, timeout=SECONDS,
+                              env={"LD_PRELOAD": library}).stderr
+    return 0 < int(told) <= MOST_YIELDS
+
+
 def tries(program, text):
     """Runs a scenario on each ring."""
     yield f"the processor seconds of a run on a ring of {SMALL} slots", lambda: yields_on_small_ring(program, text)
+    if shutil.which("cc"):
+        yield f"the yields on a ring of {SMALL} slots", lambda: sleeps_while_one_is_held(program, text)
     for size in LARGE:
         yield f"the seconds asleep in a run on a ring of {size} slots", lambda: sleeps_shortly(program, on_ring(text, size))
