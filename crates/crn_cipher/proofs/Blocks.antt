@@ -20,14 +20,6 @@ pub length-block : (key : List ℕ) (n : ℕ) → length (BlockWords key n) ≡ 
 unfolding BlockWords Threefry key_step
 length-block key n = refl
 
--- the words one by one are all of them
-pub listed : (key : List ℕ) (n : ℕ)
-    → block_word key n 0 ∷ block_word key n 1 ∷ block_word key n 2 ∷ block_word key n 3
-    ∷ block_word key n 4 ∷ block_word key n 5 ∷ block_word key n 6 ∷ block_word key n 7
-    ∷ block_word key n 8 ∷ block_word key n 9 ∷ block_word key n 10 ∷ block_word key n 11 ∷ [] ≡ BlockWords key n
-unfolding BlockWords Threefry key_step
-listed key n = refl
-
 -- ---- in a list of fours, one list after another
 
 -- word i of the first four

@@ -16,8 +16,8 @@ use std::io::{Read, Write};
 use std::sync::Wait;
 use std::thread::Threads;
 
-/// Reads a scenario from `reader` to its end, runs all its policies over the blocks below `n`, each on a thread of its own,
-/// and writes the checkpoint at block `n` to `writer`. [`resume`](crate::resume) continues from it.
+/// Reads a scenario from `reader` to its end, runs all its policies over the blocks below `n`, with one thread for each
+/// policy, and writes the checkpoint at block `n` to `writer`. [`resume`](crate::resume) continues from it.
 ///
 /// # Errors
 ///

@@ -15,7 +15,7 @@ use std::sync::Wait;
 use std::thread::Threads;
 
 /// Reads a scenario from `reader` to its end, then a checkpoint of it from `checkpoint`, runs all policies from there over
-/// the remaining blocks, each on a thread of its own, and writes the report to `writer`.
+/// the remaining blocks, with one thread for each policy, and writes the report to `writer`.
 ///
 /// From a checkpoint that [`leg`](crate::leg) has written of the same scenario, with a ring of any size, it writes the
 /// report that [`simulate`](crate::simulate) writes. If amounts of the checkpoint were altered, it continues from these.

@@ -13,8 +13,8 @@ use std::io::{Read, Write};
 use std::sync::Wait;
 use std::thread::Threads;
 
-/// Reads a scenario from `reader` to its end, runs all its policies, and writes the report to `writer`. Each policy runs on a
-/// thread of its own; all of them take the same stream from one ring, which the calling thread feeds.
+/// Reads a scenario from `reader` to its end, runs all its policies, and writes the report to `writer`. There is one
+/// thread for each policy. All of them take the same stream from one ring, which the calling thread feeds.
 ///
 /// # Errors
 ///

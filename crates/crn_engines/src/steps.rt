@@ -34,7 +34,7 @@ pub(crate) fn scenario_from<R: Read>(alloc: Global, reader: &mut R) -> Result<Sc
     Ok(scenario)
 }
 
-/// Runs all policies from a checkpoint up to a block, each on a thread of its own.
+/// Runs all policies from a checkpoint up to a block, with one thread for each policy.
 pub(crate) fn run_to<H: Threads + Wait + Sync>(
     rt: &H,
     alloc: Global,

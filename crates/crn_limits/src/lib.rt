@@ -18,7 +18,7 @@ pub const REPLICATION_LIMIT: u32 = 256;
 /// The most blocks of a run: one for each four periods of each replication.
 pub const BLOCK_LIMIT: u64 = REPLICATION_LIMIT as u64 * (PERIOD_LIMIT / STREAM_WORDS) as u64;
 
-/// The most policies of a scenario. Each policy has a reader of its own, so it is also the most readers of a ring.
+/// The most policies of a scenario. Each policy has one reader, so this is also the most readers of a ring.
 pub const POLICY_LIMIT: u32 = 16;
 
 /// The most slots of a ring. Each slot holds one block.

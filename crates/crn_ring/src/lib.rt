@@ -1,5 +1,5 @@
-//! A broadcast ring of block words. One producer publishes the blocks of a stream in order; several readers, each on a
-//! thread of its own, take all of them, until the end is marked.
+//! A broadcast ring of block words. One producer publishes the blocks of a stream in order. Each of several readers
+//! takes all of them, on its own thread, until the end is marked.
 //!
 //! The threads share one table of words: the ring cursor, a cursor for each reader, and `size` slots of
 //! [`BLOCK_WORDS`](crn_cipher::BLOCK_WORDS) words. Block `n` is stored in slot `n mod size`. A slot is reused once each

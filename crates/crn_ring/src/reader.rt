@@ -8,7 +8,7 @@ use crate::ring::{Place, Ring};
 use crn_cipher::{BLOCK_WORDS, Block};
 
 /// Takes every block that the producer publishes, in order, and then sees the end. One of the readers of a ring; each may
-/// run on a thread of its own.
+/// run on its own thread.
 #[derive(Drop)]
 pub struct Reader {
     pub(crate) seat: Place,

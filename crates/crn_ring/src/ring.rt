@@ -31,7 +31,7 @@ pub type Words = Table<(), View, RingSpec, RingRule, Global>;
 /// Gives one actor access to the table.
 pub type Place = Seat<(), View>;
 
-/// Has `size` slots, which one producer and `readers` readers share by reference, each on a thread of its own.
+/// Has `size` slots, which one producer and `readers` readers share by reference, each on its own thread.
 ///
 /// It has only the words. What each actor knows is kept by the [`Producer`](crate::Producer) and the
 /// [`Reader`](crate::Reader)s. All their calls take the ring, and it must be the one that they were opened with.

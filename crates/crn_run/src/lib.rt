@@ -1,4 +1,5 @@
-//! The runs of a scenario's policies over the blocks of its stream, each on a thread of its own. A run is that of one policy.
+//! The runs of a scenario's policies over the blocks of its stream, with one thread for each policy. A run is that of
+//! one policy.
 #![tactic(auto)]
 
 mod batch;

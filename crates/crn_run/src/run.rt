@@ -1,4 +1,4 @@
-//! The runs of all policies, each on a thread of its own.
+//! The runs of all policies, with one thread for each policy.
 ghost use Rattle.std.specs.Prelude.{◌≡◌, ℕ, ◌≤◌, false, length, All, List, IfOk, IfErr, IfNone, IfSome, OnOk, MatchResult, vec_len, vec_capacity, []};
 ghost use Rattle.std.specs.List.{list_any};
 ghost use Rattle.crn_stock.specs.Parts.{Parts};
@@ -35,8 +35,8 @@ pub struct Finished {
     pub readers: Vec<Reader>,
 }
 
-/// Runs all policies from `start` up to block `upto`, each on a thread of its own, while the calling thread feeds the
-/// scenario's ring. `start` stays as it is. The result equals that of [`run_plain`](crate::run_plain).
+/// Runs all policies from `start` up to block `upto`, with one thread for each policy, while the calling thread feeds
+/// the scenario's ring. `start` stays as it is. The result equals that of [`run_plain`](crate::run_plain).
 ///
 /// Before each block the policy's gate is asked, with the numbers of the policy and of the block. All memory is allocated
 /// before the first thread starts, and every thread that was started is joined. It returns only if every policy's run

@@ -107,9 +107,9 @@ fn start_from<'s, 'e: 's, 'g: 's, R: Threads + Wait + Sync, G: Gate + Send>(
     }
 }
 
-/// Runs each job on a thread of its own, under the gate of its policy, and feeds the ring on the calling thread. The jobs are
-/// a stack, the first policy's last, and so are the ends that it returns. `ends` has the capacity for them. If a thread fails
-/// to start it fails, and the ring was ended with nothing published.
+/// Runs each job on its own thread, under the gate of its policy, and feeds the ring on the calling thread. The jobs
+/// are a stack, the first policy's last, and so are the ends that it returns. `ends` has the capacity for them. If a
+/// thread fails to start it fails, and the ring was ended with nothing published.
 pub(crate) fn run_jobs<'r, R: Threads + Wait + Sync, G: Gate + Send>(
     rt: &'r R,
     ring: &'r Ring,

@@ -1,5 +1,5 @@
 //! The texts of crnsim in one place: scenarios, reports, checkpoints, schedules, traces and the words of a block. Each
-//! call is defined in a crate of its own, and re-exported here.
+//! call is defined in the crate of its text, and re-exported here.
 #![tactic(auto)]
 
 pub use crn_checkpoint::{

@@ -2,7 +2,7 @@
 
 mod vectors;
 
-use crate::scenarios::prints;
+use crate::scenarios::first_other_line;
 use crn_draw::{DrawFault, Weights};
 use std::alloc::{AllocError, Global};
 use std::test::Fail;
@@ -142,19 +142,12 @@ static FAULTS: [(DrawFault, u8, &str); 5] = [
     (DrawFault::Memory(AllocError), 90, "out of memory"),
 ];
 
-// The first line whose fault has another number or is printed in another way.
-fn first_other_line(alloc: Global) -> Result<Option<&'static str>, AllocError> {
-    for (fault, number, line) in &FAULTS {
-        if fault.number() != *number || !prints(alloc, fault, line)? {
-            return Ok(Some(line));
-        }
-    }
-    Ok(None)
-}
-
 #[test]
 fn numbers_and_lines_of_faults(rt: HostRuntime) -> Result<(), Fail> {
-    assert_eq!(rt; first_other_line(rt.alloc())?, None);
+    assert_eq!(rt;
+        first_other_line(rt.alloc(), &FAULTS, DrawFault::number)?,
+        None
+    );
     Ok(())
 }
 

@@ -2,9 +2,8 @@
 
 mod vectors;
 
-use crate::scenarios::prints;
+use crate::scenarios::first_other_line;
 use crn_pair::{Fraction, Pair, PairFault};
-use std::alloc::{AllocError, Global};
 use std::test::Fail;
 
 // Fractions, and their lowest terms.
@@ -181,18 +180,11 @@ static FAULTS: [(PairFault, u8, &str); 4] = [
     (PairFault::Entry, 4, "a cost is over 230000000000000"),
 ];
 
-// The first line whose fault has another number or is printed in another way.
-fn first_other_line(alloc: Global) -> Result<Option<&'static str>, AllocError> {
-    for (fault, number, line) in &FAULTS {
-        if fault.number() != *number || !prints(alloc, fault, line)? {
-            return Ok(Some(line));
-        }
-    }
-    Ok(None)
-}
-
 #[test]
 fn numbers_and_lines_of_faults(rt: HostRuntime) -> Result<(), Fail> {
-    assert_eq!(rt; first_other_line(rt.alloc())?, None);
+    assert_eq!(rt;
+        first_other_line(rt.alloc(), &FAULTS, PairFault::number)?,
+        None
+    );
     Ok(())
 }

@@ -214,6 +214,24 @@ impl Slots {
     }
 }
 
+/// Returns a list of one policy, A.
+///
+/// # Asks
+///
+/// `low` is at most `high`, and `high` at most 100.
+///
+/// # Errors
+///
+/// `AllocError` if an allocation fails.
+pub fn one_policy(alloc: Global, levels: Levels) -> Result<Vec<Policy>, AllocError>
+    requires { (levels.low ≤ levels.high) × (levels.high ≤ 100) }
+    ensures { IfOk result (λ ps. (ring : ℕ) → IsRingSize ring → AreForScenario ring ps.items) }
+{
+    let only = policy(alloc, "A", levels)?;
+    let policies = vec![in alloc; only]?;
+    Ok(policies)
+}
+
 // Policies A and B of these levels.
 fn two_policies(alloc: Global, a: Levels, b: Levels) -> Result<Vec<Policy>, AllocError>
     requires a { (a.low ≤ a.high) × (a.high ≤ 100) }
@@ -225,6 +243,29 @@ fn two_policies(alloc: Global, a: Levels, b: Levels) -> Result<Vec<Policy>, Allo
     let second = policy(alloc, "B", b)?;
     let policies = vec![in alloc; first, second]?;
     Ok(policies)
+}
+
+/// Returns the scenario of these parts. Tests make all scenarios here and by `checked_scenario`, so that a new part of
+/// a scenario changes no other call.
+///
+/// # Asks
+///
+/// The ring size and the policies are as `Scenario::new` asks for.
+pub fn scenario_with(key: [u64; 4], ring: u64, model: Model, policies: Vec<Policy>) -> Scenario
+    requires { AreForScenario ring policies.items }
+    ensures { result ≡ record { key = key; ring = ring; model = model; policies = policies.items } }
+{
+    Scenario::new(key, ring, model, policies)
+}
+
+/// Returns what `Scenario::checked` answers to these parts.
+pub fn checked_scenario(
+    key: [u64; 4],
+    ring: u64,
+    model: Model,
+    policies: Vec<Policy>,
+) -> Option<Scenario> {
+    Scenario::checked(key, ring, model, policies)
 }
 
 /// Returns a scenario of the zero key and of a model, with policies A and B.
@@ -250,7 +291,7 @@ pub fn scenario_of(
     ensures two { IfOk result (λ s. length s.policies ≡ 2) }
 {
     let policies = two_policies(alloc, a, b)?;
-    Ok(Scenario::new([0; 4], slots.count(), model, policies))
+    Ok(scenario_with([0; 4], slots.count(), model, policies))
 }
 
 /// Returns the base scenario: four periods a replication of the base model, on a ring of two slots.
@@ -287,4 +328,29 @@ pub fn have_costs(checkpoint: &Checkpoint, a: &[u64], b: &[u64]) -> bool {
 pub fn prints<T: Display>(alloc: Global, value: &T, line: &str) -> Result<bool, AllocError> {
     let text = value.to_string(alloc)?;
     Ok(text.as_str() == line)
+}
+
+/// Returns the first line of a table of faults, with their numbers and their lines, whose fault has another number or
+/// is printed in another way, or `None` if there is none.
+///
+/// # Asks
+///
+/// `number_of` may be called with every fault.
+///
+/// # Errors
+///
+/// `AllocError` if an allocation fails.
+pub fn first_other_line<'a, T: Display, F: Fn(&T) -> u8>(
+    alloc: Global,
+    faults: &[(T, u8, &'a str)],
+    number_of: F,
+) -> Result<Option<&'a str>, AllocError>
+    requires { F.IsAlwaysCallable number_of }
+{
+    for (fault, number, line) in faults {
+        if number_of(fault) != *number || !prints(alloc, fault, line)? {
+            return Ok(Some(line));
+        }
+    }
+    Ok(None)
 }

@@ -10,8 +10,8 @@ mod returns;
 mod sizes;
 
 use crate::scenarios::{
-    Levels, Slots, always, base_model, costs_of, fixed_draws, model_with, policy, prints,
-    steady_model,
+    Levels, Slots, always, base_model, costs_of, first_other_line, fixed_draws, model_with,
+    one_policy, policy, scenario_with, steady_model,
 };
 use crn_cipher::block;
 use crn_stock::{Costs, Model, Policy, RestoreFault, Scenario, State};
@@ -446,27 +446,20 @@ static FAULTS: [(RestoreFault, u8, &str); 2] = [
     (RestoreFault::Memory(AllocError), 90, "out of memory"),
 ];
 
-// The first line whose fault has another number or is printed in another way.
-fn first_other_line(alloc: Global) -> Result<Option<&'static str>, AllocError> {
-    for (fault, number, line) in &FAULTS {
-        if fault.number() != *number || !prints(alloc, fault, line)? {
-            return Ok(Some(line));
-        }
-    }
-    Ok(None)
-}
-
 #[test]
 fn numbers_and_lines_of_faults(rt: HostRuntime) -> Result<(), Fail> {
-    assert_eq!(rt; first_other_line(rt.alloc())?, None);
+    assert_eq!(rt;
+        first_other_line(rt.alloc(), &FAULTS, RestoreFault::number)?,
+        None
+    );
     Ok(())
 }
 
 // A scenario of one policy.
 fn scenario(alloc: Global) -> Result<Scenario, AllocError> {
-    let policies = vec![in alloc; policy(alloc, "A", Levels { low: 5, high: 10 })?]?;
+    let policies = one_policy(alloc, Levels { low: 5, high: 10 })?;
     let model = twice(alloc)?;
-    Ok(Scenario::new([1, 2, 3, 4], Slots::Two.count(), model, policies))
+    Ok(scenario_with([1, 2, 3, 4], Slots::Two.count(), model, policies))
 }
 
 // Its key, its ring size, the total of its blocks and the number of its policies.

@@ -1,7 +1,7 @@
 // The calls that judge and compare: on parts within their ranges, at the ends of the ranges, and just beyond.
 
 use super::*;
-use crate::scenarios::{checked_model, draws, policy_of};
+use crate::scenarios::{checked_model, checked_scenario, draws, policy_of};
 use crn_stock::Name;
 
 // Cost rates that are all the same but for the setup cost.
@@ -64,9 +64,8 @@ fn models_at_the_ends_of_their_ranges(rt: HostRuntime) -> Result<(), Fail> {
 // Whether there is a scenario of the base model with one policy, and it is the same as itself but for the ring.
 fn has_scenario(alloc: Global, ring: u64) -> Result<bool, AllocError> {
     let model = base_model(alloc, 4, 1)?;
-    let only = policy(alloc, "A", Levels { low: 1, high: 2 })?;
-    let policies = vec![in alloc; only]?;
-    match Scenario::checked([1, 2, 3, 4], ring, model, policies) {
+    let policies = one_policy(alloc, Levels { low: 1, high: 2 })?;
+    match checked_scenario([1, 2, 3, 4], ring, model, policies) {
         Some(scenario) => Ok(scenario.is_same_but_ring(&scenario)),
         None => Ok(false),
     }
