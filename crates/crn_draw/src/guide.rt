@@ -1,6 +1,6 @@
 // The guide to the search for a draw: what the leading bits of a word leave to be searched.
 
-ghost use Rattle.std.specs.Prelude.{◌≡◌, ℕ, ◌≤◌, ◌<◌, ◌^◌, IfOk, length};
+ghost use Rattle.std.specs.Prelude.{◌≡◌, ℕ, ◌≤◌, ◌<◌, ◌^◌, IfOk, length, slice_index};
 ghost use Rattle.crn_draw.specs.Spread.{place_of};
 ghost use Rattle.crn_draw.specs.Inner.Runs.{start_at, IsBracket, StandsAtPlace, StartsRise};
 ghost use Rattle.crn_draw.specs.Inner.Guide.{IsEntry, IsGuide};
@@ -84,35 +84,39 @@ pub fn guide_of(alloc: Global, runs: &[Run], total: u64) -> Result<Guide, AllocE
     Ok(Guide { entries, brackets })
 }
 
-/// The value at the place of a word. Takes no memory. It takes the word where it stands in memory, so that a draw without a
-/// search keeps it for none.
+/// The value at the place of word k. Takes no memory. The words are given as they stand in memory, so that a draw without a
+/// search keeps no word for it.
 ///
 /// # Asks
 ///
-/// The guide is that of these runs, which begin one after another, and of `total` places, at most `TOTAL_LIMIT`.
+/// There is a word k. The guide is that of these runs, which begin one after another, and of `total` places, at most
+/// `TOTAL_LIMIT`.
 #[inline(always)]
-pub fn draw(runs: &[Run], guide: &Guide, total: u64, word: &u64) -> u32
+pub fn draw(runs: &[Run], guide: &Guide, total: u64, words: &[u64], k: usize) -> u32
     requires rising { StartsRise runs.now }
     requires total { total ≤ TOTAL_LIMIT }
     requires guide { IsGuide runs.now total guide.now }
-    ensures value { StandsAtPlace runs.now (place_of word.now total) result }
-    ensures word { word.now < 2 ^ 64 }
+    requires word { k < length words.now }
+    ensures value { StandsAtPlace runs.now (place_of (slice_index words.now k) total) result }
+    ensures word { slice_index words.now k < 2 ^ 64 }
 {
-    let value = guide.entries[(*word >> REST_BITS) as usize];
+    let value = guide.entries[(words[k] >> REST_BITS) as usize];
     if value != SEVERAL {
         return value;
     }
-    searched(runs, guide, total, word)
+    searched(runs, guide, total, words, k)
 }
 
-// The value at the place of a word, found by a search of its bracket.
+// The value at the place of word k, found by a search of its bracket.
 #[inline(never)]
-fn searched(runs: &[Run], guide: &Guide, total: u64, word: &u64) -> u32
+fn searched(runs: &[Run], guide: &Guide, total: u64, words: &[u64], k: usize) -> u32
     requires rising { StartsRise runs.now }
     requires total { total ≤ TOTAL_LIMIT }
     requires guide { IsGuide runs.now total guide.now }
-    ensures { StandsAtPlace runs.now (place_of word.now total) result }
+    requires word { k < length words.now }
+    ensures { StandsAtPlace runs.now (place_of (slice_index words.now k) total) result }
 {
-    let Bracket { first, last } = guide.brackets[(*word >> REST_BITS) as usize];
-    value_at(runs, first, last, place_at(*word, total))
+    let word = words[k];
+    let Bracket { first, last } = guide.brackets[(word >> REST_BITS) as usize];
+    value_at(runs, first, last, place_at(word, total))
 }

@@ -81,13 +81,13 @@ impl<'a> DrawSource<'a> {
         match self {
             DrawSource::Given(drawn) => *drawn,
             DrawSource::Words(model, block) => Drawn {
-                demand: model.demand().pick_by(&block.demand[k]),
-                lead: model.lead().pick_by(&block.lead[k]),
+                demand: model.demand().pick_nth(&block.demand, k),
+                lead: model.lead().pick_nth(&block.lead, k),
                 returned: model.returned(block.returns[k]),
             },
             DrawSource::WordsWithoutReturns(model, block) => Drawn {
-                demand: model.demand().pick_by(&block.demand[k]),
-                lead: model.lead().pick_by(&block.lead[k]),
+                demand: model.demand().pick_nth(&block.demand, k),
+                lead: model.lead().pick_nth(&block.lead, k),
                 returned: 0,
             },
         }

@@ -1,4 +1,4 @@
-use Rattle.std.proofs.Common.{rules, ℕ, sym, subst}
+use Rattle.std.proofs.Common.{rules, ℕ, slice_index, sym, subst}
 use Rattle.crn_draw.specs.Inner.Runs.{IsBracket}
 use Rattle.crn_draw.proofs.Guides.{bracket-holds}
 use Rattle.crn_draw.proofs.guide.searched.Goals as goal
@@ -7,4 +7,4 @@ pub value_at-requires-clause-bracket : goal.value_at-requires-clause-bracket
 value_at-requires-clause-bracket c =
     let bracket = c.index.result.now in
     subst (λ (place : ℕ). IsBracket c.args.runs.now place place bracket.first bracket.last) (sym c.place_at.ensures)
-    (bracket-holds c.args.runs.now c.args.total c.args.word.now c.args.guide.now (search rules) c.requires.guide bracket (search rules))
+    (bracket-holds c.args.runs.now c.args.total (slice_index c.args.words.now c.args.k) c.args.guide.now (search rules) c.requires.guide bracket (search rules))
