@@ -4,7 +4,7 @@
 //! Source: Salmon, Moraes, Dror and Shaw, "Parallel Random Numbers: As Easy as 1, 2, 3", SC 2011.
 #![tactic(auto)]
 
-ghost use Rattle.std.specs.Prelude.{◌≡◌};
+ghost use Rattle.std.specs.Prelude.{◌≡◌, ℕ, ◌+◌, ◌<◌, ◌≤◌, ◌^◌, length, slice_get, Some};
 
 mod cipher;
 pub mod laws;
@@ -37,5 +37,29 @@ pub fn block(key: [u64; 4], n: u64) -> Block
         demand: threefry(key, [n, Stream::Demand.counter(), 0, 0]),
         lead: threefry(key, [n, Stream::Lead.counter(), 0, 0]),
         returns: threefry(key, [n, Stream::Returns.counter(), 0, 0]),
+    }
+}
+
+/// Sets the first `count` of the blocks to those of `key` from block `n` on. Takes no memory.
+///
+/// # Asks
+///
+/// There are so many places, and each block has a number below 2^64.
+pub fn fill_blocks(key: [u64; 4], n: u64, blocks: &mut [Block], count: usize)
+    requires room { count ≤ length blocks.old }
+    requires numbers { n + count ≤ 2 ^ 64 }
+    ensures length { length blocks.new ≡ length blocks.old }
+    ensures blocks { (j : ℕ) (b : Block) → j < count → slice_get blocks.new j ≡ Some b → (b.key ≡ key) × (b.number ≡ n + j) }
+{
+    // As in `block`, which as a call would keep the processor from two blocks at once.
+    for k in 0..count {
+        let number = n + k as u64;
+        blocks[k] = Block {
+            key,
+            number,
+            demand: threefry(key, [number, Stream::Demand.counter(), 0, 0]),
+            lead: threefry(key, [number, Stream::Lead.counter(), 0, 0]),
+            returns: threefry(key, [number, Stream::Returns.counter(), 0, 0]),
+        };
     }
 }

@@ -5,8 +5,7 @@ ghost use Rattle.crn_ring.specs.Calls.{FollowOn, IsProducerOf, producer_part, sp
 
 use crate::batch::{BATCH, room_for};
 use crate::waiting::Waiting;
-use crn_cipher::{Block, block};
-use crn_limits::BLOCK_LIMIT;
+use crn_cipher::{Block, fill_blocks};
 use crn_ring::{Producer, PublishMany, Ring};
 use std::sync::Wait;
 
@@ -36,20 +35,10 @@ pub fn feed<R: Wait>(rt: &R, ring: &Ring, producer: &mut Producer)
             return;
         }
         let count = BATCH.min((id.total - n) as usize);
-        fill(id.key, n, &mut blocks, count);
+        fill_blocks(id.key, n, &mut blocks, count);
         publish_all(rt, ring, producer, &blocks[..count], &waiting);
     }
     unreachable!()
-}
-
-// Sets the first `count` of the blocks to those of the key from block n on.
-fn fill(key: [u64; 4], n: u64, blocks: &mut [Block], count: usize)
-    requires room { (count ≤ length blocks.old) × (n + count ≤ BLOCK_LIMIT) }
-    ensures blocks { (j : ℕ) (b : Block) → j < count → slice_get blocks.new j ≡ Some b → (b.key ≡ key) × (b.number ≡ n + j) }
-{
-    for k in 0..count {
-        blocks[k] = block(key, n + k as u64);
-    }
 }
 
 // Publishes these blocks, which are the next ones. If the ring is full it waits and tries again.

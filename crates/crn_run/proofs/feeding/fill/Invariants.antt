@@ -1,7 +1,0 @@
-use Rattle.std.proofs.Common.{◌≡◌, ℕ, ◌+◌, ◌<◌, ◌≤◌, length}
-use Rattle.std.specs.Prelude.{slice_get, Some}
-use Rattle.crn_cipher.specs.declared.stream.Block.{Block}
-use Rattle.crn_run.proofs.feeding.fill.Given as goal
-
-abbrev pub invariant-loop-k : goal.invariant-loop-k
-invariant-loop-k l = (l.count ≤ length l.blocks) × ((j : ℕ) (b : Block) → j < l.k → slice_get l.blocks j ≡ Some b → (b.key ≡ l.key) × (b.number ≡ l.n + j))
