@@ -113,7 +113,7 @@ def tells_no_byte(tokens, at):
 
 def makes_block(tokens, at):
     """A block that is made and not taken from the ring."""
-    return tokens[at].text == "block" and (next_words(tokens, at, 1) == ["("] or before(tokens, at) == ["::"])
+    return tokens[at].text == "fill_blocks" or tokens[at].text == "block" and (next_words(tokens, at, 1) == ["("] or before(tokens, at) == ["::"])
 
 
 def waits_for_ever(tokens, at):
@@ -186,8 +186,9 @@ PLANTS = [
     Plant(RULES[4].name, "crn_engines/src/steps.rt", "    Ok(write_text(writer, text)?)", "    Err(Fault::Writing(WriteFault::NoByte))"),
     Plant(RULES[5].name, INPUT, "const CHUNK: usize = 4_096;", "macro_rules! refused { () => { AllocError } }"),
     Plant(RULES[6].name, WORKER, APPLY, "    drop(permit);\n    let block = &crn_cipher::block(scenario.key(), block.number);"),
+    Plant(RULES[6].name, WORKER, APPLY, "    drop(permit);\n    let mut made = [*block];\n    crn_cipher::fill_blocks(scenario.key(), block.number, &mut made, 1);\n    let block = &made[0];"),
     Plant(RULES[6].name, WORKER, "use crn_cipher::Block;", "use crn_cipher::{Block, block};\nconst MAKE: fn([u64; 4], u64) -> Block = block(0);"),
-    Plant(RULES[7].name, "crn_run/src/waiting.rt", "                .park_timeout(rt, Duration::from_micros(self.sleep));", "                .park(rt);"),
+    Plant(RULES[7].name, "crn_run/src/waiting.rt", "self.sleeper.park_timeout(rt, self.sleep);", "self.sleeper.park(rt);"),
     Plant(RULES[7].name, "crn_run/src/waiting.rt", "            thread::yield_now();", "            thread::sleep(rt, Duration::from_micros(1));"),
     Plant(RULES[8].name, "crn_ring/src/reader.rt", "use crate::", "fn look(table: &Table) -> u64 { table.peek(0) }\nuse crate::"),
     Plant(RULES[8].name, "crn_ring/src/reader.rt", "use crate::", "fn look(table: &Table) { table.load_new_seat(0) }\nuse crate::"),
