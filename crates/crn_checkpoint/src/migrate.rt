@@ -16,7 +16,8 @@ use std::alloc::Global;
 // The size of the ring of a scenario that is only written: no text tells it.
 const ANY_RING: u64 = 1;
 
-/// The text, in version 2, of the checkpoint that a text of version 1 spells: the same scenario, block and states.
+/// Returns the text, in version 2, of the checkpoint that a text of version 1 spells: the same scenario, block and
+/// states.
 ///
 /// # Errors
 ///

@@ -44,7 +44,7 @@ fn cut_in(alloc: Global, ring: u64, bytes: &[u8]) -> Result<Cut, Unread>
     Cut::from_rows(alloc, ring, rows.as_slice())
 }
 
-/// The checkpoint of a scenario that a text spells, where it is byte for byte what
+/// Returns the checkpoint of a scenario that a text spells, where it is byte for byte what
 /// [`write_checkpoint`](crate::write_checkpoint) gives for it. A checkpoint has just one text, and a text just one
 /// checkpoint. A text of version 1 is refused: [`migrate_checkpoint`](crate::migrate_checkpoint) takes it.
 ///

@@ -82,9 +82,9 @@ pub(crate) fn write_in(
     sheet.into_text()
 }
 
-/// The text of a checkpoint of a scenario, in version 2: rows of five fields, as CSV. First come the scenario's own,
-/// but for the size of its ring; then, for each policy in order, its levels, the amounts of its state, each amount that
-/// is due with its period, and the cost of each replication that is done; at last a row that ends the text.
+/// Returns the text of a checkpoint of a scenario, in version 2: rows of five fields, as CSV. First come the scenario's
+/// own, but for the size of its ring; then, for each policy in order, its levels, the amounts of its state, each amount
+/// that is due with its period, and the cost of each replication that is done; at last a row that ends the text.
 ///
 /// # Asks
 ///

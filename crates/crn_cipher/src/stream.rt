@@ -16,7 +16,7 @@ pub enum Stream {
 }
 
 impl Stream {
-    /// The second word of the cipher's counters for the stream: 0, 1 or 2.
+    /// Returns the second word of the cipher's counters for the stream: 0, 1 or 2.
     #[inline(always)]
     pub fn counter(self) -> u64
         ensures { result ≡ counter_of self }
@@ -28,7 +28,7 @@ impl Stream {
         }
     }
 
-    /// The name of the stream in texts.
+    /// Returns the name of the stream in texts.
     pub fn name(self) -> &'static str
         ensures { result.now ≡ name_of self }
     {
@@ -60,7 +60,7 @@ pub struct Block {
 }
 
 impl Block {
-    /// The words of a stream in the block. Takes no memory.
+    /// Returns the words of a stream in the block. Takes no memory.
     #[inline(always)]
     pub fn words(&self, stream: Stream) -> &[u64; 4]
         ensures { result.now ≡ StreamWords self.now.key self.now.number stream }
@@ -93,8 +93,8 @@ impl Block {
         }
     }
 
-    /// The block `number` of the stream of `key`, from its words in order as they were stored somewhere. It computes no
-    /// word. Takes no memory.
+    /// Returns the block `number` of the stream of `key`, from its words in order as they were stored somewhere. It
+    /// computes no word. Takes no memory.
     ///
     /// # Asks
     ///

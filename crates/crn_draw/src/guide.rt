@@ -50,7 +50,7 @@ fn entry_of(runs: &[Run], first: usize, last: usize) -> u32
     }
 }
 
-/// The entry and the bracket of each number of leading bits, found in one walk over the runs of `total` places.
+/// Returns the entry and the bracket of each number of leading bits, found in one walk over the runs of `total` places.
 ///
 /// # Asks
 ///
@@ -84,8 +84,8 @@ pub fn guide_of(alloc: Global, runs: &[Run], total: u64) -> Result<Guide, AllocE
     Ok(Guide { entries, brackets })
 }
 
-/// The value at the place of word k. Takes no memory. The words are given as they stand in memory, so that a draw without a
-/// search keeps no word for it.
+/// Returns the value at the place of word k. Takes no memory. The words are given as they stand in memory, so that a
+/// draw without a search keeps no word for it.
 ///
 /// # Asks
 ///

@@ -14,7 +14,7 @@ pub struct Run {
     pub value: u32,
 }
 
-/// The place of a word among `total` places. Takes no memory.
+/// Returns the place of a word among `total` places. Takes no memory.
 ///
 /// # Asks
 ///
@@ -27,7 +27,7 @@ pub fn place_at(word: u64, total: u64) -> u32
     ((u128::from(word) * u128::from(total)) >> 64) as u32
 }
 
-/// The runs of the values. A value with the weight 0 has none.
+/// Returns the runs of the values. A value with the weight 0 has none.
 ///
 /// # Asks
 ///
@@ -53,7 +53,8 @@ pub fn runs_of(alloc: Global, values: &[u32], weights: &[u32]) -> Result<Vec<Run
     Ok(runs)
 }
 
-/// The index of the last run that begins at `place` or before, sought onward from the run at `from`. Takes no memory.
+/// Returns the index of the last run that begins at `place` or before, sought onward from the run at `from`. Takes no
+/// memory.
 ///
 /// # Asks
 ///
@@ -72,7 +73,7 @@ pub fn index_of(runs: &[Run], from: usize, place: u32) -> usize
     index
 }
 
-/// The value at `place`: a search by halves. Takes no memory.
+/// Returns the value at `place`: a search by halves. Takes no memory.
 ///
 /// # Asks
 ///

@@ -19,7 +19,7 @@ pub enum PairFault {
 }
 
 impl PairFault {
-    /// The number of the fault: 1 for the lengths, 2 for empty lists, 3 for too many entries, 4 for an entry.
+    /// Returns the number of the fault: 1 for the lengths, 2 for empty lists, 3 for too many entries, 4 for an entry.
     pub fn number(&self) -> u8
         ensures { result ≡ costs_fault_number self.now }
     {

@@ -17,7 +17,7 @@ pub struct Fraction {
 }
 
 impl Fraction {
-    /// The fraction `num / den` in lowest terms, for every `num`. Takes no memory.
+    /// Returns the fraction `num / den` in lowest terms, for every `num`. Takes no memory.
     ///
     /// # Asks
     ///

@@ -68,23 +68,23 @@ impl Pair {
         }
     }
 
-    /// The sum of the differences, the first policy's cost less the second one's in each replication.
+    /// Returns the sum of the differences, the first policy's cost less the second one's in each replication.
     pub fn diff_total(&self) -> i128
         ensures { result ≡ spec.difference_of self.now }
     {
         self.difference
     }
 
-    /// The mean of the differences.
+    /// Returns the mean of the differences.
     pub fn mean_diff(&self) -> Fraction
         ensures { IsQuotient (spec.difference_of self.now) (spec.replications_of self.now) result }
     {
         Fraction::new(self.difference, self.replications)
     }
 
-    /// The variance of the mean difference, estimated from the sample: with R replications and the
-    /// differences d the sum of (d_i - d_j)^2 over the pairs i < j, over R^2 (R - 1). `None` for one
-    /// replication, which tells nothing of it.
+    /// Returns the variance of the mean difference, estimated from the sample: with R replications and the differences
+    /// d the sum of (d_i - d_j)^2 over the pairs i < j, over R^2 (R - 1). `None` for one replication, which tells
+    /// nothing of it.
     pub fn var_of_mean(&self) -> Option<Fraction>
         ensures { IsQuotientIfAny (spec.squares_of self.now) (spec.variance_parts (spec.replications_of self.now)) result }
     {
@@ -92,9 +92,9 @@ impl Pair {
         Pair::estimate(self.squares, count * count * (count - 1))
     }
 
-    /// The covariance of the two policies' costs, estimated from the sample: with R replications the sum
-    /// of (a_i - a_j) (b_i - b_j) over the pairs i < j, over R (R - 1). `None` for one replication. The
-    /// larger it is, the more the common random numbers have narrowed the variance of the difference.
+    /// Returns the covariance of the two policies' costs, estimated from the sample: with R replications the sum of
+    /// (a_i - a_j) (b_i - b_j) over the pairs i < j, over R (R - 1). `None` for one replication. The larger it is, the
+    /// more the common random numbers have narrowed the variance of the difference.
     pub fn covariance(&self) -> Option<Fraction>
         ensures { IsQuotientIfAny (spec.products_of self.now) (spec.covariance_parts (spec.replications_of self.now)) result }
     {

@@ -325,7 +325,7 @@ impl Machine {
         }
     }
 
-    /// The next step of an actor, or None where it has none, and then nothing changes. Takes no memory.
+    /// Takes the next step of an actor and returns it, or `None` if it has none, and then nothing changes. Takes no memory.
     ///
     /// - The producer has no step after the end mark. At the stream's total it stores the end mark. Else it loads each
     ///   reader's cursor, from the first again where one shows that the slot is still needed, stores the words of the
@@ -354,7 +354,8 @@ impl Machine {
     }
 }
 
-/// The machine's next steps by the actors of a schedule in turn: for each actor its step, or None where it has none.
+/// Takes the machine's next steps by the actors of a schedule in turn, and returns for each actor its step, or `None` if
+/// it has none.
 ///
 /// # Asks
 ///

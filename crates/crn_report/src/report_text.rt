@@ -225,8 +225,8 @@ fn with_policy_rows(
     Ok(sheet)
 }
 
-/// The report of a scenario from the states of all its policies at the end of the run, as CSV: a row with the names of
-/// the fields, then a row for each policy in the scenario's order.
+/// Returns the report of a scenario from the states of all its policies at the end of the run, as CSV: a row with the
+/// names of the fields, then a row for each policy in the scenario's order.
 ///
 /// A row has the policy's name and levels, the sum of its costs, that over all periods, and how its costs differ from
 /// those of the first policy, replication by replication: the sum and the mean of the differences, the variance of that

@@ -26,7 +26,7 @@ fn records(alloc: Global, text: &[u8]) -> Result<Vec<Row>, AllocError>
     Ok(rows)
 }
 
-/// The rows of a text, with whatever fields they have: quotes are taken off and empty lines passed over.
+/// Returns the rows of a text, with whatever fields they have: quotes are taken off and empty lines passed over.
 ///
 /// Where the text is that of rows of plain fields, as a [`Sheet`](crate::Sheet) writes them, it is just these rows.
 ///

@@ -33,7 +33,7 @@ impl Row {
         Row { inner }
     }
 
-    /// The field at a place, counted from 0, and no bytes where the row has none there.
+    /// Returns the field at a place, counted from 0, and no bytes where the row has none there.
     pub fn field(&self, place: usize) -> &[u8]
         ensures { result.now ≡ slice_index_or self.now place [] }
     {
@@ -43,14 +43,14 @@ impl Row {
         }
     }
 
-    /// The field at a place as a text, and an empty one where it is none.
+    /// Returns the field at a place as a text, and an empty one where it is none.
     pub fn text(&self, place: usize) -> &str
         ensures { IsUtf8 (slice_index_or self.now place []) → result.now ≡ slice_index_or self.now place [] }
     {
         str::from_utf8(self.field(place)).unwrap_or("")
     }
 
-    /// The number that the field at a place spells in decimal. What it is for any other field is open.
+    /// Returns the number that the field at a place spells in decimal. What it is for any other field is open.
     pub fn natural(&self, place: usize) -> u64
         ensures { (n : ℕ) → n < 2 ^ 64 → slice_index_or self.now place [] ≡ decimal n → result ≡ n }
     {
@@ -60,7 +60,8 @@ impl Row {
         }
     }
 
-    /// The number, perhaps below 0, that the field at a place spells in decimal. What it is for any other field is open.
+    /// Returns the number, perhaps below 0, that the field at a place spells in decimal. What it is for any other field
+    /// is open.
     pub fn integer(&self, place: usize) -> i64
         ensures { (z : ℤ) → unsigned_abs z < 2 ^ 63 → slice_index_or self.now place [] ≡ signed_decimal z → result ≡ z }
     {

@@ -30,7 +30,7 @@ impl std::marker::Model for Sheet {
 }
 
 impl Sheet {
-    /// A text without a row. Takes no memory.
+    /// Returns a text without a row. Takes no memory.
     pub fn new(alloc: Global) -> Sheet
         ensures { result ≡ [] }
     {
@@ -42,7 +42,7 @@ impl Sheet {
         }
     }
 
-    /// The text with one row more.
+    /// Returns the text with one row more.
     ///
     /// # Asks
     ///
@@ -60,7 +60,7 @@ impl Sheet {
         Ok(Sheet { writer })
     }
 
-    /// The bytes of the text.
+    /// Returns the bytes of the text.
     ///
     /// # Errors
     ///

@@ -14,7 +14,7 @@ pub struct Checkpoint {
 }
 
 impl Checkpoint {
-    /// The beginning of a run: block 0 comes next, and no policy has run a period.
+    /// Returns the beginning of a run: block 0 comes next, and no policy has run a period.
     ///
     /// # Errors
     ///

@@ -28,8 +28,8 @@ fn put_line(text: &mut Vec<u8>, block: &Block, stream: Stream) -> Result<(), All
     Ok(())
 }
 
-/// The words of block `n` of the stream of `key`, a line for each stream: its name (`demand`, `lead` or `returns`) and
-/// its four words, each in 16 hexadecimal digits. With them the stream can be compared with Random123.
+/// Returns the words of block `n` of the stream of `key`, a line for each stream: its name (`demand`, `lead` or
+/// `returns`) and its four words, each in 16 hexadecimal digits. With them the stream can be compared with Random123.
 ///
 /// # Errors
 ///

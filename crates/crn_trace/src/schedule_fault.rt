@@ -18,7 +18,7 @@ pub enum ScheduleFault {
 }
 
 impl ScheduleFault {
-    /// The number of the fault: 1 for a line, 2 for a reader, 90 for want of memory.
+    /// Returns the number of the fault: 1 for a line, 2 for a reader, 90 for want of memory.
     pub fn number(&self) -> u8
         ensures { result ≡ spec.schedule_fault_number self.now }
     {

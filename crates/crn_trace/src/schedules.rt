@@ -106,8 +106,8 @@ fn are_below(readers: u32, actors: &[Actor]) -> bool
     true
 }
 
-/// The schedule of a text, for a ring of so many readers: a line for each actor, ended by a line feed, which the
-/// last line may lack. `p` is the producer, `e` the producer as it ends the stream, `r` with a number that reader
+/// Returns the schedule of a text, for a ring of so many readers: a line for each actor, ended by a line feed, which
+/// the last line may lack. `p` is the producer, `e` the producer as it ends the stream, `r` with a number that reader
 /// and `l` with a number that reader as it leaves. A number is in decimal, without a sign or leading zeros. The empty
 /// text is the empty schedule. A text has one schedule at most.
 ///

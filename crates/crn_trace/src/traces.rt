@@ -121,11 +121,11 @@ fn put_readers(text: &mut Vec<u8>, machine: &Machine) -> Result<(), AllocError>
     Ok(())
 }
 
-/// The trace of a schedule, which lets the machine take its steps and uses it up: a line for each actor, with the kind
-/// of its step, the number of the word, and the value that is loaded or stored in 16 hexadecimal digits, or with three
-/// dashes where the actor has no step. Then a line has the number of the next block to publish and whether the end mark
-/// is stored, and a line for each reader the number of the block that it takes next, whether it has left, and whether
-/// it has seen the end mark, where 1 is for yes.
+/// Returns the trace of a schedule, which lets the machine take its steps and uses it up: a line for each actor, with
+/// the kind of its step, the number of the word, and the value that is loaded or stored in 16 hexadecimal digits, or
+/// with three dashes where the actor has no step. Then a line has the number of the next block to publish and whether
+/// the end mark is stored, and a line for each reader the number of the block that it takes next, whether it has left,
+/// and whether it has seen the end mark, where 1 is for yes.
 ///
 /// # Asks
 ///

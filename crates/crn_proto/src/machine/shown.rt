@@ -8,7 +8,7 @@ use super::Machine;
 use crate::RingSpec;
 
 impl Machine {
-    /// The ring that was opened.
+    /// Returns the ring that was opened.
     #[inline(always)]
     pub fn spec(&self) -> RingSpec
         ensures { result ≡ self.now.spec }
@@ -16,7 +16,7 @@ impl Machine {
         self.spec
     }
 
-    /// The number of the next block to publish: at open the stream's first, and at most its total.
+    /// Returns the number of the next block to publish: at open the stream's first, and at most its total.
     #[inline(always)]
     pub fn published(&self) -> u64
         ensures published { result ≡ self.now.published }
@@ -25,7 +25,7 @@ impl Machine {
         self.published
     }
 
-    /// Whether the end mark is stored.
+    /// Returns whether the end mark is stored.
     #[inline(always)]
     pub fn ended(&self) -> bool
         ensures { result ≡ self.now.ended }
@@ -33,8 +33,8 @@ impl Machine {
         self.ended
     }
 
-    /// The number of the next block that reader `r` takes, or would have taken next where it has left: at most the
-    /// stream's total.
+    /// Returns the number of the next block that reader `r` takes, or would have taken next where it has left: at most
+    /// the stream's total.
     ///
     /// # Asks
     ///
@@ -48,7 +48,7 @@ impl Machine {
         self.takers[r as usize].taken
     }
 
-    /// Whether reader `r` has left.
+    /// Returns whether reader `r` has left.
     ///
     /// # Asks
     ///
@@ -61,7 +61,7 @@ impl Machine {
         self.takers[r as usize].left
     }
 
-    /// Whether reader `r` has seen the end mark, with all blocks taken.
+    /// Returns whether reader `r` has seen the end mark, with all blocks taken.
     ///
     /// # Asks
     ///
