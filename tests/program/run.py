@@ -345,15 +345,18 @@ def all_tries(program, room):
 
 
 def main(program):
-    passed = failed = 0
+    passed = failed = skipped = 0
     with tempfile.TemporaryDirectory(prefix="crnsim-") as room:
         for name, does_well in all_tries(os.path.abspath(program), room):
-            if does_well():
+            if does_well is None:
+                skipped += 1
+                print(f"skipped {name}")
+            elif does_well():
                 passed += 1
             else:
                 failed += 1
                 print(f"FAILED {name}")
-    print(f"{passed} passed, {failed} failed")
+    print(f"{passed} passed, {failed} failed" + (f", {skipped} skipped" if skipped else ""))
     return 1 if failed else 0
 
 

@@ -5,6 +5,7 @@ or that a second place calls, with no message: then the largest run takes up to 
 is left out has a symbol.
 """
 import re
+import shutil
 import subprocess
 
 # The functions of the loop, as their symbols begin.
@@ -22,5 +23,5 @@ def left_out_of(program):
 
 
 def tries(program):
-    """Compares what is left out of the loop with what may be."""
-    yield "what is left out of the period loop", lambda: left_out_of(program) == LEFT_OUT
+    """Compares what is left out of the loop with what may be; skipped if `nm` is missing."""
+    yield "what is left out of the period loop", (lambda: left_out_of(program) == LEFT_OUT) if shutil.which("nm") else None

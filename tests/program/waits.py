@@ -96,9 +96,9 @@ def sleeps_while_one_is_held(program, text):
 
 
 def tries(program, text):
-    """Runs a scenario on each ring."""
+    """Runs a scenario on each ring; skips what needs a C compiler if that is missing."""
     yield f"the processor seconds of a run on a ring of {SMALL} slots", lambda: yields_on_small_ring(program, text)
-    if shutil.which("cc"):
-        yield f"the yields on a ring of {SMALL} slots", lambda: sleeps_while_one_is_held(program, text)
+    held = (lambda: sleeps_while_one_is_held(program, text)) if shutil.which("cc") else None
+    yield f"the yields on a ring of {SMALL} slots", held
     for size in LARGE:
         yield f"the seconds asleep in a run on a ring of {size} slots", lambda: sleeps_shortly(program, on_ring(text, size))
