@@ -2,8 +2,9 @@
 """Looks in the sources of the program for what no contract can see: tests/sources/run.py.
 
 A fault that the system is the cause of carries the value that reported it, and no contract can tell a value that was
-handed on from one that was made up. So nothing makes one. The ring moves its words by loads and stores alone. RULES say
-what may not stand in the crates of the program.
+handed on from one that was made up. So nothing makes one, and what an allocation asks for is a length, a getter, a field
+or one of SIZES. Nothing that was allocated is forgotten. The ring moves its words by loads and stores alone, and only the
+side that feeds it makes blocks. RULES say what may not stand in the crates of the program.
 Each rule is then tried on the sources with a line of PLANTS put in, which it must find. There is a line for each failure,
 and a last line that counts.
 """
@@ -34,7 +35,8 @@ def code_of(text):
 def tokens_of(text):
     """The tokens of a source."""
     found, function, depth, begins, after_fn = [], None, 0, None, False
-    for match in TOKEN.finditer(code_of(text)):
+    code = code_of(text)
+    for match in TOKEN.finditer(code):
         word = match.group()
         if word.startswith("//"):
             continue
@@ -51,7 +53,7 @@ def tokens_of(text):
             depth -= 1
         elif word == ";" and function is None:
             begins = None
-        found.append(Token(text.count("\n", 0, match.start()) + 1, word, function))
+        found.append(Token(code.count("\n", 0, match.start()) + 1, word, function))
         if word == "}" and begins is not None and depth == begins[1]:
             function, begins = None, None
     return found
@@ -113,7 +115,79 @@ def tells_no_byte(tokens, at):
 
 def makes_block(tokens, at):
     """A block that is made and not taken from the ring."""
-    return tokens[at].text == "fill_blocks" or tokens[at].text == "block" and (next_words(tokens, at, 1) == ["("] or before(tokens, at) == ["::"])
+    word = tokens[at].text
+    if word in ("fill_blocks", "threefry", "unthreefry") or word == "from_words" and tokens[at].function not in ("load_rows", "try_take"):
+        return True
+    return word == "block" and (next_words(tokens, at, 1) == ["("] or before(tokens, at) == ["::"])
+
+
+def closed_at(tokens, at):
+    """The place of the bracket that closes the one at a place."""
+    depth = 0
+    for place in range(at, len(tokens)):
+        depth += (tokens[place].text in "([{") - (tokens[place].text in ")]}")
+        if depth == 0:
+            return place
+    return len(tokens) - 1
+
+
+def parts_of(tokens, at, mark):
+    """The words between the bracket at a place and its end, parted at the marks that stand in no bracket inside it."""
+    parts, place, end = [[]], at + 1, closed_at(tokens, at)
+    while place < end:
+        close = closed_at(tokens, place) if tokens[place].text in "([{" else place
+        if tokens[place].text == mark:
+            parts.append([])
+        else:
+            parts[-1] += [it.text for it in tokens[place:close + 1]]
+        place = close + 1
+    return parts
+
+
+def local_value(tokens, at, name):
+    """The words of the last `let` before a place, in its function, that gives a name its value; none if there is no such."""
+    for place in range(at, 0, -1):
+        if tokens[place].function != tokens[at].function:
+            return []
+        if tokens[place].text == name and before(tokens, place) == ["let"] and next_words(tokens, place, 1) == ["="]:
+            ends = next(end for end in range(place, len(tokens)) if tokens[end].text == ";")
+            return [it.text for it in tokens[place + 2:ends]]
+    return []
+
+
+def is_size(tokens, at, words):
+    """Whether some words are a length, a getter, a field or one of SIZES, one more than such, or a local name for it. A product
+    has one of SIZES in it."""
+    text = " ".join(words)
+    if re.fullmatch(r"[a-z_]+", text):
+        value = local_value(tokens, at, text)
+        return bool(value) and is_size(tokens, at, value)
+    if " * " in text:
+        return all(is_size(tokens, at, it.split()) for it in text.split(" * ")) and any(it in text.split() for it in SIZES)
+    if " + " in text:
+        return all(it == "1" or is_size(tokens, at, it.split()) for it in text.split(" + "))
+    atom = text.removesuffix(" as usize").removesuffix(" as u64")
+    return atom in SIZES or re.fullmatch(r"[a-z_]+( \. [a-z_]+( \( \))?)+", atom) is not None
+
+
+def asks_for_any_room(tokens, at):
+    """Room that is no length, limit or getter, so that a refusal could be brought about."""
+    word, opened = tokens[at].text, at + 1
+    if tokens[at].function is None:
+        return False
+    if word == "vec" and next_words(tokens, at, 1) == ["!"]:
+        parts = parts_of(tokens, at + 2, ";")
+        return parts[2:] not in ([], [["1"]]) and not is_size(tokens, at, parts[2])
+    if word not in ("with_capacity", "reserve", "reserve_exact", "try_reserve", "try_reserve_exact", "resize", "repeat") \
+            or tokens[opened].text != "(":
+        return False
+    parts = [it for it in parts_of(tokens, opened, ",") if it and it != ["alloc"]]
+    return not parts or not is_size(tokens, at, parts[0])
+
+
+def keeps_for_ever(tokens, at):
+    """A value that is never dropped."""
+    return tokens[at].text in ("forget", "ManuallyDrop", "leak", "into_raw", "into_raw_parts")
 
 
 def waits_for_ever(tokens, at):
@@ -131,7 +205,11 @@ def calls(*names):
     return lambda tokens, at: tokens[at].text in names
 
 
-ALL = "*"
+ALL = ("",)
+# The constants that an allocation may be asked for.
+SIZES = ("BUCKETS", "BLOCK_WORDS")
+# What a policy's thread runs: all of crn_run but the side that feeds the ring, and what it calls there.
+POLICY_SIDE = ("crn_run/src/", "crn_ring/src/", "crn_stock/src/", "crn_draw/src/", "!crn_run/src/feeding.rt")
 RULES = [
     Rule("want of memory is made up", ALL, makes_want_of_memory),
     Rule("a refused thread is made up", ALL, makes_refused_thread),
@@ -139,12 +217,14 @@ RULES = [
     Rule("a fault of a thread is made up", ALL, makes_fault_of_thread),
     Rule("a write that took no byte is made up", ALL, tells_no_byte),
     Rule("a type is renamed or a value made by a macro", ALL, calls("macro_rules")),
-    Rule("a policy's thread makes a block", "crn_run/src/worker.rt", makes_block),
-    Rule("a wait has no end of its own", "crn_run/src/", waits_for_ever),
+    Rule("a policy's thread makes a block", POLICY_SIDE, makes_block),
+    Rule("a wait has no end of its own", ("crn_run/src/",), waits_for_ever),
     # Words of the ring are loaded and stored through a seat alone.
-    Rule("a word is touched without its seat", "crn_ring/src/", calls("peek", "load_new_seat", "swap_new_seat", "join_seat")),
+    Rule("a word is touched without its seat", ("crn_ring/src/",), calls("peek", "load_new_seat", "swap_new_seat", "join_seat")),
     # Each word has one writer, so a load and a store are all the steps that the ring needs.
-    Rule("a step of the ring both loads and stores", "crn_ring/src/", loads_and_stores_at_once),
+    Rule("a step of the ring both loads and stores", ("crn_ring/src/",), loads_and_stores_at_once),
+    Rule("room is asked for that is no length, getter or limit", ALL, asks_for_any_room),
+    Rule("a value is never dropped", ALL, keeps_for_ever),
 ]
 
 # The functions that read a flag of the kit: it has no value to hand on.
@@ -157,6 +237,7 @@ OUTPUT, SENT = "crn_engines/src/output.rt", "    let mut sent = 0;"
 MAIN, OPENED = "crnsim/src/main.rt", "    match File::open(rt, name) {"
 GATE, ASKED = "crn_run/src/gate.rt", "    if gate.pass(policy, block) {"
 WORKER, APPLY = "crn_run/src/worker.rt", "    drop(permit);"
+STOCK, TAKEN = "crn_stock/src/state.rt", "impl State {\n"
 STEPS, STORE = "crn_ring/src/steps.rt", "        self.table.shared.store::<StoresWord>(seat, base + i, word);"
 PLANTS = [
     Plant(MEMORY, INPUT, READ, "    if true { return Err(Fault::Memory(AllocError)); }"),
@@ -200,6 +281,24 @@ PLANTS = [
     Plant(RULES[9].name, STEPS, STORE, "        let _ = self.table.shared.compare_exchange::<StoresWord>(seat, base + i, 0, word);"),
     Plant(RULES[9].name, STEPS, STORE, "        let _ = self.table.shared.compare_exchange_with::<StoresWord>(seat, base + i, 0, word);"),
     Plant(RULES[9].name, STEPS, STORE, "        let _ = self.table.shared.exchange(seat, base + i, word);"),
+    Plant(RULES[6].name, "crn_run/src/batch.rt", "use crn_cipher::", "fn again(made: &Block) -> Block { crn_cipher::block(made.key, made.number) }\nuse crn_cipher::"),
+    Plant(RULES[6].name, STOCK, TAKEN, TAKEN + "        let next = &crn_cipher::Block::from_words(block.key, block.number, threefry_words(block));\n"),
+    Plant(RULES[6].name, "crn_ring/src/blocks.rt", "        let base = self.base(n);", "        let made = crn_cipher::block(self.spec.id.key, n);\n        let base = self.base(n);"),
+    *(Plant(RULES[10].name, INPUT, READ, READ + line) for line in (
+        " let room = Vec::with_capacity(alloc, 1 << 59)?;",
+        " let room = Vec::with_capacity(alloc, usize::MAX)?;",
+        " let n = 1_000_000_000; let room = Vec::with_capacity(alloc, n)?;",
+        " let room = Vec::with_capacity(alloc, 1_000 * input.len())?;",
+        " let room = Vec::with_capacity(alloc, input.len() * input.len())?;",
+        " let room = Vec::with_capacity(alloc, input.len().pow(2))?;",
+        " let room = Vec::with_capacity(alloc, INPUT_LIMIT)?;",
+        " let room = vec![in alloc; 0; INPUT_LIMIT]?;",
+        " input.reserve(1 << 40)?;",
+        " input.resize(1_048_577, 0)?;",
+    )),
+    *(Plant(RULES[11].name, INPUT, READ, READ + line) for line in (
+        " std::mem::forget(kept);", " let kept = std::mem::ManuallyDrop::new(kept);", " let kept = Box::leak(kept);",
+    )),
 ]
 
 
@@ -209,9 +308,15 @@ def sources():
     return {os.path.relpath(path, f"{TOP}/crates"): open(path, encoding="utf-8").read() for path in sorted(paths)}
 
 
+def is_for(rule, name):
+    """Whether a rule is for a source: one whose name begins as one of its files, and not as one with a mark before it."""
+    left_out = tuple(it[1:] for it in rule.files if it.startswith("!"))
+    return name.startswith(rule.files) and not (left_out and name.startswith(left_out))
+
+
 def refused_in(rule, name, text):
     """Each line of a source that a rule refuses, with its word."""
-    if rule.files != ALL and not name.startswith(rule.files):
+    if not is_for(rule, name):
         return []
     tokens = tokens_of(text)
     return [(it.line, it.text) for at, it in enumerate(tokens) if rule.refuses(tokens, at)]
@@ -220,7 +325,7 @@ def refused_in(rule, name, text):
 def rule_tries(texts):
     """Each rule on each source that it is for."""
     for rule in RULES:
-        looked = [name for name in texts if rule.files == ALL or name.startswith(rule.files)]
+        looked = [name for name in texts if is_for(rule, name)]
         found = [(name, *it) for name in looked for it in refused_in(rule, name, texts[name])]
         yield f"{rule.name}: {found or 'there is no such source'}", bool(looked) and not found
 
