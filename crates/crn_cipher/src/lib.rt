@@ -4,7 +4,8 @@
 //! Source: Salmon, Moraes, Dror and Shaw, "Parallel Random Numbers: As Easy as 1, 2, 3", SC 2011.
 #![tactic(auto)]
 
-ghost use Rattle.std.specs.Prelude.{◌≡◌, ℕ, ◌+◌, ◌<◌, ◌≤◌, ◌^◌, length, slice_get, Some};
+ghost use Rattle.std.specs.Prelude.{◌≡◌, ◌+◌, ◌≤◌, ◌^◌, length};
+ghost use Rattle.crn_cipher.specs.Following.{FollowOn};
 
 mod cipher;
 pub mod laws;
@@ -49,7 +50,7 @@ pub fn fill_blocks(key: [u64; 4], n: u64, blocks: &mut [Block], count: usize)
     requires room { count ≤ length blocks.old }
     requires numbers { n + count ≤ 2 ^ 64 }
     ensures length { length blocks.new ≡ length blocks.old }
-    ensures blocks { (j : ℕ) (b : Block) → j < count → slice_get blocks.new j ≡ Some b → (b.key ≡ key) × (b.number ≡ n + j) }
+    ensures blocks { FollowOn key n count blocks.new }
 {
     // As in `block`, which as a call would keep the processor from two blocks at once.
     for k in 0..count {

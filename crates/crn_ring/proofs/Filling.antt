@@ -5,9 +5,8 @@ use Rattle.std.specs.Prelude.{Some}
 use mathlib.Core.Logic.{dite}
 use native.Mathlib.Decide.{ℕ_discrete}
 use Rattle.crn_cipher.specs.declared.stream.Block.{Block}
-use Rattle.crn_proto.specs.declared.spec.RingSpec.{RingSpec}
+use Rattle.crn_cipher.specs.Following.{FollowOn}
 use Rattle.crn_ring.specs.declared.view.View.{View}
-use Rattle.crn_ring.specs.Calls.{FollowOn}
 use Rattle.crn_ring.specs.Inner.Plays.{read_many, wrote_many}
 
 pub read_many_join : (ns ms : List ℕ) (v : View) → read_many ms (read_many ns v) ≡ read_many (ns ++ ms) v
@@ -21,8 +20,8 @@ wrote_many_join a b v = λ i. record v {
   };
 }
 
-pub filled_more : (spec : RingSpec) (n k : ℕ) (out : List Block) (y : Block) → y.key ≡ spec.id.key → y.number ≡ n + k → k < length out → FollowOn spec n k out → FollowOn spec n (k + 1) (set out k y)
-filled_more spec n k out y keyed numbered inside old j b h e =
+pub filled_more : (key : List ℕ) (n k : ℕ) (out : List Block) (y : Block) → y.key ≡ key → y.number ≡ n + k → k < length out → FollowOn key n k out → FollowOn key n (k + 1) (set out k y)
+filled_more key n k out y keyed numbered inside old j b h e =
     let read : get_or (set out k y) j b ≡ b = get_or_from_slice_get (set out k y) j b b e in
     dite (ℕ_discrete j k)
     (λ is. let same : y ≡ b = sym (ap (λ (z : ℕ). get_or (set out k y) z b) is ∙ get_or-set_same out k y b inside) ∙ read in

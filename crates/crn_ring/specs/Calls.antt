@@ -1,6 +1,7 @@
 -- What the calls of a ring, a producer and a reader speak of.
-use Rattle.std.specs.Prelude.{◌≡◌, ℕ, ◌+◌, ◌<◌, List, length, slice_get, Some, drop}
+use Rattle.std.specs.Prelude.{◌≡◌, ℕ, List, length, slice_get, Some, drop}
 use Rattle.crn_cipher.specs.declared.stream.Block.{Block}
+use Rattle.crn_cipher.specs.Following.{FollowOn}
 use Rattle.crn_proto.specs.declared.spec.RingSpec.{RingSpec}
 use Rattle.crn_proto.specs.declared.actor_parts.ProducerPart.{ProducerPart}
 use Rattle.crn_proto.specs.declared.actor_parts.ReaderPart.{ReaderPart}
@@ -74,10 +75,6 @@ pub record IsOpened (spec : RingSpec) (ring : Ring) (p : Producer) (readers : Li
   pub count : length readers ≡ spec.readers
   pub readers_open : AllFresh ring readers
 
--- The first `count` of these are the ring's blocks from n on.
-abbrev pub FollowOn : RingSpec → ℕ → ℕ → List Block → Type 0
-FollowOn spec n count blocks = (j : ℕ) (b : Block) → j < count → slice_get blocks j ≡ Some b → (b.key ≡ spec.id.key) × (b.number ≡ n + j)
-
 -- The producer's part after each answer of `try_publish`, and after each of `publish_batch` of m blocks.
 abbrev pub AfterPublish : RingSpec → ProducerPart → ProducerPart → Publish → Type 0
 AfterPublish spec p p' One.Done = Publishes spec p p' 1 1
@@ -95,6 +92,6 @@ AfterTake spec q q' (Next.Ended published) = SeesEnd q q' published
 
 -- A reader's part and the blocks lent, after each answer of `take_batch`.
 abbrev pub AfterBatch : RingSpec → ReaderPart → ReaderPart → List Block → List Block → Batch → Type 0
-AfterBatch spec q q' out out' (Several.Got count) = Takes q q' (length out) count × FollowOn spec q.taken count out' × (drop count out' ≡ drop count out)
+AfterBatch spec q q' out out' (Several.Got count) = Takes q q' (length out) count × FollowOn spec.id.key q.taken count out' × (drop count out' ≡ drop count out)
 AfterBatch spec q q' out out' (Several.Empty published) = SeesNothing q q' published × (out' ≡ out)
 AfterBatch spec q q' out out' (Several.Ended published) = SeesEnd q q' published × (out' ≡ out)

@@ -1,13 +1,13 @@
 //! Stores and loads the blocks in the slots of a ring, word by word.
 ghost use Rattle.std.specs.Prelude.{◌≡◌, ℕ, ◌+◌, ◌*◌, ◌%◌, ◌<◌, ◌≤◌, false, List, [], drop, length};
 ghost use Rattle.crn_cipher.specs.Blocks.{BlockWords};
+ghost use Rattle.crn_cipher.specs.Following.{FollowOn};
 ghost use Rattle.crn_proto.specs.Ring.{PassesGates, reading, storing};
 ghost use Rattle.crn_proto.specs.Chains.{ProducerReaches, ReaderReaches};
 ghost use Rattle.crn_ring.specs.Seats.{producer_in, reader_in, view_of};
 ghost use Rattle.crn_ring.specs.Gates.{HaveRoom};
 ghost use Rattle.crn_ring.specs.Inner.Plays.{read_many, wrote_many};
 ghost use Rattle.crn_ring.specs.Inner.Seats.{IsProducerSeat, IsReaderSeat, SameSeat, ViewBecomes};
-ghost use Rattle.crn_ring.specs.Calls.{FollowOn};
 
 use crate::ring::{Place, Ring};
 use crn_cipher::{BLOCK_WORDS, Block};
@@ -36,7 +36,7 @@ impl Ring {
     pub(crate) fn store_rows(&self, seat: &mut Place, blocks: &[Block], count: usize)
         requires own { IsProducerSeat self.now seat.old }
         requires at { ((producer_in seat.old).ended ≡ false) × ((producer_in seat.old).stored ≡ 0) }
-        requires blocks { (count ≤ length blocks.now) × FollowOn self.now.spec (producer_in seat.old).published (length blocks.now) blocks.now }
+        requires blocks { (count ≤ length blocks.now) × FollowOn self.now.spec.id.key (producer_in seat.old).published (length blocks.now) blocks.now }
         requires below { (producer_in seat.old).published + count ≤ self.now.spec.id.total }
         requires room { HaveRoom self.now.spec (producer_in seat.old) count }
         ensures own { SameSeat seat.old seat.new }
@@ -74,7 +74,7 @@ impl Ring {
         ensures own { SameSeat seat.old seat.new }
         ensures view { (ns : List ℕ) × (length ns ≡ BLOCK_WORDS * count) × ViewBecomes seat.old seat.new (read_many ns (view_of seat.old)) }
         ensures moved { ReaderReaches (reader_in seat.old) (BLOCK_WORDS * count) (reader_in seat.new) }
-        ensures blocks { FollowOn self.now.spec n count out.new }
+        ensures blocks { FollowOn self.now.spec.id.key n count out.new }
         ensures rest { drop count out.new ≡ drop count out.old }
     {
         let key = self.spec.id.key;

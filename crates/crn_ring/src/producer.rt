@@ -31,10 +31,11 @@ pub struct Producer {
 
 impl Producer {
     ghost use Rattle.std.specs.Prelude.{◌+◌, ◌-◌, ◌*◌, ◌<◌, true, false, length};
+    ghost use Rattle.crn_cipher.specs.Following.{FollowOn};
     ghost use Rattle.crn_proto.specs.Ring.{Finish, producer_after};
     ghost use Rattle.crn_proto.specs.Chains.{ProducerReaches};
     ghost use Rattle.crn_ring.specs.Gates.{HaveRoom};
-    ghost use Rattle.crn_ring.specs.Calls.{AfterPublish, AfterPublishMany, FollowOn, IsProducerOf, producer_part, producer_spec, spec_of};
+    ghost use Rattle.crn_ring.specs.Calls.{AfterPublish, AfterPublishMany, IsProducerOf, producer_part, producer_spec, spec_of};
     ghost use Rattle.crn_ring.specs.Inner.Rooms.{Finds};
 
     /// Returns the number of the block that it publishes next, at most the ring's total.
@@ -140,7 +141,7 @@ impl Producer {
     pub fn publish_batch(&mut self, ring: &Ring, blocks: &[Block]) -> PublishMany
         requires ring { IsProducerOf ring.now self.old }
         requires running { (producer_part self.old).ended ≡ false }
-        requires blocks { (0 < length blocks.now) × ((producer_part self.old).published + length blocks.now ≤ (spec_of ring.now).id.total) × FollowOn (spec_of ring.now) (producer_part self.old).published (length blocks.now) blocks.now }
+        requires blocks { (0 < length blocks.now) × ((producer_part self.old).published + length blocks.now ≤ (spec_of ring.now).id.total) × FollowOn (spec_of ring.now).id.key (producer_part self.old).published (length blocks.now) blocks.now }
         ensures ring { IsProducerOf ring.now self.new }
         ensures moves { ProducerReaches (spec_of ring.now) (producer_part self.old) ((spec_of ring.now).readers + BLOCK_WORDS * ((producer_part self.new).published - (producer_part self.old).published) + 1) (producer_part self.new) }
         ensures steps { (producer_part self.new).steps ≤ (producer_part self.old).steps + (spec_of ring.now).readers + BLOCK_WORDS * ((producer_part self.new).published - (producer_part self.old).published) + 1 }

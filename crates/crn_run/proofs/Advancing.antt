@@ -1,15 +1,14 @@
 -- A state taken further, block by block.
 use Rattle.std.proofs.Common.{◌≡◌, ℕ, ◌+◌, ◌≤◌, List, Some, slice_get, subst, sym, ◌∙◌, arith}
 use Rattle.crn_cipher.specs.declared.stream.Block.{Block}
-use Rattle.crn_proto.specs.declared.spec.RingSpec.{RingSpec}
-use Rattle.crn_ring.specs.Calls.{FollowOn}
+use Rattle.crn_cipher.specs.Following.{FollowOn}
 use Rattle.crn_stock.specs.declared.policy.Policy.{Policy}
 use Rattle.crn_stock.specs.Parts.{Parts}
 use Rattle.crn_stock.specs.Models.{ModelParts, ScenarioParts}
 use Rattle.crn_stock.specs.Stock.{At, OnwardAt, next_block}
 use Rattle.crn_sequential.specs.Runs.{StandsBefore}
 use Rattle.crn_run.specs.Ends.{IsRun}
-use Rattle.crn_run.specs.Inner.Ends.{Advances, FollowFrom}
+use Rattle.crn_run.specs.Inner.Ends.{Advances}
 use Rattle.crn_sequential.proofs.Running.{same_of}
 
 -- no block
@@ -44,10 +43,8 @@ pub taken_on : (taken taken' at at' count : ℕ) → taken ≡ at → taken' ≡
 taken_on taken taken' at at' count here took went = omega arith
 
 -- what was taken is the key's blocks from the state's next one on
-pub follow_from : (spec : RingSpec) (key : List ℕ) (taken at count : ℕ) (blocks : List Block) → spec.id.key ≡ key → taken ≡ at → FollowOn spec taken count blocks → FollowFrom key at count blocks
-follow_from spec key taken at count blocks same here follow j b lt is =
-    let found : (b.key ≡ spec.id.key) × (b.number ≡ taken + j) = follow j b lt is in
-    (found.0 ∙ same, subst (λ (i : ℕ). b.number ≡ i + j) here found.1)
+pub follow_from : (key key' : List ℕ) (taken at count : ℕ) (blocks : List Block) → key ≡ key' → taken ≡ at → FollowOn key taken count blocks → FollowOn key' at count blocks
+follow_from key key' taken at count blocks same here follow = subst (λ (k : List ℕ). FollowOn k at count blocks) same (subst (λ (i : ℕ). FollowOn key i count blocks) here follow)
 
 -- a reader that has taken no more than the ring's total, which is none more than the scenario's
 pub within_total : (taken taken' at count last all : ℕ) → taken ≡ at → taken' ≡ taken + count → taken' ≤ last → last ≤ all → at + count ≤ all

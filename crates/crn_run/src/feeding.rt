@@ -1,7 +1,8 @@
 //! The producer's side of the policies' runs.
 ghost use Rattle.std.specs.Prelude.{◌≡◌, ℕ, ◌+◌, ◌<◌, ◌≤◌, true, false, length, slice_get, Some};
 ghost use Rattle.crn_cipher.specs.declared.stream.Block.{Block};
-ghost use Rattle.crn_ring.specs.Calls.{FollowOn, IsProducerOf, producer_part, spec_of};
+ghost use Rattle.crn_cipher.specs.Following.{FollowOn};
+ghost use Rattle.crn_ring.specs.Calls.{IsProducerOf, producer_part, spec_of};
 
 use crate::batch::{BATCH, room_for};
 use crate::waiting::Waiting;
@@ -51,7 +52,7 @@ fn publish_all<R: Wait>(
 )
     requires of { IsProducerOf ring.now producer.old }
     requires running { (producer_part producer.old).ended ≡ false }
-    requires blocks { ((producer_part producer.old).published + length blocks.now ≤ (spec_of ring.now).id.total) × FollowOn (spec_of ring.now) (producer_part producer.old).published (length blocks.now) blocks.now }
+    requires blocks { ((producer_part producer.old).published + length blocks.now ≤ (spec_of ring.now).id.total) × FollowOn (spec_of ring.now).id.key (producer_part producer.old).published (length blocks.now) blocks.now }
     ensures of { IsProducerOf ring.now producer.new }
     ensures running { (producer_part producer.new).ended ≡ false }
     ensures published { (producer_part producer.new).published ≡ (producer_part producer.old).published + length blocks.now }

@@ -1,5 +1,6 @@
 //! The run of one policy, on the calling thread.
 ghost use Rattle.std.specs.Prelude.{◌≡◌, ◌≢◌, ◌+◌, ◌<◌, ◌≤◌, true, false, not, length};
+ghost use Rattle.crn_cipher.specs.Following.{FollowOn};
 ghost use Rattle.crn_stock.specs.Models.{IsPolicy, total};
 ghost use Rattle.crn_stock.specs.Stock.{next_block, terms_in, terms_of};
 ghost use Rattle.crn_ring.specs.Calls.{IsReaderOf, reader_number, reader_part, spec_of};
@@ -7,7 +8,7 @@ ghost use Rattle.crn_sequential.specs.Runs.{StandsBefore};
 ghost use Rattle.crn_run.specs.declared.worker.PolicyEnd.TheVariants.{Reached, Short};
 ghost use Rattle.crn_run.specs.Ends.{EndsAs, is_held};
 ghost use Rattle.crn_run.specs.Gates.{HeldAt, PassedUpTo, WasAsked};
-ghost use Rattle.crn_run.specs.Inner.Ends.{Advances, FollowFrom};
+ghost use Rattle.crn_run.specs.Inner.Ends.{Advances};
 
 use crate::batch::room_for;
 use crate::gate::{Gate, Permit, ask};
@@ -122,7 +123,7 @@ fn apply_all<G: Gate>(
 ) -> bool
     requires rules { IsPolicy rules.now }
     requires stands { StandsBefore scenario.now.model (next_block state.old) state.old }
-    requires blocks { (count ≤ length blocks.now) × FollowFrom scenario.now.key (next_block state.old) count blocks.now }
+    requires blocks { (count ≤ length blocks.now) × FollowOn scenario.now.key (next_block state.old) count blocks.now }
     requires below { next_block state.old + count ≤ total scenario.now.model }
     requires gate { G.refused gate.old ≡ false }
     ensures advances { Advances scenario.now.model rules.now scenario.now.key state.old state.new }

@@ -1,7 +1,6 @@
-use Rattle.std.proofs.Common.{◌≡◌, ℕ, ◌+◌, ◌<◌, length}
-use Rattle.std.specs.Prelude.{slice_get, Some}
-use Rattle.crn_cipher.specs.declared.stream.Block.{Block}
+use Rattle.std.proofs.Common.{◌≡◌, length}
+use Rattle.crn_cipher.specs.Following.{FollowOn}
 use Rattle.crn_cipher.proofs.fill_blocks.Given as goal
 
 abbrev pub invariant-loop-k : goal.invariant-loop-k
-invariant-loop-k l = (length l.blocks ≡ length l.initial.blocks) × ((j : ℕ) (b : Block) → j < l.k → slice_get l.blocks j ≡ Some b → (b.key ≡ l.key) × (b.number ≡ l.n + j))
+invariant-loop-k l = (length l.blocks ≡ length l.initial.blocks) × FollowOn l.key l.n l.k l.blocks

@@ -1,7 +1,6 @@
 -- The run of one policy between two blocks, and whether the end was marked early.
-use Rattle.std.specs.Prelude.{◌≡◌, ℕ, ◌+◌, ◌<◌, Bool, true, false, List, Some, slice_get}
+use Rattle.std.specs.Prelude.{◌≡◌, ℕ, Bool, true, false, List, Some, slice_get}
 use Rattle.std.specs.List.{list_any}
-use Rattle.crn_cipher.specs.declared.stream.Block.{Block}
 use Rattle.crn_stock.specs.Parts.{Parts}
 use Rattle.crn_stock.specs.Models.{ModelParts}
 use Rattle.crn_stock.specs.Stock.{At, OnwardAt, next_block}
@@ -41,7 +40,3 @@ pub record Advances (m : ModelParts) (p : Policy) (key : List ℕ) (v w : Parts)
   pub stands : StandsBefore m (next_block w) w
   pub at : At m p key (next_block v) v → At m p key (next_block w) w
   pub onward : (q : Parts) → OnwardAt m p key q (next_block v) v → OnwardAt m p key q (next_block w) w
-
--- the first `count` of these are the key's blocks from n on
-abbrev pub FollowFrom : List ℕ → ℕ → ℕ → List Block → Type 0
-FollowFrom key n count blocks = (j : ℕ) (b : Block) → j < count → slice_get blocks j ≡ Some b → (b.key ≡ key) × (b.number ≡ n + j)

@@ -1,6 +1,7 @@
 use Rattle.std.proofs.Common.{rules, ◌≡◌, ◌+◌, ◌<◌, ◌≤◌, length, slice_get, Some, refl, sym, ◌∙◌, arith}
+use Rattle.crn_cipher.specs.Following.{FollowOn}
 use Rattle.crn_stock.specs.Stock.{next_block}
-use Rattle.crn_ring.specs.Calls.{FollowOn, reader_number, reader_part, spec_of}
+use Rattle.crn_ring.specs.Calls.{reader_number, reader_part, spec_of}
 use Rattle.crn_ring.specs.Parts.{Takes, SeesEnd}
 use Rattle.crn_run.specs.Inner.Ends.{Advances}
 use Rattle.crn_run.proofs.Asking.{held_then, passed_then}
@@ -12,9 +13,9 @@ use Rattle.crn_run.proofs.worker.run_policy.Goals as goal
 pub apply_all-requires-clause-blocks : goal.apply_all-requires-clause-blocks
 apply_all-requires-clause-blocks g c =
     let took : Takes (reader_part c.loop.reader) (reader_part c.take_batch.new.self) (length c.loop.blocks) c.in-Got.count = search rules in
-    let follow : FollowOn (spec_of c.args.ring.now) (reader_part c.loop.reader).taken c.in-Got.count c.take_batch.new.out = search rules in (
+    let follow : FollowOn (spec_of c.args.ring.now).id.key (reader_part c.loop.reader).taken c.in-Got.count c.take_batch.new.out = search rules in (
       search rules,
-      follow_from (spec_of c.args.ring.now) c.args.scenario.now.key (reader_part c.loop.reader).taken (next_block c.loop.state) c.in-Got.count c.take_batch.new.out c.requires.ring.0 c.loop.invariant.taken follow,
+      follow_from (spec_of c.args.ring.now).id.key c.args.scenario.now.key (reader_part c.loop.reader).taken (next_block c.loop.state) c.in-Got.count c.take_batch.new.out c.requires.ring.0 c.loop.invariant.taken follow,
     )
 
 pub returns-then-not-apply_all-clause-end : goal.returns-then-not-apply_all-clause-end
