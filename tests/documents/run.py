@@ -82,14 +82,15 @@ def quote_tries(_):
 
 
 # Names in pages that stand for any of their kind.
-STANDING_FOR_ANY = {"crn_x", "tests_x", "what_it_does_wrong"}
+STANDING_FOR_ANY = {"crn_x", "tests_x", "tests_ring_tests", "what_it_does_wrong"}
 
 
 def named_tries(_):
     """Each name of the code that the pages for engineers use stands in a source."""
     paths = [it for pattern in ("crates/*/src/**/*.rt", "crates/*/specs/**/*.antt", "crates/*/proofs/**/*.antt", "crates/*/*/*.edit",
                                 "tests/**/*.*", "tools/*", "examples/**/*.*") for it in glob.glob(pattern, root_dir=TOP, recursive=True)]
-    words = {word for it in paths if it.endswith((".rt", ".antt", ".edit", ".py")) for word in re.findall(r"\w+", text_of(it))}
+    words = {word for it in paths if it.endswith((".rt", ".antt", ".edit")) for word in re.findall(r"\w+", text_of(it))}
+    words |= {word for it in paths if it.endswith(".py") for word in re.findall(r"^ *(?:def|class) (\w+)", text_of(it), re.MULTILINE)}
     words |= {os.path.splitext(os.path.basename(it))[0] for it in paths} | {it.split("/")[1] for it in paths}
     for page in ("docs/CHANGING.md", "docs/ARCHITECTURE.md", "docs/PROOFS.md", "docs/READING.md", "CONTRIBUTING.md"):
         names = {it for span in re.findall(r"`([^`\n]+)`", text_of(page)) for it in re.findall(r"\b[a-z]+_[a-z0-9_]+\b", span)}
