@@ -1,10 +1,12 @@
 #!/usr/bin/env python3
-"""Which definitions public contracts state: tools/definitions.py reached [CRATE::FUNCTION ..], or `kinds` for all.
+"""Which definitions public contracts state: tools/definitions.py reached [CRATE::FUNCTION ..], `kinds` for all, or `page`.
 
 `reached` prints what the contracts of the named functions reach of `specs/`, through definitions, types of signatures
 and ghost parts of types; with no name, what any public function or type reaches. `kinds` sorts all: "stated" is reached
 so, "kept" only from the `ghost invariant` of such a type, of which callers learn nothing, "private" only from private
-functions, types, closures and the clauses of loops, "proof" only from proofs and tactics, "unused" from nowhere.
+functions, types, closures and the clauses of loops, "proof" only from proofs and tactics, "unused" from nowhere. `page`
+prints docs/DEFINITIONS.md: what the contracts of CHAIN reach, in the order in which they reach it, each definition with
+its meaning, which is the comment above it.
 
 It goes by names and scopes, not by types: what a binder hides, or stands behind a dot, is no definition. In doubt it
 counts as stated: all fields of a type, private ones too, and each type that a signature names. Public is what the root
@@ -19,6 +21,16 @@ import sys
 from rattle_text import CLAUSE, definitions_of, free_names, items_of, members_of, names_of, tokens_of, uses_of
 
 SORTS, MARKS = ("stated", "kept", "private", "proof", "unused"), {"stated": "", "kept": " (by an invariant alone)"}
+# The contracts from which docs/READING.md goes down, with what each is about.
+CHAIN = {
+    "crn_engines::simulate": "what was read and written, and the report of a scenario",
+    "crn_run::run_all": "the runs of all policies",
+    "crn_run::run_policy": "the run of one policy, on its own thread",
+    "crn_ring::Reader::take_batch": "what a reader is given",
+    "crn_ring::laws::steps_are_a_run": "the running table, and the ring's moves",
+    "crn_proto::laws::every_schedule": "what holds of every run",
+    "crn_cipher::block": "the words of a block",
+}
 IMPL = re.compile(r"impl\s*(?:<(?:[^<>]|<[^<>]*>)*>)?\s*(?:(\S+?)(?:<.*>)?\s+for\s+)?[&\s]*([\w:]+)", re.DOTALL)
 
 
@@ -158,16 +170,74 @@ class Repository:
         levels = list(zip(SORTS, (stated, kept, private, proof, self.definitions)))
         return {it: next(sort for sort, nodes in levels if it in nodes) for it in self.definitions}
 
+    def levels(self, nodes):
+        """What is reached from some nodes, level by level, each level in the order of the files."""
+        found, further = set(), set(nodes)
+        while further:
+            yield from sorted(further & set(self.definitions), key=lambda it: (*it[1:3], self.definitions[it].line))
+            found |= further
+            further = set().union(*(self.edges[it] for it in further)) - found - {None}
+
+    def meaning(self, node):
+        """The comment right above a definition, as one line, and "" if it has none."""
+        lines = (self.top / place_of(node)).read_text(encoding="utf-8").split("\n")[:self.definitions[node].line - 1]
+        stripped = (it.strip() for it in reversed(lines))
+        above = list(itertools.takewhile(lambda it: it.startswith("-- ") and not it.startswith("-- --"), stripped))
+        return " ".join(it.removeprefix("-- ") for it in reversed(above))
+
+
+def place_of(node):
+    """The file of a definition, from the top."""
+    return f"crates/{node[1]}/specs/{node[2].replace('.', '/')}.antt"
+
+
+PAGE = """# Definitions
+
+What the contracts of [READING](READING.md) state, from the first contract down: {stated} of {all} definitions in `specs/`, each
+with its meaning. A mistake in one of these could change what the sentence at the head of [README](../README.md) says; a
+mistake in another can only make a proof fail. `tools/definitions.py page` writes this page.
+"""
+KEPT = """
+## By invariants alone
+
+Only the `ghost invariant` of a model reaches these. Callers learn nothing of it, so a mistake in one changes nothing that the
+contracts say.
+"""
+
+
+def lines_of(repository, nodes):
+    """The lines of a section of the page: the files in the order in which they are reached, in each its definitions."""
+    for place in dict.fromkeys(place_of(it) for it in nodes):
+        here = sorted((it for it in nodes if place_of(it) == place), key=lambda it: repository.definitions[it].line)
+        yield f"\n[`{here[0][1]}`, {here[0][2]}](../{place})\n"
+        yield from (f"- `{it[3]}`: {repository.meaning(it)}" for it in here)
+
+
+def page(repository):
+    """The text of docs/DEFINITIONS.md."""
+    public = dict(repository.public())
+    sorts, shown, lines = repository.sorts([public[it] for it in CHAIN]), set(), []
+    for contract, about in CHAIN.items():
+        nodes = [it for it in repository.levels([public[contract]]) if it not in shown]
+        shown.update(nodes)
+        lines += [f"\n## {about[0].upper()}{about[1:]}: `{contract}`", *lines_of(repository, nodes)] if nodes else []
+    kept = sorted((it for it in sorts if sorts[it] == "kept"), key=lambda it: (*it[1:3], repository.definitions[it].line))
+    head = PAGE.format(stated=len(shown), all=len(sorts))
+    return head + "\n".join(lines) + "\n" + KEPT + "\n".join(lines_of(repository, kept)) + "\n"
+
 
 def main(command, *paths):
     """Prints what is reached by the named functions or by all that is public, or all definitions by their sorts."""
     repository, files = Repository(), collections.defaultdict(set)
+    if command == "page":
+        print(page(repository), end="")
+        return
     public, definitions = repository.public(), repository.definitions
     if set(paths) - {path for path, _ in public}:
         sys.exit(f"no crate gives out {', '.join(set(paths) - {path for path, _ in public})}")
     sorts = repository.sorts([it for path, it in public if path in paths or not paths])
     for node in sorted(definitions, key=lambda it: (*it[1:3], definitions[it].line)):
-        place = f"crates/{node[1]}/specs/{node[2].replace('.', '/')}.antt"
+        place = place_of(node)
         files[place].add(sorts[node] == "stated")
         if command == "reached" and sorts[node] in MARKS:
             print(f"{place}:{definitions[node].line}: {node[3]}{MARKS[sorts[node]]}")
@@ -182,4 +252,4 @@ def main(command, *paths):
 
 
 if __name__ == "__main__":
-    main(*sys.argv[1:]) if sys.argv[1:2] == ["reached"] or sys.argv[1:] == ["kinds"] else sys.exit(__doc__)
+    main(*sys.argv[1:]) if sys.argv[1:2] == ["reached"] or sys.argv[1:] in (["kinds"], ["page"]) else sys.exit(__doc__)

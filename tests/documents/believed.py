@@ -1,56 +1,26 @@
-"""Compares what READING.md says must be believed with what the contracts reach, by tools/definitions.py; and that what
-no public contract reaches, and nothing else, stands in specs/Inner."""
-import collections
+"""Compares docs/DEFINITIONS.md with what the contracts of READING reach, by tools/definitions.py; and that what no public
+contract reaches, and nothing else, stands in specs/Inner."""
 import re
 
-from definitions import Repository
-from pages import TOP
-
-
-def section_of(page, heading):
-    """The text of a page under one of its headings."""
-    with open(f"{TOP}/{page}", encoding="utf-8") as it:
-        return it.read().partition(f"\n{heading}\n")[2].partition("\n## ")[0]
-
-
-def listed_in(table, names):
-    """The definitions that a table lists: whole files, then of other files those named, or all but those named."""
-    listed = set()
-    for crate, whole, others in re.findall(r"^\| `(\w+)` \|([^|]*)\|([^|]*)\|$", table, re.MULTILINE):
-        for module in re.findall(r"[\w.]+", whole):
-            listed.update((crate, module, name) for name in names[crate, module] or ["no such file"])
-        for module, but, some in re.findall(r"([\w.]+)( but|:)((?: `[^`]+`,?)+)", others):
-            some = set(re.findall("`([^`]+)`", some))
-            listed.update((crate, module, name) for name in (names[crate, module] - some if but == " but" else some))
-            listed.update((crate, module, f"no such {name}") for name in some - names[crate, module])
-    return listed
+from definitions import CHAIN, Repository, page
+from pages import text_of
 
 
 def believed_tries(_):
-    """READING's tables have each definition that the chain's contracts reach, or invariants alone, and no other."""
-    section = section_of("docs/READING.md", "## What must be believed")
-    command = re.search(r"^tools/definitions\.py reached ((?:.*\\\n)*.*)$", section, re.MULTILINE)
-    paths = command[1].replace("\\", " ").split() if command else []
-    contracts = re.findall(r"^- `(crn[\w:]+)`:", section_of("README.md", "## Proofs"), re.MULTILINE)
-    for path in contracts:
-        yield f"docs/READING.md asks the tool for {path}", path in paths
-    repository, names = Repository(), collections.defaultdict(set)
-    public = repository.public()
-    for path in paths:
-        yield f"docs/READING.md asks the tool for {path}, which is public", path in dict(public)
-    sorts = repository.sorts([it for path, it in public if path in paths])
-    for node in repository.definitions:
-        names[node[1:3]].add(node[3])
-    tables = re.findall(r"(?:^\|.*\n)+", section, re.MULTILINE)
-    yield "docs/READING.md has two tables of what is reached", len(tables) == 2 and len(contracts) == 5
-    for sort, table in zip(("stated", "kept"), tables):
-        listed, reached = listed_in(table, names), {node[1:] for node in sorts if sorts[node] == sort}
-        for crate, module in sorted({it[:2] for it in listed | reached}):
-            lacks = [it[2] for it in sorted(reached - listed) if it[:2] == (crate, module)]
-            extra = [it[2] for it in sorted(listed - reached) if it[:2] == (crate, module)]
-            yield f"docs/READING.md on {crate} {module}: lacks {lacks}, not reached {extra}", not lacks and not extra
-    count = len([node for node in sorts if sorts[node] == "stated"])
-    yield f"docs/READING.md counts {count} of {len(sorts)}", f"They are {count} of {len(sorts)} definitions" in section
+    """DEFINITIONS has each definition that the chain's contracts reach, with its meaning, and READING counts them."""
+    proofs = text_of("README.md").partition("\n## Proofs\n")[2].partition("\n## ")[0]
+    contracts = re.findall(r"^- `(crn[\w:]+)`:", proofs, re.MULTILINE)
+    yield "README names five contracts", len(contracts) == 5
+    repository = Repository()
+    public = dict(repository.public())
+    for path in (*contracts, *CHAIN):
+        yield f"docs/DEFINITIONS.md begins from {path}, which is public", path in CHAIN and path in public
+    sorts = repository.sorts([public[it] for it in CHAIN])
+    for node in (it for it in sorts if sorts[it] in ("stated", "kept")):
+        yield f"crates/{node[1]}/specs {node[2]}: {node[3]} has its meaning in a comment", bool(repository.meaning(node))
+    yield "docs/DEFINITIONS.md is what `tools/definitions.py page` writes", text_of("docs/DEFINITIONS.md") == page(repository)
+    count = f"{sum(it == 'stated' for it in sorts.values())} of {len(sorts)}"
+    yield f"docs/READING.md counts {count} definitions", count in text_of("docs/READING.md")
 
 
 def inner_tries(_):

@@ -2,8 +2,8 @@
 """Compares the pages with the repository and the program: tests/documents/run.py PROGRAM.
 
 That each link leads to a file and a heading; that the map's crates stand on what crates.txt says; that what
-READING.md quotes stands in the files that it names, that it lists what must be believed, and that specs/Inner has what
-no public contract states (believed.py); that each wrong implementation says what goes wrong, in a sentence of its own,
+READING.md quotes stands in the files that it names, that DEFINITIONS.md lists what must be believed, that specs/Inner has
+what no public contract states (believed.py), and that what pages for engineers name is there; that each wrong implementation says what goes wrong, in a sentence of its own,
 and which function refuses it; that public items have docstrings of one form (docstrings.py); and that the scenario and the report of README
 are those that the program takes and writes.
 That the commands of README, of the guide and of the formats can be copied and print what stands there (commands.py),
@@ -11,6 +11,7 @@ and the help's examples too (helps.py); that the tables of the formats, their ra
 program (tables.py, ranges.py, rules.py, statuses.py); and that the figures of tables are those that come out (figures.py).
 There is a line for each failure and each try that this machine cannot make, and a last line that counts.
 """
+import glob
 import os
 import re
 import sys
@@ -80,6 +81,22 @@ def quote_tries(_):
             yield f"docs/READING.md quotes {wanted}", len(texts) == len(files) > 0 and any(wanted in it for it in texts)
 
 
+# Names in pages that stand for any of their kind.
+STANDING_FOR_ANY = {"crn_x", "tests_x", "tests_ring_tests", "what_it_does_wrong"}
+
+
+def named_tries(_):
+    """Each name of the code that the pages for engineers use stands in a source."""
+    paths = [it for pattern in ("crates/*/src/**/*.rt", "crates/*/specs/**/*.antt", "crates/*/proofs/**/*.antt", "crates/*/*/*.edit",
+                                "tests/**/*.*", "tools/*", "examples/**/*.*") for it in glob.glob(pattern, root_dir=TOP, recursive=True)]
+    words = {word for it in paths if it.endswith((".rt", ".antt", ".edit")) for word in re.findall(r"\w+", text_of(it))}
+    words |= {word for it in paths if it.endswith(".py") for word in re.findall(r"^ *(?:def|class) (\w+)", text_of(it), re.MULTILINE)}
+    words |= {os.path.splitext(os.path.basename(it))[0] for it in paths} | {it.split("/")[1] for it in paths}
+    for page in ("docs/CHANGING.md", "docs/ARCHITECTURE.md", "docs/PROOFS.md", "docs/READING.md", "CONTRIBUTING.md"):
+        names = {it for span in re.findall(r"`([^`\n]+)`", text_of(page)) for it in re.findall(r"\b[a-z]+_[a-z0-9_]+\b", span)}
+        yield f"{page} names what there is: not {sorted(names - words)}", bool(names) and names <= words | STANDING_FOR_ANY
+
+
 def edit_tries(_):
     """Each wrong implementation says what goes wrong and which function refuses it, no two say the same, and pages name
     only those that there are."""
@@ -107,7 +124,7 @@ def readme_tries(program):
         yield f"README.md's table: {policy}", f"| {policy} | {low} | {high} | {total} |" in text_of("README.md")
 
 
-PARTS = [link_tries, crate_tries, name_tries, quote_tries, edit_tries, believed_tries, inner_tries, docstring_tries, readme_tries,
+PARTS = [link_tries, crate_tries, name_tries, quote_tries, named_tries, edit_tries, believed_tries, inner_tries, docstring_tries, readme_tries,
          command_tries, option_tries, toml_tries, example_tries, table_tries, range_tries, rule_tries, status_tries,
          figure_tries]
 

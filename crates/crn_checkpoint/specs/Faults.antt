@@ -28,6 +28,7 @@ abbrev pub reading_fault : Unread → CheckpointFault
 reading_fault unread.NoCheckpoint = fault.NoCheckpoint
 reading_fault (unread.Memory refused) = fault.Memory refused
 
+-- the migration fault of a text that cannot be read
 abbrev pub migration_fault : Unread → MigrateFault
 migration_fault unread.NoCheckpoint = migration.NoCheckpoint
 migration_fault (unread.Memory refused) = migration.Memory refused
@@ -40,6 +41,7 @@ undrawn draw.Order = unread.NoCheckpoint
 undrawn draw.Total = unread.NoCheckpoint
 undrawn (draw.Memory refused) = unread.Memory refused
 
+-- what a state that cannot be restored says of the text
 abbrev pub unrestored : RestoreFault → Unread
 unrestored restore.Range = unread.NoCheckpoint
 unrestored (restore.Memory refused) = unread.Memory refused

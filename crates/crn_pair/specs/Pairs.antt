@@ -67,9 +67,10 @@ pub record IsPairOf (a b : List ℕ) (p : Pair) : Type 0 where
   pub squares_are : squares_of p ≡ over_pairs (differences a b) (differences a b)
   pub products_are : products_of p ≡ over_pairs (signed a) (signed b)
 
--- the denominators: of the variance of the mean difference, and of the covariance
+-- the denominator of the variance of the mean difference, for r replications
 abbrev pub variance_parts : ℕ → ℕ
 variance_parts r = r * r * (r - 1)
 
+-- the denominator of the covariance, for r replications
 abbrev pub covariance_parts : ℕ → ℕ
 covariance_parts r = r * (r - 1)

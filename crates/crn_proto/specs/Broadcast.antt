@@ -2,6 +2,7 @@
 -- reader the number of its next block, or None once it has left. No reader that is there falls more than `size` behind.
 use Rattle.std.specs.Prelude.{◌≡◌, ℕ, ◌+◌, ◌<◌, ◌≤◌, Bool, true, false, List, [], ◌∷◌, ◌++◌, length, Option, Some, None, slice_get, slice_set}
 
+-- The broadcast list: its first number, the size, the items, whether it is ended, and each reader's count.
 pub record Broadcast : Type 0 where
   pub first : ℕ
   pub size : ℕ

@@ -17,5 +17,6 @@ module _ {P M : Type 0} (May : P → M → Type 0) (after : P → M → ℕ → 
 abbrev pub ProducerReaches : RingSpec → Producer → ℕ → Producer → Type 0
 ProducerReaches spec = Reaches (ProducerMay spec) producer_after
 
+-- A reader's part becomes another by at most so many of its moves.
 abbrev pub ReaderReaches : Reader → ℕ → Reader → Type 0
 ReaderReaches = Reaches ReaderMay reader_after

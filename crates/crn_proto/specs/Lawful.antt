@@ -63,11 +63,12 @@ pub record Lawful (spec : RingSpec) (words : List ℕ) (parts : List Part) : Typ
   pub of_words : WordsLaw spec words
   pub of_parts : (k : ℕ) (part : Part) → slice_get parts k ≡ Some part → PartLaw spec words part
 
--- the parts of all actors
+-- the parts of these readers, whose numbers begin with r
 abbrev pub reader_parts : ℕ → List Reader → List Part
 reader_parts r [] = []
 reader_parts r (q ∷ readers) = OfReader r q ∷ reader_parts (suc r) readers
 
+-- the parts of all actors of a ring
 abbrev pub parts_of : Ring → List Part
 parts_of s = OfProducer s.producer ∷ reader_parts 0 s.readers
 

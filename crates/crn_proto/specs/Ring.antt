@@ -151,6 +151,7 @@ Runs old (move ∷ moves) new = (mid : Ring) × Step old move mid × Runs mid mo
 
 -- ---- the open state: nothing is published, taken, stored or read
 
+-- the producer's part as a ring is opened
 abbrev pub open_producer : RingSpec → Producer
 open_producer spec = record {
   published = spec.id.first;
@@ -161,12 +162,15 @@ open_producer spec = record {
   steps = 0;
 }
 
+-- a reader's part as a ring is opened
 abbrev pub open_reader : RingSpec → Reader
 open_reader spec = record { taken = spec.id.first; seen = spec.id.first; seen_end = false; left = false; read = []; steps = 0 }
 
+-- the words as a ring is opened: its cursor, the readers' cursors, and slots of zeros
 abbrev pub open_words : RingSpec → List ℕ
 open_words spec = (2 * spec.id.first ∷ replicate spec.readers spec.id.first) ++ replicate (BLOCK_WORDS * spec.size) 0
 
+-- a ring as it is opened
 abbrev pub open_ring : RingSpec → Ring
 open_ring spec = record {
   spec = spec;

@@ -21,16 +21,19 @@ use Rattle.crn_ring.specs.declared.answers.Batch.TheVariants as Several
 use Rattle.crn_ring.specs.Seats.{Place, view_of, spec_in, producer_in, reader_in}
 use Rattle.crn_ring.specs.Parts.{Publishes, IsFull, Takes, SeesNothing, SeesEnd}
 
+-- the size, the number of readers and the stream that a ring was opened with
 abbrev pub spec_of : Ring → RingSpec
 spec_of ring = ring.spec
 
--- the part of the ring's state that is the producer's, or a reader's
+-- the part of the ring's state that is the producer's
 abbrev pub producer_part : Producer → ProducerPart
 producer_part p = producer_in p.seat
 
+-- a reader's part of the ring's state
 abbrev pub reader_part : Reader → ReaderPart
 reader_part r = reader_in r.seat
 
+-- the number of a reader
 abbrev pub reader_number : Reader → ℕ
 reader_number r = r.number
 
@@ -45,10 +48,11 @@ reader_spec r = spec_in r.seat
 abbrev pub IsAt : Ring → Place → Type 0
 IsAt ring seat = (seat.table_id ≡ ring.table.shared.table_id) × (spec_in seat ≡ ring.spec)
 
--- The producer, or the reader, is this ring's.
+-- The producer is this ring's.
 abbrev pub IsProducerOf : Ring → Producer → Type 0
 IsProducerOf ring p = IsAt ring p.seat
 
+-- The reader is this ring's.
 abbrev pub IsReaderOf : Ring → Reader → Type 0
 IsReaderOf ring r = IsAt ring r.seat
 

@@ -12,6 +12,7 @@ use Rattle.crn_ring.specs.declared.view.Role.{Role}
 use Rattle.crn_ring.specs.declared.view.Role.TheVariants.{Producer, Reader}
 use Rattle.crn_ring.specs.declared.view.View.{View}
 
+-- the parts in a view of this role
 abbrev pub parts_as : View → Role → List Part
 parts_as v Producer = waiting_parts v.producer v.reader v.number (v.spec.readers - v.number)
 parts_as v Reader = OfReader v.number v.reader ∷ []
@@ -20,6 +21,7 @@ parts_as v Reader = OfReader v.number v.reader ∷ []
 abbrev pub parts_of_view : View → List Part
 parts_of_view v = parts_as v v.role
 
+-- The rule: there is such a ring, the words and the parts in the views are lawful, and each view is of this ring.
 pub record Holds (spec : RingSpec) (s : State (Unit {0}) View) : Type 0 where
   pub ring : IsRing spec
   pub rule : Rule parts_of_view spec s.words s.views
@@ -29,6 +31,7 @@ pub record Holds (spec : RingSpec) (s : State (Unit {0}) View) : Type 0 where
 abbrev pub HasProducer : View → Type 0
 HasProducer v = (v.role ≡ Producer) × (v.number ≡ v.spec.readers)
 
+-- the view is a reader's
 abbrev pub HasReader : View → Type 0
 HasReader v = v.role ≡ Reader
 

@@ -8,24 +8,27 @@ use Rattle.crn_ring.specs.declared.view.Role.TheVariants.{Reader}
 use Rattle.crn_ring.specs.declared.view.View.{View}
 use Rattle.crn_ring.specs.Holds.{HasProducer, HasReader}
 
+-- what a seat knows: its view, and the slots that it carries, of which a ring has none
 abbrev pub Sat : Type 0
 Sat = Me (Unit {0}) View
 
--- the view after a move of its producer, or of its reader, that found this value
+-- the view after a move of its producer that found this value
 abbrev pub by_producer : ProducerMove → ℕ → View → View
 by_producer m found v = record v { producer = producer_after v.producer m found }
 
+-- the view after a move of its reader that found this value
 abbrev pub by_reader : ReaderMove → ℕ → View → View
 by_reader m found v = record v { reader = reader_after v.reader m found }
 
--- the moves that publish all blocks that are stored, and take all that are read
+-- the move that publishes all blocks that are stored
 abbrev pub publishing : View → ProducerMove
 publishing v = Publish (v.producer.stored / BLOCK_WORDS)
 
+-- the move that takes all blocks that are read
 abbrev pub taking : View → ReaderMove
 taking v = Take (length v.reader.read / BLOCK_WORDS)
 
--- The step is this move of the producer, or of the seat's reader: its part allows the move, and the word of the step, what
+-- The step is this move of the producer: its part allows the move, and the word of the step, what
 -- that word is afterwards, n, and the view afterwards are those of the move.
 pub record MadeByProducer (move : ProducerMove) (st : Step (Unit {0})) (m : Sat) (n : ℕ) (m' : Sat) : Type 0 where
   pub seat : HasProducer m.0
@@ -34,6 +37,7 @@ pub record MadeByProducer (move : ProducerMove) (st : Step (Unit {0})) (m : Sat)
   pub leaves : n ≡ producer_leaves m.0.spec m.0.producer move n
   pub view : m' ≡ (by_producer move n m.0, m.1)
 
+-- The step is this move of the seat's reader, as for the producer.
 pub record MadeByReader (move : ReaderMove) (st : Step (Unit {0})) (m : Sat) (n : ℕ) (m' : Sat) : Type 0 where
   pub seat : HasReader m.0
   pub may : ReaderMay m.0.reader move
@@ -41,28 +45,36 @@ pub record MadeByReader (move : ReaderMove) (st : Step (Unit {0})) (m : Sat) (n 
   pub leaves : n ≡ reader_leaves m.0.reader move n
   pub view : m' ≡ (by_reader move n m.0, m.1)
 
+-- a reader's cursor was loaded: the mark of a reader that left, or a count that is at most `size` behind what is published
 abbrev pub loaded_gate : Step (Unit {0}) → Sat → ℕ → Sat → Type 0
 loaded_gate st m n m' = MadeByProducer (LoadGate (st.word - 1)) st m n m' × (length m.0.producer.gates ≡ m.0.spec.readers)
     × (n ≢ left_mark → (n ≤ m.0.producer.published) × (m.0.producer.published ≤ n + m.0.spec.size))
 
+-- a word of a slot was stored
 abbrev pub stored_word : Step (Unit {0}) → Sat → ℕ → Sat → Type 0
 stored_word st m n m' = MadeByProducer StoreWord st m n m'
 
+-- the blocks that were stored are published
 abbrev pub published_some : Step (Unit {0}) → Sat → ℕ → Sat → Type 0
 published_some st m n m' = MadeByProducer (publishing m.0) st m n m'
 
+-- the end was marked
 abbrev pub stored_end : Step (Unit {0}) → Sat → ℕ → Sat → Type 0
 stored_end st m n m' = MadeByProducer Finish st m n m'
 
+-- the ring cursor was loaded: it is not below what the reader has taken or seen, nor above the total
 abbrev pub loaded_cursor : Step (Unit {0}) → Sat → ℕ → Sat → Type 0
 loaded_cursor st m n m' = MadeByReader LoadCursor st m n m' × (m.0.reader.taken ≤ n / 2) × (m.0.reader.seen ≤ n / 2) × (n / 2 ≤ m.0.spec.id.total)
 
+-- a word of a slot was loaded: it is the block's
 abbrev pub loaded_word : Step (Unit {0}) → Sat → ℕ → Sat → Type 0
 loaded_word st m n m' = MadeByReader LoadWord st m n m' × (n ≡ block_word m.0.spec.id.key (reading m.0.reader) (length m.0.reader.read % BLOCK_WORDS))
 
+-- the blocks that were read are taken
 abbrev pub stored_taken : Step (Unit {0}) → Sat → ℕ → Sat → Type 0
 stored_taken st m n m' = MadeByReader (taking m.0) st m n m'
 
+-- the reader has left
 abbrev pub stored_left : Step (Unit {0}) → Sat → ℕ → Sat → Type 0
 stored_left st m n m' = MadeByReader Leave st m n m'
 
@@ -70,5 +82,6 @@ stored_left st m n m' = MadeByReader Leave st m n m'
 abbrev pub cut_left : View → View
 cut_left v = record v { number = v.number + 1 }
 
+-- the view of the seat that is cut off: that of the reader that waited first
 abbrev pub cut_right : View → View
 cut_right v = record v { role = Reader }

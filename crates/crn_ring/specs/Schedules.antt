@@ -14,6 +14,7 @@ use Rattle.crn_ring.specs.declared.view.View.{View}
 use Rattle.crn_ring.specs.Holds.{Holds, opened, parts_of_view}
 use Rattle.crn_ring.specs.Plays.{Sat, publishing, taking, loaded_gate, stored_word, published_some, stored_end, loaded_cursor, loaded_word, stored_taken, stored_left, cut_left, cut_right}
 
+-- the state of a ring's table: its words and its seats' views
 abbrev pub Words : Type 0
 Words = State (Unit {0}) View
 
@@ -94,6 +95,7 @@ pub record Cuts (spec : RingSpec) (s : Words) (id : ℕ) (v : View) (s' : Words)
   pub after : s' ≡ record { words = s.words; homes = s.homes; views = slice_set s.views id (cut_left v) ++ cut_right v ∷ [] }
   pub keeps : Holds spec s'
 
+-- The step leads from one state of the table to the other.
 abbrev pub Makes : RingSpec → Words → TableStep → Words → Type 0
 Makes spec s (Made o) s' = Picks spec s o s'
 Makes spec s (Cut id v) s' = Cuts spec s id v s'

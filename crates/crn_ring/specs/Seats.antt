@@ -5,9 +5,11 @@ use Rattle.crn_proto.specs.declared.actor_parts.ProducerPart.{ProducerPart}
 use Rattle.crn_proto.specs.declared.actor_parts.ReaderPart.{ReaderPart}
 use Rattle.crn_ring.specs.declared.view.View.{View}
 
+-- a seat at the table of a ring
 abbrev pub Place : Type 0
 Place = Seat (Unit {0}) View
 
+-- the view that a seat has
 abbrev pub view_of : Place → View
 view_of seat = seat.me.0
 
@@ -19,5 +21,6 @@ spec_in seat = (view_of seat).spec
 abbrev pub producer_in : Place → ProducerPart
 producer_in seat = (view_of seat).producer
 
+-- the part of the ring's state that is a reader's
 abbrev pub reader_in : Place → ReaderPart
 reader_in seat = (view_of seat).reader

@@ -1,9 +1,11 @@
 -- Rows of CSV whose fields stand as they are, with a comma between each two and a line feed at the end.
 use Rattle.std.specs.Prelude.{ℕ, List, [], ◌∷◌, ◌++◌}
 
+-- the byte between two fields
 abbrev pub comma : List ℕ
 comma = 44 ∷ []
 
+-- the byte at the end of a row
 abbrev pub line_feed : List ℕ
 line_feed = 10 ∷ []
 

@@ -19,6 +19,7 @@ pub record Entry : Type 0 where
   pub kind : Kind
   pub since : ℕ
 
+-- a key that documents have from a version on
 abbrev pub entry_since : ℕ → List ℕ → Kind → Entry
 entry_since version name k = record { name = name; kind = k; since = version }
 
@@ -32,9 +33,11 @@ keys_of version es = filter (λ e. nat_le e.since version) es
 
 -- ---- the tables
 
+-- an integer from low to high
 abbrev pub number : ℕ → ℕ → Kind
 number low high = kind.Number (pos low) (pos high)
 
+-- an array of integers from low to high, not empty
 abbrev pub numbers_within : ℕ → ℕ → Kind
 numbers_within low high = kind.Numbers (pos low) (pos high)
 
@@ -42,6 +45,7 @@ numbers_within low high = kind.Numbers (pos low) (pos high)
 abbrev pub greatest_level : ℕ
 greatest_level = nat_abs LEVEL_LIMIT
 
+-- the keys of the document itself
 abbrev pub top_table : List Entry
 top_table =
     entry (codes "version") kind.Integer
@@ -57,6 +61,7 @@ top_table =
     ∷ entry_since 2 (codes "returns") kind.Table
     ∷ []
 
+-- the keys of the table `costs`
 abbrev pub costs : List Entry
 costs =
     entry (codes "setup") (number 0 SETUP_LIMIT)
@@ -69,15 +74,19 @@ costs =
 abbrev pub draws : ℕ → ℕ → List Entry
 draws low high = entry (codes "values") (numbers_within low high) ∷ entry (codes "weights") (numbers_within 0 TOTAL_LIMIT) ∷ []
 
+-- the keys of the table `demand`
 abbrev pub demand : List Entry
 demand = draws 0 ITEM_LIMIT
 
+-- the keys of the table `lead`
 abbrev pub lead : List Entry
 lead = draws 1 LEAD_LIMIT
 
+-- the keys of the table `returns`
 abbrev pub returns : List Entry
 returns = draws 0 ITEM_LIMIT
 
+-- the keys of each table in `policy`
 abbrev pub policy : List Entry
 policy =
     entry (codes "name") kind.Text
@@ -107,6 +116,7 @@ abbrev pub is_within : ℤ → ℤ → Option ℤ → Bool
 is_within low high None = true
 is_within low high (Some z) = int_le low z && int_le z high
 
+-- whether each number is from low to high
 abbrev pub are_within : ℤ → ℤ → List ℤ → Bool
 are_within low high [] = true
 are_within low high (z ∷ zs) = is_within low high (Some z) && are_within low high zs
@@ -121,6 +131,7 @@ abbrev pub are_four_words : Option Items → Bool
 are_four_words None = true
 are_four_words (Some ds) = (count_items ds == 4) && list_all is_hex_word (texts_of ds)
 
+-- whether a value is in the range of its kind; one of another kind is
 abbrev pub is_in_range : Kind → Data → Bool
 is_in_range kind.Integer d = true
 is_in_range (kind.Number low high) d = is_within low high (as_integer d)
@@ -132,6 +143,7 @@ is_in_range kind.Tables d = true
 
 -- ---- what a table must keep: that its keys are known, that none is missing, that kinds and that ranges are right
 
+-- whether what stands at one key keeps a rule
 abbrev pub keeps_at : Rule → Kind → Option Data → Bool
 keeps_at rule.Known k o = true
 keeps_at rule.Present k o = is_some o
@@ -140,18 +152,22 @@ keeps_at rule.Kinds k (Some d) = is_of_kind k d
 keeps_at rule.Ranges k None = true
 keeps_at rule.Ranges k (Some d) = is_in_range k d
 
+-- whether what stands at each of these keys keeps a rule
 abbrev pub keeps_at_all : Rule → List Entry → Members → Bool
 keeps_at_all r [] ms = true
 keeps_at_all r (e ∷ es) ms = keeps_at r e.kind (get_member e.name ms) && keeps_at_all r es ms
 
+-- whether it is one of these keys
 abbrev pub is_key : List Entry → List ℕ → Bool
 is_key [] key = false
 is_key (e ∷ es) key = bytes_eq e.name key || is_key es key
 
+-- whether each key of a table is one of these
 abbrev pub knows_all : List Entry → Members → Bool
 knows_all es no_members = true
 knows_all es (member key d ms) = is_key es key && knows_all es ms
 
+-- whether a table with these keys keeps a rule
 abbrev pub keeps : Rule → List Entry → Members → Bool
 keeps rule.Known es ms = knows_all es ms
 keeps rule.Present es ms = keeps_at_all rule.Present es ms

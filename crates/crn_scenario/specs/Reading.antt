@@ -31,6 +31,7 @@ use Rattle.crn_scenario.specs.declared.scenario_fault.ScenarioFault.TheVariants 
 unfoldable pub version_of : Members → ℕ
 version_of ms = natural (integer_at (codes "version") ms)
 
+-- whether a table keeps a rule, if there is one
 abbrev pub keeps_in : Rule → List Entry → Option Members → Bool
 keeps_in r es None = true
 keeps_in r es (Some ms) = keeps r es ms
@@ -40,6 +41,7 @@ abbrev pub policies_in : Option Items → List Members
 policies_in None = []
 policies_in (Some ds) = tables_of ds
 
+-- the tables at `policy`
 abbrev pub policies_at : Members → List Members
 policies_at ms = policies_in (array_at (codes "policy") ms)
 
@@ -58,32 +60,30 @@ all_keep r ms =
     && inner_keep r (version_of ms) ms
     && list_all (keeps r (keys_of (version_of ms) fields.policy)) (policies_at ms)
 
--- ---- fault 2: the version is none of those that there are
+-- ---- fault 2
 
+-- whether it is a version that there is
 abbrev pub is_version : Option ℤ → Bool
 is_version None = false
 is_version (Some z) = is_within (pos 1) (pos NEWEST_VERSION) (Some z)
 
+-- fault 2: the version is none of those that there are
 unfoldable pub has_other_version : Members → Bool
 has_other_version ms = not (is_version (integer_at (codes "version") ms))
 
--- ---- fault 3: a table has a key that is not one of its keys
-
+-- fault 3: a table has a key that is not one of its keys
 unfoldable pub has_unknown_key : Members → Bool
 has_unknown_key ms = not (all_keep rule.Known ms)
 
--- ---- fault 4: a table lacks one of its keys
-
+-- fault 4: a table lacks one of its keys
 unfoldable pub lacks_key : Members → Bool
 lacks_key ms = not (all_keep rule.Present ms)
 
--- ---- fault 5: a value, or an entry of an array, is not of its kind
-
+-- fault 5: a value, or an entry of an array, is not of its kind
 unfoldable pub has_other_kind : Members → Bool
 has_other_kind ms = not (all_keep rule.Kinds ms)
 
--- ---- fault 6: a number, a list or the key is out of its range
-
+-- fault 6: a number, a list or the key is out of its range
 unfoldable pub breaks_range : Members → Bool
 breaks_range ms = not (all_keep rule.Ranges ms)
 
@@ -93,6 +93,7 @@ breaks_range ms = not (all_keep rule.Ranges ms)
 abbrev pub drawn : List (List ℕ)
 drawn = codes "demand" ∷ codes "lead" ∷ codes "returns" ∷ []
 
+-- whether there are values, and not as many weights
 abbrev pub have_other_lengths : Option Items → Option Items → Bool
 have_other_lengths None ws = false
 have_other_lengths (Some vs) None = false
@@ -103,30 +104,37 @@ abbrev pub is_above : Option ℤ → ℤ → Bool
 is_above None z = true
 is_above (Some last) z = int_lt last z
 
+-- whether the numbers rise strictly, the first above the last one before
 abbrev pub rise_above : Option ℤ → List ℤ → Bool
 rise_above last [] = true
 rise_above last (z ∷ zs) = is_above last z && rise_above (Some z) zs
 
+-- whether there are values that do not rise strictly
 abbrev pub have_other_order : Option Items → Bool
 have_other_order None = false
 have_other_order (Some vs) = not (rise_above None (integers_of vs))
 
+-- the sum of the numbers
 abbrev pub total_of : List ℤ → ℤ
 total_of [] = pos 0
 total_of (z ∷ zs) = z +ℤ total_of zs
 
+-- whether there are weights whose sum is out of its range
 abbrev pub have_other_total : Option Items → Bool
 have_other_total None = false
 have_other_total (Some ws) = not (is_within (pos 1) (pos TOTAL_LIMIT) (Some (total_of (integers_of ws))))
 
+-- whether a table has values, and not as many weights
 abbrev pub has_other_lengths_in : Option Members → Bool
 has_other_lengths_in None = false
 has_other_lengths_in (Some ms) = have_other_lengths (array_at (codes "values") ms) (array_at (codes "weights") ms)
 
+-- whether a table's values do not rise strictly
 abbrev pub has_other_order_in : Option Members → Bool
 has_other_order_in None = false
 has_other_order_in (Some ms) = have_other_order (array_at (codes "values") ms)
 
+-- whether the sum of a table's weights is out of its range
 abbrev pub has_other_total_in : Option Members → Bool
 has_other_total_in None = false
 has_other_total_in (Some ms) = have_other_total (array_at (codes "weights") ms)
@@ -143,21 +151,25 @@ has_values_out_of_order ms = list_any (λ key. has_other_order_in (table_at key 
 unfoldable pub has_weights_out_of_range : Members → Bool
 has_weights_out_of_range ms = list_any (λ key. has_other_total_in (table_at key ms)) drawn
 
--- ---- fault 10: a policy's s is above its S
+-- ---- fault 10
 
+-- whether s is not above S; if one is missing it is not
 abbrev pub are_in_order : Option ℤ → Option ℤ → Bool
 are_in_order None high = true
 are_in_order (Some low) None = true
 are_in_order (Some low) (Some high) = int_le low high
 
+-- whether a policy's s is not above its S
 abbrev pub has_levels_in_order : Members → Bool
 has_levels_in_order ms = are_in_order (integer_at (codes "s") ms) (integer_at (codes "S") ms)
 
+-- fault 10: a policy's s is above its S
 unfoldable pub has_low_above_high : Members → Bool
 has_low_above_high ms = not (list_all has_levels_in_order (policies_at ms))
 
--- ---- fault 11: a policy's name has not the form of one, or stands twice
+-- ---- fault 11
 
+-- the name of a policy, if it has one
 abbrev pub policy_name_of : Data → Option (List ℕ)
 policy_name_of d = option_and_then (text_at (codes "name")) (as_table d)
 
@@ -166,43 +178,53 @@ abbrev pub names_in : Items → List (List ℕ)
 names_in no_items = []
 names_in (item d ds) = kept (policy_name_of d) (names_in ds)
 
+-- the names among the policies, if there are policies
 abbrev pub names_at : Option Items → List (List ℕ)
 names_at None = []
 names_at (Some ds) = names_in ds
 
+-- whether a name is one of these
 abbrev pub is_among : List (List ℕ) → List ℕ → Bool
 is_among [] name = false
 is_among (n ∷ names) name = bytes_eq n name || is_among names name
 
+-- whether no name stands twice
 abbrev pub all_differ : List (List ℕ) → Bool
 all_differ [] = true
 all_differ (name ∷ names) = not (is_among names name) && all_differ names
 
+-- whether each has the form of a name, and none stands twice
 abbrev pub are_good_names : List (List ℕ) → Bool
 are_good_names names = list_all is_name names && all_differ names
 
+-- fault 11: a policy's name has not the form of one, or stands twice
 unfoldable pub has_bad_name : Members → Bool
 has_bad_name ms = not (are_good_names (names_at (array_at (codes "policy") ms)))
 
--- ---- fault 12: there is no ring of this size: it is no power of two, or over the limit
+-- ---- fault 12
 
+-- whether there is a ring of so many slots: a power of two, at most the limit
 unfoldable pub is_ring_size : ℤ → Bool
 is_ring_size (pos slots) = is_power_of_two slots && nat_le slots SLOT_LIMIT
 is_ring_size (negsuc n) = false
 
+-- whether it is a number, and there is no ring of so many slots
 abbrev pub is_other_ring : Option ℤ → Bool
 is_other_ring None = false
 is_other_ring (Some z) = not (is_ring_size z)
 
+-- fault 12: there is no ring of this size
 unfoldable pub has_other_ring : Members → Bool
 has_other_ring ms = is_other_ring (integer_at (codes "ring") ms)
 
--- ---- fault 13: there is no policy, or more than the limit
+-- ---- fault 13
 
+-- whether there are policies, and none or more than the limit
 abbrev pub is_other_count : Option Items → Bool
 is_other_count None = false
 is_other_count (Some ds) = not (nat_le 1 (count_items ds) && nat_le (count_items ds) POLICY_LIMIT)
 
+-- fault 13: there is no policy, or more than the limit
 unfoldable pub has_other_policy_count : Members → Bool
 has_other_policy_count ms = is_other_count (array_at (codes "policy") ms)
 
@@ -225,6 +247,7 @@ faults ms =
     ∷ (13, has_other_policy_count ms)
     ∷ []
 
+-- whether a fault of this number holds
 abbrev pub holds_at : ℕ → List (ℕ × Bool) → Bool
 holds_at k [] = false
 holds_at k (p ∷ ps) = ((k == p.0) && p.1) || holds_at k ps
@@ -245,30 +268,37 @@ pub record IsLeast (ms : Members) (k : ℕ) : Type 0 where
 -- ---- what stands at a key, as the scenario has it. What is absent or of another kind counts as 0 or as nothing: a tree
 -- without a fault has none of it
 
+-- the integer, and 0 if there is none
 abbrev pub integer : Option ℤ → ℤ
 integer None = pos 0
 integer (Some z) = z
 
+-- the text, and the empty one if there is none
 abbrev pub text : Option (List ℕ) → List ℕ
 text None = []
 text (Some bytes) = bytes
 
+-- the number that a hexadecimal word writes, and 0 if there is none
 abbrev pub word : Option (List ℕ) → ℕ
 word None = 0
 word (Some bytes) = word_of bytes
 
+-- the integers of an array, and none if there is no array
 abbrev pub integers_in : Option Items → List ℤ
 integers_in None = []
 integers_in (Some ds) = integers_of ds
 
 -- ---- the scenario that a tree says, part by part
 
+-- the number at a key of a table, without its sign
 abbrev pub natural_in : List ℕ → Option Members → ℕ
 natural_in key o = natural (option_and_then (integer_at key) o)
 
+-- the numbers at a key of a table, without their signs
 abbrev pub naturals_in : List ℕ → Option Members → List ℕ
 naturals_in key o = map nat_abs (integers_in (option_and_then (array_at key) o))
 
+-- the cost rates of a table
 abbrev pub cost_rates_of : Option Members → Costs
 cost_rates_of o = record {
   setup = natural_in (codes "setup") o;
@@ -277,6 +307,7 @@ cost_rates_of o = record {
   backlog = natural_in (codes "backlog") o;
 }
 
+-- the values and weights of a table
 abbrev pub weighted_of : Option Members → Weighted
 weighted_of o = record { values = naturals_in (codes "values") o; weights = naturals_in (codes "weights") o }
 
@@ -285,6 +316,7 @@ abbrev pub returns_of : Option Members → Option Weighted
 returns_of None = None
 returns_of (Some ms) = Some (weighted_of (Some ms))
 
+-- the model of a tree
 abbrev pub model_of : Members → ModelParts
 model_of ms = record {
   periods = natural (integer_at (codes "periods") ms);
@@ -296,6 +328,7 @@ model_of ms = record {
   returns = returns_of (table_at (codes "returns") ms);
 }
 
+-- the policy of a table
 abbrev pub policy_of : Members → Policy
 policy_of ms = record {
   name = text (text_at (codes "name") ms);
@@ -307,6 +340,7 @@ policy_of ms = record {
 abbrev pub word_at : ℕ → Option Data → ℕ
 word_at i o = word (option_and_then as_str (option_and_then (at i) o))
 
+-- the key of the cipher: four words
 abbrev pub key_of : Option Data → List ℕ
 key_of o = word_at 0 o ∷ word_at 1 o ∷ word_at 2 o ∷ word_at 3 o ∷ []
 

@@ -4,12 +4,15 @@ use Rattle.std.specs.Fmt.{digit_glyph}
 use Rattle.std.specs.List.{list_all}
 use Rattle.std.specs.Str.Parse.{digits_value}
 
+-- whether a byte is one of 0-9 and a-f
 abbrev pub is_hex_digit : ℕ → Bool
 is_hex_digit b = (nat_le 48 b && nat_le b 57) || (nat_le 97 b && nat_le b 102)
 
+-- whether all bytes are such digits
 abbrev pub are_hex_digits : List ℕ → Bool
 are_hex_digits bytes = list_all is_hex_digit bytes
 
+-- whether it is a hexadecimal word: 16 such digits
 unfoldable pub is_hex_word : List ℕ → Bool
 is_hex_word bytes = (length bytes == 16) && are_hex_digits bytes
 

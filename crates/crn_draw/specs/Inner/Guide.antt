@@ -7,10 +7,11 @@ use Rattle.crn_draw.specs.declared.runs.Run.{Run}
 use Rattle.crn_draw.specs.Spread.{place_of}
 use Rattle.crn_draw.specs.Inner.Runs.{IsBracket, StandsAtPlace}
 
--- the places of the first and of the last word whose ten leading bits are those of a number
+-- the place of the first word whose ten leading bits are those of a number
 abbrev pub first_place : ℕ → ℕ → ℕ
 first_place bits total = place_of (bits * 2 ^ 54) total
 
+-- the place of the last word whose ten leading bits are those of a number
 abbrev pub last_place : ℕ → ℕ → ℕ
 last_place bits total = place_of (bits * 2 ^ 54 + (2 ^ 54 - 1)) total
 
@@ -22,10 +23,11 @@ IsEntry runs low high entry = entry ≢ SEVERAL → (place : ℕ) → low ≤ pl
 abbrev pub no_bracket : Bracket
 no_bracket = record { first = 0; last = 0 }
 
--- what an entry and a bracket say of the words whose leading bits are a number
+-- what an entry says of the words whose leading bits are a number
 abbrev pub EntryFits : List Run → ℕ → ℕ → ℕ → Type 0
 EntryFits runs total bits entry = IsEntry runs (first_place bits total) (last_place bits total) entry
 
+-- what a bracket says of the words whose leading bits are a number
 abbrev pub BracketFits : List Run → ℕ → ℕ → Bracket → Type 0
 BracketFits runs total bits bracket = IsBracket runs (first_place bits total) (last_place bits total) bracket.first bracket.last
 
