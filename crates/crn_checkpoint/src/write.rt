@@ -1,11 +1,10 @@
-// Checkpoints are written.
+//! Writes checkpoints.
 
-ghost use Rattle.std.specs.Prelude.{◌≡◌, ◌^◌, ◌<◌, ◌≤◌, All, IfOk};
+ghost use Rattle.std.specs.Prelude.{◌≡◌, ◌≤◌, IfOk};
 ghost use Rattle.crn_stock.specs.Models.{total};
-ghost use Rattle.crn_stock.specs.Parts.{AreInRange};
 ghost use Rattle.crn_sequential.specs.Runs.{IsCheckpointOf};
 ghost use Rattle.crn_checkpoint.specs.CheckpointText as spec;
-ghost use Rattle.crn_checkpoint.specs.Reading.{CanDraw, CanTell, IsScenario, IsTextIn, IsTextOf};
+ghost use Rattle.crn_checkpoint.specs.Reading.{CanTell, IsTextIn, IsTextOf};
 
 mod policy;
 mod rows;
@@ -17,49 +16,8 @@ use crate::write::rows::with_end_row;
 use crate::write::scenario::with_scenario_rows;
 use crn_rows::Sheet;
 use crn_sequential::Checkpoint;
-use crn_stock::{Model, Scenario, State};
+use crn_stock::Scenario;
 use std::alloc::{AllocError, Global};
-
-// Contracts learn from this call that words are of 64 bits. It does nothing.
-fn tell_words(words: &[u64])
-    ensures { All (λ w. w < 2 ^ 64) words.now }
-{
-    for word in words {
-        let _word = *word;
-    }
-}
-
-// Contracts learn from this call that returned items can be drawn from. It does nothing.
-fn tell_returns(model: &Model)
-    ensures { CanDraw model.now.returns }
-{
-    if let Some(returns) = model.returns() {
-        let _total = returns.total();
-    }
-}
-
-// Contracts learn from this call that a scenario is within its ranges. It does nothing.
-fn tell_scenario(scenario: &Scenario)
-    ensures { IsScenario scenario.now }
-{
-    tell_words(&scenario.key());
-    let _ring = scenario.ring();
-    let _policies = scenario.policies();
-    let model = scenario.model();
-    let _periods = model.periods();
-    let _demands = model.demand().total();
-    let _leads = model.lead().total();
-    tell_returns(model);
-}
-
-// Contracts learn from this call that states are within their ranges. It does nothing.
-fn tell_states(states: &[State])
-    ensures { All AreInRange states.now }
-{
-    for state in states {
-        let _period = state.period();
-    }
-}
 
 /// The text of a checkpoint of a scenario in a version that knows all that the scenario has.
 pub(crate) fn write_in(
@@ -74,8 +32,6 @@ pub(crate) fn write_in(
     ensures in_range { IfOk result (λ text. checkpoint.now.next ≤ total scenario.now.model
         → IsTextIn version scenario.now checkpoint.now.next checkpoint.now.states.items text.items) }
 {
-    tell_scenario(scenario);
-    tell_states(&checkpoint.states);
     let sheet = with_scenario_rows(Sheet::new(alloc), version, scenario, checkpoint.next)?;
     let sheet = with_all_policy_rows(sheet, scenario.policies(), &checkpoint.states)?;
     let sheet = with_end_row(sheet)?;

@@ -2,3 +2,4 @@ pub mod Plainness
 pub mod PlainFields
 pub mod Reread
 pub mod Fields
+mod Refusals

@@ -1,4 +1,4 @@
-//! Rows of CSV whose fields call for no quotes: they are written by `csv` as they are, and read back leniently.
+//! Rows of CSV whose fields need no quotes: `csv` writes them as they are, and they are read back leniently.
 #![tactic(auto)]
 
 mod reading;

@@ -1,4 +1,4 @@
-// A row as it was read.
+//! A row as it was read.
 
 ghost use Rattle.std.specs.Prelude.{◌≡◌, ◌<◌, ◌^◌, ℕ, ℤ, [], decimal, slice_index_or, unsigned_abs};
 ghost use Rattle.std.specs.Fmt.{signed_decimal};
@@ -10,8 +10,8 @@ use std::str;
 
 /// A row of fields, which contracts see as the list of their bytes.
 ///
-/// Its calls answer for every place and every field: they parsed leniently, and say what they read only where the field is
-/// spelt as this project writes it. Whoever reads a text so writes it again and compares.
+/// Its methods return a value for every place and every field. They parse leniently: what they return is claimed only for
+/// a field that is spelt as this project writes it. So a caller writes the text again and compares.
 #[derive(Drop)]
 pub struct Row {
     inner: ByteRecord,
@@ -27,13 +27,14 @@ impl std::marker::Model for Row {
 }
 
 impl Row {
+    /// Returns the row of a record of `csv`.
     pub(crate) fn from_record(inner: ByteRecord) -> Row
         ensures { result ≡ fields_of inner }
     {
         Row { inner }
     }
 
-    /// Returns the field at a place, counted from 0, and no bytes where the row has none there.
+    /// Returns the field at a place, counted from 0, and no bytes if the row has none there.
     pub fn field(&self, place: usize) -> &[u8]
         ensures { result.now ≡ slice_index_or self.now place [] }
     {
@@ -43,7 +44,7 @@ impl Row {
         }
     }
 
-    /// Returns the field at a place as a text, and an empty one where it is none.
+    /// Returns the field at a place as a text, and an empty one if it is not UTF-8.
     pub fn text(&self, place: usize) -> &str
         ensures { IsUtf8 (slice_index_or self.now place []) → result.now ≡ slice_index_or self.now place [] }
     {

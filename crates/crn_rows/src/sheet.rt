@@ -1,4 +1,4 @@
-// A text of rows as it is written.
+//! A text of rows as it is written.
 
 ghost use Rattle.std.specs.Prelude.{◌≡◌, ◌++◌, [], IfOk, map, true};
 ghost use Rattle.crn_rows.specs.Plain.{is_row};
@@ -10,7 +10,7 @@ use std::alloc::{AllocError, Global};
 
 /// A text of rows with one row after another, which contracts see as its bytes.
 ///
-/// The rows are written with `csv` and its defaults: fields are parted by commas, and each row is ended by a line feed.
+/// The rows are written with `csv` and its defaults: fields are separated by commas, and each row ends with a line feed.
 /// Rows may have different numbers of fields.
 #[derive(Drop)]
 pub struct Sheet {
@@ -30,11 +30,11 @@ impl std::marker::Model for Sheet {
 }
 
 impl Sheet {
-    /// Returns a text without a row. Takes no memory.
+    /// Returns a text without a row. Allocates nothing.
     pub fn new(alloc: Global) -> Sheet
         ensures { result ≡ [] }
     {
-        // Flexible, so that a row of another length than the first is no error and only memory can be refused.
+        // Flexible: a row of another length than the first is no error.
         Sheet {
             writer: WriterBuilder::new()
                 .flexible(true)
@@ -42,7 +42,7 @@ impl Sheet {
         }
     }
 
-    /// Returns the text with one row more.
+    /// Returns the text with one more row.
     ///
     /// # Asks
     ///
@@ -64,7 +64,7 @@ impl Sheet {
     ///
     /// # Errors
     ///
-    /// `AllocError` where a growth was refused.
+    /// `AllocError` if an allocation fails.
     pub fn into_text(self) -> Result<Vec<u8>, AllocError>
         ensures { IfOk result (λ text. text.items ≡ self) }
     {

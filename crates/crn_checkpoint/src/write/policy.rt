@@ -1,7 +1,8 @@
-// The rows of a policy and its state.
+//! Writes the rows of a policy and its state.
 
-ghost use Rattle.std.specs.Prelude.{◌≡◌, [], ◌∷◌, ◌++◌, All, IfOk, length, true};
+ghost use Rattle.std.specs.Prelude.{◌≡◌, [], ◌∷◌, ◌++◌, All, IfOk, OnOk, length, true};
 ghost use Rattle.crn_stock.specs.Models.{IsPolicy};
+ghost use Rattle.crn_stock.specs.Parts.{AreInRange};
 ghost use Rattle.crn_spelling.specs.Names.{is_name};
 ghost use Rattle.crn_rows.specs.Rows.{row_text, rows_text};
 ghost use Rattle.crn_checkpoint.specs.CheckpointText as spec;
@@ -98,7 +99,8 @@ fn with_cost_rows(sheet: Sheet, costs: &[u64]) -> Result<Sheet, AllocError>
 fn with_policy_rows(sheet: Sheet, policy: &Policy, state: &State) -> Result<Sheet, AllocError>
     requires range { IsPolicy policy.now }
     requires name { is_name policy.now.name ≡ true }
-    ensures { IfOk result (λ after. after ≡ sheet ++ rows_text (spec.policy_rows policy.now state.now)) }
+    ensures written { IfOk result (λ after. after ≡ sheet ++ rows_text (spec.policy_rows policy.now state.now)) }
+    ensures range { AreInRange state.now }
 {
     let period = state.period();
     let sheet = with_policy_row(sheet, policy)?;
@@ -116,7 +118,8 @@ pub(crate) fn with_all_policy_rows(
     requires ranges { All IsPolicy policies.now }
     requires names { All (λ p. is_name p.name ≡ true) policies.now }
     requires count { length states.now ≡ length policies.now }
-    ensures { IfOk result (λ after. after ≡ sheet ++ rows_text (spec.all_policy_rows policies.now states.now)) }
+    ensures written { IfOk result (λ after. after ≡ sheet ++ rows_text (spec.all_policy_rows policies.now states.now)) }
+    ensures ranges { OnOk result (All AreInRange states.now) }
 {
     let mut sheet = sheet;
     for i in 0..policies.len() {

@@ -1,10 +1,11 @@
-// The rows of a scenario.
+//! Writes the rows of a scenario.
 
-ghost use Rattle.std.specs.Prelude.{◌≡◌, ◌∷◌, ◌++◌, IfOk, length, true};
-ghost use Rattle.crn_stock.specs.Models.{returned_values};
+ghost use Rattle.std.specs.Prelude.{◌≡◌, ◌∷◌, ◌++◌, ◌^◌, ◌<◌, All, IfOk, OnOk, Some, length, true};
+ghost use Rattle.crn_stock.specs.Models.{AreForScenario, IsModel, returned_values};
 ghost use Rattle.crn_rows.specs.Plain.{is_plain};
 ghost use Rattle.crn_rows.specs.Rows.{row_text, rows_text};
 ghost use Rattle.crn_checkpoint.specs.CheckpointText as spec;
+ghost use Rattle.crn_checkpoint.specs.Reading.{CanDraw, IsScenario};
 
 use crate::version::Version;
 use crate::write::rows::{with_numbers_row, with_pair_row};
@@ -22,7 +23,8 @@ fn with_head_row(
     model: &Model,
     next: u64,
 ) -> Result<Sheet, AllocError>
-    ensures { IfOk result (λ after. after ≡ sheet ++ row_text (spec.head_row version model.now next)) }
+    ensures written { IfOk result (λ after. after ≡ sheet ++ row_text (spec.head_row version model.now next)) }
+    ensures range { IsModel model.now }
 {
     let periods = u64::from(model.periods());
     let replications = u64::from(model.replications());
@@ -39,7 +41,8 @@ fn with_head_row(
 // The sheet with the row of the key.
 #[tactic(auto, using(crate::proofs::Rows::words_plain))]
 fn with_key_row(sheet: Sheet, key: [u64; 4]) -> Result<Sheet, AllocError>
-    ensures { IfOk result (λ after. after ≡ sheet ++ row_text (spec.key_row key)) }
+    ensures written { IfOk result (λ after. after ≡ sheet ++ row_text (spec.key_row key)) }
+    ensures words { All (λ w. w < 2 ^ 64) key }
 {
     sheet.with_row(&[
         b"key",
@@ -66,7 +69,8 @@ fn with_costs_row(sheet: Sheet, costs: &Costs) -> Result<Sheet, AllocError>
 
 // The sheet with the row of the initial stock, and of how many demands, lead times and policies there are.
 fn with_sizes_row(sheet: Sheet, scenario: &Scenario) -> Result<Sheet, AllocError>
-    ensures { IfOk result (λ after. after ≡ sheet ++ row_text (spec.sizes_row scenario.now)) }
+    ensures written { IfOk result (λ after. after ≡ sheet ++ row_text (spec.sizes_row scenario.now)) }
+    ensures others { AreForScenario scenario.now.ring scenario.now.policies }
 {
     let model = scenario.model();
     let mut initial = Buffer::new();
@@ -132,14 +136,16 @@ fn with_weight_rows(
 // The sheet with the rows of values with weights.
 fn with_drawn_rows(sheet: Sheet, name: &[u8], drawn: &Weights) -> Result<Sheet, AllocError>
     requires { is_plain name.now ≡ true }
-    ensures { IfOk result (λ after. after ≡ sheet ++ rows_text (spec.drawn_rows name.now drawn.now)) }
+    ensures written { IfOk result (λ after. after ≡ sheet ++ rows_text (spec.drawn_rows name.now drawn.now)) }
+    ensures can { CanDraw (Some drawn.now) }
 {
     with_weight_rows(sheet, name, drawn.values(), drawn.weights())
 }
 
 // The sheet with the rows of returned items with weights, where customers return any.
 fn with_returned_rows(sheet: Sheet, model: &Model) -> Result<Sheet, AllocError>
-    ensures { IfOk result (λ after. after ≡ sheet ++ rows_text (spec.returned_rows model.now.returns)) }
+    ensures written { IfOk result (λ after. after ≡ sheet ++ rows_text (spec.returned_rows model.now.returns)) }
+    ensures can { CanDraw model.now.returns }
 {
     match model.returns() {
         Some(returns) => with_drawn_rows(sheet, b"return", returns),
@@ -149,7 +155,10 @@ fn with_returned_rows(sheet: Sheet, model: &Model) -> Result<Sheet, AllocError>
 
 // The sheet with the rows of each list that is drawn from.
 fn with_list_rows(sheet: Sheet, model: &Model) -> Result<Sheet, AllocError>
-    ensures { IfOk result (λ after. after ≡ sheet ++ rows_text (spec.list_rows model.now)) }
+    ensures written { IfOk result (λ after. after ≡ sheet ++ rows_text (spec.list_rows model.now)) }
+    ensures demand { OnOk result (CanDraw (Some model.now.demand)) }
+    ensures lead { OnOk result (CanDraw (Some model.now.lead)) }
+    ensures returns { OnOk result (CanDraw model.now.returns) }
 {
     let sheet = with_drawn_rows(sheet, b"demand", model.demand())?;
     let sheet = with_drawn_rows(sheet, b"lead", model.lead())?;
@@ -163,9 +172,10 @@ pub(crate) fn with_scenario_rows(
     scenario: &Scenario,
     next: u64,
 ) -> Result<Sheet, AllocError>
-    ensures { IfOk result (λ after. after ≡ sheet ++ rows_text (
+    ensures written { IfOk result (λ after. after ≡ sheet ++ rows_text (
         spec.head_row version scenario.now.model next ∷ spec.key_row scenario.now.key ∷ spec.costs_row scenario.now.model.costs ∷ spec.sizes_row scenario.now
         ∷ spec.count_rows version scenario.now.model ++ spec.list_rows scenario.now.model)) }
+    ensures range { OnOk result (IsScenario scenario.now) }
 {
     let model = scenario.model();
     let sheet = with_head_row(sheet, version, model, next)?;

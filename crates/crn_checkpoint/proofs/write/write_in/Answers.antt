@@ -17,7 +17,7 @@ returns-clause-text c =
     let states = c.args.checkpoint.now.states.items in
     let head = head_row v m next ∷ key_row s.key ∷ costs_row m.costs ∷ sizes_row s ∷ count_rows v m ++ list_rows m in
     let whole = whole_in_turn head (all_policy_rows s.policies states) end_row in
-    rw (c.in_ok-sheet-3.ensures, c.in_ok-sheet-2.ensures, c.in_ok-sheet.ensures, c.new.ensures, c.policies.ensures.value, c.deref-2.ensures.value, whole) at c.into_text.ensures
+    rw (c.in_ok-sheet-3.ensures, c.in_ok-sheet-2.ensures.written, c.in_ok-sheet.ensures.written, c.new.ensures, c.policies.ensures.value, c.deref.ensures.value, whole) at c.into_text.ensures
 
 pub returns-clause-in_range : goal.returns-clause-in_range
 returns-clause-in_range c =
@@ -27,10 +27,10 @@ returns-clause-in_range c =
     let states = c.args.checkpoint.now.states.items in
     IfOk-weaker c.into_text.result (λ text. text.items ≡ checkpoint_text v s next states) (λ text. next ≤ total s.model → IsTextIn v s next states text.items) (λ text is low. record {
       ranges = record {
-        scenario = c.tell_scenario.ensures;
+        scenario = c.in_ok-sheet.ensures.range;
         next_high = low;
         states_of = c.requires.of;
-        ranges = subst (λ (vs : List Parts). All AreInRange vs) c.deref.ensures.value c.tell_states.ensures;
+        ranges = subst (λ (vs : List Parts). All AreInRange vs) c.deref.ensures.value c.in_ok-sheet-2.ensures.ranges;
       };
       tells = c.requires.tells;
       text_is = is;
