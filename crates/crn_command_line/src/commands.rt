@@ -1,7 +1,9 @@
-// The commands of the program: what each asks for, its help, and how it is read from its arguments.
+//! The commands of the program: what each requires, its help, and how it is read from its arguments.
 
-ghost use Rattle.std.specs.Prelude.{◌≡◌};
-ghost use Rattle.crn_command_line.specs.Inner.CommandLine.{key_word_of};
+ghost use Rattle.std.specs.Prelude.{◌≡◌, ℕ, List, Some, IfSome, IfNone, IfOk, IfErr, codes, map, string_bytes};
+ghost use Rattle.crn_command_line.specs.CommandLine as spec;
+ghost use Rattle.crn_command_line.specs.CommandLine.{Names, RefusesNamed, IsNumber, key_word_of};
+ghost use Rattle.crn_command_line.specs.Inner.CommandLine.{texts_of, RefusesText, RefusesFile, RefusesNumber, RefusesBlock, RefusesRing};
 
 use crate::fault::CommandLineFault;
 use clap::ArgMatches;
@@ -47,8 +49,6 @@ const K1: &str = "K1";
 const K2: &str = "K2";
 
 const K3: &str = "K3";
-
-const KEY_WORDS: [&str; 4] = [K0, K1, K2, K3];
 
 const KEY_WORD_HELP: &str = "A word of the key: 16 digits of 0-9a-f";
 
@@ -144,11 +144,19 @@ Example, two readers that look for a block of an empty stream:
 ];
 
 /// Returns the command of this name, from the words after the name.
+///
+/// # Errors
+///
+/// - `Words` if there is no such command, or if one of its arguments is misspelt or outside its type.
+/// - `Memory` if an allocation fails: the name of a file is copied.
 pub(crate) fn command_named(
     alloc: Global,
     name: &str,
     words: &ArgMatches<'_>,
-) -> Result<Command, CommandLineFault> {
+) -> Result<Command, CommandLineFault>
+    ensures names { IfOk result (λ c. Names name.now (texts_of words.now) c) }
+    ensures refused { IfErr result (λ e. RefusesNamed name.now (texts_of words.now) e) }
+{
     match name {
         "run" => Ok(Command::Run),
         "words" => block_words(words),
@@ -161,67 +169,120 @@ pub(crate) fn command_named(
 }
 
 // The leg up to the block that comes next.
-fn leg(words: &ArgMatches<'_>) -> Result<Command, CommandLineFault> {
+fn leg(words: &ArgMatches<'_>) -> Result<Command, CommandLineFault>
+    ensures names { IfOk result (λ c. Names (codes "leg") (texts_of words.now) c) }
+    ensures refused { IfErr result (λ e. RefusesNumber 64 (texts_of words.now (codes "N")) e) }
+{
     let n = number_at(words, N)?;
     Ok(Command::Leg { n })
 }
 
 // The run that goes on from a checkpoint.
-fn resume(alloc: Global, words: &ArgMatches<'_>) -> Result<Command, CommandLineFault> {
+fn resume(alloc: Global, words: &ArgMatches<'_>) -> Result<Command, CommandLineFault>
+    ensures names { IfOk result (λ c. Names (codes "resume") (texts_of words.now) c) }
+    ensures refused { IfErr result (λ e. RefusesFile (texts_of words.now (codes "FILE")) e) }
+{
     let file = file_at(alloc, words)?;
     Ok(Command::Resume { file })
 }
 
 // The checkpoint that is written in the present version.
-fn migrate(alloc: Global, words: &ArgMatches<'_>) -> Result<Command, CommandLineFault> {
+fn migrate(alloc: Global, words: &ArgMatches<'_>) -> Result<Command, CommandLineFault>
+    ensures names { IfOk result (λ c. Names (codes "migrate") (texts_of words.now) c) }
+    ensures refused { IfErr result (λ e. RefusesFile (texts_of words.now (codes "FILE")) e) }
+{
     let file = file_at(alloc, words)?;
     Ok(Command::Migrate { file })
 }
 
 // The block whose words are asked for.
-fn block_words(words: &ArgMatches<'_>) -> Result<Command, CommandLineFault> {
-    let mut key = [0; 4];
-    for i in 0..4usize {
-        match key_word(text_at(words, KEY_WORDS[i])?) {
-            Some(word) => key[i] = word,
-            None => return Err(CommandLineFault::Words),
+fn block_words(words: &ArgMatches<'_>) -> Result<Command, CommandLineFault>
+    ensures names { IfOk result (λ c. Names (codes "words") (texts_of words.now) c) }
+    ensures refused { IfErr result (λ e. RefusesBlock (texts_of words.now) e) }
+{
+    match key_at(words) {
+        Some(key) => {
+            let n = number_at(words, N)?;
+            Ok(Command::Words { key, n })
         }
+        None => Err(CommandLineFault::Words),
     }
-    let n = number_at(words, N)?;
-    Ok(Command::Words { key, n })
 }
 
 // The ring whose schedule is replayed.
-fn ring(words: &ArgMatches<'_>) -> Result<Command, CommandLineFault> {
+fn ring(words: &ArgMatches<'_>) -> Result<Command, CommandLineFault>
+    ensures names { IfOk result (λ c. Names (codes "replay") (texts_of words.now) c) }
+    ensures refused { IfErr result (λ e. RefusesRing (texts_of words.now) e) }
+{
     let size = number_at(words, SIZE)?;
-    let readers = number_at(words, READERS)?;
+    let readers = readers_at(words)?;
     let total = number_at(words, TOTAL)?;
-    match u32::try_from(readers) {
-        Ok(readers) => Ok(Command::Replay {
-            size,
-            readers,
-            total,
-        }),
+    Ok(Command::Replay {
+        size,
+        readers,
+        total,
+    })
+}
+
+// The number of the ring's readers.
+fn readers_at(words: &ArgMatches<'_>) -> Result<u32, CommandLineFault>
+    ensures spelt { IfOk result (λ n. IsNumber 32 (texts_of words.now (codes "READERS")) n) }
+    ensures refused { IfErr result (λ e. RefusesNumber 32 (texts_of words.now (codes "READERS")) e) }
+{
+    match u32::try_from(number_at(words, READERS)?) {
+        Ok(readers) => Ok(readers),
         Err(_) => Err(CommandLineFault::Words),
     }
 }
 
 // The name of the file that has the checkpoint.
-fn file_at(alloc: Global, words: &ArgMatches<'_>) -> Result<String, CommandLineFault> {
-    let file = text_at(words, FILE)?.to_string(alloc)?;
-    Ok(file)
+fn file_at(alloc: Global, words: &ArgMatches<'_>) -> Result<String, CommandLineFault>
+    ensures copied { IfOk result (λ file. texts_of words.now (codes "FILE") ≡ Some (string_bytes file)) }
+    ensures refused { IfErr result (λ e. RefusesFile (texts_of words.now (codes "FILE")) e) }
+{
+    let text = text_at(words, FILE)?;
+    match text.to_string(alloc) {
+        Ok(file) => Ok(file),
+        Err(refused) => Err(CommandLineFault::Memory(refused)),
+    }
 }
 
 // The number that the argument of this name spells.
-fn number_at(words: &ArgMatches<'_>, name: &str) -> Result<u64, CommandLineFault> {
+fn number_at(words: &ArgMatches<'_>, name: &str) -> Result<u64, CommandLineFault>
+    ensures spelt { IfOk result (λ n. IsNumber 64 (texts_of words.now name.now) n) }
+    ensures refused { IfErr result (λ e. RefusesNumber 64 (texts_of words.now name.now) e) }
+{
     match number_of_text(text_at(words, name)?) {
         Some(number) => Ok(number),
         None => Err(CommandLineFault::Words),
     }
 }
 
+// The key that four arguments spell, a word each.
+fn key_at(words: &ArgMatches<'_>) -> Option<[u64; 4]>
+    ensures spelt { IfSome result (λ key. spec.key_at (texts_of words.now) ≡ map Some key) }
+    ensures none { IfNone result ((key : List ℕ) → spec.key_at (texts_of words.now) ≡ map Some key → ⊥) }
+{
+    Some([
+        key_word_at(words, K0)?,
+        key_word_at(words, K1)?,
+        key_word_at(words, K2)?,
+        key_word_at(words, K3)?,
+    ])
+}
+
+// The word of the key that the argument of this name spells.
+fn key_word_at(words: &ArgMatches<'_>, name: &str) -> Option<u64>
+    ensures { result ≡ spec.key_word_at (texts_of words.now) name.now }
+{
+    key_word(words.get_str(name)?)
+}
+
 // The text of the argument of this name.
-fn text_at<'m>(words: &'m ArgMatches<'_>, name: &str) -> Result<&'m str, CommandLineFault> {
+fn text_at<'m>(words: &'m ArgMatches<'_>, name: &str) -> Result<&'m str, CommandLineFault>
+    ensures found { IfOk result (λ text. texts_of words.now name.now ≡ Some text.now) }
+    ensures refused { IfErr result (λ e. RefusesText (texts_of words.now name.now) e) }
+{
     match words.get_str(name) {
         Some(text) => Ok(text),
         None => Err(CommandLineFault::Words),
