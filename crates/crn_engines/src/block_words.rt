@@ -1,3 +1,4 @@
+//! The words of a block.
 ghost use Rattle.std.specs.Prelude.{◌≡◌, true, false, IfErr, OnOk};
 ghost use Rattle.std.specs.Io.KnownBytes.{Appends, Keeps};
 ghost use Rattle.crn_trace.specs.BlockWords.{words_text};

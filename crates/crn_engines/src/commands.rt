@@ -1,5 +1,4 @@
-// The commands of the program.
-
+//! The commands of the program.
 ghost use Rattle.std.specs.Prelude.{◌≡◌, ◌⊎◌, true, false, IfErr, OnOk, alloc_error};
 ghost use Rattle.std.specs.Io.KnownBytes.{Keeps};
 ghost use Rattle.crn_engines.specs.Commands.{Streams, Answered, AnsweredFront, Refuses, is_writing};

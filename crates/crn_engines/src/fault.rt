@@ -1,3 +1,4 @@
+//! Why a command failed, with the line and the status of each fault.
 ghost use Rattle.std.specs.Prelude.{◌≡◌};
 ghost use Rattle.crn_engines.specs.Commands.{status_of};
 

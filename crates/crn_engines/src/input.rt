@@ -1,4 +1,5 @@
-ghost use Rattle.std.specs.Prelude.{◌≡◌, IfOk, IfErr};
+//! Reading an input to its end.
+ghost use Rattle.std.specs.Prelude.{◌≡◌, ◌+◌, ◌<◌, ◌≤◌, IfOk, IfErr};
 ghost use Rattle.crn_engines.specs.Bytes.{ReadAll};
 ghost use Rattle.crn_engines.specs.Refusals.{RefusesInput};
 ghost use Rattle.crn_engines.specs.Inner.Bytes.{ReadMore};
@@ -23,8 +24,11 @@ pub enum ReadFault {
     TooLong,
 }
 
-// Appends what one read gives, and says whether the input goes on.
-fn read_some<R: Read>(reader: &mut R, input: &mut Vec<u8>) -> Result<bool, Fault>
+// Appends what one read gives and counts the read if it succeeds. Returns whether the input goes on.
+fn read_some<R: Read>(reader: &mut R, input: &mut Vec<u8>, reads: &mut usize) -> Result<bool, Fault>
+    requires { reads.old < INPUT_LIMIT + 1 }
+    ensures counted { reads.new ≤ reads.old + 1 }
+    ensures every { IfOk result (λ more. reads.new ≡ reads.old + 1) }
     ensures grown { IfOk result (λ more. ReadMore (R.remaining reader.old) (R.remaining reader.new) input.old.items input.new.items more) }
     ensures refused { IfErr result (λ e. RefusesRead e) }
 {
@@ -33,6 +37,7 @@ fn read_some<R: Read>(reader: &mut R, input: &mut Vec<u8>) -> Result<bool, Fault
         Ok(count) => count,
         Err(error) => return Err(Fault::Reading(ReadFault::Failed(error))),
     };
+    *reads += 1;
     if count == 0 {
         return Ok(false);
     }
@@ -40,14 +45,25 @@ fn read_some<R: Read>(reader: &mut R, input: &mut Vec<u8>) -> Result<bool, Fault
     Ok(true)
 }
 
-/// Reads to the end. Each turn reads once, so at most `INPUT_LIMIT + 1` reads succeed.
+/// Reads to the end. At most `INPUT_LIMIT + 1` reads succeed.
 pub(crate) fn read_input<R: Read>(alloc: Global, reader: &mut R) -> Result<Vec<u8>, Fault>
     ensures all { IfOk result (λ input. ReadAll (R.remaining reader.old) (R.remaining reader.new) input.items) }
     ensures refused { IfErr result (λ e. RefusesInput e (R.remaining reader.old) (R.remaining reader.new)) }
 {
+    let mut reads = 0;
+    read_counted(alloc, reader, &mut reads)
+}
+
+// Reads to the end, and counts the reads that succeed.
+fn read_counted<R: Read>(alloc: Global, reader: &mut R, reads: &mut usize) -> Result<Vec<u8>, Fault>
+    requires { reads.old ≡ 0 }
+    ensures few { reads.new ≤ INPUT_LIMIT + 1 }
+    ensures all { IfOk result (λ input. ReadAll (R.remaining reader.old) (R.remaining reader.new) input.items) }
+    ensures refused { IfErr result (λ e. RefusesInput e (R.remaining reader.old) (R.remaining reader.new)) }
+{
     let mut input = Vec::new(alloc);
-    for _turn in 0..INPUT_LIMIT + 1 {
-        if !read_some(reader, &mut input)? {
+    while *reads <= INPUT_LIMIT {
+        if !read_some(reader, &mut input, reads)? {
             return Ok(input);
         }
         if input.len() > INPUT_LIMIT {

@@ -1,3 +1,4 @@
+//! A run up to a block, and its checkpoint.
 ghost use Rattle.std.specs.Prelude.{◌≡◌, ◌↔◌, ◌≤◌, true, false, IsTrue, IfOk, IfErr, OnOk};
 ghost use Rattle.std.specs.Io.KnownBytes.{Keeps};
 ghost use Rattle.crn_stock.specs.Models.{total};
@@ -69,8 +70,7 @@ fn leg_text<H: Threads + Wait + Sync>(
     }
     let start = Checkpoint::start(alloc, scenario)?;
     let reached = run_to(rt, alloc, scenario, &start, n)?;
-    let text = write_checkpoint(alloc, scenario, &reached)?;
-    Ok(text)
+    Ok(write_checkpoint(alloc, scenario, &reached)?)
 }
 
 // Whether the scenario has `n` blocks or more.

@@ -1,3 +1,4 @@
+//! An old checkpoint in the present version.
 ghost use Rattle.std.specs.Prelude.{◌≡◌, true, false, IfOk, IfErr, OnOk};
 ghost use Rattle.std.specs.Io.KnownBytes.{Keeps};
 ghost use Rattle.crn_checkpoint.specs.Migration.{IsMigrated};
@@ -50,6 +51,5 @@ fn migrated_text(alloc: Global, bytes: &[u8]) -> Result<Vec<u8>, Fault>
     ensures legs { IfOk result (λ text. MigratesLegs bytes.now text.items) }
     ensures refused { IfErr result (λ e. RefusesOldText e bytes.now) }
 {
-    let text = migrate_checkpoint(alloc, bytes)?;
-    Ok(text)
+    Ok(migrate_checkpoint(alloc, bytes)?)
 }

@@ -1,3 +1,4 @@
+//! Writing an output whole.
 ghost use Rattle.std.specs.Prelude.{OnOk, OnErr};
 ghost use Rattle.std.specs.Io.KnownBytes.{Appends};
 ghost use Rattle.crn_engines.specs.Bytes.{AppendsFront};
@@ -14,7 +15,7 @@ pub enum WriteFault {
     NoByte,
 }
 
-/// Writes the whole text, or a front of it.
+/// Writes the whole text, or a prefix of it.
 pub(crate) fn write_text<W: Write>(writer: &mut W, text: &[u8]) -> Result<(), WriteFault>
     ensures whole { OnOk result (Appends (W.contents writer.old) (W.contents writer.new) text.now) }
     ensures front { OnErr result (AppendsFront (W.contents writer.old) (W.contents writer.new) text.now) }

@@ -1,3 +1,4 @@
+//! The trace of a schedule.
 ghost use Rattle.std.specs.Prelude.{◌≡◌, ◌↔◌, ◌⊎◌, true, false, IfOk, IfErr, OnOk, IsErrOf, alloc_error};
 ghost use Rattle.std.specs.Io.KnownBytes.{Keeps};
 ghost use Rattle.crn_proto.specs.Machine.{open_machine};
@@ -72,6 +73,5 @@ fn trace_for(alloc: Global, machine: Machine, input: &[u8]) -> Result<Vec<u8>, F
     ensures refused { IfErr result (λ e. RefusesScheduleText machine.spec.readers e input.now) }
 {
     let actors = read_schedule(alloc, machine.spec().readers, input)?;
-    let text = trace_text(alloc, machine, actors.as_slice())?;
-    Ok(text)
+    Ok(trace_text(alloc, machine, actors.as_slice())?)
 }

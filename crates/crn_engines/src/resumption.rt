@@ -1,3 +1,4 @@
+//! A run onward from a checkpoint, and its report.
 ghost use Rattle.std.specs.Prelude.{◌≡◌, true, false, IfOk, IfErr, OnOk};
 ghost use Rattle.std.specs.Io.KnownBytes.{Keeps};
 ghost use Rattle.crn_engines.specs.Commands.{MadeResumed, MadeLegsReport, IsResumedReport, ReportsLegs, WroteResumed, WroteResumedFront, WroteLegsReport, RefusesResume, is_writing};

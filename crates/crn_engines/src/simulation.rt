@@ -1,3 +1,4 @@
+//! A whole run, and its report.
 ghost use Rattle.std.specs.Prelude.{◌≡◌, true, false, IfOk, IfErr, OnOk};
 ghost use Rattle.std.specs.Io.KnownBytes.{Keeps};
 ghost use Rattle.crn_report.specs.Report.{IsReportOf};

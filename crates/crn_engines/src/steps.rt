@@ -1,5 +1,4 @@
-// The steps that the engines share.
-
+//! The steps that the engines share.
 ghost use Rattle.std.specs.Prelude.{◌≡◌, ◌≤◌, IfOk, IfErr, OnOk, OnErr};
 ghost use Rattle.std.specs.Io.KnownBytes.{Appends};
 ghost use Rattle.crn_stock.specs.Models.{total};
@@ -30,8 +29,7 @@ pub(crate) fn scenario_from<R: Read>(alloc: Global, reader: &mut R) -> Result<Sc
     ensures refused { IfErr result (λ e. RefusesScenarioInput e (R.remaining reader.old) (R.remaining reader.new)) }
 {
     let input = read_input(alloc, reader)?;
-    let scenario = read_scenario(alloc, input.as_slice())?;
-    Ok(scenario)
+    Ok(read_scenario(alloc, input.as_slice())?)
 }
 
 /// Runs all policies from a checkpoint up to a block, with one thread for each policy.
@@ -72,8 +70,7 @@ pub(crate) fn run_and_report<H: Threads + Wait + Sync>(
 {
     let total = scenario.model().total();
     let end = run_to(rt, alloc, scenario, start, total)?;
-    let text = report(alloc, scenario, &end)?;
-    Ok(text)
+    Ok(report(alloc, scenario, &end)?)
 }
 
 /// Writes a text that was made whole before: nothing is written before a fault of what makes it.

@@ -8,7 +8,7 @@ pub returns-clause-leg : goal.returns-clause-leg
 returns-clause-leg g c =
     let s = c.args.scenario.now in
     let n = c.args.n in
-    let text = c.in_ok-text.text.items in
+    let text = c.in_ok-write_checkpoint.field-0.items in
     let enough : n ≤ total s.model = search rules in
     let next = c.in_ok-reached.ensures.next in
     let begun = subst (λ (k : ℕ). EachAt s k c.in_ok-start.start.states.items) (sym c.in_ok-start.ensures.next) c.in_ok-start.ensures.at in
@@ -16,5 +16,5 @@ returns-clause-leg g c =
     record {
       states = c.in_ok-reached.reached.states.items;
       at = c.in_ok-reached.ensures.at begun;
-      is_text = subst (λ (k : ℕ). IsTextOf s k c.in_ok-reached.reached.states.items text) next (c.in_ok-text.ensures.in_range within);
+      is_text = subst (λ (k : ℕ). IsTextOf s k c.in_ok-reached.reached.states.items text) next (c.in_ok-write_checkpoint.ensures.in_range within);
     }

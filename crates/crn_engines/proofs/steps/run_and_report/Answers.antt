@@ -14,7 +14,7 @@ returns-clause-onward g c =
       ends = states;
       count = c.in_ok-end.ensures.of.count;
       onward = subst (λ (n : ℕ). EachOnward s c.args.start.now.states.items n states) upto c.in_ok-end.ensures.onward;
-      report = c.in_ok-text.ensures;
+      report = c.in_ok-report.ensures;
     }
 
 pub returns-clause-at : goal.returns-clause-at
@@ -24,4 +24,4 @@ returns-clause-at g c = λ begun.
     let upto : c.total-total.result ≡ total s.model = c.total-total.ensures.value ∙ ap total c.model.ensures in
     let ended : EachAt s (total s.model) states = subst (λ (n : ℕ). EachAt s n states) upto (c.in_ok-end.ensures.at begun) in
     let costs : map (λ v. v.costs) states ≡ map (costs_of s) s.policies = costs_at_end s states c.in_ok-end.ensures.of.count ended in
-    subst (λ (l : List (List ℕ)). IsReportText s l c.in_ok-text.text.items) costs c.in_ok-text.ensures
+    subst (λ (l : List (List ℕ)). IsReportText s l c.in_ok-report.field-0.items) costs c.in_ok-report.ensures
