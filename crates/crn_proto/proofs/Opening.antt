@@ -1,9 +1,9 @@
 -- An opened ring is lawful, and the parts of a ring's state are those of different actors.
-use Rattle.std.proofs.Common.{◌≡◌, ℕ, suc, zero, ◌+◌, ◌*◌, ◌<◌, List, [], ◌∷◌, length, replicate, set, Some, inr, refl, sym, ap, ◌∙◌, arith, one-add}
+use Rattle.std.proofs.Common.{◌≡◌, ℕ, suc, zero, ◌+◌, ◌*◌, ◌<◌, List, [], ◌∷◌, length, replicate, set, Some, inl, inr, refl, sym, ap, ◌∙◌, arith, one-add}
 use Rattle.crn_cipher.specs.declared.TheConstants.{BLOCK_WORDS}
 use Rattle.std.specs.Prelude.{slice_get, slice_index}
-use Rattle.std.proofs.lemmas.Bool.{false≢true}
-use Rattle.std.proofs.lemmas.List.{length-append, length-replicate, get_or-replicate, get_or_append_left}
+use Rattle.std.proofs.lemmas.Bool.{cases_lt, false≢true}
+use Rattle.std.proofs.lemmas.List.{ext_get_or, length-append, length-replicate, get_or-replicate, get_or_append_left}
 use Rattle.crn_proto.specs.declared.spec.RingSpec.{RingSpec}
 use Rattle.crn_proto.specs.Ring.{IsRing, Reader, Ring, open_words, open_producer, open_reader, open_ring}
 use Rattle.crn_proto.specs.Lawful.{WordsLaw, ProducerLaw, ReaderLaw, Part, OfProducer, OfReader, PartLaw, Lawful, own_cursor, Apart, reader_parts, parts_of}
@@ -85,7 +85,19 @@ module _ (spec : RingSpec) (ring : IsRing spec) where
     stored_passed = λ j h r k ne. absurd (omega arith);
     stored_stand = λ j r h k ne. absurd (omega arith);
     none_stored = λ e. refl;
+    as_opened = λ e none i l. refl;
   }
+
+  -- Words with which the open parts are lawful are the open words.
+  pub open_words_alone : (words : List ℕ) → WordsLaw spec words → ProducerLaw spec words (open_producer spec) → ((r : ℕ) → r < spec.readers → ReaderLaw spec words r (open_reader spec)) → words ≡ open_words spec
+  open_words_alone words laws own readers = ext_get_or 0 words (open_words spec) (laws.sized ∙ sym open_words_law.sized) same
+    where
+      same : (i : ℕ) → i < length words → slice_index words i ≡ slice_index (open_words spec) i
+      same zero h = let c = own.cursor in omega arith
+      same (suc r) h = elim (cases_lt r spec.readers) [
+        | inl below ↦ rw one-add at (((readers r below).here refl).cursor ∙ sym (open_cursor r below))
+        | inr above ↦ own.as_opened refl refl (suc r) (omega arith)
+      ]
 
   pub open_lawful : Lawful spec (open_words spec) (parts_of (open_ring spec))
   open_lawful = record { of_words = open_words_law; of_parts = laws }

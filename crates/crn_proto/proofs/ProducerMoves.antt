@@ -140,6 +140,7 @@ module _ (spec : RingSpec) (ring : IsRing spec) (words : List ℕ) (p : Producer
           ];
           stored_stand = store_stands;
           none_stored = λ e. absurd (true≢false (sym e ∙ may.0));
+          as_opened = λ e none. absurd (omega arith);
         };
         of_readers = λ r q law. reader_keeps r q law (cursor_same r law.known) (let f = first_same in omega arith)
             (λ here n i low high l. store_whole r q law.known here n i low (rw first_same at high) l) (λ e. first_same ∙ law.at_end e);
@@ -191,6 +192,7 @@ module _ (spec : RingSpec) (ring : IsRing spec) (words : List ℕ) (p : Producer
           stored_passed = λ j h r k ne. absurd (omega arith);
           stored_stand = λ j r h k ne. absurd (omega arith);
           none_stored = λ e. refl;
+          as_opened = λ e none. let low = own.from_first in let some = may.2 in absurd (omega arith);
         };
         of_readers = λ r q law. reader_keeps r q law (ch.others (1 + r) (λ e. omega arith)) (let f = front_moves in let g = published_is may.0 in omega arith)
             (λ here n i low high l. publish_whole r q law.known here n i low (rw front_moves at high) l)
@@ -219,6 +221,7 @@ module _ (spec : RingSpec) (ring : IsRing spec) (words : List ℕ) (p : Producer
           stored_passed = own.stored_passed;
           stored_stand = λ j r h k ne. let none = may.1 in absurd (omega arith);
           none_stored = λ e. may.1;
+          as_opened = λ e none i l. ch.others i (λ z. omega arith) ∙ own.as_opened e none i l;
         };
         of_readers = λ r q law. reader_keeps r q law (ch.others (1 + r) (λ e. omega arith)) (let f = front_stays in omega arith)
             (λ here n i low high l. ch.others (place spec n i) (place_not_first spec n i) ∙ here.whole n i low (rw front_stays at high) l)
@@ -262,6 +265,7 @@ module _ (spec : RingSpec) (ring : IsRing spec) (words : List ℕ) (p : Producer
         stored_passed = λ j h. gate_passes (p.published + j / BLOCK_WORDS) (own.stored_passed j h);
         stored_stand = own.stored_stand;
         none_stored = own.none_stored;
+        as_opened = own.as_opened;
       };
       of_readers = λ r q law. law;
     }

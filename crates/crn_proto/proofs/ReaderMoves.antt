@@ -122,6 +122,7 @@ module _ (spec : RingSpec) (ring : IsRing spec) (words : List ℕ) (r : ℕ) (q 
       stored_passed = law.stored_passed;
       stored_stand = λ j s l h ne. slots_same (p.published + j / BLOCK_WORDS) (j % BLOCK_WORDS) ∙ law.stored_stand j r l own.known not_left;
       none_stored = law.none_stored;
+      as_opened = λ e none i l. ch.others i (λ z. let h = own.known in omega arith) ∙ law.as_opened e none i l;
     }
 
     cursor_others : (s : ℕ) (other : Reader) → s ≢ r → ReaderLaw spec words s other → ReaderLaw spec new s other

@@ -7,7 +7,7 @@ pub use Rattle.crn_proto.specs.declared.actor_parts.Part.{Part}
 pub use Rattle.crn_proto.specs.declared.actor_parts.Part.TheVariants.{OfProducer, OfReader}
 use Rattle.crn_cipher.specs.Blocks.{block_word}
 use Rattle.crn_proto.specs.Stream.{first_words}
-use Rattle.crn_proto.specs.Ring.{left_mark, place, word_count, bit, Producer, Reader, PassesGates, Ring}
+use Rattle.crn_proto.specs.Ring.{left_mark, place, word_count, bit, Producer, Reader, PassesGates, Ring, open_words}
 
 -- The words alone: each reader that has not left has taken at most what is published, and is at most `size` behind.
 pub record WordsLaw (spec : RingSpec) (words : List ℕ) : Type 0 where
@@ -33,6 +33,8 @@ pub record ProducerLaw (spec : RingSpec) (words : List ℕ) (p : Producer) : Typ
   -- the stored words stand, as long as some reader has not left
   pub stored_stand : (j r : ℕ) → j < p.stored → r < spec.readers → slice_index words (1 + r) ≢ left_mark → WordStands spec words p.published j
   pub none_stored : p.ended ≡ true → p.stored ≡ 0
+  -- until the first word is stored, each word above the cursors is as it was opened
+  pub as_opened : p.published ≡ spec.id.first → p.stored ≡ 0 → (i : ℕ) → spec.readers < i → slice_index words i ≡ slice_index (open_words spec) i
 
 -- a reader that has not left
 pub record ReaderHere (spec : RingSpec) (words : List ℕ) (r : ℕ) (q : Reader) : Type 0 where

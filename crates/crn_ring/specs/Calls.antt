@@ -1,11 +1,15 @@
 -- What the calls of a ring, a producer and a reader speak of.
 use Rattle.std.specs.Prelude.{◌≡◌, ℕ, List, length, slice_get, Some, drop}
+use mathlib.Core.Option.{some}
+use lib.ListN.{get_elem?}
+use Rattle.atomic_table.specs.Table.{State}
 use Rattle.crn_cipher.specs.declared.stream.Block.{Block}
 use Rattle.crn_cipher.specs.Following.{FollowOn}
 use Rattle.crn_proto.specs.declared.spec.RingSpec.{RingSpec}
 use Rattle.crn_proto.specs.declared.actor_parts.ProducerPart.{ProducerPart}
 use Rattle.crn_proto.specs.declared.actor_parts.ReaderPart.{ReaderPart}
-use Rattle.crn_proto.specs.Ring.{open_producer, open_reader}
+use Rattle.crn_proto.specs.Ring.{open_producer, open_reader, open_words}
+use Rattle.crn_ring.specs.declared.view.View.{View}
 use Rattle.crn_ring.specs.declared.ring.Ring.{Ring}
 use Rattle.crn_ring.specs.declared.producer.Producer.{Producer}
 use Rattle.crn_ring.specs.declared.reader.Reader.{Reader}
@@ -18,6 +22,7 @@ use Rattle.crn_ring.specs.declared.answers.Take.{Take}
 use Rattle.crn_ring.specs.declared.answers.Take.TheVariants as Next
 use Rattle.crn_ring.specs.declared.answers.Batch.{Batch}
 use Rattle.crn_ring.specs.declared.answers.Batch.TheVariants as Several
+use Rattle.crn_ring.specs.Holds.{Holds}
 use Rattle.crn_ring.specs.Seats.{Place, view_of, spec_in, producer_in, reader_in}
 use Rattle.crn_ring.specs.Parts.{Publishes, IsFull, Takes, SeesNothing, SeesEnd}
 
@@ -71,13 +76,21 @@ IsFresh ring r x = IsReaderOf ring x × (reader_number x ≡ r) × (reader_part 
 abbrev pub AllFresh : Ring → List Reader → Type 0
 AllFresh ring xs = (r : ℕ) (x : Reader) → slice_get xs r ≡ Some x → IsFresh ring r x
 
--- The ring, its producer and its readers in order, as they are at open.
+-- A state of the ring's table in which the rule holds, and the producer and the readers know what they know here.
+pub record IsStateOf (ring : Ring) (p : Producer) (readers : List Reader) (s : State (Unit {0}) View) : Type 0 where
+  pub rule : Holds (spec_of ring) s
+  pub producer : get_elem? s.views p.seat.id ≡ some (view_of p.seat)
+  pub reader : (r : ℕ) (x : Reader) → slice_get readers r ≡ Some x → get_elem? s.views x.seat.id ≡ some (view_of x.seat)
+
+-- The ring, its producer and its readers in order, as they are at open. Whatever else the table's state is, its words are
+-- those of the open ring.
 pub record IsOpened (spec : RingSpec) (ring : Ring) (p : Producer) (readers : List Reader) : Type 0 where
   pub as_given : spec_of ring ≡ spec
   pub producer_of : IsProducerOf ring p
   pub producer_open : producer_part p ≡ open_producer spec
   pub count : length readers ≡ spec.readers
   pub readers_open : AllFresh ring readers
+  pub words_open : (s : State (Unit {0}) View) → IsStateOf ring p readers s → s.words ≡ open_words spec
 
 -- The producer's part after each answer of `try_publish`, and after each of `publish_batch` of m blocks.
 abbrev pub AfterPublish : RingSpec → ProducerPart → ProducerPart → Publish → Type 0

@@ -22,6 +22,10 @@ Words = State (Unit {0}) View
 abbrev pub opened_table : RingSpec → Words
 opened_table spec = opening (open_words spec) [] (opened spec 0)
 
+-- A table with the first seat of a ring meets the rule with the words of the open ring alone, slots included.
+abbrev pub OpensAsTheOpenRing : Type 0
+OpensAsTheOpenRing = (spec : RingSpec) (words : List ℕ) → Holds spec (opening words [] (opened spec 0)) → words ≡ open_words spec
+
 -- the eight kinds of step on a word
 pub data Kind : Type 0 where
   LoadsGate : Kind

@@ -1,5 +1,9 @@
 use Rattle.crn_ring.proofs.Schedules.{steps_are_a_run, allowed_steps_are_made}
+use Rattle.crn_ring.proofs.Opened.{opens_as_the_open_ring}
 use Rattle.crn_ring.proofs.laws.steps_are_a_run.Goals as goal
+
+pub returns-clause-opens : goal.returns-clause-opens
+returns-clause-opens c = opens_as_the_open_ring
 
 pub returns-clause-allowed : goal.returns-clause-allowed
 returns-clause-allowed c = allowed_steps_are_made
