@@ -262,7 +262,7 @@ PLANTS = [
     Plant(SYSTEM, "crn_rows/src/reading.rt", "    let mut rows = Vec::new(alloc);", "    let mut rows = csv::Error::out_of_memory();"),
     Plant(SYSTEM, "crn_run/src/fault.rt", "        f.write_str(match self {", "        if true { return Err(fmt::Error); }\n        f.write_str(match self {"),
     Plant(SYSTEM, MAIN, OPENED, "    let _ = ErrorKind::OutOfMemory;\n" + OPENED),
-    Plant(RULES[3].name, "crn_run/src/fault.rt", "    pub fn ended(&self) -> Option<u64>\n", "    pub fn new() -> ThreadFault {\n        ThreadFault { ended: None }\n    }\n\n    pub fn ended(&self) -> Option<u64>\n"),
+    Plant(RULES[3].name, "crn_run/src/fault.rt", "    pub fn ended(&self) -> Option<u64>\n", "    pub fn new() -> ThreadFault {\n        ThreadFault { cause: Cause::Ended(0) }\n    }\n\n    pub fn ended(&self) -> Option<u64>\n"),
     Plant(RULES[4].name, OUTPUT, SENT, "    if text.len() > 100_000 { return Err(WriteFault::NoByte); }\n" + SENT),
     Plant(RULES[4].name, "crn_engines/src/steps.rt", "    Ok(write_text(writer, text)?)", "    Err(Fault::Writing(WriteFault::NoByte))"),
     Plant(RULES[5].name, INPUT, "const CHUNK: usize = 4_096;", "macro_rules! refused { () => { AllocError } }"),

@@ -16,7 +16,7 @@ use thiserror::Error;
 /// Why a command failed. Its text is the line that the program prints on standard error.
 ///
 /// Every engine returns it, each one only the variants that its docstring names. Nothing was written before any of them but
-/// `Writing`. A fault that the system causes carries the value that reported it, and comes from nothing else.
+/// `Writing`. A fault that the system causes carries the value that reported it, or for a thread the evidence of it.
 #[derive(Clone, Copy, Debug, Drop, Error)]
 pub enum Fault {
     /// The command line is invalid, there is no ring with these numbers, or a leg is longer than the run.
@@ -40,7 +40,7 @@ pub enum Fault {
     /// A write failed or took no byte. A prefix of the output, which may be empty, was written.
     #[error("crnsim: writing")]
     Writing(WriteFault),
-    /// A thread failed to start.
+    /// A thread failed to start, or a policy's reader found the end of the ring early.
     #[error("crnsim: thread")]
     Thread(ThreadFault),
     /// A gate returned false. The program's own gates never do, so no engine returns it.

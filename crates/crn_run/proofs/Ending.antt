@@ -1,9 +1,9 @@
 -- The runs of all policies, as stacks: of their jobs, and of their ends.
-use Rattle.std.proofs.Common.{◌≡◌, ◌≢◌, Bool, ℕ, zero, suc, refl, ◌+◌, ◌<◌, ◌≤◌, List, [], ◌∷◌, ◌++◌, length, Some, slice_get, get_or, Result, Ok, Err, IfErr, IfOk, OnOk, true, false, subst, sym, ap, ◌∙◌, arith, length-append}
+use Rattle.std.proofs.Common.{◌≡◌, ◌≢◌, Bool, ℕ, zero, suc, refl, ◌+◌, ◌<◌, ◌≤◌, List, [], ◌∷◌, ◌++◌, length, None, Some, slice_get, get_or, Result, Ok, Err, IfErr, IfOk, OnOk, true, false, subst, sym, ap, ◌∙◌, arith, length-append}
 use mathlib.Core.Logic.{dite}
 use native.Mathlib.Decide.{ℕ_discrete}
 use Rattle.std.proofs.lemmas.Bool.{false≢true}
-use Rattle.std.specs.Prelude.{IsErr, IsErrAnd, MatchResult}
+use Rattle.std.specs.Prelude.{⊤, IsErr, IsErrAnd, MatchResult}
 use Rattle.std.specs.List.{list_any}
 use Rattle.std.proofs.lemmas.Option.{slice_get_within, slice_get-get_or, get_or_from_slice_get}
 use Rattle.std.proofs.lemmas.List.Folds.{list_any_at}
@@ -23,10 +23,10 @@ use Rattle.crn_sequential.specs.Runs.{IsCheckpointOf, StandsBefore, EachAt, Each
 use Rattle.crn_run.specs.declared.worker.PolicyEnd.{PolicyEnd}
 use Rattle.crn_run.specs.declared.worker.PolicyEnd.TheVariants.{Reached, Short, Held}
 use Rattle.crn_run.specs.Ends.{EndsAs, HasReadAll, IsRun, is_held}
-use Rattle.crn_run.specs.Faults.{IsEnded}
-use Rattle.crn_run.specs.Gates.{AllPassed, PassedUpTo, SomeHeld, WasAsked}
+use Rattle.crn_run.specs.Faults.{EndedUnused, IsEnded, found_end}
+use Rattle.crn_run.specs.Gates.{AllPassed, AllPassedOrHeld, HeldAt, PassedOrHeld, PassedUpTo, SomeHeld, WasAsked}
 use Rattle.crn_run.specs.Inner.Ends.{AllReached, HasEarly, IsEarlyEnd, is_short}
-use Rattle.crn_run.specs.Jobs.{HasRefused, ring_spec}
+use Rattle.crn_run.specs.Jobs.{ring_spec}
 use Rattle.crn_run.specs.Inner.Jobs.{IsDone, IsReady, AreEnds, AreJobs, Gathers, HasRun}
 use Rattle.crn_run.specs.declared.fault.ThreadFault.{ThreadFault}
 use Rattle.crn_run.specs.Inner.Refusals.{RefusesEnds, RefusesRun}
@@ -243,23 +243,23 @@ module _ {G : Type 0} (refused : G → Bool) (asked : G → ℕ → ℕ → Bool
         subst (λ (n : ℕ). WasAsked asked k n e o.gate o.done.gate') next (subst (λ (n : ℕ). WasAsked asked n (next_block o.job.state) e o.gate o.done.gate') o.policy o.done.was_asked)
 
     passed_to : (first k : ℕ) (e : PolicyEnd) → IsCheckpointOf s first start → EndOf refused asked s ring start gates k e → is_short e ≡ false → is_held e ≡ false
-        → (gate : G) → slice_get gates k ≡ Some gate → (gate' : G) × PassedUpTo asked k first upto gate gate'
+        → (gate : G) → slice_get gates k ≡ Some gate → (gate' : G) × PassedUpTo asked k first upto gate gate' × (refused gate' ≡ false)
     passed_to first k (Reached w x) checkpoint o whole free gate is_gate =
         let same : o.gate ≡ gate = same_of (slice_get gates k) o.gate gate o.is_gate is_gate in
         let there : next_block w ≡ upto = (ends_as_told k (Reached w x) o).0.stands.next ∙ total in
         let passed : PassedUpTo asked k first (next_block w) o.gate o.done.gate' = asked_from first k (Reached w x) checkpoint o in
-        (o.done.gate', subst (λ (g : G). PassedUpTo asked k first upto g o.done.gate') same (subst (λ (n : ℕ). PassedUpTo asked k first n o.gate o.done.gate') there passed))
+        (o.done.gate', subst (λ (g : G). PassedUpTo asked k first upto g o.done.gate') same (subst (λ (n : ℕ). PassedUpTo asked k first n o.gate o.done.gate') there passed), o.done.held)
     passed_to first k (Short n w x) checkpoint o whole free gate is_gate = absurd (false≢true (sym whole))
     passed_to first k (Held w x) checkpoint o whole free gate is_gate = absurd (false≢true (sym free))
 
     -- where all have reached the end, each gate has passed all blocks
-    pub all_passed : (first : ℕ) → IsCheckpointOf s first start → AllReached ends → AllPassed asked first upto gates
+    pub all_passed : (first : ℕ) → IsCheckpointOf s first start → AllReached ends → AllPassed refused asked first upto gates
     all_passed first checkpoint reached k gate is_gate =
         let at = policy_end k (omega (arith, are_ends.gate_count, are_jobs.count, slice_get_within gates k gate is_gate)) in
         passed_to first k at.0 checkpoint (end_of at.1 k at.0 at.3 at.2) (never_any is_short ends at.1 at.0 reached.0 at.2) (never_any is_held ends at.1 at.0 reached.1 at.2) gate is_gate
 
     -- an end that came early, of a reader of the ring
-    ended_of : (first k : ℕ) (f : ThreadFault) (e : PolicyEnd) → spec_of ring ≡ ring_spec s first upto → EndOf refused asked s ring start gates k e → IsEarlyEnd f e → IsEnded s first upto f.ended
+    ended_of : (first k : ℕ) (f : ThreadFault) (e : PolicyEnd) → spec_of ring ≡ ring_spec s first upto → EndOf refused asked s ring start gates k e → IsEarlyEnd f e → IsEnded s first upto (found_end f.cause)
     ended_of first k f (Reached w x) opened o early = absurd early
     ended_of first k f (Short n w x) opened o early =
         let told = ends_as_told k (Short n w x) o in
@@ -273,37 +273,52 @@ module _ {G : Type 0} (refused : G → Bool) (asked : G → ℕ → ℕ → Bool
         })
     ended_of first k f (Held w x) opened o early = absurd early
 
-    pub some_early : (first : ℕ) (f : ThreadFault) → spec_of ring ≡ ring_spec s first upto → HasEarly f ends → IsEnded s first upto f.ended
+    pub some_early : (first : ℕ) (f : ThreadFault) → spec_of ring ≡ ring_spec s first upto → HasEarly f ends → IsEnded s first upto (found_end f.cause)
     some_early first f opened h =
         let at : (k : ℕ) × (k + h.place + 1 ≡ length s.policies) = place_of h.place (length s.policies) (omega (arith, are_ends.count, are_jobs.count, slice_get_within ends h.place h.end h.is_end)) in
         ended_of first at.0 f h.end opened (end_of h.place at.0 h.end (omega (arith, at.1)) h.is_end) h.early
 
-    held_of : (first k : ℕ) (e : PolicyEnd) → IsCheckpointOf s first start → EndOf refused asked s ring start gates k e → is_held e ≡ true → SomeHeld asked first upto gates × HasRefused refused
+    held_of : (first k : ℕ) (e : PolicyEnd) → IsCheckpointOf s first start → EndOf refused asked s ring start gates k e → is_held e ≡ true → SomeHeld refused asked first upto gates
     held_of first k (Reached w x) checkpoint o held = absurd (false≢true held)
     held_of first k (Short n w x) checkpoint o held = absurd (false≢true held)
-    held_of first k (Held w x) checkpoint o held = (
-      record {
-        policy = k;
-        gate = o.gate;
-        gate' = o.done.gate';
-        is_gate = o.is_gate;
-        block = next_block w;
-        below = subst (λ (m : ℕ). next_block w < m) total (ends_as_told k (Held w x) o).0;
-        held = asked_from first k (Held w x) checkpoint o;
-      },
-      (o.done.gate', o.done.held),
-    )
+    held_of first k (Held w x) checkpoint o held = record {
+      policy = k;
+      gate = o.gate;
+      gate' = o.done.gate';
+      is_gate = o.is_gate;
+      block = next_block w;
+      below = subst (λ (m : ℕ). next_block w < m) total (ends_as_told k (Held w x) o).0;
+      held = asked_from first k (Held w x) checkpoint o;
+      has_refused = o.done.held;
+    }
 
-    pub some_held : (first : ℕ) → IsCheckpointOf s first start → list_any is_held ends ≡ true → SomeHeld asked first upto gates × HasRefused refused
+    pub some_held : (first : ℕ) → IsCheckpointOf s first start → list_any is_held ends ≡ true → SomeHeld refused asked first upto gates
     some_held first checkpoint any =
         let it : (i : ℕ) × (e : PolicyEnd) × (slice_get ends i ≡ Some e) × (is_held e ≡ true) = held_place ends any in
         let at : (k : ℕ) × (k + it.0 + 1 ≡ length s.policies) = place_of it.0 (length s.policies) (omega (arith, are_ends.count, are_jobs.count, slice_get_within ends it.0 it.1 it.2)) in
         held_of first at.0 it.1 checkpoint (end_of it.0 at.0 it.1 (omega (arith, at.1)) it.2) it.3
 
+    passed_or_held : (first k : ℕ) (e : PolicyEnd) → IsCheckpointOf s first start → EndOf refused asked s ring start gates k e → is_short e ≡ false → (gate : G) → slice_get gates k ≡ Some gate → PassedOrHeld refused asked k first upto gate
+    passed_or_held first k (Reached w x) checkpoint o whole gate is_gate =
+        let passed = passed_to first k (Reached w x) checkpoint o whole refl gate is_gate in
+        record { gate' = passed.0; passed = λ _. passed.1; held = λ is. absurd (false≢true (sym passed.2 ∙ is)) }
+    passed_or_held first k (Short n w x) checkpoint o whole gate is_gate = absurd (false≢true (sym whole))
+    passed_or_held first k (Held w x) checkpoint o whole gate is_gate =
+        let same : o.gate ≡ gate = same_of (slice_get gates k) o.gate gate o.is_gate is_gate in
+        let below : next_block w < upto = subst (λ (m : ℕ). next_block w < m) total (ends_as_told k (Held w x) o).0 in
+        let held : HeldAt asked k first (next_block w) gate o.done.gate' = subst (λ (g : G). HeldAt asked k first (next_block w) g o.done.gate') same (asked_from first k (Held w x) checkpoint o) in
+        record { gate' = o.done.gate'; passed = λ is. absurd (false≢true (sym is ∙ o.done.held)); held = λ _. (next_block w, below, held) }
+
+    -- where none has found an early end, each gate has passed all blocks or held its policy
+    all_passed_or_held : (first : ℕ) → IsCheckpointOf s first start → list_any is_short ends ≡ false → AllPassedOrHeld refused asked first upto gates
+    all_passed_or_held first checkpoint whole k gate is_gate =
+        let at = policy_end k (omega (arith, are_ends.gate_count, are_jobs.count, slice_get_within gates k gate is_gate)) in
+        passed_or_held first k at.0 checkpoint (end_of at.1 k at.0 at.3 at.2) (never_any is_short ends at.1 at.0 whole at.2) gate is_gate
+
     -- why the run has no result, by its ends
     pub of_ends : (first : ℕ) (e : RunFault) → spec_of ring ≡ ring_spec s first upto → IsCheckpointOf s first start → RefusesEnds ends e → RefusesRun refused asked s first upto gates e
     of_ends first (Thread f) opened checkpoint h = some_early first f opened h
-    of_ends first Gate opened checkpoint h = some_held first checkpoint h.1
+    of_ends first Gate opened checkpoint h = (some_held first checkpoint h.1, all_passed_or_held first checkpoint h.0)
     of_ends first (Memory refused) opened checkpoint h = absurd h
 
 -- so the states are a checkpoint at `upto`, with the facts of each policy's run
@@ -356,6 +371,10 @@ ends_as s k v ring r n w x e run read within total early =
     (λ is. subst (EndsAs s k v ring r) (sym (total is)) (subst (λ (m : ℕ). IsRun s k v m w) is run, subst (λ (m : ℕ). HasReadAll ring r m x) is read))
     (λ not. subst (EndsAs s k v ring r) (sym (early not)) (omega (arith, within, not), run, read))
 
+-- why it has no result where a thread failed to start
+pub ended_unused : (s : ScenarioParts) (ring : Ring) (first upto : ℕ) (f : ThreadFault) → spec_of ring ≡ ring_spec s first upto → found_end f.cause ≡ None → EndedUnused ring → IsEnded s first upto (found_end f.cause)
+ended_unused s ring first upto f opened none unused = subst (IsEnded s first upto) (sym none) (record { ring = ring; spec = opened; unused = unused })
+
 -- what is told of an answer on either side
 pub on_ok : {T E : Type 0} (r : Result T E) (A : Type 0) (B : E → Type 0) → MatchResult r (λ _. A) B → OnOk r A
 on_ok (Ok x) A B h = h
@@ -366,10 +385,10 @@ on_err (Ok x) A B h = tt
 on_err (Err e) A B h = h
 
 module _ {G : Type 0} (refused : G → Bool) (asked : G → ℕ → ℕ → Bool → G → Type 0) (s : ScenarioParts) (first upto : ℕ) (gates : List G) where
-  pub told_thread : {T : Type 0} (f : ThreadFault) (r : Result T RunFault) → r ≡ Err (Thread f) → IfErr r (λ e. RefusesRun refused asked s first upto gates e) → IsEnded s first upto f.ended
+  pub told_thread : {T : Type 0} (f : ThreadFault) (r : Result T RunFault) → r ≡ Err (Thread f) → IfErr r (λ e. RefusesRun refused asked s first upto gates e) → IsEnded s first upto (found_end f.cause)
   told_thread {T} f r is h = subst (λ (x : Result T RunFault). IfErr x (λ e. RefusesRun refused asked s first upto gates e)) is h
 
-  pub told_gate : (e : RunFault) → e ≡ Gate → RefusesRun refused asked s first upto gates e → SomeHeld asked first upto gates × HasRefused refused
+  pub told_gate : (e : RunFault) → e ≡ Gate → RefusesRun refused asked s first upto gates e → SomeHeld refused asked first upto gates × AllPassedOrHeld refused asked first upto gates
   told_gate e is h = subst (λ (x : RunFault). RefusesRun refused asked s first upto gates x) is h
 
 -- what the gate was asked in a run that its reader has seen the end of
@@ -399,3 +418,6 @@ none_any (Held w x ∷ ends) none = none_any ends (λ k. none (suc k))
 pub handed_told : {T E : Type 0} (r : Result T E) (e : E) (A : T → Type 0) (P : E → Type 0) → IsErr r × IsErrAnd r (λ f. f ≡ e) → P e → MatchResult r A P
 handed_told (Ok x) e A P h holds = absurd (cc h.0)
 handed_told (Err f) e A P h holds = subst P (sym h.1) holds
+
+pub handed_err : {T E : Type 0} (r : Result T E) (e : E) (P : E → Type 0) → IsErr r × IsErrAnd r (λ f. f ≡ e) → P e → IfErr r P
+handed_err {T} r e P h holds = on_err r (λ (_ : T). ⊤) P (handed_told r e (λ _. ⊤) P h holds)

@@ -1,11 +1,14 @@
 -- Why a run of all policies has no result.
-use Rattle.std.specs.Prelude.{◌≡◌, ⊤, ℕ, ◌<◌, Option, None, Some}
+use Rattle.std.specs.Prelude.{◌≡◌, ℕ, ◌<◌, true, Option, None, Some}
 use Rattle.crn_stock.specs.Models.{ScenarioParts}
 use Rattle.crn_ring.specs.declared.ring.Ring.{Ring}
+use Rattle.crn_ring.specs.declared.producer.Producer.{Producer}
 use Rattle.crn_ring.specs.declared.reader.Reader.{Reader}
-use Rattle.crn_ring.specs.Calls.{spec_of}
+use Rattle.crn_ring.specs.Calls.{IsProducerOf, producer_part, spec_of}
 use Rattle.crn_run.specs.Ends.{HasReadAll}
 use Rattle.crn_run.specs.Jobs.{ring_spec}
+use Rattle.crn_run.specs.declared.fault.Cause.{Cause}
+use Rattle.crn_run.specs.declared.fault.Cause.TheVariants.{Refused, Ended}
 use Rattle.crn_run.specs.declared.fault.RunFault.{RunFault}
 use Rattle.crn_run.specs.declared.fault.RunFault.TheVariants.{Thread, Gate, Memory}
 
@@ -14,6 +17,24 @@ abbrev pub run_fault_number : RunFault → ℕ
 run_fault_number (Thread _) = 1
 run_fault_number Gate = 2
 run_fault_number (Memory _) = 90
+
+-- the block before which a reader found the end of the ring, or none if a thread failed to start
+abbrev pub found_end : Cause → Option ℕ
+found_end (Refused _) = None
+found_end (Ended n) = Some n
+
+-- the ring's producer has marked the end with nothing published
+pub record EndedUnused (ring : Ring) : Type 0 where
+  pub producer : Producer
+  pub of_ring : IsProducerOf ring producer
+  pub nothing : (producer_part producer).published ≡ (spec_of ring).id.first
+  pub ended : (producer_part producer).ended ≡ true
+
+-- the producer of the scenario's ring for the blocks from `first` to upto - 1 has marked the end with nothing published
+pub record HasEndedUnused (s : ScenarioParts) (first upto : ℕ) : Type 0 where
+  pub ring : Ring
+  pub spec : spec_of ring ≡ ring_spec s first upto
+  pub unused : EndedUnused ring
 
 -- a reader of the scenario's ring for the blocks from `first` to upto - 1 has seen the end before block n, which is below upto
 pub record HasEndedEarly (s : ScenarioParts) (first upto n : ℕ) : Type 0 where
@@ -24,7 +45,8 @@ pub record HasEndedEarly (s : ScenarioParts) (first upto n : ℕ) : Type 0 where
   pub read : HasReadAll ring number n reader
   pub early : n < upto
 
--- what a fault of a thread tells of such a run: where a reader found the end, or, with none, that a thread was refused
+-- what a fault of a thread says of such a run: a reader found the end early, before this block, or, with none, the end was
+-- marked with nothing published
 abbrev pub IsEnded : ScenarioParts → ℕ → ℕ → Option ℕ → Type 0
-IsEnded s first upto None = ⊤
+IsEnded s first upto None = HasEndedUnused s first upto
 IsEnded s first upto (Some n) = HasEndedEarly s first upto n

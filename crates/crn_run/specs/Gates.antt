@@ -28,12 +28,13 @@ WasAsked asked k n (Reached w x) gate gate' = PassedUpTo asked k n (next_block w
 WasAsked asked k n (Short m w x) gate gate' = PassedUpTo asked k n (next_block w) gate gate'
 WasAsked asked k n (Held w x) gate gate' = HeldAt asked k n (next_block w) gate gate'
 
--- each policy's gate was asked once for each of its blocks from `first` to upto - 1, in order, and has passed them all
-abbrev pub AllPassed : {Gate : Type 0} → (Gate → ℕ → ℕ → Bool → Gate → Type 0) → ℕ → ℕ → List Gate → Type 0
-AllPassed {Gate} asked first upto gates = (k : ℕ) (gate : Gate) → slice_get gates k ≡ Some gate → (gate' : Gate) × PassedUpTo asked k first upto gate gate'
+-- each policy's gate was asked once for each of its blocks from `first` to upto - 1, in order, has passed them all, and has not
+-- refused
+abbrev pub AllPassed : {Gate : Type 0} → (Gate → Bool) → (Gate → ℕ → ℕ → Bool → Gate → Type 0) → ℕ → ℕ → List Gate → Type 0
+AllPassed {Gate} refused asked first upto gates = (k : ℕ) (gate : Gate) → slice_get gates k ≡ Some gate → (gate' : Gate) × PassedUpTo asked k first upto gate gate' × (refused gate' ≡ false)
 
--- some policy's gate was asked so up to a block below `upto`, for which it answered false
-pub record SomeHeld {Gate : Type 0} (asked : Gate → ℕ → ℕ → Bool → Gate → Type 0) (first upto : ℕ) (gates : List Gate) : Type 0 where
+-- some policy's gate was asked so up to a block below `upto`, for which it answered false, and has refused
+pub record SomeHeld {Gate : Type 0} (refused : Gate → Bool) (asked : Gate → ℕ → ℕ → Bool → Gate → Type 0) (first upto : ℕ) (gates : List Gate) : Type 0 where
   pub policy : ℕ
   pub gate : Gate
   pub gate' : Gate
@@ -41,3 +42,15 @@ pub record SomeHeld {Gate : Type 0} (asked : Gate → ℕ → ℕ → Bool → G
   pub block : ℕ
   pub below : block < upto
   pub held : HeldAt asked policy first block gate gate'
+  pub has_refused : refused gate' ≡ true
+
+-- policy k's gate was asked so up to block `upto`, or up to a block below, for which it answered false; whether it has refused
+-- says which
+pub record PassedOrHeld {Gate : Type 0} (refused : Gate → Bool) (asked : Gate → ℕ → ℕ → Bool → Gate → Type 0) (k first upto : ℕ) (gate : Gate) : Type 0 where
+  pub gate' : Gate
+  pub passed : refused gate' ≡ false → PassedUpTo asked k first upto gate gate'
+  pub held : refused gate' ≡ true → (block : ℕ) × (block < upto) × HeldAt asked k first block gate gate'
+
+-- each policy's gate was asked so, up to block `upto` or to one that it held
+abbrev pub AllPassedOrHeld : {Gate : Type 0} → (Gate → Bool) → (Gate → ℕ → ℕ → Bool → Gate → Type 0) → ℕ → ℕ → List Gate → Type 0
+AllPassedOrHeld {Gate} refused asked first upto gates = (k : ℕ) (gate : Gate) → slice_get gates k ≡ Some gate → PassedOrHeld refused asked k first upto gate

@@ -1,5 +1,5 @@
 -- The runs of all policies over one ring, each by a reader and on a thread of its own.
-use Rattle.std.specs.Prelude.{◌≡◌, ℕ, Bool, true, List, Some, length, slice_get}
+use Rattle.std.specs.Prelude.{◌≡◌, ℕ, List, Some, length, slice_get}
 use Rattle.crn_stock.specs.Models.{ScenarioParts}
 use Rattle.crn_proto.specs.declared.spec.RingSpec.{RingSpec}
 use Rattle.crn_ring.specs.declared.ring.Ring.{Ring}
@@ -18,7 +18,3 @@ pub record AreReaders (s : ScenarioParts) (first upto : ℕ) (readers : List Rea
   pub spec : spec_of ring ≡ ring_spec s first upto
   pub count : length readers ≡ length s.policies
   pub each : (k : ℕ) (x : Reader) → slice_get readers k ≡ Some x → HasReadAll ring k upto x
-
--- some gate has answered false
-abbrev pub HasRefused : {Gate : Type 0} → (Gate → Bool) → Type 0
-HasRefused {Gate} refused = (gate : Gate) × (refused gate ≡ true)

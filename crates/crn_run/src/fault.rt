@@ -1,8 +1,9 @@
 //! Why the policies' runs have no result.
 ghost use Rattle.std.specs.Prelude.{◌≡◌, false, IfSome, IfNone};
-ghost use Rattle.crn_run.specs.Faults.{run_fault_number};
+ghost use Rattle.crn_run.specs.Faults.{found_end, run_fault_number};
 ghost use Rattle.crn_run.specs.Inner.Ends.{is_short, IsEarlyEnd};
 
+use crate::refusal::Refusal;
 use crate::worker::PolicyEnd;
 use std::alloc::AllocError;
 use std::error::Error;
@@ -59,19 +60,32 @@ impl From<AllocError> for RunFault {
     }
 }
 
-/// What kept a policy from running up to the ring's total. It is made only from what reported it: the error that `spawn`
-/// returned, or the end that a reader has seen before the ring's total. The end comes early only if a thread failed to start.
+/// What kept a policy from running up to the ring's total: a thread that failed to start, or an end of the ring before its total.
+/// Its field is private. It is made from the error of `spawn`, of which it keeps the evidence and not the closure, or in this
+/// crate from the end of a policy's run.
 #[derive(Clone, Copy, Debug, PartialEq, Eq)]
 pub struct ThreadFault {
-    ended: Option<u64>,
+    cause: Cause,
+}
+
+// What a fault of a thread was made from.
+#[derive(Clone, Copy, Debug, PartialEq, Eq)]
+enum Cause {
+    // The error of `spawn`.
+    Refused(Refusal),
+    // The end of a run whose reader found the end of the ring before this block.
+    Ended(u64),
 }
 
 impl ThreadFault {
     /// Returns the block before which a policy's reader found the end of the ring, and `None` if a thread failed to start.
     pub fn ended(&self) -> Option<u64>
-        ensures { result ≡ self.now.ended }
+        ensures { result ≡ found_end self.now.cause }
     {
-        self.ended
+        match self.cause {
+            Cause::Refused(_) => None,
+            Cause::Ended(published) => Some(published),
+        }
     }
 
     /// Returns the fault of a policy's run that found the end of the ring early, and `None` for each other end.
@@ -85,7 +99,7 @@ impl ThreadFault {
                 state: _,
                 reader: _,
             } => Some(ThreadFault {
-                ended: Some(*published),
+                cause: Cause::Ended(*published),
             }),
             _ => None,
         }
@@ -105,9 +119,11 @@ impl From<ThreadFault> for RunFault {
 impl<F: Drop> From<SpawnError<F>> for ThreadFault {
     ghost use Rattle.std.specs.Prelude.{None};
 
-    ghost from_gives = { λ _ f. f.ended ≡ None };
+    ghost from_gives = { λ _ f. found_end f.cause ≡ None };
 
-    fn from(_refused: SpawnError<F>) -> ThreadFault {
-        ThreadFault { ended: None }
+    fn from(refused: SpawnError<F>) -> ThreadFault {
+        ThreadFault {
+            cause: Cause::Refused(Refusal::of(refused)),
+        }
     }
 }

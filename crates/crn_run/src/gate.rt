@@ -24,7 +24,7 @@ pub trait Gate {
         ensures asked { asked self.old policy block result self.new };
 }
 
-/// The gate that always passes. It allocates nothing.
+/// The gate that always passes. Allocates nothing.
 #[derive(Clone, Copy, Debug, Default, PartialEq, Eq)]
 pub struct OpenGate;
 

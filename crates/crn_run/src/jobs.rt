@@ -12,6 +12,7 @@ ghost use Rattle.crn_run.specs.Inner.Jobs.{AreJobs, CarriesFor, IsReady};
 use crate::gate::Gate;
 use crate::worker::{PolicyEnd, run_policy};
 use crn_cipher::StreamId;
+use crn_limits::BLOCK_LIMIT;
 use crn_proto::{RingFault, RingSpec};
 use crn_ring::{Producer, Reader, Ring};
 use crn_sequential::Checkpoint;
@@ -63,7 +64,7 @@ pub(crate) fn open_ring(
     requires { (first ≤ upto) × (upto ≤ total scenario.now.model) }
     ensures { IfOk result (λ r. IsOpened (ring_spec scenario.now first upto) r.0 r.1 r.2.items) }
 {
-    let _periods = scenario.model().periods();
+    prove!(scenario.model().total() <= BLOCK_LIMIT);
     let spec = RingSpec {
         size: scenario.ring(),
         readers: scenario.policies().len() as u32,

@@ -8,6 +8,7 @@ mod feeding;
 mod gate;
 mod jobs;
 mod prepared;
+mod refusal;
 mod run;
 mod threads;
 mod waiting;

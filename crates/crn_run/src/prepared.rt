@@ -24,6 +24,7 @@ pub(crate) struct Prepared {
     pub(crate) states: Vec<State>,
     pub(crate) readers: Vec<Reader>,
     pub ghost feeds: { IsProducerOf ring producer × ((producer_part producer).ended ≡ false) },
+    pub ghost unused: { (producer_part producer).published ≡ (spec_of ring).id.first },
     pub ghost ends_room: { (vec_len ends ≡ 0) × (vec_len jobs ≤ vec_capacity ends) },
     pub ghost states_room: { (states.items ≡ []) × (vec_len jobs ≤ vec_capacity states) },
     pub ghost readers_room: { (readers.items ≡ []) × (vec_len jobs ≤ vec_capacity readers) },

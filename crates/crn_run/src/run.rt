@@ -6,9 +6,9 @@ ghost use Rattle.crn_stock.specs.Models.{total};
 ghost use Rattle.crn_sequential.specs.Runs.{IsCheckpointOf, EachAt, EachOnward};
 ghost use Rattle.crn_ring.specs.Calls.{spec_of};
 ghost use Rattle.crn_run.specs.Ends.{is_held};
-ghost use Rattle.crn_run.specs.Faults.{IsEnded};
-ghost use Rattle.crn_run.specs.Gates.{AllPassed, SomeHeld};
-ghost use Rattle.crn_run.specs.Jobs.{AreReaders, HasRefused, ring_spec};
+ghost use Rattle.crn_run.specs.Faults.{IsEnded, found_end};
+ghost use Rattle.crn_run.specs.Gates.{AllPassed, AllPassedOrHeld, SomeHeld};
+ghost use Rattle.crn_run.specs.Jobs.{AreReaders, ring_spec};
 ghost use Rattle.crn_run.specs.declared.fault.ThreadFault.{ThreadFault};
 ghost use Rattle.crn_run.specs.Inner.Ends.{AllReached, HasEarly, is_short};
 ghost use Rattle.crn_run.specs.Inner.Jobs.{AllReady, AreJobs, CarriesFor, Gathers, HasRun};
@@ -50,14 +50,13 @@ pub struct Finished {
 ///
 /// # Errors
 ///
-/// - [`RunFault::Thread`]: a thread failed to start, and the ring was ended with nothing published, so no gate was asked. Or a
-///   policy's reader found the end before `upto`, whether or not a gate answered false; that happens only if a thread failed
-///   to start.
-/// - [`RunFault::Gate`]: a policy's gate was asked, as it was for each block before, and answered false. No reader found an
-///   early end.
+/// - [`RunFault::Thread`]: a thread failed to start, and the ring was ended with nothing published. Or a policy's reader found
+///   the end before `upto`, whether or not a gate answered false. [`ThreadFault::ended`] says which.
+/// - [`RunFault::Gate`]: a policy's gate was asked, as it was for each block before, and answered false. Each policy's gate has
+///   passed all blocks or answered false so, since no reader found an early end.
 /// - [`RunFault::Memory`]: an allocation failed, and no thread was started.
 ///
-/// Nothing else causes a fault. A gate that was asked keeps what it stored.
+/// A gate that was asked keeps what it stored.
 pub fn run_all<R: Threads + Wait + Sync, G: Gate + Send>(
     rt: &R,
     alloc: Global,
@@ -76,10 +75,10 @@ pub fn run_all<R: Threads + Wait + Sync, G: Gate + Send>(
     ensures at { IfOk result (λ f. EachAt scenario.now start.now.next start.now.states.items → EachAt scenario.now upto f.checkpoint.states.items) }
     ensures onward { IfOk result (λ f. EachOnward scenario.now start.now.states.items upto f.checkpoint.states.items) }
     ensures readers { IfOk result (λ f. AreReaders scenario.now start.now.next upto f.readers.items) }
-    ensures passed { OnOk result (AllPassed G.asked start.now.next upto gates.old) }
-    ensures thread { (f : ThreadFault) → result ≡ Err (RunFault.Thread f) → IsEnded scenario.now start.now.next upto f.ended }
-    ensures held { IfErr result (λ e. e ≡ RunFault.Gate → SomeHeld G.asked start.now.next upto gates.old) }
-    ensures gate { IfErr result (λ e. e ≡ RunFault.Gate → HasRefused G.refused) }
+    ensures passed { OnOk result (AllPassed G.refused G.asked start.now.next upto gates.old) }
+    ensures thread { (f : ThreadFault) → result ≡ Err (RunFault.Thread f) → IsEnded scenario.now start.now.next upto (found_end f.cause) }
+    ensures held { IfErr result (λ e. e ≡ RunFault.Gate → SomeHeld G.refused G.asked start.now.next upto gates.old) }
+    ensures no_early_end { IfErr result (λ e. e ≡ RunFault.Gate → AllPassedOrHeld G.refused G.asked start.now.next upto gates.old) }
 {
     let prepared = prepare(alloc, scenario, start, upto)?;
     run_prepared(rt, scenario, prepared, gates)
@@ -99,7 +98,7 @@ fn run_prepared<R: Threads + Wait + Sync, G: Gate + Send>(
     ensures run { (first upto : ℕ) (start : List Parts) → spec_of prepared.ring ≡ ring_spec scenario.now first upto → IsCheckpointOf scenario.now first start → AreJobs scenario.now prepared.ring start prepared.jobs.items
         → IfOk result (λ f. HasRun scenario.now first start upto f.checkpoint.next f.checkpoint.states.items f.readers.items) }
     ensures told { (first upto : ℕ) (start : List Parts) → spec_of prepared.ring ≡ ring_spec scenario.now first upto → IsCheckpointOf scenario.now first start → AreJobs scenario.now prepared.ring start prepared.jobs.items
-        → MatchResult result (λ _. AllPassed G.asked first upto gates.old) (λ e. RefusesRun G.refused G.asked scenario.now first upto gates.old e) }
+        → MatchResult result (λ _. AllPassed G.refused G.asked first upto gates.old) (λ e. RefusesRun G.refused G.asked scenario.now first upto gates.old e) }
 {
     let Prepared {
         ring,

@@ -1,7 +1,8 @@
 //! One thread for each policy.
 ghost use Rattle.std.specs.Prelude.{◌≡◌, ◌+◌, ◌≤◌, true, false, None, length, OnOk, OnErr, IfOk, All, vec_len, vec_capacity, IfErr};
 ghost use Rattle.std.specs.Slice.Iter.{iter_mut_rest};
-ghost use Rattle.crn_ring.specs.Calls.{IsProducerOf, producer_part};
+ghost use Rattle.crn_ring.specs.Calls.{IsProducerOf, producer_part, spec_of};
+ghost use Rattle.crn_run.specs.Faults.{EndedUnused, found_end};
 ghost use Rattle.crn_run.specs.Inner.Jobs.{AllReady, AreEnds, CarriesFor, IsDone, IsReady};
 
 use crate::fault::ThreadFault;
@@ -45,7 +46,7 @@ fn start<'s, 'e: 's, 'g: 's, R: Wait + Sync, G: Gate + Send>(
     requires ring { CarriesFor scenario.now ring.now }
     requires gate { G.refused gate.now ≡ false }
     ensures promise { IfOk result (λ h. (h.promise.ring.value ≡ ring.now) × (h.promise.scenario.value ≡ scenario.now) × (h.promise.job.value ≡ job) × (h.promise.gate.value ≡ gate.old)) }
-    ensures thread { IfErr result (λ f. f.ended ≡ None) }
+    ensures thread { IfErr result (λ f. found_end f.cause ≡ None) }
 {
     let promise = EndsJob {
         ring: Snapshot::of(ring),
@@ -81,8 +82,9 @@ fn start_from<'s, 'e: 's, 'g: 's, R: Threads + Wait + Sync, G: Gate + Send>(
     requires jobs { AllReady scenario.now ring.now jobs.old.items }
     requires room { (vec_len ends.old ≡ 0) × (vec_len jobs.old ≤ vec_capacity ends.old) }
     ensures ends { OnOk result (AreEnds G.refused G.asked scenario.now ring.now jobs.old.items (iter_mut_rest gates.entry) ends.new.items) }
-    ensures thread { IfErr result (λ f. f.ended ≡ None) }
+    ensures thread { IfErr result (λ f. found_end f.cause ≡ None) }
     ensures capacity { vec_capacity ends.old ≤ vec_capacity ends.new }
+    ensures of { IsProducerOf ring.now producer.new }
     ensures ended { (producer_part producer.new).ended ≡ true }
     ensures refused { OnErr result ((producer_part producer.new).published ≡ (producer_part producer.old).published) }
     ensures joined { OnErr result (vec_len ends.new + vec_len jobs.new + 1 ≡ vec_len jobs.old) }
@@ -122,11 +124,12 @@ pub(crate) fn run_jobs<'r, R: Threads + Wait + Sync, G: Gate + Send>(
     requires count { length gates.old ≡ vec_len jobs }
     requires gates { All (λ g. G.refused g ≡ false) gates.old }
     requires producer { IsProducerOf ring.now producer × ((producer_part producer).ended ≡ false) }
+    requires unused { (producer_part producer).published ≡ (spec_of ring.now).id.first }
     requires ring { CarriesFor scenario.now ring.now }
     requires jobs { AllReady scenario.now ring.now jobs.items }
     requires room { (vec_len ends ≡ 0) × (vec_len jobs ≤ vec_capacity ends) }
     ensures ends { IfOk result (λ es. AreEnds G.refused G.asked scenario.now ring.now jobs.items gates.old es.items) }
-    ensures thread { IfErr result (λ f. f.ended ≡ None) }
+    ensures thread { IfErr result (λ f. (found_end f.cause ≡ None) × EndedUnused ring.now) }
 {
     let turns = gates.iter_mut();
     thread::scope(
@@ -136,11 +139,12 @@ pub(crate) fn run_jobs<'r, R: Threads + Wait + Sync, G: Gate + Send>(
             requires count { length (iter_mut_rest turns) ≡ vec_len jobs }
             requires gates { All (λ g. G.refused g ≡ false) (iter_mut_rest turns) }
             requires producer { IsProducerOf ring.now producer × ((producer_part producer).ended ≡ false) }
+            requires unused { (producer_part producer).published ≡ (spec_of ring.now).id.first }
             requires ring { CarriesFor scenario.now ring.now }
             requires jobs { AllReady scenario.now ring.now jobs.items }
             requires room { (vec_len ends ≡ 0) × (vec_len jobs ≤ vec_capacity ends) }
             ensures ends { IfOk result (λ es. AreEnds G.refused G.asked scenario.entry.now ring.entry.now jobs.items (iter_mut_rest turns.entry) es.items) }
-            ensures thread { IfErr result (λ f. f.ended ≡ None) }
+            ensures thread { IfErr result (λ f. (found_end f.cause ≡ None) × EndedUnused ring.entry.now) }
         {
             let (mut producer, mut jobs, mut ends) = (producer, jobs, ends);
             start_from(

@@ -7,6 +7,7 @@ use Rattle.crn_stock.specs.Stock.{At, OnwardAt, next_block}
 use Rattle.crn_stock.specs.declared.policy.Policy.{Policy}
 use Rattle.crn_sequential.specs.Runs.{StandsBefore}
 use Rattle.crn_run.specs.Ends.{is_held}
+use Rattle.crn_run.specs.Faults.{found_end}
 use Rattle.crn_run.specs.declared.fault.ThreadFault.{ThreadFault}
 use Rattle.crn_run.specs.declared.worker.PolicyEnd.{PolicyEnd}
 use Rattle.crn_run.specs.declared.worker.PolicyEnd.TheVariants.{Reached, Short, Held}
@@ -19,7 +20,7 @@ is_short (Held w x) = false
 
 -- the fault is that of an end that was marked early
 abbrev pub IsEarlyEnd : ThreadFault → PolicyEnd → Type 0
-IsEarlyEnd f (Short n w x) = f.ended ≡ Some n
+IsEarlyEnd f (Short n w x) = found_end f.cause ≡ Some n
 IsEarlyEnd f _ = ⊥
 
 -- each has reached the end of the ring

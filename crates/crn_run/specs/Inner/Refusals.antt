@@ -6,9 +6,8 @@ use Rattle.crn_run.specs.declared.fault.RunFault.{RunFault}
 use Rattle.crn_run.specs.declared.fault.RunFault.TheVariants.{Thread, Gate, Memory}
 use Rattle.crn_run.specs.declared.worker.PolicyEnd.{PolicyEnd}
 use Rattle.crn_run.specs.Ends.{is_held}
-use Rattle.crn_run.specs.Faults.{IsEnded}
-use Rattle.crn_run.specs.Gates.{SomeHeld}
-use Rattle.crn_run.specs.Jobs.{HasRefused}
+use Rattle.crn_run.specs.Faults.{IsEnded, found_end}
+use Rattle.crn_run.specs.Gates.{AllPassedOrHeld, SomeHeld}
 use Rattle.crn_run.specs.Inner.Ends.{HasEarly, is_short}
 
 -- the ends of all policies' runs
@@ -19,6 +18,6 @@ RefusesEnds ends (Memory _) = ⊥
 
 -- a run for which all memory stands
 abbrev pub RefusesRun : {G : Type 0} → (G → Bool) → (G → ℕ → ℕ → Bool → G → Type 0) → ScenarioParts → ℕ → ℕ → List G → RunFault → Type 0
-RefusesRun refused asked s first upto gates (Thread f) = IsEnded s first upto f.ended
-RefusesRun refused asked s first upto gates Gate = SomeHeld asked first upto gates × HasRefused refused
+RefusesRun refused asked s first upto gates (Thread f) = IsEnded s first upto (found_end f.cause)
+RefusesRun refused asked s first upto gates Gate = SomeHeld refused asked first upto gates × AllPassedOrHeld refused asked first upto gates
 RefusesRun refused asked s first upto gates (Memory _) = ⊥

@@ -37,7 +37,7 @@ returns-clause-held g c = let start = c.args.start.now in
     IfErr-weaker c.run_prepared.result _ _ (λ e h is. (told_gate g.G.Gate.refused g.G.Gate.asked c.args.scenario.now start.next c.args.upto c.args.gates.now e is h).0)
     (on_err c.run_prepared.result _ _ (c.run_prepared.ensures.told start.next c.args.upto start.states.items (search rules) c.requires.of (search rules)))
 
-pub returns-clause-gate : goal.returns-clause-gate
-returns-clause-gate g c = let start = c.args.start.now in
+pub returns-clause-no_early_end : goal.returns-clause-no_early_end
+returns-clause-no_early_end g c = let start = c.args.start.now in
     IfErr-weaker c.run_prepared.result _ _ (λ e h is. (told_gate g.G.Gate.refused g.G.Gate.asked c.args.scenario.now start.next c.args.upto c.args.gates.now e is h).1)
     (on_err c.run_prepared.result _ _ (c.run_prepared.ensures.told start.next c.args.upto start.states.items (search rules) c.requires.of (search rules)))

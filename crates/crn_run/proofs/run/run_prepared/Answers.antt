@@ -6,7 +6,8 @@ use Rattle.crn_run.specs.declared.jobs.Job.{Job}
 use Rattle.crn_run.specs.declared.worker.PolicyEnd.{PolicyEnd}
 use Rattle.crn_run.specs.Inner.Jobs.{AreEnds, Gathers}
 use Rattle.crn_run.specs.Inner.Refusals.{RefusesEnds, RefusesRun}
-use Rattle.crn_run.proofs.Ending.{all_passed, handed_told, has_run, of_ends}
+use Rattle.crn_run.specs.declared.fault.RunFault.TheVariants.{Thread}
+use Rattle.crn_run.proofs.Ending.{all_passed, ended_unused, handed_told, has_run, of_ends}
 use Rattle.crn_run.proofs.run.run_prepared.Goals as goal
 
 pub returns-clause-run : goal.returns-clause-run
@@ -29,6 +30,13 @@ returns-clause-told g c first upto start opened checkpoint are_jobs =
     let total = ap (λ (r : RingSpec). r.id.total) opened in
     let are_ends : AreEnds g.G.Gate.refused g.G.Gate.asked s ring jobs c.args.gates.now ends = search rules in
     all_passed g.G.Gate.refused g.G.Gate.asked s ring start jobs c.args.gates.now ends are_jobs are_ends upto total first checkpoint (search rules)
+
+pub returns-in_err-ends-clause-told : goal.returns-in_err-ends-clause-told
+returns-in_err-ends-clause-told g c first upto start opened checkpoint are_jobs =
+    let s : ScenarioParts = c.args.scenario.now in
+    let f = c.in_err-ends.field-0.0 in
+    let refused = c.in_err-ends.ensures.thread in
+    handed_told _ (Thread f) _ (RefusesRun g.G.Gate.refused g.G.Gate.asked s first upto c.args.gates.now) c.from_residual.ensures (ended_unused s c.args.prepared.ring first upto f opened refused.0 refused.1)
 
 pub returns-in_err-check-clause-told : goal.returns-in_err-check-clause-told
 returns-in_err-check-clause-told g c first upto start opened checkpoint are_jobs =
