@@ -34,7 +34,7 @@ def code_of(text):
 
 def tokens_of(text):
     """The tokens of a source."""
-    found, function, depth, begins, after_fn = [], None, 0, None, False
+    found, function, depth, nested, begins, after_fn = [], None, 0, 0, None, False
     code = code_of(text)
     for match in TOKEN.finditer(code):
         word = match.group()
@@ -51,8 +51,9 @@ def tokens_of(text):
                 function = begins[0]
         elif word == "}":
             depth -= 1
-        elif word == ";" and function is None:
+        elif word == ";" and function is None and not nested:
             begins = None
+        nested += (word in "([") - (word in ")]")
         found.append(Token(code.count("\n", 0, match.start()) + 1, word, function))
         if word == "}" and begins is not None and depth == begins[1]:
             function, begins = None, None
@@ -97,7 +98,8 @@ def makes_error_of_system(tokens, at):
     if word in ("Error", "ErrorKind") and next_words(tokens, at, 1) == ["as"]:
         return True
     if word == "ErrorKind" and inside:
-        return next_words(tokens, at, 3)[2:] not in (["=>"], ["|"])
+        after = next_words(tokens, at, 6)[2:]
+        return after[:1] not in (["=>"], ["|"]) and after != ["(", "_", ")", "=>"]
     return word == "Error" and inside and (next_words(tokens, at, 1) == ["::"] or before(tokens, at, 2) == ["fmt", "::"])
 
 
@@ -116,7 +118,7 @@ def tells_no_byte(tokens, at):
 def makes_block(tokens, at):
     """A block that is made and not taken from the ring."""
     word = tokens[at].text
-    if word in ("fill_blocks", "threefry", "unthreefry") or word == "from_words" and tokens[at].function not in ("load_rows", "try_take"):
+    if word in ("fill_blocks", "threefry", "unthreefry") or word == "from_words" and tokens[at].function not in ("load_rows", "try_take", "room"):
         return True
     return word == "block" and (next_words(tokens, at, 1) == ["("] or before(tokens, at) == ["::"])
 
@@ -269,8 +271,8 @@ PLANTS = [
     Plant(RULES[6].name, WORKER, APPLY, "    drop(permit);\n    let block = &crn_cipher::block(scenario.key(), block.number);"),
     Plant(RULES[6].name, WORKER, APPLY, "    drop(permit);\n    let mut made = [*block];\n    crn_cipher::fill_blocks(scenario.key(), block.number, &mut made, 1);\n    let block = &made[0];"),
     Plant(RULES[6].name, WORKER, "use crn_cipher::Block;", "use crn_cipher::{Block, block};\nconst MAKE: fn([u64; 4], u64) -> Block = block(0);"),
-    Plant(RULES[7].name, "crn_run/src/waiting.rt", "self.sleeper.park_timeout(rt, self.sleep);", "self.sleeper.park(rt);"),
-    Plant(RULES[7].name, "crn_run/src/waiting.rt", "            thread::yield_now();", "            thread::sleep(rt, Duration::from_micros(1));"),
+    Plant(RULES[7].name, "crn_run/src/waiting.rt", "self.sleeper.park_timeout(rt, time),", "self.sleeper.park(rt),"),
+    Plant(RULES[7].name, "crn_run/src/waiting.rt", "self.yielding.snooze(),", "thread::sleep(rt, Duration::from_micros(1)),"),
     Plant(RULES[8].name, "crn_ring/src/reader.rt", "use crate::", "fn look(table: &Table) -> u64 { table.peek(0) }\nuse crate::"),
     Plant(RULES[8].name, "crn_ring/src/reader.rt", "use crate::", "fn look(table: &Table) { table.load_new_seat(0) }\nuse crate::"),
     Plant(RULES[8].name, "crn_ring/src/reader.rt", "use crate::", "fn look(table: &Table) { table.swap_new_seat(0) }\nuse crate::"),
