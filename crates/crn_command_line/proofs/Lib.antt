@@ -1,1 +1,4 @@
 pub mod Texts
+pub mod Found
+pub mod Parsing
+pub mod Parser

@@ -1,2 +1,3 @@
 -- Definitions that no public contract states: of private functions, of proofs and of what a type keeps by its invariant.
 pub mod CommandLine
+pub mod Parsing

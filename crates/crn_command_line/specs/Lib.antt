@@ -1,2 +1,3 @@
 pub mod CommandLine
+pub mod Parsing
 pub mod Inner

@@ -1,6 +1,6 @@
 //! The commands of the program: what each requires, its help, and how it is read from its arguments.
 
-ghost use Rattle.std.specs.Prelude.{◌≡◌, ℕ, List, Some, IfSome, IfNone, IfOk, IfErr, codes, map, string_bytes};
+ghost use Rattle.std.specs.Prelude.{◌≡◌, ℕ, List, Some, IfSome, IfNone, IfOk, IfErr, codes, map, option_map, string_bytes};
 ghost use Rattle.crn_command_line.specs.CommandLine as spec;
 ghost use Rattle.crn_command_line.specs.CommandLine.{Names, RefusesNamed, IsNumber, key_word_of};
 ghost use Rattle.crn_command_line.specs.Inner.CommandLine.{texts_of, RefusesText, RefusesFile, RefusesNumber, RefusesBlock, RefusesRing};
@@ -241,10 +241,7 @@ fn file_at(alloc: Global, words: &ArgMatches<'_>) -> Result<String, CommandLineF
     ensures refused { IfErr result (λ e. RefusesFile (texts_of words.now (codes "FILE")) e) }
 {
     let text = text_at(words, FILE)?;
-    match text.to_string(alloc) {
-        Ok(file) => Ok(file),
-        Err(refused) => Err(CommandLineFault::Memory(refused)),
-    }
+    Ok(text.to_string(alloc)?)
 }
 
 // The number that the argument of this name spells.
@@ -275,7 +272,7 @@ fn key_at(words: &ArgMatches<'_>) -> Option<[u64; 4]>
 fn key_word_at(words: &ArgMatches<'_>, name: &str) -> Option<u64>
     ensures { result ≡ spec.key_word_at (texts_of words.now) name.now }
 {
-    key_word(words.get_str(name)?)
+    key_word(value_at(words, name)?)
 }
 
 // The text of the argument of this name.
@@ -283,10 +280,17 @@ fn text_at<'m>(words: &'m ArgMatches<'_>, name: &str) -> Result<&'m str, Command
     ensures found { IfOk result (λ text. texts_of words.now name.now ≡ Some text.now) }
     ensures refused { IfErr result (λ e. RefusesText (texts_of words.now name.now) e) }
 {
-    match words.get_str(name) {
+    match value_at(words, name) {
         Some(text) => Ok(text),
         None => Err(CommandLineFault::Words),
     }
+}
+
+// The text of the argument of this name, where `clap` found one.
+fn value_at<'m>(words: &'m ArgMatches<'_>, name: &str) -> Option<&'m str>
+    ensures { option_map (λ text. text.now) result ≡ texts_of words.now name.now }
+{
+    words.get_str(name)
 }
 
 // A word of the key from its 16 digits.

@@ -1,3 +1,6 @@
+//! Why the words of the command line are refused.
+ghost use Rattle.std.specs.Prelude.{◌≡◌};
+
 use std::alloc::AllocError;
 
 /// Why the words of the command line are refused.
@@ -10,6 +13,10 @@ pub enum CommandLineFault {
 }
 
 impl From<AllocError> for CommandLineFault {
+    ghost use Rattle.crn_command_line.specs.declared.fault.CommandLineFault.TheVariants.{Memory};
+
+    ghost from_gives = { λ e f. f ≡ Memory e };
+
     fn from(refused: AllocError) -> CommandLineFault {
         CommandLineFault::Memory(refused)
     }

@@ -1,4 +1,4 @@
-// The texts of the program's help, in lines of at most 80 characters.
+//! The texts of the program's help, in lines of at most 80 characters.
 
 use std::alloc::{AllocError, Global};
 use std::fmt::Write;

@@ -1,14 +1,15 @@
 -- The texts of a match.
 use Rattle.std.specs.Prelude.{◌≡◌, ℕ, List, Option, Some, None}
-use Rattle.clap.specs.Matches.{found_of, first_value}
+use Rattle.clap.specs.Words.{found_of, rows_of}
 use Rattle.clap.specs.declared.parser.matches.ArgMatches.{ArgMatches}
 use Rattle.crn_command_line.specs.CommandLine.{Texts, IsNumber, IsBlock, IsRing}
+use Rattle.crn_command_line.specs.Parsing.{texts_in}
 use Rattle.crn_command_line.specs.declared.fault.CommandLineFault.{CommandLineFault}
 use Rattle.crn_command_line.specs.declared.fault.CommandLineFault.TheVariants as fault
 
 -- the texts of the arguments that `clap` found, by their names
 abbrev pub texts_of : ArgMatches → Texts
-texts_of m name = first_value (found_of m) name
+texts_of m name = texts_in (rows_of (found_of m)) name
 
 -- what a refusal of an argument says: it has no text, or one that is not of its kind
 abbrev pub RefusesText : Option (List ℕ) → CommandLineFault → Type 0
