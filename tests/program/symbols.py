@@ -12,7 +12,7 @@ import subprocess
 LOOP = re.compile(r"crn_stock::(period|terms)::|crn_stock::state::State::(advance|run_|take_)"
                   r"|crn_draw::(guide::(draw|searched)|weights::Weights::pick)")
 # Those that are left out: what a block that the end of a replication cuts short needs, and the search for a draw.
-LEFT_OUT = {"crn_stock::period::after_some", "crn_stock::state::State::run_short_block", "crn_draw::guide::searched"}
+LEFT_OUT = {"crn_stock::state::State::run_short_block", "crn_draw::guide::searched"}
 
 
 def left_out_of(program):

@@ -1,4 +1,4 @@
-// The report of a scenario: each policy's figures, their texts, and the rows that have them.
+//! The report of a scenario: each policy's figures, their texts, and the rows that have them.
 
 ghost use Rattle.std.specs.Prelude.{◌≡◌, ◌*◌, ◌≤◌, ◌<◌, ◌^◌, ◌++◌, true, ℕ, length, map, sum, slice_get, decimal};
 ghost use Rattle.std.specs.Prelude.{All, IfOk, Some};
@@ -52,7 +52,7 @@ fn costs_at_end<'a>(model: &Model, state: &'a State) -> &'a [u64]
     state.costs()
 }
 
-// The sum of the costs of all replications.
+// Returns the sum of the costs of all replications.
 fn total_of(costs: &[u64]) -> u64
     requires few { length costs.now ≤ REPLICATION_LIMIT }
     requires high { All (λ k. k ≤ PERIOD_LIMIT * PERIOD_COST_LIMIT) costs.now }
@@ -66,7 +66,7 @@ fn total_of(costs: &[u64]) -> u64
     total
 }
 
-// Two policies' costs as a pair, which is never refused.
+// Returns two policies' costs as a pair, which is never refused.
 fn pair_of(costs: &[u64], base: &[u64]) -> Pair
     requires count { length base.now ≡ length costs.now }
     requires some { 1 ≤ length costs.now }
@@ -100,7 +100,7 @@ fn figures_of(model: &Model, state: &State, base: &State) -> Figures
     }
 }
 
-// The figures of all policies, whose costs are those of their states.
+// Returns the figures of all policies, whose costs are those of their states.
 fn all_figures(
     alloc: Global,
     scenario: &Scenario,
@@ -118,7 +118,7 @@ fn all_figures(
 
 // ---- The texts of its fields. None of their bytes calls for quotes.
 
-// A number's text, in the buffer that is lent. It calls for no quotes.
+// Returns a number's text, in the buffer that is lent. It calls for no quotes.
 #[tactic(auto, using(crn_rows::proofs::Plainness::decimal_plain))]
 fn decimal_field<'b>(buffer: &'b mut Buffer, number: u64) -> &'b [u8]
     ensures text { result.now ≡ decimal number }
@@ -127,7 +127,7 @@ fn decimal_field<'b>(buffer: &'b mut Buffer, number: u64) -> &'b [u8]
     buffer.format(number).as_bytes()
 }
 
-// The text of a number, perhaps below 0, in the buffer that is lent. It calls for no quotes.
+// Returns the text of a number, perhaps below 0, in the buffer that is lent. It calls for no quotes.
 #[tactic(auto, using(crn_rows::proofs::Plainness::signed_plain))]
 fn signed_field<'b>(buffer: &'b mut Buffer, number: i128) -> &'b [u8]
     ensures text { result.now ≡ signed_decimal number }
@@ -160,7 +160,7 @@ fn estimate_text(alloc: Global, estimate: Option<Fraction>) -> Result<Vec<u8>, A
 
 // ---- The rows.
 
-// The sheet with the row of the fields' names.
+// Returns the sheet with the row of the fields' names.
 fn with_header(sheet: Sheet) -> Result<Sheet, AllocError>
     ensures { IfOk result (λ after. after ≡ sheet ++ row_text header) }
 {
@@ -177,7 +177,7 @@ fn with_header(sheet: Sheet) -> Result<Sheet, AllocError>
     ])
 }
 
-// The sheet with the row of a policy and its figures.
+// Returns the sheet with the row of a policy and its figures.
 #[tactic(auto, using(crn_rows::proofs::PlainFields::name_plain))]
 fn with_policy_row(
     alloc: Global,
@@ -207,7 +207,7 @@ fn with_policy_row(
     ])
 }
 
-// The sheet with a row for each policy and its figures.
+// Returns the sheet with a row for each policy and its figures.
 fn with_policy_rows(
     alloc: Global,
     sheet: Sheet,
@@ -240,7 +240,7 @@ fn with_policy_rows(
 ///
 /// # Errors
 ///
-/// `AllocError` where a growth was refused.
+/// `AllocError` if an allocation fails.
 pub fn report(
     alloc: Global,
     scenario: &Scenario,

@@ -1,11 +1,13 @@
 -- A state taken further, block by block.
-use Rattle.std.proofs.Common.{◌≡◌, ℕ, ◌+◌, ◌≤◌, List, Some, slice_get, subst, sym, ◌∙◌, arith}
+use Rattle.std.proofs.Common.{◌≡◌, ℕ, ◌+◌, ◌<◌, ◌≤◌, List, Some, length, slice_get, get_or, refl, subst, sym, ◌∙◌, arith}
+use Rattle.std.proofs.lemmas.Option.{slice_get_read}
 use Rattle.crn_cipher.specs.declared.stream.Block.{Block}
 use Rattle.crn_cipher.specs.Following.{FollowOn}
 use Rattle.crn_stock.specs.declared.policy.Policy.{Policy}
 use Rattle.crn_stock.specs.Parts.{Parts}
 use Rattle.crn_stock.specs.Models.{ModelParts, ScenarioParts}
-use Rattle.crn_stock.specs.Stock.{At, OnwardAt, next_block}
+use Rattle.crn_stock.specs.Stock.{Terms, terms_of, OnwardAt, HasTaken, next_block}
+use Rattle.crn_stock.proofs.Blocks.{taken, at_then, onward_at_then}
 use Rattle.crn_sequential.specs.Runs.{StandsBefore}
 use Rattle.crn_run.specs.Ends.{IsRun}
 use Rattle.crn_run.specs.Inner.Ends.{Advances}
@@ -13,31 +15,41 @@ use Rattle.crn_sequential.proofs.Running.{same_of}
 
 -- no block
 pub advances_none : (m : ModelParts) (p : Policy) (key : List ℕ) (v : Parts) → StandsBefore m (next_block v) v → Advances m p key v v
-advances_none m p key v stands = record { stands = stands; at = λ h. h; onward = λ q h. h }
+advances_none m p key v stands = record { stands = stands; onward = λ q h. h }
+
+-- one block more
+pub advances_more : (m : ModelParts) (p : Policy) (terms : Terms) (key : List ℕ) (u v w : Parts) (block : Block) → Advances m p key u v → HasTaken m terms block v w → terms ≡ terms_of p m.costs
+    → block.key ≡ key → block.number ≡ next_block v → Advances m p key u w
+advances_more m p terms key u v w block before has same of_key here =
+    let on : OnwardAt m p key v (block.number + 1) w = subst (λ (k : List ℕ). OnwardAt m p k v (block.number + 1) w) of_key (taken m p terms block v w has same here) in
+    record {
+      stands = record { of_model = has.of_model; between = has.between; next = refl };
+      onward = λ q h. onward_at_then m p key (next_block w) q v w (before.onward q h) (subst (λ (n : ℕ). OnwardAt m p key v n w) (sym has.next) on);
+    }
 
 -- one part of the blocks and then another
 pub advances_then : (m : ModelParts) (p : Policy) (key : List ℕ) (u v w : Parts) → Advances m p key u v → Advances m p key v w → Advances m p key u w
-advances_then m p key u v w a b = record { stands = b.stands; at = λ h. b.at (a.at h); onward = λ q h. b.onward q (a.onward q h) }
+advances_then m p key u v w a b = record { stands = b.stands; onward = λ q h. b.onward q (a.onward q h) }
 
 -- where policy number k has advanced to block n, that is its run
 pub advanced : (s : ScenarioParts) (k : ℕ) (p : Policy) (v w : Parts) (n : ℕ) → slice_get s.policies k ≡ Some p → ((m : ModelParts) (q : Policy) (key : List ℕ) → OnwardAt m q key v (next_block v) v)
     → Advances s.model p s.key v w → next_block w ≡ n → IsRun s k v n w
-advanced s k p v w n is_policy itself advances there = record {
-  stands = subst (λ (i : ℕ). StandsBefore s.model i w) there advances.stands;
-  at = λ q eq h.
-      let same : p ≡ q = same_of (slice_get s.policies k) p q is_policy eq in
-      let before : At s.model p s.key (next_block v) v = subst (λ (a : Policy). At s.model a s.key (next_block v) v) (sym same) h in
-      let after : At s.model p s.key n w = subst (λ (i : ℕ). At s.model p s.key i w) there (advances.at before) in
-      subst (λ (a : Policy). At s.model a s.key n w) same after;
-  onward = λ q eq.
-      let same : p ≡ q = same_of (slice_get s.policies k) p q is_policy eq in
-      let after : OnwardAt s.model p s.key v n w = subst (λ (i : ℕ). OnwardAt s.model p s.key v i w) there (advances.onward v (itself s.model p s.key)) in
-      subst (λ (a : Policy). OnwardAt s.model a s.key v n w) same after;
-}
+advanced s k p v w n is_policy itself advances there =
+    let here : OnwardAt s.model p s.key v n w = subst (λ (i : ℕ). OnwardAt s.model p s.key v i w) there (advances.onward v (itself s.model p s.key)) in
+    let onward : (q : Policy) → slice_get s.policies k ≡ Some q → OnwardAt s.model q s.key v n w =
+    λ q eq. subst (λ (a : Policy). OnwardAt s.model a s.key v n w) (same_of (slice_get s.policies k) p q is_policy eq) here in
+    record {
+      stands = subst (λ (i : ℕ). StandsBefore s.model i w) there advances.stands;
+      at = λ q eq h. at_then s.model q s.key n v w h (onward q eq);
+      onward = onward;
+    }
 
--- the numbers of blocks that follow one another
-pub next_but : (a b n k : ℕ) → n ≡ a + k → b ≡ n + 1 → b ≡ a + (k + 1)
-next_but a b n k here next = omega arith
+-- the block at place j of those that follow from a number on is the one that comes after j of them
+pub next_follows : (key : List ℕ) (from j at count : ℕ) (blocks : List Block) (b : Block) → FollowOn key from count blocks → j < count → count ≤ length blocks → b ≡ get_or blocks j b → at ≡ from + j
+    → (b.key ≡ key) × (b.number ≡ at)
+next_follows key from j at count blocks b follow lt enough read here =
+    let found = follow j b lt (slice_get_read blocks (length blocks) j b refl (omega (arith, lt, enough)) read) in
+    (found.0, found.1 ∙ sym here)
 
 pub taken_on : (taken taken' at at' count : ℕ) → taken ≡ at → taken' ≡ taken + count → at' ≡ at + count → taken' ≡ at'
 taken_on taken taken' at at' count here took went = omega arith

@@ -10,7 +10,7 @@ use Rattle.std.proofs.lemmas.List.Folds.{list_any_at}
 use Rattle.crn_stock.specs.Parts.{Parts}
 use Rattle.crn_stock.specs.Models.{ScenarioParts}
 use Rattle.crn_proto.specs.declared.actor_parts.ReaderPart.{ReaderPart}
-use Rattle.crn_stock.specs.Stock.{At, OnwardAt, next_block}
+use Rattle.crn_stock.specs.Stock.{OnwardAt, next_block}
 use Rattle.crn_proto.specs.declared.spec.RingSpec.{RingSpec}
 use Rattle.crn_ring.specs.declared.ring.Ring.{Ring}
 use Rattle.crn_ring.specs.declared.reader.Reader.{Reader}
@@ -19,7 +19,7 @@ use Rattle.crn_run.specs.declared.fault.RunFault.{RunFault}
 use Rattle.crn_run.specs.declared.fault.RunFault.TheVariants.{Thread, Gate, Memory}
 use Rattle.crn_run.specs.declared.run.Finished.{Finished}
 use Rattle.crn_run.specs.declared.jobs.Job.{Job}
-use Rattle.crn_sequential.specs.Runs.{IsCheckpointOf, StandsBefore, EachAt, EachOnward}
+use Rattle.crn_sequential.specs.Runs.{IsCheckpointOf, StandsBefore, EachOnward}
 use Rattle.crn_run.specs.declared.worker.PolicyEnd.{PolicyEnd}
 use Rattle.crn_run.specs.declared.worker.PolicyEnd.TheVariants.{Reached, Short, Held}
 use Rattle.crn_run.specs.Ends.{EndsAs, HasReadAll, IsRun, is_held}
@@ -325,12 +325,6 @@ module _ {G : Type 0} (refused : G → Bool) (asked : G → ℕ → ℕ → Bool
 pub checkpoint_of : (s : ScenarioParts) (start states : List Parts) (upto : ℕ) → length states ≡ length s.policies → ((k : ℕ) (w : Parts) → slice_get states k ≡ Some w → RunFrom s start upto k w) → IsCheckpointOf s upto states
 checkpoint_of s start states upto count each = record { count = count; stand = λ k w is. (each k w is).run.stands }
 
-pub each_at : (s : ScenarioParts) (start states : List Parts) (from upto : ℕ) → IsCheckpointOf s from start → ((k : ℕ) (w : Parts) → slice_get states k ≡ Some w → RunFrom s start upto k w) → EachAt s from start → EachAt s upto states
-each_at s start states from upto checkpoint each before k p w is_policy is =
-    let r : RunFrom s start upto k w = each k w is in
-    let here : At s.model p s.key from r.begun = before k p r.begun is_policy r.begins in
-    r.run.at p is_policy (subst (λ (n : ℕ). At s.model p s.key n r.begun) (sym (checkpoint.stand k r.begun r.begins).next) here)
-
 pub each_onward : (s : ScenarioParts) (start states : List Parts) (upto : ℕ) → ((k : ℕ) (w : Parts) → slice_get states k ≡ Some w → RunFrom s start upto k w) → EachOnward s start upto states
 each_onward s start states upto each k p v w is_policy begins is =
     let r : RunFrom s start upto k w = each k w is in
@@ -346,7 +340,6 @@ has_run refused asked s ring start first upto next jobs gates ends states reader
     let from = run_from refused asked s ring start jobs gates ends are_jobs are_ends upto total states readers gathers in record {
       next_is = there;
       of_scenario = checkpoint_of s start states upto (gathers.state_count ∙ are_ends.count ∙ are_jobs.count) from;
-      at = each_at s start states first upto checkpoint from;
       onward = each_onward s start states upto from;
       read = record {
         ring = ring;

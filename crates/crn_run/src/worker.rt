@@ -2,7 +2,7 @@
 ghost use Rattle.std.specs.Prelude.{◌≡◌, ◌≢◌, ◌+◌, ◌<◌, ◌≤◌, true, false, not, length};
 ghost use Rattle.crn_cipher.specs.Following.{FollowOn};
 ghost use Rattle.crn_stock.specs.Models.{IsPolicy, total};
-ghost use Rattle.crn_stock.specs.Stock.{next_block, terms_in, terms_of};
+ghost use Rattle.crn_stock.specs.Stock.{next_block, terms_in, CanTake, HasTaken};
 ghost use Rattle.crn_ring.specs.Calls.{IsReaderOf, reader_number, reader_part, spec_of};
 ghost use Rattle.crn_sequential.specs.Runs.{StandsBefore};
 ghost use Rattle.crn_run.specs.declared.worker.PolicyEnd.TheVariants.{Reached, Short};
@@ -136,7 +136,7 @@ fn apply_all<G: Gate>(
         let next = &blocks[k];
         match ask(gate, policy, next.number) {
             None => return false,
-            Some(permit) => apply(scenario, &terms, rules, policy, next, permit, state),
+            Some(permit) => apply(scenario, &terms, policy, next, permit, state),
         }
     }
     true
@@ -147,21 +147,15 @@ fn apply_all<G: Gate>(
 fn apply(
     scenario: &Scenario,
     terms: &Terms,
-    rules: &Policy,
     policy: u32,
     block: &Block,
     permit: Permit,
     state: &mut State,
 )
     requires permit { (permit.policy ≡ policy) × (permit.block ≡ block.now.number) }
-    requires rules { IsPolicy rules.now }
-    requires terms { terms_in terms.now ≡ terms_of rules.now scenario.now.model.costs }
-    requires stands { StandsBefore scenario.now.model (next_block state.old) state.old }
-    requires next { (block.now.number ≡ next_block state.old) × (block.now.key ≡ scenario.now.key) }
-    requires below { block.now.number < total scenario.now.model }
-    ensures advances { Advances scenario.now.model rules.now scenario.now.key state.old state.new }
-    ensures next { next_block state.new ≡ block.now.number + 1 }
+    requires block { CanTake scenario.now.model block.now state.old }
+    ensures { HasTaken scenario.now.model (terms_in terms.now) block.now state.old state.new }
 {
     drop(permit);
-    state.take_block_by(terms, scenario.model(), rules, block);
+    state.take_block_by(terms, scenario.model(), block);
 }

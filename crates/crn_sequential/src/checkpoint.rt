@@ -1,3 +1,5 @@
+//! Checkpoints: where all policies of a scenario stand between two blocks.
+
 ghost use Rattle.std.specs.Prelude.{◌≡◌, IfOk};
 ghost use Rattle.crn_sequential.specs.Runs.{IsCheckpointOf, EachAt};
 
@@ -18,15 +20,15 @@ impl Checkpoint {
     ///
     /// # Errors
     ///
-    /// `AllocError` where a growth was refused.
+    /// `AllocError` if an allocation fails.
     pub fn start(alloc: Global, scenario: &Scenario) -> Result<Checkpoint, AllocError>
         ensures next { IfOk result (λ c. c.next ≡ 0) }
         ensures of { IfOk result (λ c. IsCheckpointOf scenario.now c.next c.states.items) }
         ensures at { IfOk result (λ c. EachAt scenario.now 0 c.states.items) }
     {
-        let count = scenario.policies().len();
-        let mut states = Vec::with_capacity(alloc, count)?;
-        for _policy in 0..count {
+        let policies = scenario.policies();
+        let mut states = Vec::with_capacity(alloc, policies.len())?;
+        for _policy in 0..policies.len() {
             states.push(State::start(alloc, scenario.model())?)?;
         }
         Ok(Checkpoint { next: 0, states })

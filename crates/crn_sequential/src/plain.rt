@@ -1,6 +1,8 @@
+//! The run of all policies on the calling thread.
+
 ghost use Rattle.std.specs.Prelude.{◌≡◌, ◌≤◌, IfOk};
 ghost use Rattle.crn_stock.specs.Models.{IsPolicy, total};
-ghost use Rattle.crn_stock.specs.Stock.{At, OnwardAt, next_block};
+ghost use Rattle.crn_stock.specs.Stock.{OnwardAt, next_block};
 ghost use Rattle.crn_sequential.specs.Runs.{IsCheckpointOf, StandsBefore, EachAt, EachOnward};
 
 use crate::checkpoint::Checkpoint;
@@ -17,7 +19,7 @@ use std::alloc::{AllocError, Global};
 ///
 /// # Errors
 ///
-/// `AllocError` where a growth was refused.
+/// `AllocError` if an allocation fails.
 pub fn run_plain(
     alloc: Global,
     scenario: &Scenario,
@@ -43,7 +45,7 @@ pub fn run_plain(
     Ok(Checkpoint { next: upto, states })
 }
 
-// The state that one policy's state becomes by the blocks up to `upto`.
+// Returns the state that one policy's state becomes by the blocks up to `upto`.
 fn run_policy_plain(
     alloc: Global,
     scenario: &Scenario,
@@ -56,8 +58,6 @@ fn run_policy_plain(
     requires from { next_block from.now ≤ upto }
     requires below { upto ≤ total scenario.now.model }
     ensures stands { IfOk result (λ s. StandsBefore scenario.now.model upto s) }
-    ensures at { IfOk result (λ s. At scenario.now.model policy.now scenario.now.key (next_block from.now) from.now
-        → At scenario.now.model policy.now scenario.now.key upto s) }
     ensures onward { IfOk result (λ s. OnwardAt scenario.now.model policy.now scenario.now.key from.now upto s) }
 {
     let model = scenario.model();

@@ -7,12 +7,12 @@ use Rattle.std.proofs.lemmas.List.{reverse-append, length-reverse, append-nil}
 use Rattle.crn_stock.specs.declared.policy.Policy.{Policy}
 use Rattle.crn_stock.specs.Parts.{Parts}
 use Rattle.crn_stock.specs.Models.{ModelParts}
-use Rattle.crn_stock.specs.Stock.{terms_of, Draw, Terms, Beginning, running, Standing, IsStanding, fresh_beginning, standing_after, standing, from_parts, StateOf, Onward}
+use Rattle.crn_stock.specs.Stock.{terms_of, Draw, Terms, Beginning, running, Standing, IsStanding, fresh_beginning, standing_after, standing, from_parts, StateOf, IsOnward}
 use Rattle.crn_stock.specs.Replications.{all_draws, replication_cost, beginning_of, IsAfterReplications, IsInSameReplication, IsInLaterReplication}
 
 module _ (p : Terms) (n : ℕ) (x : ℤ) where
   -- the draws h after the draws g, each the newest first
-  standing-append : (c : Standing) (h g : List Draw) → standing p n x c (h ++ g) ≡ standing p n x (standing p n x c g) h
+  pub standing-append : (c : Standing) (h g : List Draw) → standing p n x c (h ++ g) ≡ standing p n x (standing p n x c g) h
   standing-append c [] g = refl
   standing-append c (d ∷ h) g = ap (standing_after p n x d) (standing-append c h g)
 
@@ -77,10 +77,8 @@ after_replications m policy whole ds v some all lt s =
     }
 
 -- the state that was q, in the replication that q had under way
-pub in_same_replication : (m : ModelParts) (policy : Policy) (q : Parts) (ds : List Draw) (v : Parts) → q.period + length ds < q.periods
-    → Onward m policy q ds v → IsInSameReplication (terms_of policy m.costs) q ds v
-in_same_replication m policy q ds v lt s =
-    let p = terms_of policy m.costs in
+pub in_same_replication : (p : Terms) (q : Parts) (ds : List Draw) (v : Parts) → q.period + length ds < q.periods → IsOnward p q ds v → IsInSameReplication p q ds v
+in_same_replication p q ds v lt s =
     let at = within_one p q.periods q.initial q.costs q.period (beginning_of q) (reverse ds) (omega (arith, length-reverse ds, lt)) in
     let here = subst (λ (c : Standing). IsStanding p c v) at s.stands in
     record {
@@ -90,11 +88,10 @@ in_same_replication m policy q ds v lt s =
     }
 
 -- the state that was q, in a later one
-pub in_later_replication : (m : ModelParts) (policy : Policy) (q : Parts) (first : List Draw) (whole : List (List Draw)) (ds : List Draw) (v : Parts)
+pub in_later_replication : (p : Terms) (q : Parts) (first : List Draw) (whole : List (List Draw)) (ds : List Draw) (v : Parts)
     → q.period < q.periods → q.period + length first ≡ q.periods → All (λ h. length h ≡ q.periods) whole → length ds < q.periods
-    → Onward m policy q (first ++ all_draws whole ++ ds) v → IsInLaterReplication (terms_of policy m.costs) q first whole ds v
-in_later_replication m policy q first whole ds v under_way end all lt s =
-    let p = terms_of policy m.costs in
+    → IsOnward p q (first ++ all_draws whole ++ ds) v → IsInLaterReplication p q first whole ds v
+in_later_replication p q first whole ds v under_way end all lt s =
     let n = q.periods in
     let x = q.initial in
     let later = all_draws whole ++ ds in

@@ -3,7 +3,7 @@
 ghost use Rattle.std.specs.Prelude.{◌≡◌, ℕ, ◌+◌, ◌≤◌, ◌<◌, List, ◌++◌, All, length};
 ghost use Rattle.crn_stock.specs.Parts.{Parts};
 ghost use Rattle.crn_stock.specs.Models.{ModelParts};
-ghost use Rattle.crn_stock.specs.Stock.{terms_of, Draw, StateOf, Onward, OnwardAt, next_block};
+ghost use Rattle.crn_stock.specs.Stock.{terms_of, Draw, StateOf, At, Onward, OnwardAt, next_block};
 ghost use Rattle.crn_stock.specs.Replications.{all_draws, IsAfterReplications, IsInSameReplication, IsInLaterReplication};
 ghost use Rattle.crn_stock.specs.declared.policy.Policy.{Policy};
 
@@ -16,6 +16,15 @@ pub fn onward_from_itself(state: &State)
 {
     let _ = state.period();
 }
+
+/// A state at its next block that is taken onward to a later block is at that one. What it was onward from, it is
+/// onward from there too. So what moves states need only say how it takes them onward.
+pub fn taken_onward()
+    ensures at { (model : ModelParts) (policy : Policy) (key : List ℕ) (n : ℕ) (q v : Parts)
+        → At model policy key (next_block q) q → OnwardAt model policy key q n v → At model policy key n v }
+    ensures onward { (model : ModelParts) (policy : Policy) (key : List ℕ) (n : ℕ) (o q v : Parts)
+        → OnwardAt model policy key o (next_block q) q → OnwardAt model policy key q n v → OnwardAt model policy key o n v }
+{}
 
 /// After the draws of whole replications and some of the next one, a state has the costs of the whole ones,
 /// each by its own draws from the initial stock alone, and stands in the next one by its own draws.

@@ -1,4 +1,4 @@
-// The limits of a model's parts, and what follows from them.
+//! The limits of a model's parts, and what follows from them.
 
 use crn_limits::PERIOD_LIMIT;
 

@@ -1,4 +1,4 @@
-// Policies and their names.
+//! Policies and their names.
 
 ghost use Rattle.std.specs.Prelude.{◌≡◌, ◌↔◌, IsTrue, string_bytes};
 ghost use Rattle.crn_stock.specs.Models.{IsPolicy};
@@ -67,7 +67,7 @@ impl Name {
     }
 }
 
-/// An (s,S) policy: where a review finds the position below `low`, it orders up to `high`.
+/// An (s,S) policy: if a review finds the position below `low`, it orders up to `high`.
 ///
 /// `State::step` and `State::take_block` ask for levels within their range ([`is_in_range`](Policy::is_in_range)). Source:
 /// Law, Simulation Modeling and Analysis, chapter 1; the position is reviewed here, and not the stock.

@@ -1,4 +1,4 @@
-// What decides a policy's periods: its terms, and what each period draws.
+//! What decides a policy's periods: its terms, and what each period draws.
 
 ghost use Rattle.std.specs.Prelude.{pos, ◌≤◌, ◌≤ℤ◌};
 ghost use Rattle.crn_stock.specs.Models.{AreCosts};
@@ -8,8 +8,8 @@ use crate::model::{Costs, Model};
 use crate::policy::Policy;
 use crn_cipher::Block;
 
-/// What decides each period of a policy: its levels and the model's cost rates, read once for many blocks
-/// ([`State::take_block_by`](crate::State::take_block_by)).
+/// The terms of a policy, which decide each of its periods: its levels and the model's cost rates, read once for many
+/// blocks ([`State::take_block_by`](crate::State::take_block_by)).
 #[derive(Clone, Copy)]
 pub struct Terms {
     pub(crate) low: i64,
@@ -26,7 +26,7 @@ impl Terms {
     ghost use Rattle.crn_stock.specs.Models.{IsPolicy};
     ghost use Rattle.crn_stock.specs.Stock.{terms_of, terms_in};
 
-    /// Returns the terms of a policy under cost rates. Takes no memory.
+    /// Returns the terms of a policy under cost rates. Allocates nothing.
     ///
     /// # Asks
     ///
@@ -45,7 +45,7 @@ impl Terms {
     }
 }
 
-/// What one period draws: the demand, the lead time of an order placed in it, and the items that customers return.
+/// The draw of one period: the demand, the lead time of an order placed in it, and the items that customers return.
 #[derive(Clone, Copy)]
 pub(crate) struct Drawn {
     pub demand: u32,
@@ -57,7 +57,7 @@ pub(crate) struct Drawn {
     pub ghost returned_high: { returned ≤ ITEM_LIMIT },
 }
 
-/// What periods draw from, one after another.
+/// The source that periods draw from, one after another.
 #[derive(Clone, Copy)]
 pub(crate) enum DrawSource<'a> {
     /// The draw of a single period, as it is given.
@@ -72,7 +72,7 @@ impl<'a> DrawSource<'a> {
     ghost use Rattle.std.specs.Prelude.{◌≡◌, ◌<◌, false};
     ghost use Rattle.crn_stock.specs.Inner.Steps.{draw_in, nth_draw, NoneReturned};
 
-    /// The draw of the period after `k` others.
+    /// Returns the draw of the period after `k` others.
     #[inline(always)]
     pub(crate) fn nth(&self, k: usize) -> Drawn
         requires { k < 4 }

@@ -3,7 +3,7 @@ use Rattle.std.specs.Prelude.{◌≡◌, ℕ, Bool, true, false, List, Some, sli
 use Rattle.std.specs.List.{list_any}
 use Rattle.crn_stock.specs.Parts.{Parts}
 use Rattle.crn_stock.specs.Models.{ModelParts}
-use Rattle.crn_stock.specs.Stock.{At, OnwardAt, next_block}
+use Rattle.crn_stock.specs.Stock.{OnwardAt, next_block}
 use Rattle.crn_stock.specs.declared.policy.Policy.{Policy}
 use Rattle.crn_sequential.specs.Runs.{StandsBefore}
 use Rattle.crn_run.specs.Ends.{is_held}
@@ -36,8 +36,7 @@ pub record HasEarly (f : ThreadFault) (ends : List PolicyEnd) : Type 0 where
 
 -- ---- between two blocks of a run
 
--- w is what v becomes by the blocks from its next one on: what leads to v by the blocks below leads to w
+-- w is what v becomes by the blocks from its next one on: what v is onward from, w is onward from
 pub record Advances (m : ModelParts) (p : Policy) (key : List ℕ) (v w : Parts) : Type 0 where
   pub stands : StandsBefore m (next_block w) w
-  pub at : At m p key (next_block v) v → At m p key (next_block w) w
   pub onward : (q : Parts) → OnwardAt m p key q (next_block v) v → OnwardAt m p key q (next_block w) w

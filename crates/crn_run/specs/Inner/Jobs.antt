@@ -6,7 +6,7 @@ use Rattle.crn_stock.specs.Models.{total, ScenarioParts}
 use Rattle.crn_ring.specs.declared.ring.Ring.{Ring}
 use Rattle.crn_ring.specs.declared.reader.Reader.{Reader}
 use Rattle.crn_ring.specs.Calls.{IsReaderOf, reader_number, reader_part, spec_of}
-use Rattle.crn_sequential.specs.Runs.{StandsBefore, IsCheckpointOf, EachAt, EachOnward}
+use Rattle.crn_sequential.specs.Runs.{StandsBefore, IsCheckpointOf, EachOnward}
 use Rattle.crn_run.specs.Ends.{EndsAs, is_held}
 use Rattle.crn_run.specs.declared.jobs.Job.{Job}
 use Rattle.crn_run.specs.declared.worker.PolicyEnd.{PolicyEnd}
@@ -66,6 +66,5 @@ pub record Gathers (ends : List PolicyEnd) (states : List Parts) (readers : List
 pub record HasRun (s : ScenarioParts) (first : ℕ) (start : List Parts) (upto next : ℕ) (states : List Parts) (readers : List Reader) : Type 0 where
   pub next_is : next ≡ upto
   pub of_scenario : IsCheckpointOf s upto states
-  pub at : EachAt s first start → EachAt s upto states
   pub onward : EachOnward s start upto states
   pub read : AreReaders s first upto readers

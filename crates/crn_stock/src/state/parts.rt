@@ -1,4 +1,4 @@
-// What a state reports of itself.
+//! What a state reports of itself.
 
 ghost use Rattle.std.specs.Prelude.{◌≡◌, ◌*◌, ◌≤◌, ◌<◌, ◌↔◌, ◌+ℤ◌, pos, All, IsTrue, length, sum, slice_index};
 ghost use Rattle.crn_stock.specs.Parts.{AreInRange};

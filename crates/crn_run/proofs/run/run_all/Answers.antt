@@ -1,5 +1,6 @@
 use Rattle.std.proofs.Common.{rules}
 use Rattle.std.proofs.lemmas.Result.{IfErr-weaker}
+use Rattle.crn_sequential.proofs.Running.{each_at}
 use Rattle.crn_run.proofs.Ending.{of_run, on_err, on_ok, told_gate, told_thread}
 use Rattle.crn_run.proofs.run.run_all.Goals as goal
 
@@ -13,7 +14,7 @@ returns-clause-of g c = let start = c.args.start.now in
 
 pub returns-clause-at : goal.returns-clause-at
 returns-clause-at g c = let start = c.args.start.now in
-    of_run c.args.scenario.now start.next start.states.items c.args.upto _ _ (λ f h. h.at) (c.run_prepared.ensures.run start.next c.args.upto start.states.items (search rules) c.requires.of (search rules))
+    of_run c.args.scenario.now start.next start.states.items c.args.upto _ _ (λ f h. each_at c.args.scenario.now start.states.items f.checkpoint.states.items start.next c.args.upto c.requires.of h.onward) (c.run_prepared.ensures.run start.next c.args.upto start.states.items (search rules) c.requires.of (search rules))
 
 pub returns-clause-onward : goal.returns-clause-onward
 returns-clause-onward g c = let start = c.args.start.now in

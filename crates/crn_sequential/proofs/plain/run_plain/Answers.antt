@@ -2,7 +2,7 @@ use Rattle.std.proofs.Common.{rules, ◌≡◌, ◌++◌, ◌∷◌, [], ap, len
 use Rattle.std.proofs.lemmas.Grind.{common_steps}
 use Rattle.crn_sequential.specs.Runs.{StandsBefore}
 use Rattle.crn_sequential.proofs.Growing.{each-grown}
-use Rattle.crn_sequential.proofs.Running.{Ran, ran, read_at, read_policy, reached}
+use Rattle.crn_sequential.proofs.Running.{Ran, ran, read_at, read_policy, each_at}
 use Rattle.crn_sequential.proofs.plain.run_plain.Goals as goal
 
 -- the state that is taken further stands where the checkpoint does
@@ -32,8 +32,8 @@ loop-i-preserved c =
     let is_policy : slice_get s.policies i ≡ Some c.index-policies-i.result = read_policy s.policies c.policies-policies.result.now i c.index-policies-i.result same c.loop-i-test.true c.index-policies-i.is in
     record {
       count = grind (arith, common_steps, grown, count);
-      each = each-grown (Ran s start.states.items start.next c.args.upto) c.loop-i.states.items c.push.new.self.items v i grown count c.loop-i.invariant.each
-          (ran s start.states.items start.next c.args.upto i c.index-policies-i.result w v is_policy is_state (c.requires.of.stand i w is_state).next c.in_ok-state.ensures.stands c.in_ok-state.ensures.at c.in_ok-state.ensures.onward);
+      each = each-grown (Ran s start.states.items c.args.upto) c.loop-i.states.items c.push.new.self.items v i grown count c.loop-i.invariant.each
+          (ran s start.states.items c.args.upto i c.index-policies-i.result w v is_policy is_state c.in_ok-state.ensures.stands c.in_ok-state.ensures.onward);
     }
 
 pub returns-clause-of : goal.returns-clause-of
@@ -42,9 +42,10 @@ returns-clause-of c = record {
   stand = λ i v e. (c.loop-i.invariant.each i v e).0;
 }
 
-pub returns-clause-at : goal.returns-clause-at
-returns-clause-at c before i p v of_policy of_state =
-    reached c.args.scenario.now c.args.start.now.states.items c.args.start.now.next c.args.upto i p v c.requires.of.count (c.loop-i.invariant.each i v of_state) before of_policy
-
 pub returns-clause-onward : goal.returns-clause-onward
-returns-clause-onward c i p w v of_policy of_start of_state = ((c.loop-i.invariant.each i v of_state).1 p w of_policy of_start).1
+returns-clause-onward c i p w v of_policy of_start of_state = (c.loop-i.invariant.each i v of_state).1 p w of_policy of_start
+
+pub returns-clause-at : goal.returns-clause-at
+returns-clause-at c =
+    let start = c.args.start.now in
+    each_at c.args.scenario.now start.states.items c.loop-i.states.items start.next c.args.upto c.requires.of (returns-clause-onward c)

@@ -6,5 +6,5 @@ use Rattle.crn_sequential.proofs.plain.run_plain.Given as goal
 abbrev pub invariant-loop-i : goal.invariant-loop-i
 invariant-loop-i l = record {
   count : length l.states.items ≡ l.i;
-  each : HoldsOfEach (Ran l.scenario l.start.states.items l.start.next l.upto) l.states.items;
+  each : HoldsOfEach (Ran l.scenario l.start.states.items l.upto) l.states.items;
 }

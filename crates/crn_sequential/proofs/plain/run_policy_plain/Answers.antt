@@ -1,11 +1,6 @@
 use Rattle.std.proofs.Common.{rules, ◌≡◌, ℕ, subst}
-use Rattle.crn_stock.specs.Stock.{At, OnwardAt}
+use Rattle.crn_stock.specs.Stock.{OnwardAt}
 use Rattle.crn_sequential.proofs.plain.run_policy_plain.Goals as goal
-
-pub returns-clause-at : goal.returns-clause-at
-returns-clause-at c h =
-    let there : c.loop-number.number ≡ c.args.upto = search rules in
-    subst (λ (n : ℕ). At c.args.scenario.now.model c.args.policy.now c.args.scenario.now.key n c.loop-number.state) there (c.loop-number.invariant.at h)
 
 pub returns-clause-onward : goal.returns-clause-onward
 returns-clause-onward c =

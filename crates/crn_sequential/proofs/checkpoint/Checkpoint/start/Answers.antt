@@ -19,7 +19,7 @@ loop-policy-preserved c =
 
 pub returns-clause-of : goal.returns-clause-of
 returns-clause-of c = record {
-  count = omega (arith, ap length c.policies-count.ensures.value, c.loop-policy.invariant.count);
+  count = omega (arith, ap length c.policies-policies.ensures.value, c.loop-policy.invariant.count);
   stand = λ i v e. (c.loop-policy.invariant.each i v e).0;
 }
 

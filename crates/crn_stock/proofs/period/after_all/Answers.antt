@@ -2,7 +2,7 @@ use Rattle.std.proofs.Common.{◌≡◌, ℕ, ◌+◌, true, refl, subst, arith}
 use Rattle.crn_stock.specs.Inner.Steps.{HasRunPeriods}
 use Rattle.crn_stock.specs.Stock.{terms_in}
 use Rattle.crn_stock.proofs.Steps.{has_run_more}
-use Rattle.crn_stock.proofs.period.after_some.Goals as goal
+use Rattle.crn_stock.proofs.period.after_all.Goals as goal
 
 pub after_one-at-requires-clause-at : goal.after_one-at-requires-clause-at
 after_one-at-requires-clause-at c = c.loop-k.invariant.kept true (λ e. absurd (cc e)) c.requires.at
