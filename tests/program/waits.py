@@ -12,6 +12,9 @@ machine and on a busy one, and 20 and more with threads that spin.
 After 16 yields in vain a thread sleeps there too. If it went on, all threads would be busy with yields for as long as one of them
 waits for its processor behind other work. So in one more run a library holds the first thread that yields for 0.3 seconds (held.c).
 Meanwhile the others yield some hundreds of times, and 100,000 times and more if they never sleep.
+
+Which pause comes when, and how long a sleep is to take, is proved (Waits.antt of crn_run); that a pause does what its name says is
+not. So on each of these rings a library counts the yields and keeps the times that threads ask to sleep for (pauses.c).
 """
 import os
 import resource
@@ -85,20 +88,41 @@ def yields_on_small_ring(program, text):
     return small <= TIMES * large + MORE
 
 
+def numbers_of(program, text, source):
+    """Returns the numbers that the library made from a file of C writes at the end of a run."""
+    with tempfile.TemporaryDirectory(prefix="crnsim-") as room:
+        library = f"{room}/library.so"
+        subprocess.run(["cc", "-O1", "-shared", "-fPIC", "-o", library, f"{HERE}/{source}"], check=True)
+        told = subprocess.run([program], input=text, capture_output=True, check=True, timeout=SECONDS,
+                              env={"LD_PRELOAD": library}).stderr
+    return list(map(int, told.split()))
+
+
 def sleeps_while_one_is_held(program, text):
     """Returns whether the threads of a run on the small ring sleep while one of them is held."""
-    with tempfile.TemporaryDirectory(prefix="crnsim-") as room:
-        library = f"{room}/held.so"
-        subprocess.run(["cc", "-O1", "-shared", "-fPIC", "-o", library, f"{HERE}/held.c"], check=True)
-        told = subprocess.run([program], input=on_ring(text, SMALL), capture_output=True, check=True, timeout=SECONDS,
-                              env={"LD_PRELOAD": library}).stderr
-    return 0 < int(told) <= MOST_YIELDS
+    [yields] = numbers_of(program, on_ring(text, SMALL), "held.c")
+    return 0 < yields <= MOST_YIELDS
+
+
+def pauses_as_proved(program, text, size):
+    """Returns whether threads yield on the small ring and on no other, and ask to sleep for the time of their ring's size."""
+    producer, reader = 1_000 * max(size // 64, 1), 1_000 * max(size // 8 - 16, 1)
+    for _ in range(ROUNDS):
+        yields, *times = numbers_of(program, on_ring(text, size), "pauses.c")
+        if size == SMALL:
+            return yields > 0 and set(times[:2]) <= {0, producer} and set(times[2:]) <= {0, reader}
+        # By chance no thread may have slept.
+        if yields or 0 not in times:
+            return [yields, *times] == [0, producer, producer, reader, reader]
+    return False
 
 
 def tries(program, text):
     """Runs a scenario on each ring; skips what needs a C compiler if that is missing."""
     yield f"the processor seconds of a run on a ring of {SMALL} slots", lambda: yields_on_small_ring(program, text)
-    held = (lambda: sleeps_while_one_is_held(program, text)) if shutil.which("cc") else None
-    yield f"the yields on a ring of {SMALL} slots", held
+    compiles = shutil.which("cc") is not None
+    yield f"the yields on a ring of {SMALL} slots", (lambda: sleeps_while_one_is_held(program, text)) if compiles else None
+    for size in (SMALL, *LARGE):
+        yield f"the pauses on a ring of {size} slots", (lambda: pauses_as_proved(program, text, size)) if compiles else None
     for size in LARGE:
         yield f"the seconds asleep in a run on a ring of {size} slots", lambda: sleeps_shortly(program, on_ring(text, size))

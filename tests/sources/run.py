@@ -34,7 +34,7 @@ def code_of(text):
 
 def tokens_of(text):
     """The tokens of a source."""
-    found, function, depth, begins, after_fn = [], None, 0, None, False
+    found, function, depth, square, begins, after_fn = [], None, 0, 0, None, False
     code = code_of(text)
     for match in TOKEN.finditer(code):
         word = match.group()
@@ -51,7 +51,10 @@ def tokens_of(text):
                 function = begins[0]
         elif word == "}":
             depth -= 1
-        elif word == ";" and function is None:
+        elif word in "[]":
+            square += 1 if word == "[" else -1
+        elif word == ";" and function is None and square == 0:
+            # Not that of an array's type in a signature.
             begins = None
         found.append(Token(code.count("\n", 0, match.start()) + 1, word, function))
         if word == "}" and begins is not None and depth == begins[1]:
@@ -114,9 +117,9 @@ def tells_no_byte(tokens, at):
 
 
 def makes_block(tokens, at):
-    """A block that is made and not taken from the ring."""
+    """A block that is made and not taken from the ring. The room for a batch is made of one constant block."""
     word = tokens[at].text
-    if word in ("fill_blocks", "threefry", "unthreefry") or word == "from_words" and tokens[at].function not in ("load_rows", "try_take"):
+    if word in ("fill_blocks", "threefry", "unthreefry") or word == "from_words" and tokens[at].function not in ("load_rows", "try_take", "room"):
         return True
     return word == "block" and (next_words(tokens, at, 1) == ["("] or before(tokens, at) == ["::"])
 
@@ -269,8 +272,8 @@ PLANTS = [
     Plant(RULES[6].name, WORKER, APPLY, "    drop(permit);\n    let block = &crn_cipher::block(scenario.key(), block.number);"),
     Plant(RULES[6].name, WORKER, APPLY, "    drop(permit);\n    let mut made = [*block];\n    crn_cipher::fill_blocks(scenario.key(), block.number, &mut made, 1);\n    let block = &made[0];"),
     Plant(RULES[6].name, WORKER, "use crn_cipher::Block;", "use crn_cipher::{Block, block};\nconst MAKE: fn([u64; 4], u64) -> Block = block(0);"),
-    Plant(RULES[7].name, "crn_run/src/waiting.rt", "self.sleeper.park_timeout(rt, self.sleep);", "self.sleeper.park(rt);"),
-    Plant(RULES[7].name, "crn_run/src/waiting.rt", "            thread::yield_now();", "            thread::sleep(rt, Duration::from_micros(1));"),
+    Plant(RULES[7].name, "crn_run/src/waiting.rt", "self.sleeper.park_timeout(rt, time),", "self.sleeper.park(rt),"),
+    Plant(RULES[7].name, "crn_run/src/waiting.rt", "self.yielding.snooze(),", "thread::sleep(rt, Duration::from_micros(1)),"),
     Plant(RULES[8].name, "crn_ring/src/reader.rt", "use crate::", "fn look(table: &Table) -> u64 { table.peek(0) }\nuse crate::"),
     Plant(RULES[8].name, "crn_ring/src/reader.rt", "use crate::", "fn look(table: &Table) { table.load_new_seat(0) }\nuse crate::"),
     Plant(RULES[8].name, "crn_ring/src/reader.rt", "use crate::", "fn look(table: &Table) { table.swap_new_seat(0) }\nuse crate::"),

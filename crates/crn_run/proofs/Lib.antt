@@ -2,3 +2,4 @@ mod Advancing
 mod Asking
 mod Opening
 mod Ending
+mod Publishing

@@ -2,3 +2,4 @@
 pub mod Ends
 pub mod Jobs
 pub mod Refusals
+pub mod Waits

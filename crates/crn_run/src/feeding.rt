@@ -1,10 +1,12 @@
 //! The producer's side of the policies' runs.
-ghost use Rattle.std.specs.Prelude.{◌≡◌, ℕ, ◌+◌, ◌<◌, ◌≤◌, true, false, length, slice_get, Some};
+ghost use Rattle.std.specs.Prelude.{◌≡◌, ℕ, ◌+◌, ◌-◌, ◌<◌, ◌≤◌, true, false, length, min, slice_get, Some};
 ghost use Rattle.crn_cipher.specs.declared.stream.Block.{Block};
 ghost use Rattle.crn_cipher.specs.Following.{FollowOn};
 ghost use Rattle.crn_ring.specs.Calls.{IsProducerOf, producer_part, spec_of};
+ghost use Rattle.crn_ring.specs.Gates.{HaveRoom};
+ghost use Rattle.crn_ring.specs.Parts.{PublishesOnce};
 
-use crate::batch::{BATCH, room_for};
+use crate::batch::{BATCH, room};
 use crate::waiting::Waiting;
 use crn_cipher::{Block, fill_blocks};
 use crn_ring::{Producer, PublishMany, Ring};
@@ -26,36 +28,62 @@ pub fn feed<R: Wait>(rt: &R, ring: &Ring, producer: &mut Producer)
     ensures published { (producer_part producer.new).published ≡ (spec_of ring.now).id.total }
     ensures ended { (producer_part producer.new).ended ≡ true }
 {
-    let id = ring.spec().id;
-    let mut blocks = room_for(id.key);
-    let waiting = Waiting::of_producer(ring);
+    let total = ring.spec().id.total;
+    let mut room = room();
+    let mut waiting = Waiting::new();
     for _ in rt.forever() {
-        let n = producer.published();
-        if n == id.total {
+        if producer.published() == total {
             producer.finish(ring);
             return;
         }
-        let count = BATCH.min((id.total - n) as usize);
-        fill_blocks(id.key, n, &mut blocks, count);
-        publish_all(rt, ring, producer, &blocks[..count], &waiting);
+        publish_batch(rt, ring, producer, &mut room, &mut waiting);
     }
     unreachable!()
 }
 
-// Publishes these blocks, which are the next ones. If the ring is full it waits and tries again.
+// Publishes the next 16 blocks, or all that are left if these are fewer, by one store of the ring cursor if there is room for
+// them all.
+fn publish_batch<R: Wait>(
+    rt: &R,
+    ring: &Ring,
+    producer: &mut Producer,
+    room: &mut [Block],
+    waiting: &mut Waiting,
+)
+    requires of { IsProducerOf ring.now producer.old }
+    requires running { (producer_part producer.old).ended ≡ false }
+    requires left { (producer_part producer.old).published < (spec_of ring.now).id.total }
+    requires room { length room.old ≡ BATCH }
+    ensures of { IsProducerOf ring.now producer.new }
+    ensures running { (producer_part producer.new).ended ≡ false }
+    ensures room { length room.new ≡ BATCH }
+    ensures published { (producer_part producer.new).published ≡ (producer_part producer.old).published + min 16 ((spec_of ring.now).id.total - (producer_part producer.old).published) }
+    ensures once { let count = min 16 ((spec_of ring.now).id.total - (producer_part producer.old).published) in HaveRoom (spec_of ring.now) (producer_part producer.old) count → PublishesOnce (spec_of ring.now) (producer_part producer.old) (producer_part producer.new) count }
+{
+    let id = ring.spec().id;
+    let n = producer.published();
+    let count = BATCH.min((id.total - n) as usize);
+    fill_blocks(id.key, n, room, count);
+    publish_all(rt, ring, producer, &room[..count], waiting);
+}
+
+// Publishes these blocks, which are the next ones, by one store of the ring cursor if there is room for them all. If the ring
+// is full it waits and tries again.
 fn publish_all<R: Wait>(
     rt: &R,
     ring: &Ring,
     producer: &mut Producer,
     blocks: &[Block],
-    waiting: &Waiting,
+    waiting: &mut Waiting,
 )
     requires of { IsProducerOf ring.now producer.old }
     requires running { (producer_part producer.old).ended ≡ false }
     requires blocks { ((producer_part producer.old).published + length blocks.now ≤ (spec_of ring.now).id.total) × FollowOn (spec_of ring.now).id.key (producer_part producer.old).published (length blocks.now) blocks.now }
+    requires some { 0 < length blocks.now }
     ensures of { IsProducerOf ring.now producer.new }
     ensures running { (producer_part producer.new).ended ≡ false }
     ensures published { (producer_part producer.new).published ≡ (producer_part producer.old).published + length blocks.now }
+    ensures once { HaveRoom (spec_of ring.now) (producer_part producer.old) (length blocks.now) → PublishesOnce (spec_of ring.now) (producer_part producer.old) (producer_part producer.new) (length blocks.now) }
 {
     let mut start = 0;
     for _ in rt.forever() {
@@ -63,14 +91,11 @@ fn publish_all<R: Wait>(
             return;
         }
         match producer.publish_batch(ring, &blocks[start..]) {
-            PublishMany::Done { count } => {
-                start += count;
-                waiting.reset();
-            }
+            PublishMany::Done { count } => start += count,
             PublishMany::Full {
                 reader: _,
                 taken: _,
-            } => waiting.wait(rt),
+            } => waiting.wait_for_slot(rt, ring, producer),
         }
     }
     unreachable!()

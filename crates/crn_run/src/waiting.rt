@@ -1,11 +1,12 @@
-//! What a thread does between two tries at a ring. Nothing is claimed of it: not how long a wait is, nor that it ends.
-ghost use Rattle.std.specs.Prelude.{◌≡◌, ◌<◌};
+//! What a thread does between two tries at a ring. Nothing is claimed of how long that takes, nor that it ends.
+ghost use Rattle.std.specs.Prelude.{◌≡◌, ◌≤◌};
+ghost use Rattle.std.specs.Duration.{as_nanos};
+ghost use Rattle.crn_ring.specs.Calls.{producer_part, reader_part, spec_of};
+ghost use Rattle.crn_run.specs.Inner.Waits.{LacksSlot, Waits, producer_sleep, reader_sleep};
 
-use crn_ring::Ring;
+use crn_ring::{Producer, Reader, Ring};
 use crossbeam_utils::Backoff;
-use std::cell::Cell;
 use std::sync::Wait;
-use std::thread;
 use std::thread::Parker;
 use std::time::Duration;
 
@@ -28,66 +29,114 @@ const PRODUCER_SLOTS: u64 = 64;
 // By how many microseconds at least a timer is late; the system adds up to 50.
 const LATENESS: u64 = 16;
 
+// What a thread does before its next try at the ring.
+#[derive(Clone, Copy, Debug, PartialEq, Eq)]
+enum Pause {
+    // Keeps its processor busy for some tens of instructions.
+    Spin,
+    // Lets another thread have its processor.
+    Yield,
+    // Sleeps for this time.
+    Sleep(Duration),
+}
+
 /// The waits of one thread for the others of its ring.
 #[derive(Drop)]
 pub(crate) struct Waiting {
-    // How many waits in a row spin or yield.
+    // The number of the block that it last waited for, to take or to publish it.
+    block: u64,
+    // How many waits for that block, in a row, did not sleep.
     awake: u32,
-    sleep: Duration,
-    tries: Cell<u32>,
-    backoff: Backoff,
+    // It spins for longer with each wait for the same block.
+    spinning: Backoff,
+    // It is never reset, so that all but its first seven snoozes yield.
+    yielding: Backoff,
     // Nobody wakes it, so that its sleep is over when the time is.
     sleeper: Parker,
 }
 
 impl Waiting {
-    /// The waits of a reader of the ring.
-    pub(crate) fn of_reader(ring: &Ring) -> Waiting {
-        Waiting::new(
-            ring,
-            (ring.spec().size / READER_SLOTS).saturating_sub(LATENESS),
-        )
-    }
-
-    /// The waits of the ring's producer.
-    pub(crate) fn of_producer(ring: &Ring) -> Waiting {
-        Waiting::new(ring, ring.spec().size / PRODUCER_SLOTS)
-    }
-
-    // A sleep takes so many microseconds, at least one.
-    fn new(ring: &Ring, sleep: u64) -> Waiting {
-        let yields = if ring.spec().size < LARGE_RING {
-            YIELDS
-        } else {
-            0
-        };
+    /// Returns the waits of a thread that has not waited yet.
+    pub(crate) fn new() -> Waiting
+        ensures { result.awake ≡ 0 }
+    {
         Waiting {
-            awake: SPINS + yields,
-            sleep: Duration::from_micros(sleep.max(1)),
-            tries: Cell::new(0),
-            backoff: Backoff::new(),
+            block: 0,
+            awake: 0,
+            spinning: Backoff::new(),
+            yielding: Backoff::new(),
             sleeper: Parker::new(),
         }
     }
 
-    /// Waits before the next try, for the first few times in a row without letting go of the processor.
-    pub(crate) fn wait<R: Wait>(&self, rt: &R) {
-        let tries = self.tries.get();
-        if tries >= self.awake {
-            self.sleeper.park_timeout(rt, self.sleep);
-            return;
-        }
-        self.tries.set(tries + 1);
-        if tries < SPINS {
-            self.backoff.spin();
-        } else {
-            thread::yield_now();
-        }
+    /// Waits before a reader's next try to take a block. The first few waits for the same block keep the processor.
+    ///
+    /// # Asks
+    ///
+    /// The reader has taken all blocks that it knows to be published.
+    pub(crate) fn wait_for_block<R: Wait>(&mut self, rt: &R, ring: &Ring, reader: &Reader)
+        requires { (reader_part reader.now).seen ≤ (reader_part reader.now).taken }
+    {
+        let pause = self.before_taking(ring, reader.taken());
+        self.pause(rt, pause);
     }
 
-    /// Begins anew, after a try that got on.
-    pub(crate) fn reset(&self) {
-        self.tries.set(0);
-        self.backoff.reset();
+    /// Waits before the producer's next try to publish a block. The first few waits for the same block keep the processor.
+    ///
+    /// # Asks
+    ///
+    /// By what the producer last loaded of it, a reader has not freed the block's slot.
+    pub(crate) fn wait_for_slot<R: Wait>(&mut self, rt: &R, ring: &Ring, producer: &Producer)
+        requires { LacksSlot (spec_of ring.now) (producer_part producer.now) }
+    {
+        let pause = self.before_publishing(ring, producer.published());
+        self.pause(rt, pause);
+    }
+
+    // Returns the pause before a reader's next try to take block number `block`, and counts it.
+    fn before_taking(&mut self, ring: &Ring, block: u64) -> Pause
+        ensures { Waits (spec_of ring.now).size (reader_sleep (spec_of ring.now).size) block self.old self.new result }
+    {
+        let size = ring.spec().size;
+        let micros = (size / READER_SLOTS).saturating_sub(LATENESS).max(1);
+        self.next_pause(size, Duration::from_micros(micros), block)
+    }
+
+    // Returns the pause before the producer's next try to publish block number `block`, and counts it.
+    fn before_publishing(&mut self, ring: &Ring, block: u64) -> Pause
+        ensures { Waits (spec_of ring.now).size (producer_sleep (spec_of ring.now).size) block self.old self.new result }
+    {
+        let size = ring.spec().size;
+        let micros = (size / PRODUCER_SLOTS).max(1);
+        self.next_pause(size, Duration::from_micros(micros), block)
+    }
+
+    // Returns the next pause for a block on a ring of so many slots, where a thread sleeps for so long, and counts it.
+    fn next_pause(&mut self, size: u64, sleep: Duration, block: u64) -> Pause
+        ensures { Waits size (as_nanos sleep) block self.old self.new result }
+    {
+        if block != self.block {
+            self.block = block;
+            self.awake = 0;
+            self.spinning.reset();
+        }
+        let pause = if self.awake < SPINS {
+            Pause::Spin
+        } else if size < LARGE_RING && self.awake < SPINS + YIELDS {
+            Pause::Yield
+        } else {
+            return Pause::Sleep(sleep);
+        };
+        self.awake += 1;
+        pause
+    }
+
+    // Makes a pause.
+    fn pause<R: Wait>(&self, rt: &R, pause: Pause) {
+        match pause {
+            Pause::Spin => self.spinning.spin(),
+            Pause::Yield => self.yielding.snooze(),
+            Pause::Sleep(time) => self.sleeper.park_timeout(rt, time),
+        }
     }
 }

@@ -10,7 +10,7 @@ ghost use Rattle.crn_run.specs.Ends.{EndsAs, is_held};
 ghost use Rattle.crn_run.specs.Gates.{HeldAt, PassedUpTo, WasAsked};
 ghost use Rattle.crn_run.specs.Inner.Ends.{Advances};
 
-use crate::batch::room_for;
+use crate::batch::room;
 use crate::gate::{Gate, Permit, ask};
 use crate::waiting::Waiting;
 use crn_cipher::Block;
@@ -47,7 +47,7 @@ pub enum PolicyEnd {
 ///
 /// Before each block the gate is asked. If it answers false the state stands before that block, even if later blocks were
 /// taken. If the ring is empty it waits and tries again. It returns only if the end is marked or the gate answers false.
-/// It allocates nothing, unless the gate does.
+/// Allocates nothing, unless the gate does.
 ///
 /// # Asks
 ///
@@ -76,17 +76,16 @@ pub fn run_policy<R: Wait, G: Gate>(
 {
     let rules = &scenario.policies()[policy as usize];
     onward_from_itself(&state);
-    let mut blocks = room_for(scenario.key());
-    let waiting = Waiting::of_reader(ring);
+    let mut blocks = room();
+    let mut waiting = Waiting::new();
     for _ in rt.forever() {
         match reader.take_batch(ring, &mut blocks) {
             Batch::Got { count } => {
                 if !apply_all(scenario, rules, policy, &blocks, count, &mut state, gate) {
                     return PolicyEnd::Held(state, reader.into_left(ring));
                 }
-                waiting.reset();
             }
-            Batch::Empty { published: _ } => waiting.wait(rt),
+            Batch::Empty { published: _ } => waiting.wait_for_block(rt, ring, &reader),
             Batch::Ended { published } => return ended(ring, published, state, reader),
         }
     }

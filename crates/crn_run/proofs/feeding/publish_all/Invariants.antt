@@ -1,6 +1,14 @@
 use Rattle.std.proofs.Common.{◌≡◌, ◌+◌, ◌≤◌, length, false}
-use Rattle.crn_ring.specs.Calls.{IsProducerOf, producer_part}
+use Rattle.crn_ring.specs.Calls.{IsProducerOf, producer_part, spec_of}
+use Rattle.crn_ring.specs.Gates.{HaveRoom}
+use Rattle.crn_run.proofs.Publishing.{AtOnce}
 use Rattle.crn_run.proofs.feeding.publish_all.Given as goal
 
 abbrev pub invariant-loop : goal.invariant-loop
-invariant-loop g l = IsProducerOf l.ring l.producer × ((producer_part l.producer).ended ≡ false) × (l.start ≤ length l.blocks) × ((producer_part l.producer).published ≡ (producer_part l.initial.producer).published + l.start)
+invariant-loop g l = record {
+  of : IsProducerOf l.ring l.producer;
+  running : (producer_part l.producer).ended ≡ false;
+  within : l.start ≤ length l.blocks;
+  published : (producer_part l.producer).published ≡ (producer_part l.initial.producer).published + l.start;
+  once : HaveRoom (spec_of l.ring) (producer_part l.initial.producer) (length l.blocks) → AtOnce (spec_of l.ring) (length l.blocks) l.start (producer_part l.initial.producer) (producer_part l.producer);
+}

@@ -38,8 +38,8 @@ returns-then-not-apply_all-clause-asked g c =
     held_then g.G.Gate.asked c.args.policy (next_block c.args.state) (next_block c.loop.state) (next_block c.apply_all.new.state) c.args.gate.now c.loop.gate c.apply_all.new.gate c.loop.invariant.passed
     (c.apply_all.ensures.held (search rules)).1
 
-pub loop-preserved-in-Got : goal.loop-preserved-in-Got
-loop-preserved-in-Got g c =
+pub loop-preserved-else-not-apply_all : goal.loop-preserved-else-not-apply_all
+loop-preserved-else-not-apply_all g c =
     let s = c.args.scenario.now in
     let p = c.index-policies-policy.result in
     let took : Takes (reader_part c.loop.reader) (reader_part c.take_batch.new.self) (length c.loop.blocks) c.in-Got.count = search rules in
