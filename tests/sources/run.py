@@ -116,7 +116,7 @@ def tells_no_byte(tokens, at):
 
 
 def makes_block(tokens, at):
-    """A block that is made and not taken from the ring."""
+    """A block that is made and not taken from the ring. The room for a batch is made of one constant block."""
     word = tokens[at].text
     if word in ("fill_blocks", "threefry", "unthreefry") or word == "from_words" and tokens[at].function not in ("load_rows", "try_take", "room"):
         return True

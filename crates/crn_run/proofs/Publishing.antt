@@ -5,9 +5,9 @@ use Rattle.std.proofs.lemmas.Option.{get_or_from_slice_get, slice_get_read}
 use mathlib.Core.Logic.{◌⊎◌, inl, inr}
 use native.Mathlib.Nat.{eq-zero-or-pos}
 use Rattle.crn_cipher.specs.declared.stream.Block.{Block}
+use Rattle.crn_cipher.specs.Following.{FollowOn}
 use Rattle.crn_proto.specs.declared.spec.RingSpec.{RingSpec}
 use Rattle.crn_proto.specs.declared.actor_parts.ProducerPart.{ProducerPart}
-use Rattle.crn_ring.specs.Calls.{FollowOn}
 use Rattle.crn_ring.specs.Gates.{HaveRoom, Loaded}
 use Rattle.crn_ring.specs.Parts.{IsFull, Publishes, PublishesOnce}
 
@@ -16,15 +16,15 @@ pub rest_length : (blocks : List Block) (start : ℕ) → length (take (length b
 rest_length blocks start = omega (arith, length-take (length blocks - start) (drop start blocks), length-drop start blocks)
 
 -- the rest of blocks that follow one another do so too
-pub rest_follows : (spec : RingSpec) (n n' start : ℕ) (blocks : List Block) → start ≤ length blocks → n' ≡ n + start → FollowOn spec n (length blocks) blocks
-    → FollowOn spec n' (length (take (length blocks - start) (drop start blocks))) (take (length blocks - start) (drop start blocks))
-rest_follows spec n n' start blocks le there follow j b lt is =
+pub rest_follows : (key : List ℕ) (n n' start : ℕ) (blocks : List Block) → start ≤ length blocks → n' ≡ n + start → FollowOn key n (length blocks) blocks
+    → FollowOn key n' (length (take (length blocks - start) (drop start blocks))) (take (length blocks - start) (drop start blocks))
+rest_follows key n n' start blocks le there follow j b lt is =
     let count : ℕ = length blocks - start in
     let below : j < count = omega (arith, lt, rest_length blocks start) in
     let here : start + j < length blocks = omega (arith, below) in
     let read : get_or (take count (drop start blocks)) j b ≡ b = get_or_from_slice_get (take count (drop start blocks)) j b b is in
     let found : b ≡ get_or blocks (start + j) b = sym read ∙ (get_or-take count (drop start blocks) j b below ∙ get_or-drop start blocks j b) in
-    let block : (b.key ≡ spec.id.key) × (b.number ≡ n + (start + j)) = follow (start + j) b here (slice_get_read blocks (length blocks) (start + j) b refl here found) in
+    let block : (b.key ≡ key) × (b.number ≡ n + (start + j)) = follow (start + j) b here (slice_get_read blocks (length blocks) (start + j) b refl here found) in
     (block.0, omega (arith, block.1, there))
 
 -- If there was room for all m blocks, either none of them is published yet or all are, by one store.

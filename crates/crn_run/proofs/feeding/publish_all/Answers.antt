@@ -25,7 +25,7 @@ publish_batch-requires-clause-blocks g c =
     let count = rest_length c.args.blocks.now c.loop.start in (
       omega (arith, left, count),
       omega (arith, left, count, c.loop.invariant.published, c.requires.blocks.0),
-      rest_follows (spec_of c.args.ring.now) (producer_part c.args.producer.now).published (producer_part c.loop.producer).published c.loop.start c.args.blocks.now c.loop.invariant.within c.loop.invariant.published
+      rest_follows (spec_of c.args.ring.now).id.key (producer_part c.args.producer.now).published (producer_part c.loop.producer).published c.loop.start c.args.blocks.now c.loop.invariant.within c.loop.invariant.published
           c.requires.blocks.1,
     )
 
