@@ -1,11 +1,12 @@
+//! The cipher and its inverse.
 ghost use Rattle.std.specs.Prelude.{◌≡◌};
 ghost use Rattle.crn_cipher.specs.Cipher.{Threefry, Un};
 
 use crate::rounds::{add_key, first_four, last_four, schedule};
 use crate::rounds_undone::{take_key, undo_first_four, undo_last_four};
 
-/// Returns the words of Threefry4x64 with 20 rounds at the counter `ctr` of `key`, for every key and counter. Takes no
-/// memory.
+/// Returns the words of Threefry4x64 with 20 rounds at the counter `ctr` of `key`, for every key and counter. Allocates
+/// nothing.
 ///
 /// Source: Salmon, Moraes, Dror and Shaw, "Parallel Random Numbers: As Easy as 1, 2, 3", SC 2011;
 /// the rotations and the parity constant are those of Random123.
@@ -25,7 +26,7 @@ pub fn threefry(key: [u64; 4], ctr: [u64; 4]) -> [u64; 4]
 }
 
 /// Returns the counter at which the cipher gives the words `out` with `key`: the inverse of [`threefry`], for every key
-/// and all words. Takes no memory.
+/// and all words. Allocates nothing.
 #[tactic(auto, unfolding(crate::specs::Cipher::Un))]
 pub fn unthreefry(key: [u64; 4], out: [u64; 4]) -> [u64; 4]
     ensures counter { result ≡ Un key out }

@@ -3,8 +3,8 @@
 ghost use Rattle.std.specs.Prelude.{◌≢◌, All};
 ghost use Rattle.crn_cipher.specs.Blocks.{StreamWords, streams};
 
-/// Two blocks of one key, of the numbers `m` and `n`, differ in the words of each stream: for a fixed key the cipher is
-/// one to one.
+/// States that two blocks of one key, of the numbers `m` and `n`, differ in the words of each stream: for a fixed key the
+/// cipher is one to one.
 ///
 /// # Asks
 ///

@@ -25,8 +25,8 @@ pub const STREAMS: [Stream; 3] = [Stream::Demand, Stream::Lead, Stream::Returns]
 /// The words of a block, over all its streams.
 pub const BLOCK_WORDS: usize = 12;
 
-/// Block `n` of the stream of `key`, for every `n`: for each stream the cipher's words at the counter
-/// `(n, c, 0, 0)`, where `c` is the stream's own. Takes no memory.
+/// Returns block `n` of the stream of `key`, for every `n`: for each stream the cipher's words at the counter
+/// `(n, c, 0, 0)`, where `c` is the stream's own. Allocates nothing.
 #[inline(always)]
 pub fn block(key: [u64; 4], n: u64) -> Block
     ensures key { result.key ≡ key }
@@ -41,7 +41,7 @@ pub fn block(key: [u64; 4], n: u64) -> Block
     }
 }
 
-/// Sets the first `count` of the blocks to those of `key` from block `n` on. Takes no memory.
+/// Sets the first `count` of the blocks to those of `key` from block `n` on. Allocates nothing.
 ///
 /// # Asks
 ///

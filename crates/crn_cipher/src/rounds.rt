@@ -1,11 +1,11 @@
-// The steps of the cipher on four words, which stay in registers.
+//! The steps of the cipher on four words, which stay in registers.
 
 ghost use Rattle.std.specs.Prelude.{◌≡◌, ◌<◌};
 ghost use Rattle.crn_cipher.specs.Cipher.{rotl, key_words, key_step, even_round, odd_round};
 
 const PARITY: u64 = 0x1BD1_1BDA_A9FC_1A22;
 
-/// The key words and the word that makes their xor the parity constant.
+/// Returns the key words and the word that makes their xor the parity constant.
 #[inline(always)]
 pub(crate) fn schedule(key: [u64; 4]) -> [u64; 5]
     ensures { result ≡ key_words key }
@@ -54,7 +54,7 @@ fn odd_mix(x: [u64; 4], a: u32, b: u32) -> [u64; 4]
     [y0, turned(x1, b) ^ y2, y2, turned(x3, a) ^ y0]
 }
 
-/// Key step `j`. The indices are known when the call is inlined, so no division is left.
+/// Adds the key words of step `j`. The indices are known when the call is inlined, so no division is left.
 #[inline(always)]
 #[tactic(auto, unfolding(crate::specs::Cipher::key_step))]
 pub(crate) fn add_key(key: [u64; 4], ks: [u64; 5], j: u64, x: [u64; 4]) -> [u64; 4]
@@ -72,7 +72,7 @@ pub(crate) fn add_key(key: [u64; 4], ks: [u64; 5], j: u64, x: [u64; 4]) -> [u64;
     ]
 }
 
-/// Rounds 0 to 3 of each eight.
+/// Applies rounds 0 to 3 of each eight.
 #[inline(always)]
 pub(crate) fn first_four(x: [u64; 4]) -> [u64; 4]
     ensures { result ≡ odd_round 5 37 (even_round 23 40 (odd_round 52 57 (even_round 14 16 x))) }
@@ -84,7 +84,7 @@ pub(crate) fn first_four(x: [u64; 4]) -> [u64; 4]
     )
 }
 
-/// Rounds 4 to 7 of each eight.
+/// Applies rounds 4 to 7 of each eight.
 #[inline(always)]
 pub(crate) fn last_four(x: [u64; 4]) -> [u64; 4]
     ensures { result ≡ odd_round 32 32 (even_round 58 22 (odd_round 46 12 (even_round 25 33 x))) }

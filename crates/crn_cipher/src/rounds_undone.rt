@@ -1,4 +1,4 @@
-// The steps of the cipher undone.
+//! The steps of the cipher undone.
 
 ghost use Rattle.std.specs.Prelude.{◌≡◌, ◌<◌};
 ghost use Rattle.crn_cipher.specs.Cipher.{key_words, undo_even, undo_odd, undo_key};
@@ -35,7 +35,7 @@ fn unmix_odd(x: [u64; 4], a: u32, b: u32) -> [u64; 4]
     [x0.wrapping_sub(y3), y1, x2.wrapping_sub(y1), y3]
 }
 
-/// Key step `j` undone.
+/// Undoes key step `j`.
 #[inline(always)]
 #[tactic(auto, unfolding(crate::specs::Cipher::undo_key))]
 pub(crate) fn take_key(key: [u64; 4], ks: [u64; 5], j: u64, x: [u64; 4]) -> [u64; 4]
@@ -53,7 +53,7 @@ pub(crate) fn take_key(key: [u64; 4], ks: [u64; 5], j: u64, x: [u64; 4]) -> [u64
     ]
 }
 
-/// Rounds 3 to 0 of each eight, undone in this order.
+/// Undoes rounds 3 to 0 of each eight, in this order.
 #[inline(always)]
 pub(crate) fn undo_first_four(x: [u64; 4]) -> [u64; 4]
     ensures { result ≡ undo_even 14 16 (undo_odd 52 57 (undo_even 23 40 (undo_odd 5 37 x))) }
@@ -65,7 +65,7 @@ pub(crate) fn undo_first_four(x: [u64; 4]) -> [u64; 4]
     )
 }
 
-/// Rounds 7 to 4 of each eight, undone in this order.
+/// Undoes rounds 7 to 4 of each eight, in this order.
 #[inline(always)]
 pub(crate) fn undo_last_four(x: [u64; 4]) -> [u64; 4]
     ensures { result ≡ undo_even 25 33 (undo_odd 46 12 (undo_even 58 22 (undo_odd 32 32 x))) }

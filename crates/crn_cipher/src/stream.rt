@@ -1,3 +1,4 @@
+//! The streams of random words and their blocks.
 ghost use Rattle.std.specs.Prelude.{◌≡◌, ◌<◌};
 ghost use Rattle.crn_cipher.specs.Blocks.{StreamWords, BlockWords, block_word, counter_of, name_of};
 ghost use Rattle.crn_cipher.specs.declared.stream.Stream.TheVariants as stream;
@@ -60,7 +61,7 @@ pub struct Block {
 }
 
 impl Block {
-    /// Returns the words of a stream in the block. Takes no memory.
+    /// Returns the words of a stream in the block. Allocates nothing.
     #[inline(always)]
     pub fn words(&self, stream: Stream) -> &[u64; 4]
         ensures { result.now ≡ StreamWords self.now.key self.now.number stream }
@@ -72,7 +73,7 @@ impl Block {
         }
     }
 
-    /// Word `i` of the block, stream after stream in the order of [`STREAMS`](crate::STREAMS). Takes no memory.
+    /// Returns word `i` of the block, stream after stream in the order of [`STREAMS`](crate::STREAMS). Allocates nothing.
     ///
     /// # Asks
     ///
@@ -94,7 +95,7 @@ impl Block {
     }
 
     /// Returns the block `number` of the stream of `key`, from its words in order as they were stored somewhere. It
-    /// computes no word. Takes no memory.
+    /// computes no word. Allocates nothing.
     ///
     /// # Asks
     ///

@@ -1,4 +1,4 @@
-// The guide to the search for a draw: what the leading bits of a word leave to be searched.
+//! The guide to the search for a draw: what the leading bits of a word leave to be searched.
 
 ghost use Rattle.std.specs.Prelude.{◌≡◌, ℕ, ◌≤◌, ◌<◌, ◌^◌, IfOk, length, slice_index};
 ghost use Rattle.crn_draw.specs.Spread.{place_of};
@@ -34,11 +34,11 @@ struct Bracket {
 pub struct Guide {
     // The value that all these words draw, or `SEVERAL`.
     entries: Vec<u32>,
-    // The runs to search where the entry is `SEVERAL`.
+    // The runs to search if the entry is `SEVERAL`.
     brackets: Vec<Bracket>,
 }
 
-// The entry of words whose places lie in the runs from `first` to `last`.
+// Returns the entry of words whose places lie in the runs from `first` to `last`.
 fn entry_of(runs: &[Run], first: usize, last: usize) -> u32
     requires { last < length runs.now }
     ensures { (low high : ℕ) → IsBracket runs.now low high first last → IsEntry runs.now low high result }
@@ -59,7 +59,7 @@ fn entry_of(runs: &[Run], first: usize, last: usize) -> u32
 ///
 /// # Errors
 ///
-/// `AllocError` where a growth was refused.
+/// `AllocError` if an allocation fails.
 pub fn guide_of(alloc: Global, runs: &[Run], total: u64) -> Result<Guide, AllocError>
     requires some { 0 < length runs.now }
     requires few { length runs.now ≤ TOTAL_LIMIT }
@@ -84,7 +84,7 @@ pub fn guide_of(alloc: Global, runs: &[Run], total: u64) -> Result<Guide, AllocE
     Ok(Guide { entries, brackets })
 }
 
-/// Returns the value at the place of word k. Takes no memory. The words are given as they stand in memory, so that a
+/// Returns the value at the place of word k. Allocates nothing. The words are given as they stand in memory, so that a
 /// draw without a search keeps no word for it.
 ///
 /// # Asks
@@ -107,7 +107,7 @@ pub fn draw(runs: &[Run], guide: &Guide, total: u64, words: &[u64], k: usize) ->
     searched(runs, guide, total, words, k)
 }
 
-// The value at the place of word k, found by a search of its bracket.
+// Returns the value at the place of word k, found by a search of its bracket.
 #[inline(never)]
 fn searched(runs: &[Run], guide: &Guide, total: u64, words: &[u64], k: usize) -> u32
     requires rising { StartsRise runs.now }

@@ -1,4 +1,4 @@
-// The list that a draw is made from, as its runs of equal values, and the search in them.
+//! The list that a draw is made from, as its runs of equal values, and the search in them.
 
 ghost use Rattle.std.specs.Prelude.{◌≡◌, ℕ, ◌≤◌, ◌<◌, IfOk, length, sum};
 ghost use Rattle.crn_draw.specs.Spread.{place_of};
@@ -14,7 +14,7 @@ pub struct Run {
     pub value: u32,
 }
 
-/// Returns the place of a word among `total` places. Takes no memory.
+/// Returns the place of a word among `total` places. Allocates nothing.
 ///
 /// # Asks
 ///
@@ -35,7 +35,7 @@ pub fn place_at(word: u64, total: u64) -> u32
 ///
 /// # Errors
 ///
-/// `AllocError` where a growth was refused.
+/// `AllocError` if an allocation fails.
 pub fn runs_of(alloc: Global, values: &[u32], weights: &[u32]) -> Result<Vec<Run>, AllocError>
     requires same_length { length values.now ≡ length weights.now }
     requires total { sum weights.now ≤ TOTAL_LIMIT }
@@ -53,8 +53,8 @@ pub fn runs_of(alloc: Global, values: &[u32], weights: &[u32]) -> Result<Vec<Run
     Ok(runs)
 }
 
-/// Returns the index of the last run that begins at `place` or before, sought onward from the run at `from`. Takes no
-/// memory.
+/// Returns the index of the last run that begins at `place` or before, sought onward from the run at `from`. Allocates
+/// nothing.
 ///
 /// # Asks
 ///
@@ -73,7 +73,7 @@ pub fn index_of(runs: &[Run], from: usize, place: u32) -> usize
     index
 }
 
-/// Returns the value at `place`: a search by halves. Takes no memory.
+/// Returns the value at `place`: a search by halves. Allocates nothing.
 ///
 /// # Asks
 ///

@@ -1,7 +1,8 @@
+//! The greatest common divisor, by Euclid's algorithm.
 ghost use Rattle.std.specs.Prelude.{◌≤◌};
 ghost use Rattle.std.specs.Int.{IsGcd};
 
-// The greatest common divisor, by Euclid's algorithm.
+// Returns the greatest common divisor of two words.
 fn of_words(a: u64, b: u64) -> u64
     ensures { IsGcd a b result }
 {
@@ -15,7 +16,7 @@ fn of_words(a: u64, b: u64) -> u64
     x
 }
 
-/// The same of a large number: after one remainder all numbers are words.
+/// Returns that of a large number and a word: after one remainder all numbers are words.
 pub(crate) fn greatest_common_divisor(a: u128, b: u64) -> u64
     requires { 1 ≤ b }
     ensures { IsGcd a b result }

@@ -1,4 +1,4 @@
-// What is refused of two lists of costs.
+//! Which two lists of costs are refused, and for which fault.
 
 ghost use Rattle.std.specs.Prelude.{◌≡◌};
 ghost use Rattle.crn_pair.specs.Limits.{are_costs};
@@ -21,7 +21,7 @@ fn are_costs(costs: &[u64]) -> bool
     true
 }
 
-/// The fault of the least number.
+/// Returns the fault with the least number, or `None` if the lists can be compared.
 pub(crate) fn least_fault(a: &[u64], b: &[u64]) -> Option<PairFault>
     ensures { result ≡ spec.least_costs_fault a.now b.now }
 {

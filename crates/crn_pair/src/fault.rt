@@ -1,11 +1,11 @@
+//! The faults of two lists of costs.
 ghost use Rattle.std.specs.Prelude.{◌≡◌};
 ghost use Rattle.crn_pair.specs.Refused.{costs_fault_number};
 
 use std::error::Error;
 use std::fmt;
 
-/// Why two lists of costs are not compared. Where several faults hold, the one of the least number is
-/// answered.
+/// Why two lists of costs are not compared. If several faults hold, the one with the least number is returned.
 #[derive(Clone, Copy, Debug, PartialEq, Eq)]
 pub enum PairFault {
     /// The lists have different lengths.

@@ -1,3 +1,4 @@
+//! Fractions in lowest terms.
 ghost use Rattle.std.specs.Prelude.{◌≡◌, ◌≤◌, pos, ◌*ℤ◌, unsigned_abs};
 ghost use Prim.Native.Nat.{◌∣◌};
 ghost use Rattle.crn_pair.specs.LowestTerms.{AreInLowestTerms};
@@ -17,7 +18,7 @@ pub struct Fraction {
 }
 
 impl Fraction {
-    /// Returns the fraction `num / den` in lowest terms, for every `num`. Takes no memory.
+    /// Returns the fraction `num / den` in lowest terms, for every `num`. Allocates nothing.
     ///
     /// # Asks
     ///
@@ -34,7 +35,7 @@ impl Fraction {
     }
 }
 
-// A number over one that divides it.
+// Returns a number over one that divides it.
 fn quotient(num: i128, divisor: u64) -> i128
     requires some { 1 ≤ divisor }
     requires divides { divisor ∣ unsigned_abs num }

@@ -1,5 +1,7 @@
-// Two policies' costs as a pair, and the sums that it is made of. A `ghost use` of definitions that name these structs
-// stands in an `impl`: a struct imports each `ghost use` of the whole file, so there it would be a circle.
+//! Two policies' costs as a pair, and the sums that it is made of.
+
+// A `ghost use` of definitions that name these structs stands in an `impl`: a struct imports each `ghost use` at the head
+// of its file, so there it would be a circle.
 
 ghost use Rattle.std.specs.Prelude.{◌≡◌, ◌≤◌, ◌+ℤ◌, ◌-ℤ◌, ◌*ℤ◌, ◌-◌, pos, unsigned_abs};
 ghost use Rattle.crn_pair.specs.declared.compare.TheConstants.{COST_LIMIT};
@@ -34,7 +36,7 @@ impl Pair {
     ghost use Rattle.crn_pair.specs.Refused as refused;
 
     /// Compares the costs `a` of a policy with the costs `b` of another one, which have an entry for each replication.
-    /// Takes no memory.
+    /// Allocates nothing.
     ///
     /// # Errors
     ///
@@ -102,7 +104,7 @@ impl Pair {
         Pair::estimate(self.products, count * (count - 1))
     }
 
-    // A sum over as many parts, none where there are none.
+    // Returns a sum over a number of parts, or `None` if that is 0.
     fn estimate(sum: i128, parts: u64) -> Option<Fraction>
         ensures { IsQuotientIfAny sum parts result }
     {
@@ -126,7 +128,7 @@ impl Sums {
     ghost use Rattle.crn_pair.specs.Pairs.{signed, differences};
     ghost use Rattle.crn_pair.specs.Inner.Places.{AreSums, AreWithin};
 
-    // Those of two policies' costs.
+    // Returns those of two policies' costs.
     fn of(a: &[u64], b: &[u64]) -> Sums
         requires same_length { length b.now ≡ length a.now }
         requires few { length a.now ≤ REPLICATION_LIMIT }
@@ -148,7 +150,7 @@ impl Sums {
     }
 }
 
-// A cost less the other policy's in the same replication.
+// Returns a cost less the other policy's in the same replication.
 fn difference(a: u64, b: u64) -> i128
     requires a { a ≤ COST_LIMIT }
     requires b { b ≤ COST_LIMIT }
@@ -169,7 +171,7 @@ struct Moments {
 impl Moments {
     ghost use Rattle.crn_pair.specs.Inner.Places.{AreWithin};
 
-    // The sums over no place.
+    // Returns the sums over no place.
     fn none() -> Moments
         ensures x { result.x ≡ pos 0 }
         ensures y { result.y ≡ pos 0 }
@@ -182,7 +184,7 @@ impl Moments {
         }
     }
 
-    // The sums with one more place.
+    // Returns the sums with one more place.
     fn with(self, x: i128, y: i128) -> Moments
         requires x { unsigned_abs x ≤ COST_LIMIT }
         requires y { unsigned_abs y ≤ COST_LIMIT }
@@ -198,7 +200,7 @@ impl Moments {
         }
     }
 
-    // The sum over the pairs of `count` places.
+    // Returns the sum over the pairs of `count` places.
     fn over_pairs(self, count: u64) -> i128
         requires few { count ≤ REPLICATION_LIMIT }
         requires within { AreWithin REPLICATION_LIMIT self }

@@ -21,7 +21,7 @@ pub record CanOpen (spec : RingSpec) : Type 0 where
   pub readers : IsReaderCount spec.readers
   pub stream : IsStream spec.id
 
--- the first fault that holds; memory may be refused for a ring that has none
+-- the first fault that holds; for a ring that has none an allocation may fail
 abbrev pub RefusesRing : RingSpec → RingFault → Type 0
 RefusesRing spec Size = ¬ (IsRingSize spec.size)
 RefusesRing spec Readers = IsRingSize spec.size × ¬ (IsReaderCount spec.readers)

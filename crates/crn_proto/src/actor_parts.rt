@@ -1,4 +1,4 @@
-// What each actor of a ring knows. The values stand in contracts and proofs alone, and no code makes one.
+//! What each actor of a ring knows. No value of these types is made: they are used only in contracts and proofs.
 
 use std::collections::LinkedList;
 

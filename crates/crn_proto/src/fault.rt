@@ -1,3 +1,4 @@
+//! The faults of a ring that is not opened.
 ghost use Rattle.std.specs.Prelude.{◌≡◌};
 ghost use Rattle.crn_proto.specs.Opening.{open_fault_number};
 

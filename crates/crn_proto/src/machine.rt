@@ -1,4 +1,4 @@
-// The ring as a machine that takes one step at a time.
+//! The ring as a machine that takes one step at a time.
 
 ghost use Rattle.std.specs.Prelude.{◌≡◌, ℕ, ◌+◌, ◌-◌, ◌*◌, ◌/◌, ◌%◌, ◌^◌, ◌<◌, ◌≤◌, ◌↔◌, true, false, ◌++◌, length, slice_index, List, take, drop, Some, IfOk, IfErr, OnErr};
 ghost use Rattle.std.specs.List.{All};
@@ -55,7 +55,7 @@ impl Model for Machine {
     ghost invariant = { λ m. MachineFits (machine_of m.spec m.words.items m.published m.ended m.passed m.stored m.takers.items) };
 }
 
-// Where word `i` of block `n` stands.
+// Returns the index of word `i` of block `n`.
 #[inline(always)]
 #[tactic(auto, unfolding(crate::specs::Ring::place))]
 fn place_of(spec: &RingSpec, n: u64, i: u64) -> u64
@@ -75,7 +75,7 @@ impl Machine {
     ///
     /// # Errors
     ///
-    /// The fault that [`RingSpec::judge`] finds, or else `Memory` if an allocation failed. Then nothing is kept.
+    /// The fault that [`RingSpec::judge`] finds, or else `Memory` if an allocation fails. Then nothing is kept.
     pub fn open(alloc: Global, spec: RingSpec) -> Result<Machine, RingFault>
         ensures opened { IfOk result (λ m. m ≡ open_machine spec) }
         ensures is_ring { IfOk result (λ m. IsRing spec) }
@@ -86,7 +86,7 @@ impl Machine {
         Ok(Machine::before_any_step(alloc, spec)?)
     }
 
-    // The machine of a ring that may be opened.
+    // Opens a ring whose spec was judged.
     fn before_any_step(alloc: Global, spec: RingSpec) -> Result<Machine, AllocError>
         requires { CanOpen spec }
         ensures { IfOk result (λ m. m ≡ open_machine spec) }
@@ -111,7 +111,7 @@ impl Machine {
         })
     }
 
-    // The end mark is stored.
+    // Stores the end mark.
     fn end(&mut self) -> Step
         ensures state { self.new ≡ (ends self.old).0 }
         ensures answer { Some result ≡ (ends self.old).1 }
@@ -126,7 +126,7 @@ impl Machine {
         }
     }
 
-    // The cursor of the next reader is loaded. One that is full makes the producer begin with the first again.
+    // Loads the cursor of the next reader. If it leaves no room, the producer begins with the first again.
     fn load_gate(&mut self) -> Step
         requires { self.old.passed < self.old.spec.readers }
         ensures state { self.new ≡ (loads_gate self.old).0 }
@@ -143,7 +143,7 @@ impl Machine {
         }
     }
 
-    // The next word of the next block is stored.
+    // Stores the next word of the next block.
     fn store_word(&mut self) -> Step
         requires { self.old.stored < BLOCK_WORDS }
         ensures state { self.new ≡ (stores_word self.old).0 }
@@ -160,7 +160,7 @@ impl Machine {
         }
     }
 
-    // The next block, which stands whole in its slot, is published.
+    // Publishes the next block, which stands whole in its slot.
     fn publish(&mut self) -> Step
         requires going { self.old.ended ≡ false }
         requires more { self.old.published < self.old.spec.id.total }
@@ -209,7 +209,7 @@ impl Machine {
         }
     }
 
-    // Where reader `r` stands.
+    // Returns where reader `r` stands.
     #[inline(always)]
     fn taker(&self, r: u32) -> Taker
         requires { r < self.now.spec.readers }
@@ -219,7 +219,7 @@ impl Machine {
         self.takers[r as usize]
     }
 
-    // Reader `r` looks how far blocks are published.
+    // Loads the ring cursor, by reader `r`, to see how far blocks are published.
     fn load_cursor(&mut self, r: u32) -> Step
         requires { r < self.old.spec.readers }
         ensures state { self.new ≡ (loads_cursor self.old r).0 }
@@ -237,7 +237,7 @@ impl Machine {
         }
     }
 
-    // Reader `r` reads the next word of its block from the slot.
+    // Loads the next word of reader `r`'s block from its slot.
     fn load_word(&mut self, r: u32) -> Step
         requires known { r < self.old.spec.readers }
         requires more { (taker_at self.old r).read < BLOCK_WORDS }
@@ -256,7 +256,7 @@ impl Machine {
         }
     }
 
-    // Reader `r` has read its block, and takes it.
+    // Takes the block that reader `r` has read.
     fn take(&mut self, r: u32) -> Step
         requires known { r < self.old.spec.readers }
         requires reads { (taker_at self.old r).reading ≡ true }
@@ -276,7 +276,7 @@ impl Machine {
         }
     }
 
-    // Reader `r` leaves.
+    // Stores the mark of a reader that has left, by reader `r`.
     fn leave(&mut self, r: u32) -> Step
         requires { r < self.old.spec.readers }
         ensures state { self.new ≡ (leaves self.old r).0 }
@@ -325,16 +325,17 @@ impl Machine {
         }
     }
 
-    /// Takes the next step of an actor and returns it, or `None` if it has none, and then nothing changes. Takes no memory.
+    /// Takes the next step of an actor and returns it, or `None` if it has none, and then nothing changes. Allocates
+    /// nothing.
     ///
     /// - The producer has no step after the end mark. At the stream's total it stores the end mark. Else it loads each
-    ///   reader's cursor, from the first again where one shows that the slot is still needed, stores the words of the
+    ///   reader's cursor, from the first again if one shows that the slot is still needed, stores the words of the
     ///   next block and publishes it.
-    /// - `Finish` stores the end mark where the producer has begun no block, or begins one anew: its next step would load
+    /// - `Finish` stores the end mark if the producer has begun no block, or begins one anew: its next step would load
     ///   reader 0's cursor, or store the end mark.
     /// - A reader loads the ring cursor until it shows a block that it has not taken, reads that block's words from its
     ///   slot and takes it. It has no step once it has left or has seen the end mark.
-    /// - `Leave` stores [`LEFT`] where the reader stands between two blocks or has seen the end mark, and has not left.
+    /// - `Leave` stores [`LEFT`] if the reader stands between two blocks or has seen the end mark, and has not left.
     ///
     /// # Asks
     ///
@@ -363,7 +364,7 @@ impl Machine {
 ///
 /// # Errors
 ///
-/// `AllocError` where a growth was refused. The room for all answers is asked for first, so the machine is as before.
+/// `AllocError` if an allocation fails. The room for all steps is allocated first, so the machine is then unchanged.
 pub fn replay(
     alloc: Global,
     machine: &mut Machine,

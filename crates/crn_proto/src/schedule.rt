@@ -1,4 +1,4 @@
-// A schedule names the actor of each step. A step is one load or one store of one word.
+//! Schedules, which name the actor of each step. A step is one load or one store of one word.
 
 /// Whose step is next.
 #[derive(Clone, Copy, Debug, PartialEq, Eq)]

@@ -1,4 +1,4 @@
-// A ring as its caller asks for it, and whether there can be such a ring.
+//! A ring as its caller asks for it, and whether there can be such a ring.
 ghost use Rattle.std.specs.Prelude.{◌≡◌, length, IfOk, IfErr, OnErr};
 ghost use Rattle.crn_proto.specs.Ring.{open_words, word_count};
 ghost use Rattle.crn_proto.specs.Opening.{CanOpen, RefusesRing};
@@ -53,7 +53,7 @@ impl RingSpec {
     ///
     /// # Errors
     ///
-    /// `AllocError` if an allocation failed.
+    /// `AllocError` if an allocation fails.
     pub fn opening_words(&self, alloc: Global) -> Result<Vec<u64>, AllocError>
         requires { CanOpen self.now }
         ensures words { IfOk result (λ words. words.items ≡ open_words self.now) }

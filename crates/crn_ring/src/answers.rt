@@ -2,7 +2,7 @@
 use crn_cipher::Block;
 use crn_limits::POLICY_LIMIT;
 
-/// Says what [`try_publish`](crate::Producer::try_publish) has done.
+/// The result of [`try_publish`](crate::Producer::try_publish).
 #[derive(Clone, Copy, Debug, PartialEq, Eq)]
 pub enum Publish {
     /// The block is published.
@@ -17,7 +17,7 @@ pub enum Publish {
     },
 }
 
-/// Says what [`publish_batch`](crate::Producer::publish_batch) has done.
+/// The result of [`publish_batch`](crate::Producer::publish_batch).
 #[derive(Clone, Copy, Debug, PartialEq, Eq)]
 pub enum PublishMany {
     /// The first of the blocks are published.
@@ -34,7 +34,7 @@ pub enum PublishMany {
     },
 }
 
-/// Says what [`try_take`](crate::Reader::try_take) has found.
+/// The result of [`try_take`](crate::Reader::try_take).
 #[derive(Clone, Copy, Debug, PartialEq, Eq)]
 pub enum Take {
     /// The next block.
@@ -51,7 +51,7 @@ pub enum Take {
     },
 }
 
-/// Says what [`take_batch`](crate::Reader::take_batch) has found.
+/// The result of [`take_batch`](crate::Reader::take_batch).
 #[derive(Clone, Copy, Debug, PartialEq, Eq)]
 pub enum Batch {
     /// The next blocks, at the start of the slice that was passed.
@@ -71,7 +71,7 @@ pub enum Batch {
     },
 }
 
-/// Has the cursors of a ring at its end, as [`close`](crate::Ring::close) returns them.
+/// The result of [`close`](crate::Ring::close): the cursors of a ring at its end.
 #[derive(Clone, Copy, Debug, PartialEq, Eq)]
 pub struct Closing {
     /// The number of the block that would have been published next.

@@ -9,8 +9,8 @@ use crate::ring::{Place, Ring};
 use crate::room::{Gauge, Room};
 use crn_cipher::{BLOCK_WORDS, Block};
 
-/// Publishes the blocks of the ring's stream in order, and then marks the end. A ring has one producer, which may run on
-/// its own thread.
+/// The producer of a ring: it publishes the blocks of the ring's stream in order, and then marks the end. A ring has one,
+/// which may run on its own thread.
 ///
 /// It remembers the least count that it last loaded from the readers' cursors, and loads them again only if that count
 /// leaves too little room. Source: Thompson, Farley, Barker, Gee and Stewart, "Disruptor", LMAX, 2011 (gating

@@ -7,8 +7,8 @@ use crate::answers::{Batch, Take};
 use crate::ring::{Place, Ring};
 use crn_cipher::{BLOCK_WORDS, Block};
 
-/// Takes every block that the producer publishes, in order, and then sees the end. One of the readers of a ring; each may
-/// run on its own thread.
+/// A reader of a ring: it takes every block that the producer publishes, in order, and then sees the end. Each reader of a
+/// ring may run on its own thread.
 #[derive(Drop)]
 pub struct Reader {
     pub(crate) seat: Place,
@@ -25,7 +25,7 @@ pub struct Reader {
     pub ghost within: { taken ≤ (spec_in seat).id.total },
 }
 
-/// Shows that a reader has left its ring: it has stored [`LEFT`](crn_proto::LEFT) in its cursor. It has no calls.
+/// A reader that has left its ring: it has stored [`LEFT`](crn_proto::LEFT) in its cursor. It has no calls.
 #[derive(Drop)]
 pub struct LeftReader {
     pub(crate) seat: Place,

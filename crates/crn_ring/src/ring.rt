@@ -14,7 +14,7 @@ use crn_limits::POLICY_LIMIT;
 use crn_proto::{RingFault, RingSpec};
 use std::alloc::{AllocError, Global};
 
-/// Gives the rule of the table: its words and what its seats know are lawful between any two steps of any threads.
+/// The rule of the table: its words and what its seats know are lawful between any two steps of any threads.
 pub struct RingRule;
 
 impl TableRule<(), View, RingSpec> for RingRule {
@@ -25,13 +25,13 @@ impl TableRule<(), View, RingSpec> for RingRule {
     ghost first = { λ spec. opened spec 0 };
 }
 
-/// Has the words of a ring: the ring cursor, a cursor for each reader, and the slots.
+/// The table of a ring's words: the ring cursor, a cursor for each reader, and the slots.
 pub type Words = Table<(), View, RingSpec, RingRule, Global>;
 
-/// Gives one actor access to the table.
+/// One actor's seat at the table.
 pub type Place = Seat<(), View>;
 
-/// Has `size` slots, which one producer and `readers` readers share by reference, each on its own thread.
+/// A ring of `size` slots, which one producer and `readers` readers share by reference, each on its own thread.
 ///
 /// It has only the words. What each actor knows is kept by the [`Producer`](crate::Producer) and the
 /// [`Reader`](crate::Reader)s. All their calls take the ring, and it must be the one that they were opened with.
@@ -65,7 +65,7 @@ impl Ring {
     ///
     /// # Errors
     ///
-    /// The fault that [`RingSpec::judge`] finds, or else [`RingFault::Memory`] if an allocation failed. Then nothing is
+    /// The fault that [`RingSpec::judge`] finds, or else [`RingFault::Memory`] if an allocation fails. Then nothing is
     /// kept.
     pub fn open(alloc: Global, spec: RingSpec) -> Result<(Ring, Producer, Vec<Reader>), RingFault>
         ensures refused { IfErr result (λ f. RefusesRing spec f) }

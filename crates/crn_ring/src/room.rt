@@ -6,7 +6,7 @@ ghost use Rattle.crn_ring.specs.Gates.{Passes};
 use crate::ring::{Place, Ring};
 use crn_proto::LEFT;
 
-/// Says what the gates show of one block.
+/// What the gates show of one block.
 #[derive(Clone, Copy)]
 pub(crate) enum Gauge {
     /// This reader has no room for it.
@@ -15,7 +15,7 @@ pub(crate) enum Gauge {
     Least(u64),
 }
 
-/// Says for how many blocks there is room.
+/// For how many blocks there is room.
 #[derive(Clone, Copy)]
 pub(crate) enum Room {
     /// For this many, at least one.

@@ -1,7 +1,7 @@
 //! What a seat knows of a ring. No value of these types is made: they are used only in contracts and proofs.
 use crn_proto::{ProducerPart, ReaderPart, RingSpec};
 
-/// Says whose seat a view is of.
+/// The kind of actor whose seat a view is of.
 pub enum Role {
     /// The producer's. While the ring is being opened, the readers from `number` on wait in it too.
     Producer,
@@ -9,7 +9,7 @@ pub enum Role {
     Reader,
 }
 
-/// Has what a seat knows: the ring, the actor, and the actor's part of the ring's state.
+/// What a seat knows: the ring, the actor, and the actor's part of the ring's state.
 pub struct View {
     /// The ring, as it was opened.
     pub spec: RingSpec,

@@ -12,7 +12,7 @@ fn spells(text: &str, number: u64) -> bool
 }
 
 /// Returns the number below 2^64 that a text spells in decimal, without a sign or leading zeros, so that each number has one
-/// spelling. Returns `None` for any other text. Does not allocate.
+/// spelling. Returns `None` for any other text. Allocates nothing.
 pub fn number_of_text(text: &str) -> Option<u64>
     ensures spelt { IfSome result (λ n. text.now ≡ decimal n) }
     ensures every { (n : ℕ) → n < 2 ^ 64 → text.now ≡ decimal n → result ≡ Some n }

@@ -1,4 +1,4 @@
-// What a machine shows of its ring and its actors.
+//! What a machine shows of its ring and its actors.
 
 ghost use Rattle.std.specs.Prelude.{◌≡◌, ◌<◌, ◌≤◌, slice_index};
 ghost use Rattle.crn_proto.specs.Ring.{word_count};
@@ -33,7 +33,7 @@ impl Machine {
         self.ended
     }
 
-    /// Returns the number of the next block that reader `r` takes, or would have taken next where it has left: at most
+    /// Returns the number of the next block that reader `r` takes, or would have taken next if it has left: at most
     /// the stream's total.
     ///
     /// # Asks
@@ -74,8 +74,8 @@ impl Machine {
         self.takers[r as usize].seen_end
     }
 
-    /// Word `i` of the ring. Word 0 is the ring cursor: twice the number of the next block, and one more after the end
-    /// mark. Words 1 to `readers` are the readers' cursors: a count, or [`LEFT`](crate::LEFT). Then come the slots,
+    /// Returns word `i` of the ring. Word 0 is the ring cursor: twice the number of the next block, and one more after the
+    /// end mark. Words 1 to `readers` are the readers' cursors: a count, or [`LEFT`](crate::LEFT). Then come the slots,
     /// with [`BLOCK_WORDS`](crn_cipher::BLOCK_WORDS) words each; block `n` stands in slot `n` mod `size`.
     ///
     /// # Asks
