@@ -32,6 +32,7 @@ use Rattle.crn_command_line.specs.declared.commands.Command.TheVariants as comma
 use Rattle.std.specs.declared.alloc.AllocError.{AllocError}
 use Rattle.crn_command_line.specs.declared.fault.CommandLineFault.{CommandLineFault}
 use Rattle.crn_command_line.specs.declared.fault.CommandLineFault.TheVariants as words
+use Rattle.crn_command_line.specs.Parsing.{RefusesWords as RefusesCommand}
 use Rattle.crn_proto.specs.declared.fault.RingFault.{RingFault}
 use Rattle.crn_proto.specs.declared.fault.RingFault.TheVariants as ring
 use Rattle.crn_run.specs.declared.fault.RunFault.{RunFault}
@@ -302,6 +303,14 @@ Refuses (command.Leg n) e a b = Keeps a.saved b.saved × RefusesLeg n e a.readin
 Refuses (command.Resume _) e a b = RefusesResume e a.saved b.saved a.reading b.reading
 Refuses (command.Migrate _) e a b = Keeps a.reading b.reading × RefusesMigrate e a.saved b.saved
 Refuses (command.Help _) e a b = Unread a b × RefusesOutput e
+
+-- ---- the words of the command line
+
+-- what a refusal says of the words: a failed allocation says nothing
+abbrev pub RefusesCommandLine : List (List ℕ) → Fault → Type 0
+RefusesCommandLine texts fault.CommandLine = RefusesCommand texts words.Words
+RefusesCommandLine texts (fault.Memory _) = ⊤
+RefusesCommandLine texts _ = ⊥
 
 -- ---- statuses, and the program's words for the faults of its parts
 

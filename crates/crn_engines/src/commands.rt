@@ -1,7 +1,8 @@
 //! The commands of the program.
-ghost use Rattle.std.specs.Prelude.{◌≡◌, ◌⊎◌, true, false, IfErr, OnOk, alloc_error};
+ghost use Rattle.std.specs.Prelude.{◌≡◌, ◌⊎◌, true, false, IfOk, IfErr, OnOk, alloc_error, map, string_bytes};
 ghost use Rattle.std.specs.Io.KnownBytes.{Keeps};
-ghost use Rattle.crn_engines.specs.Commands.{Streams, Answered, AnsweredFront, Refuses, is_writing};
+ghost use Rattle.crn_command_line.specs.Parsing.{AreRead};
+ghost use Rattle.crn_engines.specs.Commands.{Streams, Answered, AnsweredFront, Refuses, RefusesCommandLine, is_writing};
 
 use crate::block_words::write_words;
 use crate::fault::Fault;
@@ -58,7 +59,9 @@ pub fn answer_command<H: Threads + Wait + Sync, C: Read, R: Read, W: Write>(
 ///
 /// `CommandLine` or `Memory`: see [`Fault`].
 pub fn read_words(alloc: Global, words: &[String]) -> Result<Command, Fault>
-    ensures { IfErr result (λ e. (e ≡ Fault.CommandLine) ⊎ (e ≡ Fault.Memory alloc_error)) }
+    ensures read { IfOk result (λ c. AreRead (map string_bytes words.entry.now) c) }
+    ensures refused { IfErr result (λ e. RefusesCommandLine (map string_bytes words.entry.now) e) }
+    ensures only { IfErr result (λ e. (e ≡ Fault.CommandLine) ⊎ (e ≡ Fault.Memory alloc_error)) }
 {
     Ok(crn_command_line::read_words(alloc, words)?)
 }

@@ -31,7 +31,8 @@ fn main(rt: HostRuntime) -> ExitCode {
     }
 }
 
-// Answers the words of the command line, a run of policies on threads of `threads`.
+// Answers the words of the command line, a run of policies on threads of `threads`: only `main` may start threads from the
+// runtime itself.
 fn run<H: Threads + Wait + Sync>(rt: &HostRuntime, threads: &H) -> Result<(), Fault> {
     let command = command_of(rt)?;
     answer(rt, threads, &command)
@@ -131,7 +132,7 @@ fn opening_fault(error: io::Error) -> Fault
     }
 }
 
-// The refusal of memory that an error of the system tells by a kind.
+// The failed allocation that an error of the system reports by its kind.
 fn refusal_of(error: &io::Error) -> Option<AllocError>
     ensures { IsSome result ↔ (error_kind error.now ≡ ErrorKind.OutOfMemory) }
 {
