@@ -1,4 +1,4 @@
-"""Reads the wrong implementations, crates/NAME/wrong/*.edit and crates/NAME/must-fail/*.edit.
+"""Reads the wrong implementations: crates/NAME/wrong/*.edit, crates/NAME/must-fail/*.edit and crates/NAME/tested/*.edit.
 
 An edit changes lines of a crate's code. Its head says what goes wrong then and which function's proof must fail:
 
@@ -11,6 +11,19 @@ An edit changes lines of a crate's code. Its head says what goes wrong then and 
 Each `old:` text stands exactly once in the file, on one line. Further pairs apply to what the earlier ones made. An edit
 of one arm of a `match` can name it, as in `refused by: commands::answer_command, arm Leg`: then a goal of that arm must be
 open, and edits of the other arms can share its check.
+
+An edit of tested/ is proved, since no contract refuses it. It says which test must fail in place of `refused by`:
+
+    what: `leave` stores nothing, so the producer waits for ever for a reader that has left.
+    seen by: tests_ring ring::rows::a_reader_that_leaves_gates_no_more
+
+That is a test of a crate of tests, by its name, or a command with PROGRAM for the built program. A command has a second
+line with a text that one of its lines `FAILED ..` must contain, so that it fails for the right reason:
+
+    seen by: tests/hostile/run.py PROGRAM refusals
+    fails: leg of 2, no refusal
+
+Such an edit may also change files of proofs/, so that the crate is proved with it.
 """
 import collections
 import glob
@@ -20,7 +33,10 @@ import re
 TOP = os.path.dirname(os.path.dirname(os.path.abspath(__file__)))
 FUNCTION = re.compile(r"( *)(?:pub(?:\([^)]*\))? )?(?:(?:const|unsafe|final) )*fn \w")
 
-Edit = collections.namedtuple("Edit", "crate name what refused_by arm pairs")
+# The folders of a crate that have edits. The prover refuses those of the first two; tests see the others.
+FOLDERS = ("must-fail", "wrong", "tested")
+
+Edit = collections.namedtuple("Edit", "crate folder name what refused_by arm seen_by fails pairs")
 
 
 class BadEdit(Exception):
@@ -35,10 +51,10 @@ def crates():
 
 def edits_of(crate, folder="wrong"):
     """Reads the edits in a folder of a crate."""
-    return [read_edit(crate, path) for path in sorted(glob.glob(f"{TOP}/crates/{crate}/{folder}/*.edit"))]
+    return [read_edit(crate, folder, path) for path in sorted(glob.glob(f"{TOP}/crates/{crate}/{folder}/*.edit"))]
 
 
-def read_edit(crate, path):
+def read_edit(crate, folder, path):
     """Reads one edit. Its pairs are of a file, the old text and the new one."""
     head, pairs, file, old = {}, [], "", ""
     with open(path, encoding="utf-8") as text:
@@ -46,7 +62,7 @@ def read_edit(crate, path):
     for line in lines:
         word, _, rest = line.partition(":")
         rest = rest.removeprefix(" ")
-        if word in ("what", "refused by"):
+        if word in ("what", "refused by", "seen by", "fails"):
             head.setdefault(word, rest.strip())
         elif word == "file":
             file = rest.strip()
@@ -56,7 +72,7 @@ def read_edit(crate, path):
             pairs.append((file, old, rest))
     name = os.path.basename(path).removesuffix(".edit")
     function, _, arm = head.get("refused by", "").partition(", arm ")
-    return Edit(crate, name, head.get("what", ""), function, arm, pairs)
+    return Edit(crate, folder, name, head.get("what", ""), function, arm, head.get("seen by", ""), head.get("fails", ""), pairs)
 
 
 def text_of(crate, file):
@@ -65,24 +81,31 @@ def text_of(crate, file):
         return text.read()
 
 
-def changes_of(edit):
-    """Returns the lines that an edit changes, by their file and number, each with its new text."""
+def texts_of(edit):
+    """Returns the texts of the files that an edit changes, by file, before and after it."""
     before, after = {}, {}
+    places = ("src/", "proofs/") if edit.folder == "tested" else ("src/",)
     for file, old, new in edit.pairs:
-        if not file.startswith("src/") or not os.path.isfile(f"{TOP}/crates/{edit.crate}/{file}"):
-            raise BadEdit(f"it changes '{file}', which is no file of src/")
+        if not file.startswith(places) or not os.path.isfile(f"{TOP}/crates/{edit.crate}/{file}"):
+            raise BadEdit(f"it changes '{file}', which is no file of {' or '.join(places)}")
         if file not in before:
             before[file] = after[file] = text_of(edit.crate, file)
         count = after[file].count(old) if old else 0
         if count != 1:
             raise BadEdit(f"its text '{old.strip()}' stands {count} times in {file}, and not once")
         after[file] = after[file].replace(old, new)
+    if after == before:
+        raise BadEdit("it changes nothing")
+    return before, after
+
+
+def changes_of(edit):
+    """Returns the lines that an edit changes, by their file and number, each with its new text."""
+    before, after = texts_of(edit)
     changes = {}
     for file, text in after.items():
         pairs = enumerate(zip(before[file].split("\n"), text.split("\n")))
         changes |= {(file, number): new for number, (old, new) in pairs if old != new}
-    if not changes:
-        raise BadEdit("it changes nothing")
     return changes
 
 

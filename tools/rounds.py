@@ -6,10 +6,12 @@ must fail then (tools/edits.py has the format). An edit of a body changes no con
 functions are independent: a round applies many of them to a copy of the crate and checks it once. Each edit is judged
 by the function that it names. It passes only if a goal of that function is open; it fails if the function is proved,
 if its proof file only names something that the edit took away, if only a function that it calls is refused, or if the
-check gives no verdict on it. An edit that another one hides is tried again in a later round, at last alone.
+check gives no verdict on it. An edit that another one hides is tried again in a later round, at last alone. An edit that
+names a function that is not there fails, and the others of its round are tried without it.
 
     --names A,B      only the edits with these names
     --must-fail      also the edits of must-fail/, which `rt ci` tries one by one
+    --tested         the edits of tested/ in place of these: they are proved, and a test must see each (tools/tested.py)
     --alone          each edit in a check of its own, which shows what it costs
     --goals          prints for each edit the goal that is open
     --list           prints the edits as a table and tries none
@@ -17,6 +19,7 @@ check gives no verdict on it. An edit that another one hides is tried again in a
     --lanes N        runs N checks at a time; by default as many as processors and memory allow
     --limit SECONDS  stops a check that takes longer (default 1200)
     --prover PATH    runs this program instead of the kit's rattle
+    --builder PATH   runs this program instead of rt, which builds what the tests of tested/ need
 
 With no crate: all of them. The libraries below a crate must stand built in crates/NAME/out/rlib, as `rt check` and
 `rt ci` leave them. The control checks each crate without an edit: it must prove every function that an edit names. A
@@ -40,7 +43,8 @@ import time
 
 # Compiled text is not to stand in the repository.
 sys.dont_write_bytecode = True
-from edits import TOP, BadEdit, changes_of, crates, edits_of, functions_of, text_of
+import tested
+from edits import FOLDERS, TOP, BadEdit, changes_of, crates, edits_of, functions_of, text_of
 
 MEMORY_OF_A_CHECK = 3_000_000_000
 # What a check says of a function, or of another item.
@@ -159,6 +163,12 @@ def fault_of(lines, status):
     return f"its check ended with status {status} and no verdict: {first[:200]}"
 
 
+def unknown_of(ran, functions):
+    """The function among these that a check was asked for and that is not there, or None."""
+    found = {it for line in ran.lines for it in UNKNOWN.findall(line)} if ran.fault else set()
+    return next(iter(found.intersection(functions)), None)
+
+
 def goal_of(ran, edit):
     """The first goal that is open of the function, or of the arm, that an edit names, or None."""
     told = [error for error in ran.errors[edit.refused_by] if not STALE.search(error)]
@@ -240,11 +250,11 @@ class Rounds:
         functions, lost = sorted({it.edit.refused_by for it in tries}), {}
         while functions:
             ran = self.prover.check([], functions)
-            unknown = UNKNOWN.search(ran.fault)
-            if not unknown or unknown[1] not in functions:
+            unknown = unknown_of(ran, functions)
+            if not unknown:
                 break
-            lost[unknown[1]] = f"there is no function {unknown[1]}"
-            functions.remove(unknown[1])
+            lost[unknown] = f"there is no function {unknown}"
+            functions.remove(unknown)
         open_ones = [it for it in functions if not PROVED.match(ran.verdicts.get(it, ""))]
         lost |= {it: ran.fault or f"{it} is not proved without the edit" for it in open_ones}
         self.tell(f"control, {len(functions)} functions", ran, f", {len(lost)} not proved" if lost else "")
@@ -265,7 +275,13 @@ class Rounds:
 
     def round(self, chosen):
         """Tries some edits in one check; those that others hid."""
-        ran, hidden = self.prover.check(chosen, sorted({it.edit.refused_by for it in chosen})), []
+        functions = sorted({it.edit.refused_by for it in chosen})
+        ran, hidden = self.prover.check(chosen, functions), []
+        if unknown := unknown_of(ran, functions):
+            for each in [it for it in chosen if it.edit.refused_by == unknown]:
+                self.fail(each, f"there is no function {unknown}")
+            others = [it for it in chosen if it.edit.refused_by != unknown]
+            return self.round(others) if others else []
         for each in chosen:
             outcome = judged(each, ran, len(chosen) == 1)
             if outcome is HIDDEN:
@@ -316,9 +332,11 @@ def try_all(names, options):
 
 def table(names):
     """Prints the edits of these crates."""
-    print("| Crate | File | What goes wrong | Refused by |\n|---|---|---|---|")
-    for edit in [it for name in names for folder in ("must-fail", "wrong") for it in edits_of(name, folder)]:
-        print(f"| `{edit.crate}` | `{edit.name}` | {edit.what} | `{edit.refused_by}` |")
+    print("| Crate | Folder | File | What goes wrong | Refused by, or seen by |\n|---|---|---|---|---|")
+    for edit in [it for name in names for folder in FOLDERS for it in edits_of(name, folder)]:
+        by = f"`{edit.refused_by}`" + (f", arm `{edit.arm}`" if edit.arm else "")
+        by = f"`{edit.seen_by}`" + (f": {edit.fails}" if edit.fails else "") if edit.folder == "tested" else by
+        print(f"| `{edit.crate}` | `{edit.folder}` | `{edit.name}` | {edit.what} | {by} |")
 
 
 def options_of(words):
@@ -329,7 +347,8 @@ def options_of(words):
     parser.add_argument("--lanes", type=int)
     parser.add_argument("--limit", type=float, default=1200)
     parser.add_argument("--prover")
-    for flag in ("--must-fail", "--alone", "--goals", "--list", "--proved"):
+    parser.add_argument("--builder")
+    for flag in ("--must-fail", "--tested", "--alone", "--goals", "--list", "--proved"):
         parser.add_argument(flag, action="store_true")
     return parser.parse_args(words)
 
@@ -345,7 +364,7 @@ def main(words):
         table(names)
         return 0
     began = time.monotonic()
-    passed, failed = try_all(names, options)
+    passed, failed = tested.try_tested(names, options, link) if options.tested else try_all(names, options)
     if not passed and not failed:
         print("FAILED there is no edit to try")
         failed = 1

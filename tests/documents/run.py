@@ -24,7 +24,7 @@ sys.path += [f"{TOP}/{it}" for it in ("tools", "examples/tools", "tests", "tests
 from believed import believed_tries, inner_tries
 from commands import command_tries, option_tries, toml_tries
 from docstrings import docstring_tries
-from edits import crates, edits_of
+from edits import FOLDERS, crates, edits_of
 from figures import figure_tries
 from helps import example_tries
 from pages import PAGES, anchors_of, blocks_of, text_of
@@ -100,14 +100,15 @@ def named_tries(_):
 def edit_tries(_):
     """Each wrong implementation says what goes wrong and which function refuses it, no two say the same, and pages name
     only those that there are."""
-    edits = [it for crate in crates() for folder in ("must-fail", "wrong") for it in edits_of(crate, folder)]
+    edits = [it for crate in crates() for folder in FOLDERS for it in edits_of(crate, folder)]
     sentences = [it.what for it in edits]
     for it in edits:
         yield f"crates/{it.crate}: {it.name} says what goes wrong", sentences.count(it.what) == 1 and it.what.endswith(".")
-        yield f"crates/{it.crate}: {it.name} names a function", bool(it.refused_by)
+        by = it.seen_by if it.folder == "tested" else it.refused_by
+        yield f"crates/{it.crate}: {it.name} names a function or a test", bool(by)
     names = {it.name for it in edits}
     for page in ("CONTRIBUTING.md", "docs/CHANGING.md"):
-        for row in re.findall(r"`(?:wrong|must-fail)/`[^|\n]*\|([^|\n]*)", text_of(page)):
+        for row in re.findall(r"`(?:wrong|must-fail|tested)/`[^|\n]*\|([^|\n]*)", text_of(page)):
             for name in re.findall(r"`([a-z0-9]+_[a-z0-9_]+)`", row):
                 known = name in names or os.path.isdir(f"{TOP}/crates/{name}")
                 yield f"{page}: {name}", known or "there is no such wrong implementation"

@@ -1,0 +1,231 @@
+"""Tries the wrong implementations that contracts let through: crates/NAME/tested/*.edit.
+
+Used by `tools/rounds.py --tested`; tools/edits.py has the format. Each edit is planted in a copy of the repository, over
+the work that is kept in crates/*/out/. What its test needs is built, the program or a crate of tests, which also proves the
+changed crate and those above it. Then the test is run. An edit passes only if its test fails, and for the reason that the
+edit gives; it fails if the test passes, if another part of the test fails, or if the edit is not proved.
+
+The control runs each test once without an edit, where it must not fail.
+"""
+import collections
+import os
+import shutil
+import signal
+import subprocess
+import tempfile
+import threading
+import time
+
+from edits import TOP, BadEdit, crates, edits_of, texts_of
+
+PROGRAM = "crnsim"
+# What the last lines of a crate's tests say if all of those named pass.
+PASSED = "test result: ok"
+# After so many seconds the test of a crate counts as one that does not end: it fails.
+SECONDS_OF_A_TEST = 60
+
+Test = collections.namedtuple("Test", "crate words fails")
+# What a test has printed; its status, which is None if it was stopped; and whether its time was over.
+Shown = collections.namedtuple("Shown", "lines status is_late")
+Try = collections.namedtuple("Try", "edit test texts")
+
+
+def test_of(edit):
+    """Returns the test that an edit names: that of a crate of tests, or a command for the program with the text that a
+    failure of it must contain."""
+    words = edit.seen_by.split()
+    if not edit.what or not words:
+        raise BadEdit("it lacks a head line, 'what:' or 'seen by:'")
+    if words[0] in crates():
+        if len(words) != 2:
+            raise BadEdit(f"'{edit.seen_by}' names no test of {words[0]}")
+        return Test(words[0], tuple(words[1:]), edit.fails)
+    if not os.path.isfile(f"{TOP}/{words[0]}") or "PROGRAM" not in words:
+        raise BadEdit(f"'{edit.seen_by}' is neither a test of a crate nor a command of the repository for PROGRAM")
+    if not edit.fails:
+        raise BadEdit("it lacks the head line 'fails:'")
+    return Test("", tuple(words), edit.fails)
+
+
+def tries_of(name, names):
+    """The edits of a crate that are to be tried, and those that cannot be, with the reason."""
+    tries, failed = [], []
+    for edit in edits_of(name, "tested"):
+        if names and edit.name not in names:
+            continue
+        try:
+            tries.append(Try(edit, test_of(edit), texts_of(edit)))
+        except BadEdit as fault:
+            failed.append((f"{name}/{edit.name}", str(fault)))
+    return tries, failed
+
+
+def copied(room, link):
+    """Copies the repository into a folder, with links to the work that its crates keep."""
+    shutil.copytree(TOP, room, ignore=shutil.ignore_patterns(".*", "out", "__pycache__"), dirs_exist_ok=True)
+    os.makedirs(f"{room}/.git")
+    for name in crates():
+        kept = f"{TOP}/crates/{name}/out"
+        for part in ("rlib", "incremental"):
+            if os.path.isdir(f"{kept}/{part}"):
+                link(f"{kept}/{part}", f"{room}/crates/{name}/out/{part}")
+
+
+def shown_of(words, folder, limit, ends_at=lambda line: False):
+    """Runs a command until it ends, until a line that is waited for, or until its time is over."""
+    lines, is_late, stopped = [], threading.Event(), False
+    process = subprocess.Popen(words, cwd=folder, stdin=subprocess.DEVNULL, stdout=subprocess.PIPE, stderr=subprocess.STDOUT,
+                               text=True, errors="replace", env={**os.environ, "PYTHONUNBUFFERED": "1"},
+                               start_new_session=True)
+
+    def stop():
+        """Stops the command and all that it has started."""
+        if process.poll() is None:
+            os.killpg(process.pid, signal.SIGKILL)
+
+    def end():
+        is_late.set()
+        stop()
+
+    timer = threading.Timer(limit, end)
+    timer.start()
+    for line in process.stdout:
+        lines.append(line.rstrip("\n"))
+        if ends_at(lines[-1]):
+            stopped = True
+            stop()
+            break
+    status = process.wait()
+    timer.cancel()
+    return Shown(lines, None if stopped or is_late.is_set() else status, is_late.is_set())
+
+
+def has_failed_so(test, line):
+    """Whether a line says that a test fails for the reason that an edit gives."""
+    return line.startswith("FAILED ") and test.fails in line
+
+
+def fault_of(test, shown):
+    """Why a test has not passed without an edit, or ""."""
+    if shown.is_late:
+        return "it has not ended"
+    if test.crate:
+        is_good = shown.status == 0 and any(line.startswith(PASSED) for line in shown.lines)
+        return "" if is_good else f"it fails: {' | '.join(shown.lines[-3:])[:300]}"
+    if so := [line for line in shown.lines if has_failed_so(test, line)]:
+        return f"it fails: {so[0][:300]}"
+    return "" if shown.lines and " passed, " in shown.lines[-1] else f"it breaks off: {(shown.lines or [''])[-1][:300]}"
+
+
+def unseen(test, shown):
+    """Why a test has not seen an edit, or ""."""
+    if test.crate:
+        if shown.status == 0:
+            return "its test passes"
+        is_right = test.fails in "\n".join(shown.lines)
+        return "" if is_right else f"its test fails for another reason: {' | '.join(shown.lines[-3:])[:300]}"
+    if any(has_failed_so(test, line) for line in shown.lines):
+        return ""
+    if shown.is_late:
+        return "its test has not ended, and had not failed so before"
+    others = [line for line in shown.lines if line.startswith("FAILED ")]
+    if others:
+        return f"its test fails for another reason: {others[0][:300]}"
+    return "its test passes" if shown.status == 0 else f"its test breaks off: {(shown.lines or [''])[-1][:300]}"
+
+
+class Copy:
+    """A copy of the repository, in which edits are planted one after another."""
+
+    def __init__(self, room, options, link):
+        self.room, self.options = room, options
+        copied(room, link)
+
+    def plant(self, each, which):
+        """Writes the files of an edit, as they are before it (0) or after it (1)."""
+        for file, text in each.texts[which].items():
+            with open(f"{self.room}/crates/{each.edit.crate}/{file}", "w", encoding="utf-8") as written:
+                written.write(text)
+
+    def built(self, test):
+        """Builds what a test needs; what was said if that failed."""
+        name, words = (test.crate, ["test"]) if test.crate else (PROGRAM, ["run"])
+        jobs = str(self.options.lanes or len(os.sched_getaffinity(0)))
+        # The crate's tests are built and none is run, since no test has that name; of the program, the help is asked for.
+        words = [self.options.builder or "rt", *words, "--jobs", jobs, "--", "no_test_has_this_name" if test.crate else "help"]
+        made = self.target(test)
+        if os.path.exists(made):
+            os.remove(made)
+        shown = shown_of(words, f"{self.room}/crates/{name}", self.options.limit)
+        if os.path.exists(made) and (test.crate or shown.status == 0):
+            return ""
+        told = [line for line in shown.lines if "NOT" in line or "not proved" in line or "error" in line]
+        return " | ".join((told or shown.lines)[:3])[:400] or "nothing was said"
+
+    def target(self, test):
+        """The program that is built for a test."""
+        if test.crate:
+            return f"{self.room}/crates/{test.crate}/out/{test.crate}_tests"
+        return f"{self.room}/crates/{PROGRAM}/out/{PROGRAM}"
+
+    def run(self, test, is_control):
+        """Runs a test. With an edit, a command is stopped once it has failed as it must."""
+        if test.crate:
+            return shown_of([self.target(test), *test.words], self.room, min(self.options.limit, SECONDS_OF_A_TEST))
+        words = [self.target(test) if it == "PROGRAM" else it for it in test.words]
+        ends_at = (lambda line: False) if is_control else lambda line: has_failed_so(test, line)
+        return shown_of([f"{self.room}/{words[0]}", *words[1:]], self.room, self.options.limit, ends_at)
+
+
+class Tested:
+    """All edits that tests must see."""
+
+    def __init__(self, copy, tries):
+        self.copy, self.tries, self.passed, self.failed = copy, tries, 0, 0
+        self.built, self.shown = {}, {}
+
+    def control(self, test):
+        """Why a test says nothing, since it does not pass without an edit, or ""."""
+        key, began = test._replace(fails=""), time.monotonic()
+        if test.crate not in self.built:
+            self.built[test.crate] = self.copy.built(test)
+        said = self.built[test.crate]
+        if key not in self.shown:
+            self.shown[key] = None if said else self.copy.run(test, True)
+            print(f"control, {test.crate or ''} {' '.join(test.words)}: {time.monotonic() - began:.0f} s".replace(",  ", ", "),
+                  flush=True)
+        return f"it is not built without an edit: {said}" if said else fault_of(test, self.shown[key])
+
+    def outcome(self, each):
+        """Why an edit is not seen, or ""."""
+        self.copy.plant(each, 1)
+        try:
+            said = self.copy.built(each.test)
+            return f"it is not proved: {said}" if said else unseen(each.test, self.copy.run(each.test, False))
+        finally:
+            self.copy.plant(each, 0)
+
+    def run(self):
+        """Tries all edits, after the controls of their tests."""
+        lost = [self.control(each.test) for each in self.tries]
+        for each, why in zip(self.tries, lost):
+            began = time.monotonic()
+            why = f"its test does not pass without an edit: {why}" if why else self.outcome(each)
+            label = f"{each.edit.crate}/{each.edit.name}"
+            self.passed, self.failed = self.passed + (not why), self.failed + bool(why)
+            print(f"FAILED {label}: {why}" if why else f"{label}: seen, {time.monotonic() - began:.0f} s", flush=True)
+
+
+def try_tested(names, options, link):
+    """Tries the edits of these crates; how many passed and failed."""
+    found = [tries_of(name, options.names) for name in names]
+    bad = [it for _, failed in found for it in failed]
+    for label, why in bad:
+        print(f"FAILED {label}: {why}")
+    tries = [it for each, _ in found for it in each]
+    if not tries:
+        return 0, len(bad)
+    with tempfile.TemporaryDirectory(prefix="tested-") as room:
+        tested = Tested(Copy(room, options, link), tries)
+        tested.run()
+    return tested.passed, tested.failed + len(bad)
