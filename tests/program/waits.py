@@ -13,6 +13,7 @@ After 16 yields in vain a thread sleeps there too. If it went on, all threads wo
 waits for its processor behind other work. So in one more run a library holds the first thread that yields for 0.3 seconds (held.c).
 Meanwhile the others yield some hundreds of times, and 100,000 times and more if they never sleep.
 """
+import functools
 import os
 import resource
 import shutil
@@ -22,6 +23,7 @@ import threading
 import time
 
 from scenarios import on_ring
+from verdicts import SKIPPED
 
 HERE = os.path.dirname(os.path.abspath(__file__))
 
@@ -97,8 +99,9 @@ def sleeps_while_one_is_held(program, text):
 
 def tries(program, text):
     """Runs a scenario on each ring; skips what needs a C compiler if that is missing."""
-    yield f"the processor seconds of a run on a ring of {SMALL} slots", lambda: yields_on_small_ring(program, text)
-    held = (lambda: sleeps_while_one_is_held(program, text)) if shutil.which("cc") else None
+    yield f"the processor seconds of a run on a ring of {SMALL} slots", functools.partial(yields_on_small_ring, program, text)
+    held = functools.partial(sleeps_while_one_is_held, program, text) if shutil.which("cc") else SKIPPED
     yield f"the yields on a ring of {SMALL} slots", held
     for size in LARGE:
-        yield f"the seconds asleep in a run on a ring of {size} slots", lambda: sleeps_shortly(program, on_ring(text, size))
+        asleep = functools.partial(sleeps_shortly, program, on_ring(text, size))
+        yield f"the seconds asleep in a run on a ring of {size} slots", asleep
