@@ -14,8 +14,8 @@ then as a named pipe (pieces.py).
 
 A case is tried with each of its commands and each of its files (of the repository), where it has lists of them. Some
 cases stand for many tries. blocks: the scenario is run, then cut at each of these blocks, or at all, and resumed on
-another ring (ring). old_blocks: its checkpoints of the old version there are migrated. long: for both the oracle computes
-a long run. prefixes: the fault is told of each proper prefix of the file. turned: and of the file with each of its bytes
+another ring (ring). old_blocks: its checkpoints of the old version there are migrated. long: for both, or a report, the oracle
+computes a long run. prefixes: the fault is told of each proper prefix of the file. turned: and of the file with each of its bytes
 put to this one. Where these are answered in several ways, a map has in place of each byte the name of
 an answer; a case without a file has its input changed. rows: the fault is told of the file with one of these rows put
 in, at each place. steps: of changes of the input that are made one after the other, each tells the scenario's fault that
@@ -142,6 +142,8 @@ def told(case):
     """What the oracle writes for a case, or None where a fault is wanted or the oracle knows no such command."""
     if "fault" in case:
         return None
+    if "long" in case:
+        return oracle.report_of(run_of(case))
     return oracle.answer(words_of(case, None), (text_of(case, "input") or b"").decode())
 
 
