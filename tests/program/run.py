@@ -22,7 +22,8 @@ in, at each place. steps: of changes of the input that are made one after the ot
 comes next. What the oracle, a second program (oracle.py), can tell of a case is tried too: it has to write the output
 that is wanted, so to agree with what was worked by hand, and the program has to write the same.
 
-At the end the longest run is timed on rings of several sizes (waits.py), and the program's symbols are looked at (symbols.py).
+At the end the longest run is timed on rings of several sizes (waits.py), what runs take is compared with stored figures
+(bounds.py), and the program's symbols are looked at (symbols.py).
 """
 import contextlib
 import functools
@@ -39,6 +40,7 @@ TOP = os.path.dirname(os.path.dirname(HERE))
 # Compiled text is not to stand in the repository.
 sys.dont_write_bytecode = True
 sys.path += [f"{TOP}/tests", f"{TOP}/examples/tools"]
+import bounds
 import formats
 import oracle
 import pieces
@@ -312,7 +314,8 @@ def tries(program, groups, room):
 
 
 def all_tries(program, room):
-    """Yields the tries of all cases, those of the time that the longest run takes, and that of the program's symbols."""
+    """Yields the tries of all cases, those of the time that the longest run takes and of what runs take else, and that of the
+    program's symbols."""
     groups = []
     for file in FILES:
         with open(f"{HERE}/{file}", "rb") as it:
@@ -320,6 +323,7 @@ def all_tries(program, room):
     yield from tries(program, groups, room)
     with open(f"{TOP}/{LONGEST}", "rb") as it:
         yield from waits.tries(program, it.read())
+    yield from bounds.tries(program, room)
     yield from symbols.tries(program)
 
 
