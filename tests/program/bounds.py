@@ -10,10 +10,11 @@ The runs are those of bounds.toml, and bounds.csv has their figures:
   run has no more blocks than its ring has slots: then each thread can be held until the producer has published all and joins it.
   Nothing has to wait, and all figures are the same each time, beside other work too.
 
-All figures but the instructions must be equal. These may differ by TOLERANCE, so that another version of the kit, which may
-compile a function otherwise, passes. A figure changes only by a commit that says why; --write writes the table anew. There is a
-line for each figure that differs, and a last line that counts. Without a C compiler all is skipped; without valgrind, or on a
-processor of another kind, the instructions.
+All figures but the instructions must be equal. Repeated runs gave the same instructions too, beside other work and from any
+folder; they may differ by a thousandth (TOLERANCE), as another processor may begin otherwise. A figure changes only by a commit
+that says why: if the code changes, or the kit compiles it otherwise, --write writes the table anew. There is a line for each run
+that differs, and a last line that counts. Without a C compiler all is skipped; without valgrind, or on a processor of another
+kind, the instructions.
 """
 import argparse
 import functools
@@ -36,6 +37,8 @@ from case_texts import text_of, words_of
 from shown import Shown, refused
 from verdicts import SKIPPED, Tally
 
+# How the program is called, by a link in the folder where it runs: it reads its own path too, whose length must not count.
+CALLED = "./crnsim"
 RUNS, TABLE = f"{HERE}/bounds.toml", f"{HERE}/bounds.csv"
 HEAD = """# What runs of the program take. bounds.py says what each column has, and bounds.toml which runs these are.
 # A figure changes only by a commit that says why: tests/program/bounds.py PROGRAM --write
@@ -47,7 +50,7 @@ COLUMNS = (*COUNTED, *HELD, INSTRUCTIONS)
 # Stands for a figure that depends on how threads happen to run.
 NO_FIGURE = "-"
 # The instructions of a run may differ by this part, either way.
-TOLERANCE = 0.01
+TOLERANCE = 0.001
 # Callgrind runs the code of this kind of processor, and another kind has other instructions.
 MACHINE = "x86_64"
 # Keeps the C library from copying by string instructions, of which callgrind takes a byte at a time: a long text takes minutes.
@@ -69,15 +72,21 @@ def cases():
             yield f"{group['name']}: {words}{place}{fault}", case
 
 
-def run(program, case, words, room, environment=None):
-    """Runs a command in a folder, where FILE is, and returns what it shows. Its input is a file, which is read in the same
-    pieces each time."""
+def run(before, case, words, room, environment=None):
+    """Runs the program with these words, behind others before it, in a folder where FILE is, and returns what it shows. Its
+    input is a file, which is read in the same pieces each time."""
     with open(f"{room}/INPUT", "w+b") as file:
         file.write(text_of(case, "input") or b"")
         file.seek(0)
-        ran = subprocess.run([*program, *words], stdin=file, capture_output=True, cwd=room, timeout=SECONDS, check=False,
+        ran = subprocess.run([*before, CALLED, *words], stdin=file, capture_output=True, cwd=room, timeout=SECONDS, check=False,
                              env={**os.environ, **(environment or {})})
     return Shown(ran.stdout, ran.stderr, ran.returncode)
+
+
+def linked(program, room):
+    """Puts a link to the program into a folder, and returns the program's own path."""
+    os.symlink(os.path.realpath(program), f"{room}/{CALLED}")
+    return os.path.realpath(program)
 
 
 def is_right(case, shown):
@@ -87,11 +96,11 @@ def is_right(case, shown):
     return bool(shown.output) and shown[1:] == (b"", 0)
 
 
-def put_file(program, case, room):
+def put_file(case, room):
     """Puts the case's FILE into a folder."""
     text = text_of(case, "file")
     if "cut" in case:
-        text = run([program], case, ["leg", str(case["cut"])], room).output
+        text = run([], case, ["leg", str(case["cut"])], room).output
     if text is not None:
         with open(f"{room}/FILE", "wb") as file:
             file.write(text)
@@ -112,7 +121,8 @@ def instructions_in(file, program):
 
 
 def instructions_of(program, case, room, environment):
-    """Returns the instructions of a run; NO_FIGURE if it is not held, and None if they can't be counted here."""
+    """Returns the instructions of a run: NO_FIGURE if it is not held, None if they can't be counted here, and 0 if it does not
+    end as it should."""
     if not case.get("held"):
         return NO_FIGURE
     if not shutil.which("valgrind") or platform.machine() != MACHINE:
@@ -120,16 +130,16 @@ def instructions_of(program, case, room, environment):
     file = f"{room}/callgrind"
     callgrind = ["valgrind", "-q", "--tool=callgrind", "--compress-strings=no", "--compress-pos=no",
                  f"--callgrind-out-file={file}"]
-    shown = run([*callgrind, program], case, words_of(case, "."), room, {**environment, **NO_STRINGS})
-    return instructions_in(file, program) if is_right(case, shown) else "another end"
+    shown = run(callgrind, case, words_of(case, "."), room, {**environment, **NO_STRINGS})
+    return instructions_in(file, program) if is_right(case, shown) else 0
 
 
 def figures_of(program, case, built, room):
     """Returns the figures of a run by their columns. Where it does not end as it should, there is none."""
-    put_file(program, case, room)
+    put_file(case, room)
     held = case.get("held", False)
     environment = preload.environment(built, f"{room}/counts", **({"hold_threads": 1} if held else {}))
-    if not is_right(case, run([program], case, words_of(case, "."), room, environment)):
+    if not is_right(case, run([], case, words_of(case, "."), room, environment)):
         return {}
     counts = preload.counts_of(f"{room}/counts")
     figures = {it: getattr(counts, it) for it in COUNTED}
@@ -169,7 +179,7 @@ def tries(program, room):
         return
     if not shutil.which("valgrind") or platform.machine() != MACHINE:
         yield f"the instructions of runs: no valgrind for {MACHINE}", SKIPPED
-    rows, program = stored_rows(), os.path.realpath(program)
+    rows, program = stored_rows(), linked(program, room)
     for name, case in cases():
         yield f"what a run takes, {name}", functools.partial(judged, program, case, built, room, rows.get(name, {}))
     yield "what runs take: the table has just these runs", functools.partial(has_just, rows)
@@ -182,10 +192,10 @@ def has_just(rows):
 
 def write(program, room):
     """Writes the table anew. Returns the exit status."""
-    built, program, rows = preload.library(room), os.path.realpath(program), []
+    built, program, rows = preload.library(room), linked(program, room), []
     for name, case in cases():
         figures = figures_of(program, case, built, room) if built else {}
-        if None in figures.values() or not figures:
+        if not figures.get(INSTRUCTIONS):
             print(f"tests/program/bounds.py: {name}: the figures can't be taken; this needs cc and valgrind", file=sys.stderr)
             return 2
         rows.append(";".join([name, *(str(figures[it]) for it in COLUMNS)]))
