@@ -10,6 +10,7 @@ import xml.etree.ElementTree
 from fractions import Fraction
 
 from tries import HERE, changed, priced, python_with, python_with_numpy, run, text_of, tool, write
+from verdicts import SKIPPED
 
 PNG = "\u0089PNG\r\n\u001a\n"
 PUBLISHED_T = 1.998  # 63 degrees of freedom, 0.975
@@ -105,7 +106,7 @@ def end_effect_tries(room):
     tests. All are skipped if no Python has numpy."""
     python = python_with_numpy()
     if python is None:
-        yield "end effects, since no python3 has numpy", None
+        yield "end effects, since no python3 has numpy", SKIPPED
         return
     for name, unit in (("spare_part", 5), ("mail_order", 20)):
         text = priced(name, unit)
@@ -160,7 +161,7 @@ def picture_tries(room):
     yield from no_matplotlib_tries(room)
     python = python_with("matplotlib")
     if python is None:
-        yield "decide.py: pictures, since no python3 has matplotlib (Debian's python3-matplotlib)", None
+        yield "decide.py: pictures, since no python3 has matplotlib (Debian's python3-matplotlib)", SKIPPED
         return
     sweep = "examples/case/sweep.csv --scenario examples/case/scenario.toml --sweep".split()
     for name, report in (("few", ["examples/spare_part.csv", "--replications", "64"]), ("many", sweep)):

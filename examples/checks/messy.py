@@ -10,6 +10,7 @@ import tomllib
 
 from messy_histories import CASES
 from tries import HERE, python_with_numpy, run, text_of, tool, write
+from verdicts import SKIPPED
 
 MOST_ABOVE = 0.01
 KEY = "00000000000000a1"
@@ -80,7 +81,7 @@ def messy_tries(room):
     """The three histories. Without numpy they are skipped."""
     python = python_with_numpy()
     if python is None:
-        yield "messy histories, since no python3 has numpy (Debian's python3-numpy)", None
+        yield "messy histories, since no python3 has numpy (Debian's python3-numpy)", SKIPPED
         return
     for case in (make() for make in CASES):
         scenario = suggested_in(room, case, python)

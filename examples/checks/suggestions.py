@@ -5,6 +5,7 @@ import sys
 import tomllib
 
 from tries import HERE, changed, priced, python_with_numpy, run, text_of, write
+from verdicts import SKIPPED
 
 EXAMPLES = ["two_policies", "spare_part", "mail_order", "case/scenario"]
 DEMAND = "values = [0, 1, 2, 3, 4, 5, 6, 7, 8, 10, 12]\nweights = [4, 8, 13, 17, 18, 15, 10, 7, 4, 3, 1]"
@@ -118,7 +119,7 @@ def suggestion_tries(room):
     yield "suggest.py: no numpy", right and told[2].count("\n") == 1 or str(told)
     python = python_with_numpy()
     if python is None:
-        yield "suggest.py, since no python3 has numpy (Debian's python3-numpy)", None
+        yield "suggest.py, since no python3 has numpy (Debian's python3-numpy)", SKIPPED
         return
     yield from suggested_tries(room, python)
     yield from refused_tries(room, python)

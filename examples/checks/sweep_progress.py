@@ -5,6 +5,7 @@ import subprocess
 import sys
 
 from tries import DEBIAN_PYTHON, HERE, run, text_of, write
+from verdicts import SKIPPED
 
 # Ten scenarios without the base: 150 pairs.
 WORDS = ["examples/tools/sweep.py", "base.toml", "--s", "1", "10", "1", "--S", "41", "55", "1", "--jobs", "1"]
@@ -48,7 +49,7 @@ def progress_tries(room):
     with_tqdm = next((python for python in (sys.executable, DEBIAN_PYTHON) if os.access(python, os.X_OK) and
                       subprocess.run([python, "-c", "import tqdm, tomllib"], capture_output=True).returncode == 0), None)
     if with_tqdm is None:
-        yield "sweep: progress by tqdm (Debian's python3-tqdm)", None
+        yield "sweep: progress by tqdm (Debian's python3-tqdm)", SKIPPED
         return
     status, shown = on_terminal(room, [with_tqdm, *WORDS])
     yield "sweep: progress by tqdm", status == 0 and "100%" in shown and "10/10" in shown or ascii(shown)

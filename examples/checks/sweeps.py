@@ -4,6 +4,7 @@ import sys
 
 from clusters import LOOPBACK, WORKERS, Cluster, python_with_distributed
 from tries import changed, priced, run, text_of, tool, write
+from verdicts import SKIPPED
 
 COUNTING = '#!/bin/sh\necho >> "{room}/runs"\nexec "{room}/crates/crnsim/out/crnsim"\n'
 # A file of a sweep's folder, how much of it is left (0: it is removed) and what is put behind; how many runs the sweep
@@ -143,7 +144,7 @@ def cluster_tries(room):
     yield "sweep: no distributed", right and "needs distributed" in errors or output + errors
     python = python_with_distributed()
     if python is None:
-        yield "sweep: a cluster, since no python3 has distributed (Debian's python3-distributed)", None
+        yield "sweep: a cluster, since no python3 has distributed (Debian's python3-distributed)", SKIPPED
         return
     write(f"{room}/holding", HOLDING.format(room=room))
     os.chmod(f"{room}/holding", 0o755)

@@ -3,6 +3,7 @@ import sys
 
 from decisions import PNG, texts_of
 from tries import HERE, python_with, run, text_of, tool, write
+from verdicts import SKIPPED
 
 # The example of docs/FORMATS.md, "What happens in a period": orders, net demands, stocks and positions.
 BY_HAND = {"A": [(0, 1, 59, 59), (0, 2, 57, 57), (0, 2, 55, 55), (0, 4, 51, 51)],
@@ -78,7 +79,7 @@ def trajectory_tries(room):
     yield from refused_tries(room)
     python = python_with("matplotlib")
     if python is None:
-        yield "trajectory.py: pictures, since no python3 has matplotlib (Debian's python3-matplotlib)", None
+        yield "trajectory.py: pictures, since no python3 has matplotlib (Debian's python3-matplotlib)", SKIPPED
         return
     for kind in ("png", "svg"):
         words = ["examples/spare_part.toml", "today", "both", "--periods", "40", "--out", f"stock.{kind}"]

@@ -1,11 +1,13 @@
 """Tries of the worked case, the reports and some of the tools, for examples/check.
 
 Each part takes a room, which is a folder with a copy of the examples and the program. It returns the name of each try
-and how it went: True, None if it was skipped, and else what went wrong.
+and its verdict (tests/verdicts.py).
 """
 import os
 import subprocess
 import sys
+
+from verdicts import SKIPPED
 
 HERE = os.path.dirname(os.path.dirname(os.path.abspath(__file__)))
 sys.path.append(f"{HERE}/tools")
@@ -77,13 +79,13 @@ def case_tries(room):
     blocks = text_of(f"{HERE}/case/README.md").split("```sh\n")[1:]
     for command in [line for block in blocks for line in block.split("```")[0].splitlines()]:
         if python is None and "suggest" in command:
-            yield f"{command}, since no python3 has numpy", None
+            yield f"{command}, since no python3 has numpy", SKIPPED
             continue
         status, _, errors = run(room, ["sh", "-c", command.replace(DEBIAN_PYTHON, python or DEBIAN_PYTHON)])
         yield command, status == (3 if "broken" in command else 0) or errors
     for name in STORED:
         if python is None and "suggest" in name:
-            yield f"examples/case/{name}, since no python3 has numpy", None
+            yield f"examples/case/{name}, since no python3 has numpy", SKIPPED
             continue
         yield f"examples/case/{name}", 0 < len(text_of(f"{HERE}/case/{name}")) and \
             text_of(f"{room}/examples/case/{name}") == text_of(f"{HERE}/case/{name}")

@@ -15,6 +15,7 @@ from fractions import Fraction
 
 from pages import TOP, blocks_of, fences_of, pieces_of, prose_of, spans_of, text_of
 from shell import RUNNERS, Missing, Room, commands_of
+from verdicts import SKIPPED
 
 PAGES = ["README.md", "docs/GUIDE.md", "docs/FORMATS.md"]
 # What is never run, since it proves, or changes the machine, or asks others: each such command stands below.
@@ -114,7 +115,7 @@ class Page:
             status, text = self.room.run(kind, command)
         except Missing as missing:
             printed.append((name, None))
-            yield f"{name}: {missing} is missing", None
+            yield f"{name}: {missing} is missing", SKIPPED
             return
         printed.append((name, text))
         yield name, status == 0 or f"ends with {status}: {text[-200:].strip()!r}"
@@ -147,7 +148,7 @@ class Page:
         self.waiting = None
         lacking = [name for name, it in printed if it is None]
         if lacking:
-            yield f"{lacking[0]}: what it prints", None
+            yield f"{lacking[0]}: what it prints", SKIPPED
             return
         wrong, place = unlike("".join(it for _, it in printed), text)
         names = [name for name, it in printed for _ in it]

@@ -33,6 +33,7 @@ from ranges import range_tries
 from rules import rule_tries
 from statuses import status_tries
 from tables import table_tries
+from verdicts import Tally
 
 
 def link_tries(_):
@@ -143,18 +144,12 @@ def main(path):
     if not os.access(path, os.X_OK):
         print(f"FAILED {path}: there is no such program\n0 passed, 1 failed")
         return 1
-    counts = {True: 0, False: 0, None: 0}
+    tally = Tally()
     with tempfile.TemporaryDirectory(prefix="crnsim-") as folder:
         program = Program(path, folder)
-        for name, right in (each for part in PARTS for each in tried(part, program)):
-            counts[right if right in (True, None) else False] += 1
-            if right is None:
-                print(f"skipped {name}")
-            elif right is not True:
-                print(f"FAILED {name}" + (f": {right}" if right else ""))
-    skipped = f", {counts[None]} skipped" if counts[None] else ""
-    print(f"{counts[True]} passed, {counts[False]} failed{skipped}")
-    return 1 if counts[False] else 0
+        for name, verdict in (each for part in PARTS for each in tried(part, program)):
+            tally.add(name, verdict)
+    return tally.end()
 
 
 if __name__ == "__main__":

@@ -17,8 +17,6 @@ from shown import Shown, refused
 HERE = os.path.dirname(os.path.abspath(__file__))
 
 SECONDS = 20
-# What a try yields as its verdict where it can't be made here; None is a try that did well.
-SKIPPED = "skipped"
 # The longest input.
 LIMIT = formats.MOST_BYTES
 # The policies of the scenario of five periods, A and B, and the last row of a checkpoint.
@@ -219,4 +217,4 @@ def tries(_program, room):
     names = [{it.split()[0] for it in READS if it}, {it.words[0] for it in all_commands(room)}]
     for usage in sorted({*formats.COMMANDS, *filter(None, READS)}):
         known = usage in READS and usage in formats.COMMANDS and all(usage.split()[0] in it for it in names)
-        yield usage, None if known else "the page, READS or all_commands lacks it"
+        yield usage, known or "the page, READS or all_commands lacks it"

@@ -43,7 +43,7 @@ def crowd_tries(program, room, wanted):
         processes = [begun(program, file) for _ in range(PROCESSES)]
         for number, process in enumerate(processes):
             shown = ended(process, 3 * SECONDS)
-            yield f"ring {ring}, process {number} of {PROCESSES}", None if shown == wanted else unlike(shown)
+            yield f"ring {ring}, process {number} of {PROCESSES}", shown == wanted or unlike(shown)
 
 
 def shared_tries(program, room, wanted):
@@ -59,7 +59,7 @@ def shared_tries(program, room, wanted):
             for number in range(RINGS[ring]):
                 shown = ended(begun(program, file, stay), 6 * SECONDS)
                 name = f"ring {ring}, run {number} on one processor with {BUSY} busy processes"
-                yield name, None if shown == wanted else unlike(shown)
+                yield name, shown == wanted or unlike(shown)
     finally:
         for process in busy:
             process.kill()

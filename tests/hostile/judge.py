@@ -240,9 +240,9 @@ def judged(program, room, seed, cases):
             written(room, "FILE", case.file)
         shown = run(program, case.words, case.data)
         met[case.rule] += 1
-        yield name, None if answered(shown, case) else f"wanted {case.rule}: {unlike(shown)}"
+        yield name, answered(shown, case) or f"wanted {case.rule}: {unlike(shown)}"
     print(", ".join(f"{rule}: {met[rule]}" for rule in sorted(met)), flush=True)
-    yield "every answer was wanted", ", ".join(sorted({*answers()} - met.keys())) or None
+    yield "every answer was wanted", not (never := sorted({*answers()} - met.keys())) or ", ".join(never)
 
 
 def show(case):

@@ -65,14 +65,14 @@ def address_tries(program, command, sizes, least):
     for size in sizes:
         shown = limited(program, command, resource.RLIMIT_AS, size)
         seen.append(shown)
-        good = shown == MEMORY or (shown == THREAD and command.starts) or command.is_right(shown)
+        good = shown == MEMORY or (shown == THREAD and command.starts > 0) or command.is_right(shown)
         good = good or (size < least + STACK_ROOM and (is_ended(shown) or not is_up(shown)))
-        yield f"{command.name} of {command.starts}, {size} KB of address space", None if good else unlike(shown)
+        yield f"{command.name} of {command.starts}, {size} KB of address space", good or unlike(shown)
     # Where short inputs want memory that is not there is a matter of a few pages.
     wanted = ({THREAD} if command.starts else set()) | ({MEMORY} if len(command.data) > LIMIT // 2 else set())
     good = wanted <= set(seen) and command.is_right(seen[-1])
-    wrong = None if good else "not each fault came, or not the right bytes at last"
-    yield f"{command.name} of {command.starts}, from no process to the right bytes", wrong
+    verdict = good or "not each fault came, or not the right bytes at last"
+    yield f"{command.name} of {command.starts}, from no process to the right bytes", verdict
 
 
 def stack_tries(program, command):
@@ -82,9 +82,9 @@ def stack_tries(program, command):
         shown = limited(program, command, resource.RLIMIT_STACK, size)
         good = command.is_right(shown) or (size in SMALL_STACKS and is_ended(shown))
         # A stack that is larger than all address space can't be had for a thread.
-        good = good or (size in HUGE_STACKS and shown == THREAD and command.starts)
+        good = good or (size in HUGE_STACKS and shown == THREAD and command.starts > 0)
         least = max(least, size) if is_ended(shown) else least
-        yield f"{command.name} of {command.starts}, {size} KB of stack", None if good else unlike(shown)
+        yield f"{command.name} of {command.starts}, {size} KB of stack", good or unlike(shown)
     print(f"limits: {command.name} of {command.starts} works with a stack of more than {least} KB", flush=True)
 
 

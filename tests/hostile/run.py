@@ -1,8 +1,8 @@
 #!/usr/bin/env python3
 """Tries the built program against hostile use: tests/hostile/run.py PROGRAM [PART ..].
 
-Each part yields the name of each try with its verdict: None where it did well, SKIPPED, or what was wrong. A try that
-was made without a C compiler, or without the right to drop rights, is skipped and named.
+Each part yields the name of each try with its verdict (tests/verdicts.py). What needs a C compiler, or the right to drop
+rights, is skipped and named without it.
 """
 import os
 import sys
@@ -18,6 +18,7 @@ import limits
 import refusals
 import streams
 import texts
+from verdicts import Tally
 
 SEED, CASES = 20250101, 2000
 PARTS = {
@@ -34,21 +35,14 @@ PARTS = {
 
 def main(program, names):
     """Makes the tries of all parts, or of those named, and counts them."""
-    counts = {"passed": 0, "failed": 0, "skipped": 0}
+    tally = Tally()
     for part in names or PARTS:
-        begun, before = time.monotonic(), dict(counts)
+        begun, before = time.monotonic(), tally.count
         with tempfile.TemporaryDirectory(prefix="crnsim-") as room:
-            for name, wrong in PARTS[part](program, room):
-                counts["skipped" if wrong == commands.SKIPPED else "failed" if wrong else "passed"] += 1
-                if wrong == commands.SKIPPED:
-                    print(f"SKIPPED {part}: {name}", flush=True)
-                elif wrong:
-                    print(f"FAILED {part}: {name}: {wrong}", flush=True)
-        tried = sum(counts.values()) - sum(before.values())
-        print(f"{part}: {tried} tries in {time.monotonic() - begun:.0f} seconds", flush=True)
-    skipped = f", {counts['skipped']} skipped" if counts["skipped"] else ""
-    print(f"{counts['passed']} passed, {counts['failed']} failed{skipped}")
-    return 1 if counts["failed"] else 0
+            for name, verdict in PARTS[part](program, room):
+                tally.add(f"{part}: {name}", verdict)
+        print(f"{part}: {tally.count - before} tries in {time.monotonic() - begun:.0f} seconds", flush=True)
+    return tally.end()
 
 
 if __name__ == "__main__":

@@ -11,8 +11,8 @@ import time
 
 import formats
 import readers
-from commands import (LIMIT, READING, SECONDS, SKIPPED, TOP, WRITING, Shown, all_commands, refused, run, unlike,
-                      written)
+from commands import LIMIT, READING, SECONDS, TOP, WRITING, Shown, all_commands, refused, run, unlike, written
+from verdicts import SKIPPED
 
 # Of so many bytes each is tried as the last one that goes out.
 BYTES = 200
@@ -22,13 +22,13 @@ LINUX_PR_CAPBSET_DROP, LINUX_CAP_DAC_OVERRIDE, LINUX_CAP_DAC_READ_SEARCH = 24, 1
 
 
 def verdict(shown, wanted):
-    """None where a run shows what is wanted."""
-    return None if shown == wanted else unlike(shown)
+    """The verdict on a run that is to show what is wanted."""
+    return shown == wanted or unlike(shown)
 
 
 def right(command, shown):
-    """None where a run shows the right bytes."""
-    return None if command.is_right(shown) else unlike(shown)
+    """The verdict on a run that is to show the right bytes."""
+    return command.is_right(shown) or unlike(shown)
 
 
 # ---- standard input
@@ -127,13 +127,12 @@ def run_to_leaver(program, command, room, count):
     return Shown(got, errors, process.returncode)
 
 
-def wrong_front(whole, size, shown, is_all_taken):
-    """What is wrong with a run of whose output so many bytes were taken: a front went out, and what was not taken is
-    told."""
+def of_front(whole, size, shown, is_all_taken):
+    """The verdict on a run of whose output so many bytes were taken: a front went out, and what was not taken is told."""
     ends = [WRITING[1:]] if size < len(whole) else [(b"", 0)]
     if is_all_taken:
         ends = [WRITING[1:], (b"", 0)]
-    return None if shown.output == whole[:size] and shown[1:] in ends else unlike(shown)
+    return (shown.output == whole[:size] and shown[1:] in ends) or unlike(shown)
 
 
 def output_tries(program, commands, room):
@@ -148,11 +147,11 @@ def output_tries(program, commands, room):
         whole = command.output or run(program, command.words, command.data).output
         for size in range(min(BYTES, len(whole)) + 1):
             shown = run_into_file(program, command, room, size)
-            yield f"{name} to a file of {size} bytes", wrong_front(whole, size, shown, False)
+            yield f"{name} to a file of {size} bytes", of_front(whole, size, shown, False)
         # A pipe takes a short text whole, unless its reader has left before: then either end is right.
         for size in range(min(BYTES, len(whole)) + 1):
             shown = run_to_leaver(program, command, room, size)
-            yield f"{name} whose reader leaves after {size} bytes", wrong_front(whole, size, shown, size > 0)
+            yield f"{name} whose reader leaves after {size} bytes", of_front(whole, size, shown, size > 0)
 
 
 def long_output_tries(program, commands, room):
@@ -163,7 +162,7 @@ def long_output_tries(program, commands, room):
     replay = replay._replace(words=["replay", "1", "1", "0"], data=b"e\n" * turns, output=whole)
     for size in range(BYTES + 1):
         shown = run_to_leaver(program, replay, room, size)
-        yield f"long trace, reader leaves after {size} bytes", wrong_front(whole, size, shown, False)
+        yield f"long trace, reader leaves after {size} bytes", of_front(whole, size, shown, False)
 
 
 def error_tries(program):

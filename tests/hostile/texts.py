@@ -189,12 +189,12 @@ def cost_of(program, words, data, room):
         return Cost(float(took[0]), int(took[1]) / 1024, int(took[2]), it.read())
 
 
-def wrong_cost(text, cost):
-    """What is wrong with the answer to a text, and with what it took."""
+def judged_cost(text, cost):
+    """The verdict on the answer to a text, and on what it took."""
     line = f"crnsim: {text.fault}\n".encode() if text.fault else b""
     if (cost.status, cost.errors) != (formats.status_of(text.fault), line):
         return f"status {cost.status}, {cost.errors[:80]!r}"
-    return f"took {told(cost)}" if is_over(cost, text.most) else None
+    return not is_over(cost, text.most) or f"took {told(cost)}"
 
 
 def is_over(cost, most):
@@ -230,7 +230,7 @@ def tries(program, room):
     for name, text, cost in costs(program, room):
         if is_over(cost, MOST):
             print(f"OVER texts: {name}: {told(cost)}", flush=True)
-        yield name, wrong_cost(text, cost)
+        yield name, judged_cost(text, cost)
 
 
 def main(program):

@@ -25,10 +25,10 @@ lead = {{ values = [1], weights = [1] }}
     return head + "".join(f'[[policy]]\nname = "p{p}"\ns = {p}\nS = {100 + p}\n' for p in range(policies))
 
 
-def checkpoint(policies, replications):
+def checkpoint(policies, replications, version=oracle.NEWEST):
     """Its checkpoint at the end, as if the policies had cost what is said above."""
     states = [(10, 0, {}, [1000 + 10 * p + (p + 1) * i for i in range(replications)]) for p in range(policies)]
-    return oracle.checkpoint_text(tomllib.loads(scenario(policies, replications)), replications, states)
+    return oracle.checkpoint_text(tomllib.loads(scenario(policies, replications)), replications, states, version)
 
 
 def words(number):

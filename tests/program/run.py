@@ -14,17 +14,19 @@ then as a named pipe (pieces.py).
 
 A case is tried with each of its commands and each of its files (of the repository), where it has lists of them. Some
 cases stand for many tries. blocks: the scenario is run, then cut at each of these blocks, or at all, and resumed on
-another ring (ring). old_blocks: its checkpoints of the old version there are migrated. long: for both the oracle computes
-a long run. prefixes: the fault is told of each proper prefix of the file. turned: and of the file with each of its bytes
+another ring (ring). old_blocks: its checkpoints of the old version there are migrated. long: for both, or a report, the oracle
+computes a long run. prefixes: the fault is told of each proper prefix of the file. turned: and of the file with each of its bytes
 put to this one. Where these are answered in several ways, a map has in place of each byte the name of
 an answer; a case without a file has its input changed. rows: the fault is told of the file with one of these rows put
 in, at each place. steps: of changes of the input that are made one after the other, each tells the scenario's fault that
 comes next. What the oracle, a second program (oracle.py), can tell of a case is tried too: it has to write the output
 that is wanted, so to agree with what was worked by hand, and the program has to write the same.
 
-At the end the longest run is timed on rings of several sizes (waits.py), and the program's symbols are looked at (symbols.py).
+At the end the longest run is timed on rings of several sizes (waits.py), what runs take is compared with stored figures
+(bounds.py), and the program's symbols are looked at (symbols.py).
 """
 import contextlib
+import functools
 import itertools
 import os
 import resource
@@ -38,14 +40,16 @@ TOP = os.path.dirname(os.path.dirname(HERE))
 # Compiled text is not to stand in the repository.
 sys.dont_write_bytecode = True
 sys.path += [f"{TOP}/tests", f"{TOP}/examples/tools"]
+import bounds
 import formats
-import made
 import oracle
 import pieces
 import symbols
 import waits
+from case_texts import changed, text_of, words_of
 from scenarios import on_ring
 from shown import refused
+from verdicts import Tally
 
 FILES = ["reports.toml", "replays.toml", "cases.toml", "scenarios.toml", "checkpoints.toml", "legs.toml", "limits.toml"]
 # The scenario of the longest run.
@@ -54,46 +58,6 @@ LONGEST = "bench/largest.toml"
 SECONDS = 60
 # A standard input that says nothing and doesn't end.
 SILENT = os.pipe()
-
-
-def changed(text, change, case):
-    """A text of a case with a change."""
-    old, new, *numbers = change
-    if old not in text:
-        raise SystemExit(f"no {old!r} in a text of {case['name']}")
-    if numbers:
-        first, count = numbers
-        new = "".join(new.replace("#", str(it)) for it in range(first, first + count))
-    return text.replace(old, new)
-
-
-def text_of(case, name):
-    """The bytes of a case's text, or None where it has none."""
-    if not {name, f"{name}_from", f"{name}_made"} & case.keys():
-        return None
-    text = case.get(name, "")
-    if f"{name}_made" in case:
-        maker, *numbers = case[f"{name}_made"]
-        text = made.MAKERS[maker](*numbers)
-    if f"{name}_from" in case:
-        with open(f"{TOP}/{case[f'{name}_from']}", encoding="utf-8") as it:
-            text = it.read()
-    first = [case[f"{name}_change"]] if f"{name}_change" in case else []
-    for change in first + case.get(f"{name}_changes", []):
-        text = changed(text, change, case)
-    if f"{name}_lines" in case:
-        text = "".join(text.splitlines(keepends=True)[:case[f"{name}_lines"]])
-    if f"{name}_fill" in case:
-        fill, size = case[f"{name}_fill"], case[f"{name}_size"]
-        text = (text + fill * (size // len(fill) + 1))[:size]
-    return (text + case.get(f"{name}_end", "")).encode(case.get(f"{name}_encoding", "utf-8"))
-
-
-def words_of(case, room):
-    """The words of a case's command line."""
-    words = case["args"].split() if isinstance(case["args"], str) else case["args"]
-    words = [f"{room}/FILE" if word == "FILE" else word for word in words]
-    return [it.encode(case["args_encoding"]) for it in words] if "args_encoding" in case else words
 
 
 def run(program, args, data, to=None, kilobytes=None):
@@ -180,13 +144,30 @@ def told(case):
     """What the oracle writes for a case, or None where a fault is wanted or the oracle knows no such command."""
     if "fault" in case:
         return None
+    if "long" in case:
+        return oracle.report_of(run_of(case))
     return oracle.answer(words_of(case, None), (text_of(case, "input") or b"").decode())
+
+
+def shows(wanted, program, args, data):
+    """Whether a run shows just this."""
+    return run(program, args, data) == wanted
+
+
+def is_told(program, case, room, its):
+    """Whether the case wants what the oracle tells, and a run shows it."""
+    return is_wanted(case, its) and shown_of(program, case, room) == its
 
 
 def on_file(program, room, args, file, data=None):
     """What a run shows where this text is in FILE."""
     write_file(room, file)
     return run(program, args, data)
+
+
+def shows_on_file(wanted, program, room, args, file, data=None):
+    """Whether a run shows just this where this text is in FILE."""
+    return on_file(program, room, args, file, data) == wanted
 
 
 def blocks_of(case, name):
@@ -210,24 +191,25 @@ def cut_tries(program, case, room):
     data, resume, size = text_of(case, "input"), ["resume", f"{room}/FILE"], case.get("ring", 1)
     its = run_of(case)
     whole = (oracle.report_of(its).encode(), b"", 0)
-    yield "run", lambda: run(program, ["run"], data) == whole
+    yield "run", functools.partial(shows, whole, program, ["run"], data)
     for block in blocks_of(case, "blocks"):
-        leg = oracle.checkpoint_of(its, block).encode()
-        yield f"leg {block}", lambda: run(program, ["leg", str(block)], data) == (leg, b"", 0)
-        yield f"resumed from {block}", lambda: on_file(program, room, resume, leg, on_ring(data, size)) == whole
+        leg, ring = oracle.checkpoint_of(its, block).encode(), on_ring(data, size)
+        yield f"leg {block}", functools.partial(shows, (leg, b"", 0), program, ["leg", str(block)], data)
+        yield f"resumed from {block}", functools.partial(shows_on_file, whole, program, room, resume, leg, ring)
 
 
 def old_tries(program, case, room):
     """Migrates old checkpoints of a run: from what comes of them it ends as the whole run. No command takes both."""
     data, resume, migrate = text_of(case, "input"), ["resume", f"{room}/FILE"], ["migrate", f"{room}/FILE"]
-    its = run_of(case)
+    its, ring = run_of(case), on_ring(data, 1024)
     whole = (oracle.report_of(its).encode(), b"", 0)
     for block, version in itertools.product(blocks_of(case, "old_blocks"), formats.CHECKPOINT_VERSIONS[:-1]):
         old, new = (oracle.checkpoint_of(its, block, it).encode() for it in (version, oracle.NEWEST))
-        yield f"migrated at {block}", lambda: on_file(program, room, migrate, old) == (new, b"", 0)
-        yield f"resumed from {block}", lambda: on_file(program, room, resume, new, on_ring(data, 1024)) == whole
-        yield f"migrated twice at {block}", lambda: on_file(program, room, migrate, new) == refused("checkpoint 5")
-        yield f"old resumed at {block}", lambda: on_file(program, room, resume, old, data) == refused("checkpoint 4")
+        for name, wanted, words, file, text in (
+                ("migrated at", (new, b"", 0), migrate, old, None), ("resumed from", whole, resume, new, ring),
+                ("migrated twice at", refused("checkpoint 5"), migrate, new, None),
+                ("old resumed at", refused("checkpoint 4"), resume, old, data)):
+            yield f"{name} {block}", functools.partial(shows_on_file, wanted, program, room, words, file, text)
 
 
 def changed_text(case):
@@ -238,7 +220,7 @@ def changed_text(case):
     return text
 
 
-def is_wanted_at(program, case, room, place, changed):
+def is_wanted_at(program, case, room, place, text):
     """Whether a run on a changed text shows what the case wants of a change at this place, by its map if it has one."""
     args, data = words_of(case, room), text_of(case, "input")
     wanted = case
@@ -246,28 +228,28 @@ def is_wanted_at(program, case, room, place, changed):
         letter = case["map"][place]
         wanted = {**case, **case["answers"]["line end" if letter == "\n" else letter]}
     if "becomes" in wanted:
-        text = changed.decode()
+        output = text.decode()
         for old, new in wanted["becomes"]:
-            text = text.replace(old, new)
-        wanted = {**wanted, "output": text}
+            output = output.replace(old, new)
+        wanted = {**wanted, "output": output}
     if text_of(case, "file") is None:
-        return is_wanted(wanted, run(program, args, changed))
-    return is_wanted(wanted, on_file(program, room, args, changed, data))
+        return is_wanted(wanted, run(program, args, text))
+    return is_wanted(wanted, on_file(program, room, args, text, data))
 
 
 def prefix_tries(program, case, room):
     """Tries each proper prefix of the text."""
     text = changed_text(case)
     for size in range(len(text)):
-        yield f"{size} bytes", lambda: is_wanted_at(program, case, room, size, text[:size])
+        yield f"{size} bytes", functools.partial(is_wanted_at, program, case, room, size, text[:size])
 
 
 def turned_tries(program, case, room):
     """Tries the text with each of its bytes put to another."""
     text, byte = changed_text(case), case["turned"].encode()
     for place in range(len(text)):
-        changed = text[:place] + byte + text[place + 1:]
-        yield f"byte {place}", lambda: is_wanted_at(program, case, room, place, changed)
+        turned = text[:place] + byte + text[place + 1:]
+        yield f"byte {place}", functools.partial(is_wanted_at, program, case, room, place, turned)
 
 
 def row_tries(program, case, room):
@@ -275,8 +257,8 @@ def row_tries(program, case, room):
     file, data, args = text_of(case, "file"), text_of(case, "input"), words_of(case, room)
     lines = file.decode().splitlines(keepends=True)
     for row, place in itertools.product(case["rows"], range(len(lines) + 1)):
-        changed = "".join([*lines[:place], f"{row}\n", *lines[place:]]).encode()
-        yield f"{row} in place {place}", lambda: on_file(program, room, args, changed, data) == refused(case["fault"])
+        longer, wanted = "".join([*lines[:place], f"{row}\n", *lines[place:]]).encode(), refused(case["fault"])
+        yield f"{row} in place {place}", functools.partial(shows_on_file, wanted, program, room, args, longer, data)
 
 
 def step_tries(program, case, _room):
@@ -284,8 +266,8 @@ def step_tries(program, case, _room):
     text = text_of(case, "input").decode()
     for number, (old, new, fault) in enumerate(case["steps"], 1):
         text = changed(text, (old, new), case)
-        data, wanted = text.encode(), refused(f"scenario {fault}")
-        yield f"step {number}, {new!r}", lambda: run(program, ["run"], data) == wanted
+        wanted = refused(f"scenario {fault}")
+        yield f"step {number}, {new!r}", functools.partial(shows, wanted, program, ["run"], text.encode())
 
 
 def try_limits(program, case, room):
@@ -316,24 +298,24 @@ def cases_of(groups):
 
 
 def tries(program, groups, room):
-    """The name of each try, and a call that says whether it does well."""
+    """The name of each try, and a call that returns its verdict."""
     for name, case in cases_of(groups):
         kinds = [it for it in MANY if it in case]
         for kind in kinds:
             for part, does_well in MANY[kind](program, case, room):
                 yield f"{name[:160]}: {part}", does_well
         if "limits" in case:
-            yield name, lambda: try_limits(program, case, room)
+            yield name, functools.partial(try_limits, program, case, room)
         elif not kinds:
-            yield name, lambda: try_case(program, case, room)
+            yield name, functools.partial(try_case, program, case, room)
             text = told(case)
             if text is not None:
-                its = text.encode(), b"", 0
-                yield f"oracle, {name}", lambda: is_wanted(case, its) and shown_of(program, case, room) == its
+                yield f"oracle, {name}", functools.partial(is_told, program, case, room, (text.encode(), b"", 0))
 
 
 def all_tries(program, room):
-    """Yields the tries of all cases, those of the time that the longest run takes, and that of the program's symbols."""
+    """Yields the tries of all cases, those of the time that the longest run takes and of what runs take else, and that of the
+    program's symbols."""
     groups = []
     for file in FILES:
         with open(f"{HERE}/{file}", "rb") as it:
@@ -341,23 +323,17 @@ def all_tries(program, room):
     yield from tries(program, groups, room)
     with open(f"{TOP}/{LONGEST}", "rb") as it:
         yield from waits.tries(program, it.read())
+    yield from bounds.tries(program, room)
     yield from symbols.tries(program)
 
 
 def main(program):
-    passed = failed = skipped = 0
+    """Makes all tries. Each is a call that returns its verdict (tests/verdicts.py), or SKIPPED."""
+    tally = Tally()
     with tempfile.TemporaryDirectory(prefix="crnsim-") as room:
-        for name, does_well in all_tries(os.path.abspath(program), room):
-            if does_well is None:
-                skipped += 1
-                print(f"skipped {name}")
-            elif does_well():
-                passed += 1
-            else:
-                failed += 1
-                print(f"FAILED {name}")
-    print(f"{passed} passed, {failed} failed" + (f", {skipped} skipped" if skipped else ""))
-    return 1 if failed else 0
+        for name, made in all_tries(os.path.abspath(program), room):
+            tally.add(name, made() if callable(made) else made)
+    return tally.end()
 
 
 if __name__ == "__main__":

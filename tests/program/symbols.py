@@ -4,9 +4,12 @@ The loop over a batch's blocks has all code of a whole block's four periods. LLV
 or that a second place calls, with no message: then the largest run takes up to a quarter longer, and nothing else shows it. What
 is left out has a symbol.
 """
+import functools
 import re
 import shutil
 import subprocess
+
+from verdicts import SKIPPED
 
 # The functions of the loop, as their symbols begin.
 LOOP = re.compile(r"crn_stock::(period|terms)::|crn_stock::state::State::(advance|run_|take_)"
@@ -22,6 +25,12 @@ def left_out_of(program):
     return {name for name in names if LOOP.match(name)}
 
 
+def has_loop(program):
+    """Returns whether only what may be left out of the loop is."""
+    return left_out_of(program) == LEFT_OUT
+
+
 def tries(program):
     """Compares what is left out of the loop with what may be; skipped if `nm` is missing."""
-    yield "what is left out of the period loop", (lambda: left_out_of(program) == LEFT_OUT) if shutil.which("nm") else None
+    looked_at = functools.partial(has_loop, program) if shutil.which("nm") else SKIPPED
+    yield "what is left out of the period loop", looked_at

@@ -16,6 +16,7 @@ Meanwhile the others yield some hundreds of times, and 100,000 times and more if
 Which pause comes when, and how long a sleep is to take, is proved (Waits.antt of crn_run); that a pause does what its name says is
 not. So on each of these rings a library counts the yields and keeps the times that threads ask to sleep for (pauses.c).
 """
+import functools
 import os
 import resource
 import shutil
@@ -25,6 +26,7 @@ import threading
 import time
 
 from scenarios import on_ring
+from verdicts import SKIPPED
 
 HERE = os.path.dirname(os.path.abspath(__file__))
 
@@ -119,10 +121,13 @@ def pauses_as_proved(program, text, size):
 
 def tries(program, text):
     """Runs a scenario on each ring; skips what needs a C compiler if that is missing."""
-    yield f"the processor seconds of a run on a ring of {SMALL} slots", lambda: yields_on_small_ring(program, text)
+    yield f"the processor seconds of a run on a ring of {SMALL} slots", functools.partial(yields_on_small_ring, program, text)
     compiles = shutil.which("cc") is not None
-    yield f"the yields on a ring of {SMALL} slots", (lambda: sleeps_while_one_is_held(program, text)) if compiles else None
+    held = functools.partial(sleeps_while_one_is_held, program, text) if compiles else SKIPPED
+    yield f"the yields on a ring of {SMALL} slots", held
     for size in (SMALL, *LARGE):
-        yield f"the pauses on a ring of {size} slots", (lambda: pauses_as_proved(program, text, size)) if compiles else None
+        paused = functools.partial(pauses_as_proved, program, text, size) if compiles else SKIPPED
+        yield f"the pauses on a ring of {size} slots", paused
     for size in LARGE:
-        yield f"the seconds asleep in a run on a ring of {size} slots", lambda: sleeps_shortly(program, on_ring(text, size))
+        asleep = functools.partial(sleeps_shortly, program, on_ring(text, size))
+        yield f"the seconds asleep in a run on a ring of {size} slots", asleep

@@ -28,12 +28,13 @@ from fractions import Fraction
 # Compiled text is not to stand in the repository.
 sys.dont_write_bytecode = True
 HERE = os.path.dirname(os.path.abspath(__file__))
-sys.path += [os.path.dirname(HERE) + "/program", os.path.dirname(os.path.dirname(HERE)) + "/examples/tools"]
+sys.path += [os.path.dirname(HERE), os.path.dirname(HERE) + "/program", os.path.dirname(os.path.dirname(HERE)) + "/examples/tools"]
 import oracle
 from expected import Expected, best_policy, chances_of
 from grid import scenario_text
 from picture import caption_of, draw
 from settings import DEMANDS, settings
+from verdicts import Tally
 
 KEYS = 8
 STORED = os.path.join(os.path.dirname(os.path.dirname(HERE)), "docs/theory.svg")
@@ -209,6 +210,14 @@ def theory_tries(_):
         yield f"the published optimum of mean {mean}", right or f"it is {told}"
 
 
+def tried(part, program):
+    """The tries of a part; one that breaks off has failed."""
+    try:
+        yield from part(program)
+    except Exception as fault:
+        yield f"{part.__name__} breaks off", repr(fault)
+
+
 def draw_picture(program, path):
     """Draws the picture into a file, and prints its caption."""
     if not path.endswith((".svg", ".png")):
@@ -240,18 +249,11 @@ def main():
         return 1
     if asked.picture is not None:
         return draw_picture(program, asked.picture)
-    counts = {True: 0, False: 0}
+    tally = Tally()
     for part in (theory_tries, setting_tries):
-        try:
-            for name, right in part(program):
-                counts[right is True] += 1
-                if right is not True:
-                    print(f"FAILED {name}" + (f": {right}" if right else ""))
-        except Exception as fault:
-            counts[False] += 1
-            print(f"FAILED {part.__name__} breaks off: {fault!r}")
-    print(f"{counts[True]} passed, {counts[False]} failed")
-    return 1 if counts[False] else 0
+        for name, verdict in tried(part, program):
+            tally.add(name, verdict)
+    return tally.end()
 
 
 if __name__ == "__main__":

@@ -1,10 +1,10 @@
-// Allocations that fail and threads that do not start. `tests/hostile` runs these tests with a library that makes one
-// allocation or one thread start fail.
+//! Allocations that fail and threads that do not start. `tests/hostile` runs these tests with a library that makes one
+//! allocation or one thread start fail.
 ghost use Rattle.std.specs.Prelude.{◌≡◌, ◌≤◌, length};
 ghost use Rattle.crn_stock.specs.Models.{total};
 ghost use Rattle.crn_sequential.specs.Runs.{IsCheckpointOf};
 
-use super::runs::{has_reached, run_two};
+use super::runs::{has_reached, run_two, run_whole};
 use super::scenarios::steady;
 use crn_run::{Checkpoint, Finished, RunFault};
 use crn_stock::{Scenario, State};
@@ -12,7 +12,7 @@ use std::alloc::{AllocError, Global};
 use std::sync::Wait;
 use std::test::Fail;
 use std::thread::Threads;
-use tests_model::scenarios::Slots;
+use tests_model::scenarios::{Slots, base};
 
 fn is_right(answer: &Result<Finished, RunFault>) -> bool {
     has_reached(answer, 4, &[55, 55], &[49, 49])
@@ -80,5 +80,27 @@ fn steady_leaves_start<R: Threads + Wait + Sync>(
 #[test]
 fn a_refusal_leaves_the_start(rt: HostRuntime) -> Result<(), Fail> {
     assert!(rt; steady_leaves_start(&rt, rt.alloc())?);
+    Ok(())
+}
+
+// The number of the fault that a run of the base scenario returns: 0 if it reaches its end with its costs, and None for any
+// other result.
+fn base_fault<R: Threads + Wait + Sync>(rt: &R, alloc: Global) -> Result<Option<u8>, AllocError> {
+    let scenario = base(alloc, 1)?;
+    let answer = run_whole(rt, alloc, &scenario);
+    match &answer {
+        Err(fault) => Ok(Some(fault.number())),
+        Ok(_) if has_reached(&answer, 1, &[222], &[359]) => Ok(Some(0)),
+        Ok(_) => Ok(None),
+    }
+}
+
+// It passes whether a request of the run is refused or not, and prints which fault the run returns.
+#[test]
+fn a_run_prints_its_fault(rt: HostRuntime) -> Result<(), Fail> {
+    let Some(number) = base_fault(&rt, rt.alloc())? else {
+        panic!(rt; "another result")
+    };
+    let _ = println!(rt; "fault {number}");
     Ok(())
 }
