@@ -1,6 +1,7 @@
 pub mod Lengths
 pub mod WrittenRows
 mod Places
+mod Apart
 mod Rows
 mod Words
 mod Dues

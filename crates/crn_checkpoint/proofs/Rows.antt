@@ -442,9 +442,9 @@ same_too s t u a b = record { key = a.key ∙ b.key; model = a.model ∙ b.model
 pub text_of_same : (v w : Version) (s t : ScenarioParts) (next : ℕ) (states : List Parts) (bytes : List ℕ) → v ≡ w → s.ring ≡ t.ring → IsSameButRing s t → IsTextIn v s next states bytes → IsTextIn w t next states bytes
 text_of_same v w s t next states bytes version ring same h = subst (λ u. IsTextIn u t next states bytes) version (subst (λ u. IsTextIn v u next states bytes) (same_scenario s t ring same) h)
 
--- rows in a version are rows in the same version
-pub rows_in : (v w : Version) (s : ScenarioParts) (next : ℕ) (states : List Parts) (rows : List (List (List ℕ))) → v ≡ w → AreRowsOf v s next states rows → AreRowsOf w s next states rows
-rows_in v w s next states rows e h = subst (λ u. AreRowsOf u s next states rows) e h
+-- rows in a version are the same rows in the same version
+pub rows_in : (v w : Version) (s : ScenarioParts) (next : ℕ) (states : List Parts) (rows rows' : List (List (List ℕ))) → v ≡ w → rows' ≡ rows → AreRowsOf v s next states rows → AreRowsOf w s next states rows'
+rows_in v w s next states rows rows' e same h = subst (λ u. AreRowsOf u s next states rows') e (subst (λ rs. AreRowsOf v s next states rs) (sym same) h)
 
 -- what is read of a checkpoint's text are its rows
 pub rows_of_text : (v : Version) (s : ScenarioParts) (next : ℕ) (states : List Parts) (bytes : List ℕ) (items : List (List (List ℕ))) → IsTextIn v s next states bytes

@@ -1,4 +1,4 @@
-// Why a text is refused, by `read_checkpoint` and by `migrate_checkpoint`.
+//! Why `read_checkpoint` and `migrate_checkpoint` refuse a text.
 
 ghost use Rattle.std.specs.Prelude.{◌≡◌};
 ghost use Rattle.crn_checkpoint.specs.Faults as spec;

@@ -1,4 +1,4 @@
-// Texts of version 1 become texts of version 2.
+//! Migrates texts of version 1 to version 2.
 
 ghost use Rattle.std.specs.Prelude.{◌≡◌, ◌⊎◌, ℕ, List, IfOk, IfErr, MatchResult, alloc_error};
 ghost use Rattle.crn_stock.specs.Parts.{Parts};
@@ -13,7 +13,7 @@ use crate::version::Version;
 use crate::write::write_checkpoint;
 use std::alloc::Global;
 
-// The size of the ring of a scenario that is only written: no text tells it.
+// The size of the ring of a scenario that is only written. No text has it.
 const ANY_RING: u64 = 1;
 
 /// Returns the text, in version 2, of the checkpoint that a text of version 1 spells: the same scenario, block and
@@ -21,10 +21,9 @@ const ANY_RING: u64 = 1;
 ///
 /// # Errors
 ///
-/// `Memory` where a growth was refused, which says nothing of the text. Else the one that holds:
-/// - `NoCheckpoint`, exactly where the text is that of no checkpoint, of version 1 or 2, with all amounts within their
-///   ranges;
-/// - `NewVersion`, exactly where it is that of a checkpoint in version 2.
+/// `Memory` if an allocation fails, which says nothing about the text. Otherwise:
+/// - `NoCheckpoint`, exactly if the text is no checkpoint of version 1 or 2 with all amounts within their ranges;
+/// - `NewVersion`, exactly if it is a checkpoint in version 2.
 pub fn migrate_checkpoint(alloc: Global, bytes: &[u8]) -> Result<Vec<u8>, MigrateFault>
     ensures migrated { IfOk result (λ text. IsMigrated bytes.now text.items) }
     ensures old { (s : ScenarioParts) (next : ℕ) (states : List Parts) → IsOldTextOf s next states bytes.now
@@ -37,7 +36,7 @@ pub fn migrate_checkpoint(alloc: Global, bytes: &[u8]) -> Result<Vec<u8>, Migrat
     migrated(alloc, &cut)
 }
 
-// The text, in version 2, of a checkpoint that was read in version 1.
+// Returns the text, in version 2, of a checkpoint that was read in version 1.
 fn migrated(alloc: Global, cut: &Cut) -> Result<Vec<u8>, MigrateFault>
     ensures old { cut.now.version ≡ Version.First → MatchResult result (λ text. text.items ≡ checkpoint_text Version.Second cut.now.scenario cut.now.checkpoint.next cut.now.checkpoint.states.items) (λ f. f ≡ MigrateFault.Memory alloc_error) }
     ensures new { cut.now.version ≡ Version.Second → MatchResult result (λ text. ⊥) (λ f. f ≡ MigrateFault.NewVersion) }

@@ -1,4 +1,4 @@
-// Checkpoints are read: leniently parsed, written again and compared.
+//! Reads checkpoints: parses them leniently, writes them again and compares.
 
 ghost use Rattle.std.specs.Prelude.{◌≡◌, ℕ, List, IfOk, IfErr, OnOk, MatchResult, alloc_error};
 ghost use Rattle.crn_stock.specs.Parts.{Parts};
@@ -9,6 +9,7 @@ ghost use Rattle.crn_checkpoint.specs.Inner.Judging.{IsRefusedFor};
 
 mod cells;
 mod cut;
+mod layout;
 mod policy;
 mod scenario;
 
@@ -44,20 +45,19 @@ fn cut_in(alloc: Global, ring: u64, bytes: &[u8]) -> Result<Cut, Unread>
     Cut::from_rows(alloc, ring, rows.as_slice())
 }
 
-/// Returns the checkpoint of a scenario that a text spells, where it is byte for byte what
-/// [`write_checkpoint`](crate::write_checkpoint) gives for it. A checkpoint has just one text, and a text just one
+/// Returns the checkpoint of a scenario that a text spells, if the text is byte for byte what
+/// [`write_checkpoint`](crate::write_checkpoint) returns for it. A checkpoint has just one text, and a text just one
 /// checkpoint. A text of version 1 is refused: [`migrate_checkpoint`](crate::migrate_checkpoint) takes it.
 ///
-/// Amounts that were altered within their ranges are taken as they stand, whether or not a run leads to them. The size
-/// of the ring stands in no text, so a run may go on with another.
+/// Amounts that were altered within their ranges are accepted, whether or not a run leads to them. No text has the size
+/// of the ring, so a run may continue with another.
 ///
 /// # Errors
 ///
-/// `Memory` where a growth was refused, which says nothing of the text. Else the one that holds:
-/// - `NoCheckpoint`, exactly where the text is that of no checkpoint, of version 1 or 2, with all amounts within their
-///   ranges;
-/// - `OtherScenario`, exactly where it is that of another scenario's;
-/// - `OldVersion`, exactly where it is that of this scenario's in version 1.
+/// `Memory` if an allocation fails, which says nothing about the text. Otherwise:
+/// - `NoCheckpoint`, exactly if the text is no checkpoint of version 1 or 2 with all amounts within their ranges;
+/// - `OtherScenario`, exactly if it is a checkpoint of another scenario;
+/// - `OldVersion`, exactly if it is a checkpoint of this scenario in version 1.
 pub fn read_checkpoint(
     alloc: Global,
     scenario: &Scenario,
@@ -76,7 +76,7 @@ pub fn read_checkpoint(
     Ok(cut.checkpoint)
 }
 
-// Whether a checkpoint is one of this scenario, in the version that is written.
+// Refuses a checkpoint of another scenario, and one in version 1.
 fn judge(cut: &Cut, scenario: &Scenario) -> Result<(), CheckpointFault>
     ensures same { OnOk result (IsSameButRing cut.now.scenario scenario.now) }
     ensures new { OnOk result (cut.now.version ≡ Version.Second) }

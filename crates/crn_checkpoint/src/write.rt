@@ -19,7 +19,7 @@ use crn_sequential::Checkpoint;
 use crn_stock::Scenario;
 use std::alloc::{AllocError, Global};
 
-/// The text of a checkpoint of a scenario in a version that knows all that the scenario has.
+/// Returns the text of a checkpoint of a scenario in a version that has a place for all parts of the scenario.
 pub(crate) fn write_in(
     alloc: Global,
     version: Version,
@@ -38,9 +38,9 @@ pub(crate) fn write_in(
     sheet.into_text()
 }
 
-/// Returns the text of a checkpoint of a scenario, in version 2: rows of five fields, as CSV. First come the scenario's
-/// own, but for the size of its ring; then, for each policy in order, its levels, the amounts of its state, each amount
-/// that is due with its period, and the cost of each replication that is done; at last a row that ends the text.
+/// Returns the text of a checkpoint of a scenario, in version 2: rows of five fields, as CSV. First come the rows of the
+/// scenario, without the size of its ring. Then come, for each policy in order, its levels, the amounts of its state,
+/// each amount that is due with its period, and the cost of each replication that is done. The last row ends the text.
 ///
 /// # Asks
 ///
@@ -48,7 +48,7 @@ pub(crate) fn write_in(
 ///
 /// # Errors
 ///
-/// `AllocError` where a growth was refused.
+/// `AllocError` if an allocation fails.
 pub fn write_checkpoint(
     alloc: Global,
     scenario: &Scenario,

@@ -1,5 +1,6 @@
-// Rows and fields by their places. There are none past the end, and a field is parsed leniently: one that is not spelt as a
-// checkpoint spells it is read as some value.
+//! Rows and fields by their places.
+//!
+//! There are none past the end. Fields are parsed leniently: one that is not spelt as in a checkpoint gives some value.
 
 ghost use Rattle.std.specs.Prelude.{◌≡◌, ℕ, ℤ, List, ◌<◌, ◌^◌, [], IfOk, All, decimal, drop, map, slice_index_or, take, unsigned_abs};
 ghost use Rattle.std.specs.Fmt.{signed_decimal};
@@ -29,6 +30,14 @@ pub(crate) fn prefix(rows: &[Row], count: usize) -> &[Row]
     } else {
         rows
     }
+}
+
+/// Returns the first `count` rows, and those after them.
+pub(crate) fn split(rows: &[Row], count: usize) -> (&[Row], &[Row])
+    ensures first { result.0.now ≡ take count rows.now }
+    ensures rest { result.1.now ≡ drop count rows.now }
+{
+    (prefix(rows, count), after(rows, count))
 }
 
 /// Returns the number at a place.

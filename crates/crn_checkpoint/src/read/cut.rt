@@ -1,4 +1,4 @@
-// A checkpoint with its scenario, as a text has it.
+//! A checkpoint with its scenario, as a text has it.
 
 ghost use Rattle.std.specs.Prelude.{◌≡◌, ◌↔◌, ◌≤◌, ℕ, List, IfOk, OnOk, IsTrue, MatchResult, Some, length, slice_get, alloc_error};
 ghost use Rattle.crn_limits.specs.declared.TheConstants.{POLICY_LIMIT};
@@ -11,8 +11,9 @@ ghost use Rattle.crn_checkpoint.specs.Inner.Cells.{AreRowsOf};
 
 use crate::fault::Unread;
 use crate::read::cells::natural_in;
+use crate::read::layout::Layout;
 use crate::read::policy::{Policies, policies_of};
-use crate::read::scenario::{key_of, model_of, policy_count, policy_rows, version_of};
+use crate::read::scenario::{key_of, model_of, policy_count, version_of};
 use crate::version::Version;
 use crate::write::write_in;
 use crn_limits::POLICY_LIMIT;
@@ -48,9 +49,10 @@ impl Cut {
         let Some(version) = version_of(rows) else {
             return Err(Unread::NoCheckpoint);
         };
-        let model = model_of(alloc, version, rows)?;
+        let layout = Layout::of(version, rows);
+        let model = model_of(alloc, &layout)?;
         let next = natural_in(rows, 0, 2);
-        let Policies { policies, states } = policies_in(alloc, version, &model, ring, next, rows)?;
+        let Policies { policies, states } = policies_in(alloc, &layout, &model, ring, next)?;
         Ok(Cut {
             version,
             scenario: Scenario::new(key_of(rows), ring, model, policies),
@@ -82,25 +84,24 @@ fn can_be(model: &Model, next: u64, count: usize) -> bool
 // Reads the policies, each with its state before block `next` of the model.
 fn policies_in(
     alloc: Global,
-    version: Version,
+    layout: &Layout,
     model: &Model,
     ring: u64,
     next: u64,
-    rows: &[Row],
 ) -> Result<Policies, Unread>
     requires { IsRingSize ring }
-    ensures reads { (s : ScenarioParts) (n : ℕ) (states : List Parts) → AreRowsOf version s n states rows.now → model.now ≡ s.model → next ≡ n
+    ensures reads { (s : ScenarioParts) (n : ℕ) (states : List Parts) → AreRowsOf layout.now.version s n states layout.now.rows.now → model.now ≡ s.model → next ≡ n
         → MatchResult result (λ r. (r.policies.items ≡ s.policies) × (r.states.items ≡ states)) (λ f. f ≡ Unread.Memory alloc_error) }
     ensures count { IfOk result (λ r. length r.states.items ≡ length r.policies.items) }
     ensures stand { IfOk result (λ r. (i : ℕ) (v : Parts) → slice_get r.states.items i ≡ Some v → StandsBefore model.now next v) }
     ensures next { OnOk result (next ≤ total model.now) }
     ensures ranges { IfOk result (λ r. AreForScenario ring r.policies.items) }
 {
-    let count = policy_count(rows);
+    let count = policy_count(layout.rows);
     if !can_be(model, next, count) {
         return Err(Unread::NoCheckpoint);
     }
-    let found = policies_of(alloc, model, next, policy_rows(version, rows), count)?;
+    let found = policies_of(alloc, model, next, layout.policies, count)?;
     if Scenario::can_have(ring, &found.policies) {
         Ok(found)
     } else {

@@ -1,4 +1,4 @@
-// The rows of the policies: each policy, and its state by its amounts.
+//! Reads the policies and their states from their rows.
 
 ghost use Rattle.std.specs.Prelude.{◌≡◌, ◌∷◌, ◌++◌, ◌+◌, ◌<◌, ◌≤◌, ◌^◌, ℕ, List, [], All, IfOk, OnOk, MatchResult, Some, length, slice_get, true, alloc_error};
 ghost use Rattle.crn_limits.specs.declared.TheConstants.{POLICY_LIMIT};
@@ -123,10 +123,7 @@ fn state_of(alloc: Global, model: &Model, next: u64, rows: &[Row]) -> Result<Sta
 {
     let a = amounts_of(alloc, model, next, rows)?;
     let costs = a.costs.as_slice();
-    match State::restore(alloc, model, next, a.stock, &a.due, a.running, costs) {
-        Ok(state) => Ok(state),
-        Err(fault) => Err(Unread::from(fault)),
-    }
+    Ok(State::restore(alloc, model, next, a.stock, &a.due, a.running, costs)?)
 }
 
 // Returns the rows after those of a policy and its state.

@@ -1,6 +1,6 @@
-// The rows of a scenario: each row by its place, and the lists that follow by their counts.
+//! Reads a scenario from its rows.
 
-ghost use Rattle.std.specs.Prelude.{◌≡◌, ◌∷◌, ◌++◌, ◌↔◌, ◌≤◌, ◌<◌, ◌^◌, ℕ, List, [], Option, None, Some, All, IfOk, IsTrue, MatchResult, alloc_error, codes, length};
+ghost use Rattle.std.specs.Prelude.{◌≡◌, ◌<◌, ◌^◌, ℕ, List, [], Option, None, Some, All, IfOk, MatchResult, alloc_error, length};
 ghost use Rattle.crn_draw.specs.Spread.{Weighted};
 ghost use Rattle.crn_draw.specs.Faults.{least_weights_fault};
 ghost use Rattle.crn_stock.specs.Parts.{Parts};
@@ -11,7 +11,8 @@ ghost use Rattle.crn_checkpoint.specs.Inner.Cells.{AreRowsOf};
 ghost use Rattle.crn_checkpoint.specs.Inner.Sizes.{model_parts_of};
 
 use crate::fault::Unread;
-use crate::read::cells::{after, integer_in, natural_in, prefix, small_column, text_in};
+use crate::read::cells::{integer_in, natural_in, small_column, text_in};
+use crate::read::layout::Layout;
 use crate::version::Version;
 use crn_draw::Weights;
 use crn_rows::Row;
@@ -42,83 +43,11 @@ pub(crate) fn key_of(rows: &[Row]) -> [u64; 4]
     ]
 }
 
-fn demand_count(rows: &[Row]) -> usize
-    ensures { (v : Version) (s : ScenarioParts) (next : ℕ) (states : List Parts) → AreRowsOf v s next states rows.now → result ≡ length s.model.demand.values }
-{
-    natural_in(rows, 3, 2) as usize
-}
-
-fn lead_count(rows: &[Row]) -> usize
-    ensures { (v : Version) (s : ScenarioParts) (next : ℕ) (states : List Parts) → AreRowsOf v s next states rows.now → result ≡ length s.model.lead.values }
-{
-    natural_in(rows, 3, 3) as usize
-}
-
+/// Returns the number of policies.
 pub(crate) fn policy_count(rows: &[Row]) -> usize
     ensures { (v : Version) (s : ScenarioParts) (next : ℕ) (states : List Parts) → AreRowsOf v s next states rows.now → result ≡ length s.policies }
 {
     natural_in(rows, 3, 4) as usize
-}
-
-fn returned_count(version: Version, rows: &[Row]) -> usize
-    ensures none { version ≡ Version.First → result ≡ 0 }
-    ensures count { (s : ScenarioParts) (next : ℕ) (states : List Parts) → AreRowsOf version s next states rows.now → result ≡ length (returned_values s.model.returns) }
-{
-    match version {
-        Version::First => 0,
-        Version::Second => natural_in(rows, 4, 1) as usize,
-    }
-}
-
-// Returns the rows after those that each version has just one of.
-fn lists(version: Version, rows: &[Row]) -> &[Row]
-    ensures { (s : ScenarioParts) (next : ℕ) (states : List Parts) → AreRowsOf version s next states rows.now
-        → result.now ≡ spec.drawn_rows (codes "demand") s.model.demand ++ (spec.drawn_rows (codes "lead") s.model.lead
-        ++ (spec.returned_rows s.model.returns ++ (spec.all_policy_rows s.policies states ++ spec.end_row ∷ []))) }
-{
-    match version {
-        Version::First => after(rows, 4),
-        Version::Second => after(rows, 5),
-    }
-}
-
-pub(crate) fn demand_rows(version: Version, rows: &[Row]) -> &[Row]
-    ensures { (s : ScenarioParts) (next : ℕ) (states : List Parts) → AreRowsOf version s next states rows.now → result.now ≡ spec.drawn_rows (codes "demand") s.model.demand }
-{
-    prefix(lists(version, rows), demand_count(rows))
-}
-
-fn after_demand(version: Version, rows: &[Row]) -> &[Row]
-    ensures { (s : ScenarioParts) (next : ℕ) (states : List Parts) → AreRowsOf version s next states rows.now
-        → result.now ≡ spec.drawn_rows (codes "lead") s.model.lead ++ (spec.returned_rows s.model.returns ++ (spec.all_policy_rows s.policies states ++ spec.end_row ∷ [])) }
-{
-    after(lists(version, rows), demand_count(rows))
-}
-
-pub(crate) fn lead_rows(version: Version, rows: &[Row]) -> &[Row]
-    ensures { (s : ScenarioParts) (next : ℕ) (states : List Parts) → AreRowsOf version s next states rows.now → result.now ≡ spec.drawn_rows (codes "lead") s.model.lead }
-{
-    prefix(after_demand(version, rows), lead_count(rows))
-}
-
-fn after_lead(version: Version, rows: &[Row]) -> &[Row]
-    ensures { (s : ScenarioParts) (next : ℕ) (states : List Parts) → AreRowsOf version s next states rows.now
-        → result.now ≡ spec.returned_rows s.model.returns ++ (spec.all_policy_rows s.policies states ++ spec.end_row ∷ []) }
-{
-    after(after_demand(version, rows), lead_count(rows))
-}
-
-pub(crate) fn returned_rows(version: Version, rows: &[Row]) -> &[Row]
-    ensures none { version ≡ Version.First → result.now ≡ [] }
-    ensures are { (s : ScenarioParts) (next : ℕ) (states : List Parts) → AreRowsOf version s next states rows.now → result.now ≡ spec.returned_rows s.model.returns }
-{
-    prefix(after_lead(version, rows), returned_count(version, rows))
-}
-
-pub(crate) fn policy_rows(version: Version, rows: &[Row]) -> &[Row]
-    ensures { (s : ScenarioParts) (next : ℕ) (states : List Parts) → AreRowsOf version s next states rows.now → result.now ≡ spec.all_policy_rows s.policies states ++ spec.end_row ∷ [] }
-{
-    after(after_lead(version, rows), returned_count(version, rows))
 }
 
 // Reads values with their weights from their rows.
@@ -128,10 +57,7 @@ fn weights_of(alloc: Global, rows: &[Row]) -> Result<Weights, Unread>
 {
     let values = small_column(alloc, rows, 1)?;
     let weights = small_column(alloc, rows, 2)?;
-    match Weights::new(alloc, values.as_slice(), weights.as_slice()) {
-        Ok(made) => Ok(made),
-        Err(fault) => Err(Unread::from(fault)),
-    }
+    Ok(Weights::new(alloc, values.as_slice(), weights.as_slice())?)
 }
 
 // Reads the returned items with their weights from their rows: without rows there are none.
@@ -143,8 +69,7 @@ fn returns_of(alloc: Global, rows: &[Row]) -> Result<Option<Weights>, Unread>
     if rows.is_empty() {
         return Ok(None);
     }
-    let returns = weights_of(alloc, rows)?;
-    Ok(Some(returns))
+    Ok(Some(weights_of(alloc, rows)?))
 }
 
 /// The sizes, the initial stock and the cost rates of a model, whatever they are.
@@ -180,6 +105,7 @@ fn model_with(
     }
 }
 
+// Reads the sizes, the initial stock and the cost rates.
 fn sizes_of(rows: &[Row]) -> Sizes
     ensures { (v : Version) (s : ScenarioParts) (next : ℕ) (states : List Parts) → AreRowsOf v s next states rows.now
         → model_parts_of result s.model.demand s.model.lead s.model.returns ≡ s.model }
@@ -198,12 +124,12 @@ fn sizes_of(rows: &[Row]) -> Sizes
 }
 
 /// Reads the model, which must be within its ranges.
-pub(crate) fn model_of(alloc: Global, version: Version, rows: &[Row]) -> Result<Model, Unread>
-    ensures tells { IfOk result (λ m. CanTell version m) }
-    ensures model { (s : ScenarioParts) (next : ℕ) (states : List Parts) → AreRowsOf version s next states rows.now → MatchResult result (λ m. m ≡ s.model) (λ f. f ≡ Unread.Memory alloc_error) }
+pub(crate) fn model_of(alloc: Global, layout: &Layout) -> Result<Model, Unread>
+    ensures tells { IfOk result (λ m. CanTell layout.now.version m) }
+    ensures model { (s : ScenarioParts) (next : ℕ) (states : List Parts) → AreRowsOf layout.now.version s next states layout.now.rows.now → MatchResult result (λ m. m ≡ s.model) (λ f. f ≡ Unread.Memory alloc_error) }
 {
-    let demand = weights_of(alloc, demand_rows(version, rows))?;
-    let lead = weights_of(alloc, lead_rows(version, rows))?;
-    let returns = returns_of(alloc, returned_rows(version, rows))?;
-    model_with(sizes_of(rows), demand, lead, returns)
+    let demand = weights_of(alloc, layout.demand)?;
+    let lead = weights_of(alloc, layout.lead)?;
+    let returns = returns_of(alloc, layout.returned)?;
+    model_with(sizes_of(layout.rows), demand, lead, returns)
 }

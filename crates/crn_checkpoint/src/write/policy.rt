@@ -13,7 +13,7 @@ use crn_stock::{Policy, State};
 use itoa::Buffer;
 use std::alloc::AllocError;
 
-// The sheet with the row of a policy.
+// Returns the sheet with the row of a policy.
 fn with_policy_row(sheet: Sheet, policy: &Policy) -> Result<Sheet, AllocError>
     requires range { IsPolicy policy.now }
     requires name { is_name policy.now.name ≡ true }
@@ -30,7 +30,7 @@ fn with_policy_row(sheet: Sheet, policy: &Policy) -> Result<Sheet, AllocError>
     ])
 }
 
-// How many of a state's amounts due are above 0.
+// Counts the amounts due of a state that are above 0.
 fn due_count(state: &State) -> u64
     requires { length state.now.due ≡ 32 }
     ensures { result ≡ length (spec.due_rows state.now.period state.now.due) }
@@ -44,7 +44,7 @@ fn due_count(state: &State) -> u64
     count
 }
 
-// The sheet with the row of a state's amounts, and of how many rows follow.
+// Returns the sheet with the row of a state's amounts, and of how many rows follow.
 fn with_state_row(sheet: Sheet, state: &State) -> Result<Sheet, AllocError>
     requires { length state.now.due ≡ 32 }
     ensures { IfOk result (λ after. after ≡ sheet ++ row_text (spec.state_row state.now)) }
@@ -62,7 +62,7 @@ fn with_state_row(sheet: Sheet, state: &State) -> Result<Sheet, AllocError>
     ])
 }
 
-// The sheet with the row of an amount that is due in a period, where the amount is above 0.
+// Returns the sheet with the row of an amount that is due in a period, where the amount is above 0.
 fn with_due_row(sheet: Sheet, period: u64, amount: u64) -> Result<Sheet, AllocError>
     ensures { IfOk result (λ after. after ≡ sheet ++ rows_text (spec.due_rows period (amount ∷ []))) }
 {
@@ -72,7 +72,7 @@ fn with_due_row(sheet: Sheet, period: u64, amount: u64) -> Result<Sheet, AllocEr
     with_pair_row(sheet, b"due", period, amount)
 }
 
-// The sheet with a row for each period, from the given one on, in which an amount is due.
+// Returns the sheet with a row for each period, from the given one on, in which an amount is due.
 fn with_due_rows(sheet: Sheet, period: u32, state: &State) -> Result<Sheet, AllocError>
     requires { length state.now.due ≡ 32 }
     ensures { IfOk result (λ after. after ≡ sheet ++ rows_text (spec.due_rows period state.now.due)) }
@@ -84,7 +84,7 @@ fn with_due_rows(sheet: Sheet, period: u32, state: &State) -> Result<Sheet, Allo
     Ok(sheet)
 }
 
-// The sheet with a row for the cost of each replication that is done.
+// Returns the sheet with a row for the cost of each replication that is done.
 fn with_cost_rows(sheet: Sheet, costs: &[u64]) -> Result<Sheet, AllocError>
     ensures { IfOk result (λ after. after ≡ sheet ++ rows_text (spec.cost_rows 0 costs.now)) }
 {
@@ -95,7 +95,7 @@ fn with_cost_rows(sheet: Sheet, costs: &[u64]) -> Result<Sheet, AllocError>
     Ok(sheet)
 }
 
-// The sheet with all rows of a policy and its state.
+// Returns the sheet with all rows of a policy and its state.
 fn with_policy_rows(sheet: Sheet, policy: &Policy, state: &State) -> Result<Sheet, AllocError>
     requires range { IsPolicy policy.now }
     requires name { is_name policy.now.name ≡ true }
@@ -109,7 +109,7 @@ fn with_policy_rows(sheet: Sheet, policy: &Policy, state: &State) -> Result<Shee
     with_cost_rows(sheet, state.costs())
 }
 
-/// The sheet with the rows of each policy and its state.
+/// Returns the sheet with the rows of each policy and its state.
 pub(crate) fn with_all_policy_rows(
     sheet: Sheet,
     policies: &[Policy],

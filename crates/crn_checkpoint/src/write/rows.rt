@@ -1,4 +1,4 @@
-// Single rows of numbers.
+//! Writes single rows.
 
 ghost use Rattle.std.specs.Prelude.{◌≡◌, ◌++◌, IfOk, true};
 ghost use Rattle.crn_rows.specs.Plain.{is_plain};
@@ -9,7 +9,7 @@ use crn_rows::Sheet;
 use itoa::Buffer;
 use std::alloc::AllocError;
 
-/// The sheet with a row of four numbers under a name.
+/// Returns the sheet with a row of four numbers under a name.
 #[tactic(auto, using(crate::proofs::Rows::numbers_plain))]
 pub(crate) fn with_numbers_row(
     sheet: Sheet,
@@ -35,7 +35,7 @@ pub(crate) fn with_numbers_row(
     ])
 }
 
-/// The sheet with a row of two numbers under a name.
+/// Returns the sheet with a row of two numbers under a name.
 #[tactic(auto, using(crate::proofs::Rows::pair_plain))]
 pub(crate) fn with_pair_row(
     sheet: Sheet,
@@ -57,7 +57,7 @@ pub(crate) fn with_pair_row(
     ])
 }
 
-/// The sheet with the row that ends a checkpoint.
+/// Returns the sheet with the row that ends a checkpoint.
 pub(crate) fn with_end_row(sheet: Sheet) -> Result<Sheet, AllocError>
     ensures { IfOk result (λ after. after ≡ sheet ++ row_text spec.end_row) }
 {

@@ -16,7 +16,7 @@ use crn_stock::{Costs, Model, Scenario};
 use itoa::Buffer;
 use std::alloc::AllocError;
 
-// The sheet with the row of the version, the next block, the periods and the replications.
+// Returns the sheet with the row of the version, the next block, the periods and the replications.
 fn with_head_row(
     sheet: Sheet,
     version: Version,
@@ -38,7 +38,7 @@ fn with_head_row(
     )
 }
 
-// The sheet with the row of the key.
+// Returns the sheet with the row of the key.
 #[tactic(auto, using(crate::proofs::Rows::words_plain))]
 fn with_key_row(sheet: Sheet, key: [u64; 4]) -> Result<Sheet, AllocError>
     ensures written { IfOk result (λ after. after ≡ sheet ++ row_text (spec.key_row key)) }
@@ -53,7 +53,7 @@ fn with_key_row(sheet: Sheet, key: [u64; 4]) -> Result<Sheet, AllocError>
     ])
 }
 
-// The sheet with the row of the cost rates.
+// Returns the sheet with the row of the cost rates.
 fn with_costs_row(sheet: Sheet, costs: &Costs) -> Result<Sheet, AllocError>
     ensures { IfOk result (λ after. after ≡ sheet ++ row_text (spec.costs_row costs.now)) }
 {
@@ -67,7 +67,7 @@ fn with_costs_row(sheet: Sheet, costs: &Costs) -> Result<Sheet, AllocError>
     )
 }
 
-// The sheet with the row of the initial stock, and of how many demands, lead times and policies there are.
+// Returns the sheet with the row of the initial stock, and of how many demands, lead times and policies there are.
 fn with_sizes_row(sheet: Sheet, scenario: &Scenario) -> Result<Sheet, AllocError>
     ensures written { IfOk result (λ after. after ≡ sheet ++ row_text (spec.sizes_row scenario.now)) }
     ensures others { AreForScenario scenario.now.ring scenario.now.policies }
@@ -86,7 +86,7 @@ fn with_sizes_row(sheet: Sheet, scenario: &Scenario) -> Result<Sheet, AllocError
     ])
 }
 
-// How many numbers of returned items a model has.
+// Counts the numbers of returned items that a model has.
 fn returned_count(model: &Model) -> usize
     ensures { result ≡ length (returned_values model.now.returns) }
 {
@@ -96,7 +96,7 @@ fn returned_count(model: &Model) -> usize
     }
 }
 
-// The sheet with the row of how many numbers of returned items there are, where the version has it.
+// Returns the sheet with the row of how many numbers of returned items there are, where the version has it.
 fn with_count_row(sheet: Sheet, version: Version, model: &Model) -> Result<Sheet, AllocError>
     ensures { IfOk result (λ after. after ≡ sheet ++ rows_text (spec.count_rows version model.now)) }
 {
@@ -115,7 +115,7 @@ fn with_count_row(sheet: Sheet, version: Version, model: &Model) -> Result<Sheet
     }
 }
 
-// The sheet with a row for each value and its weight.
+// Returns the sheet with a row for each value and its weight.
 fn with_weight_rows(
     sheet: Sheet,
     name: &[u8],
@@ -133,7 +133,7 @@ fn with_weight_rows(
     Ok(sheet)
 }
 
-// The sheet with the rows of values with weights.
+// Returns the sheet with the rows of values with weights.
 fn with_drawn_rows(sheet: Sheet, name: &[u8], drawn: &Weights) -> Result<Sheet, AllocError>
     requires { is_plain name.now ≡ true }
     ensures written { IfOk result (λ after. after ≡ sheet ++ rows_text (spec.drawn_rows name.now drawn.now)) }
@@ -142,7 +142,7 @@ fn with_drawn_rows(sheet: Sheet, name: &[u8], drawn: &Weights) -> Result<Sheet, 
     with_weight_rows(sheet, name, drawn.values(), drawn.weights())
 }
 
-// The sheet with the rows of returned items with weights, where customers return any.
+// Returns the sheet with the rows of returned items with weights, where customers return any.
 fn with_returned_rows(sheet: Sheet, model: &Model) -> Result<Sheet, AllocError>
     ensures written { IfOk result (λ after. after ≡ sheet ++ rows_text (spec.returned_rows model.now.returns)) }
     ensures can { CanDraw model.now.returns }
@@ -153,7 +153,7 @@ fn with_returned_rows(sheet: Sheet, model: &Model) -> Result<Sheet, AllocError>
     }
 }
 
-// The sheet with the rows of each list that is drawn from.
+// Returns the sheet with the rows of each list that is drawn from.
 fn with_list_rows(sheet: Sheet, model: &Model) -> Result<Sheet, AllocError>
     ensures written { IfOk result (λ after. after ≡ sheet ++ rows_text (spec.list_rows model.now)) }
     ensures demand { OnOk result (CanDraw (Some model.now.demand)) }
@@ -165,7 +165,7 @@ fn with_list_rows(sheet: Sheet, model: &Model) -> Result<Sheet, AllocError>
     with_returned_rows(sheet, model)
 }
 
-/// The sheet with all rows of a scenario before block `next`.
+/// Returns the sheet with all rows of a scenario before block `next`.
 pub(crate) fn with_scenario_rows(
     sheet: Sheet,
     version: Version,

@@ -1,7 +1,7 @@
 use Rattle.std.proofs.Common.{◌∙◌, ap}
 use Rattle.crn_checkpoint.specs.CheckpointText.{checkpoint_rows}
 use Rattle.crn_checkpoint.proofs.Rows.{lists_of_first, lists_of_second}
-use Rattle.crn_checkpoint.proofs.read.scenario.lists.Goals as goal
+use Rattle.crn_checkpoint.proofs.read.layout.lists.Goals as goal
 
 pub returns-in-First : goal.returns-in-First
 returns-in-First c = λ s next states h.

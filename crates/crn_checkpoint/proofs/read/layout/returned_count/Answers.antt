@@ -3,7 +3,7 @@ use Rattle.crn_checkpoint.specs.CheckpointText.{checkpoint_rows}
 use Rattle.crn_stock.specs.Models.{returned_values}
 use Rattle.crn_checkpoint.specs.Inner.Cells.{cell}
 use Rattle.crn_checkpoint.proofs.Rows.{returned_few}
-use Rattle.crn_checkpoint.proofs.read.scenario.returned_count.Goals as goal
+use Rattle.crn_checkpoint.proofs.read.layout.returned_count.Goals as goal
 
 pub returns-in-Second-clause-count : goal.returns-in-Second-clause-count
 unfolding checkpoint_rows
