@@ -1,4 +1,4 @@
-//! The failed allocation that an error of `csv` reports.
+//! Failed allocations that errors of `csv` report.
 
 ghost use Rattle.std.specs.Prelude.{◌≡◌, true};
 ghost use Rattle.csv.specs.Reading.{error_kind, stops_reader};

@@ -1,4 +1,4 @@
-// The faults of a scenario's tree, each by itself, and the least of them.
+//! The faults of a scenario's tree, each by itself, and the least of them.
 
 ghost use Rattle.std.specs.Prelude.{◌≡◌, ◌≢◌, ◌^◌, pos, ◌+ℤ◌, ◌≤ℤ◌, map, option_map, option_copied, codes, false, true, Some, None, IfOk, IfErr, OnOk, alloc_error};
 ghost use Rattle.std.specs.List.{list_all};
@@ -23,7 +23,7 @@ use std::collections::BTreeSet;
 use toml::value::Array;
 use toml::{Table, Value};
 
-// The version that a document names, without its sign, and 0 where it names none.
+// Returns the version that a document names, without its sign, and 0 if it names none.
 #[tactic(auto, unfolding(crate::specs::Reading::version_of))]
 fn version_of(table: &Table) -> u64
     ensures { result ≡ spec.version_of (table_view table.now) }
@@ -31,7 +31,7 @@ fn version_of(table: &Table) -> u64
     natural(integer_at(table, "version"))
 }
 
-// Whether a table, where there is one, keeps a rule.
+// Returns whether a table keeps a rule, if there is one.
 fn keeps_in(rule: Rule, version: u64, fields: &[Field], table: Option<&Table>) -> bool
     ensures { result ≡ spec.keeps_in rule (tables.keys_of version (map entry_of fields.now)) (option_map (λ t. table_view t.now) table.entry) }
 {
@@ -395,7 +395,7 @@ fn has_other_policy_count(table: &Table) -> bool
     }
 }
 
-// Refuses with a fault where it holds.
+// Refuses with a fault if it holds.
 fn refuse_where(holds: bool, fault: ScenarioFault) -> Result<(), ScenarioFault>
     ensures kept { OnOk result (holds ≡ false) }
     ensures refused { IfErr result (λ f. (holds ≡ true) × (f ≡ fault)) }

@@ -1,4 +1,4 @@
-// The keys of a scenario's tables: which they are, what may stand at each, and in which range.
+//! The keys of a scenario's tables, with the kind and the range of their values.
 
 ghost use Rattle.std.specs.Prelude.{◌≡◌, map, option_map};
 ghost use Rattle.toml.specs.View.{view, table_view, array_view};

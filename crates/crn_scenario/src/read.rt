@@ -1,4 +1,4 @@
-// Reads scenarios.
+//! Reads scenarios.
 
 ghost use Rattle.std.specs.Prelude.{◌≡◌, ◌↔◌, IfOk, IfErr, IsSome, alloc_error};
 ghost use Rattle.toml.specs.Errors.{IsMemory};
@@ -31,7 +31,7 @@ pub fn read_scenario(alloc: Global, bytes: &[u8]) -> Result<Scenario, ScenarioFa
     Ok(scenario_of(alloc, &table)?)
 }
 
-// An error of `toml` means out of memory, or that the text is no document.
+// Returns what an error of `toml` means: out of memory, or that the text is no document.
 fn document_fault(error: &toml::de::Error) -> ScenarioFault
     ensures memory { IsMemory error.now → result ≡ ScenarioFault.Memory alloc_error }
     ensures document { ¬ IsMemory error.now → result ≡ ScenarioFault.NoDocument }
@@ -42,7 +42,7 @@ fn document_fault(error: &toml::de::Error) -> ScenarioFault
     }
 }
 
-// The failed allocation that `toml` reports by a flag.
+// Returns a failed allocation exactly if the error reports one, which `toml` does by a flag.
 fn refusal_of(error: &toml::de::Error) -> Option<AllocError>
     ensures { IsSome result ↔ IsMemory error.now }
 {

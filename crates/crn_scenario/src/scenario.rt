@@ -1,4 +1,4 @@
-// The scenario that a tree without a fault says.
+//! Builds the scenario of a tree without a fault.
 
 ghost use Rattle.std.specs.Prelude.{◌≡◌, map, nat_abs, pos, true, None, option_map, option_copied, option_and_then, codes, IfOk};
 ghost use Rattle.toml.specs.View.{view, table_view, array_view};
@@ -16,7 +16,7 @@ use std::alloc::{AllocError, Global};
 use toml::value::Array;
 use toml::{Table, Value};
 
-// The number at a key of a table, and 0 where there is none.
+// Returns the number at a key of a table, and 0 if there is none.
 fn natural_in(table: Option<&Table>, key: &str) -> u64
     ensures { result ≡ spec.natural_in key.now (option_map (λ t. table_view t.now) table.entry) }
 {
@@ -37,7 +37,7 @@ fn costs_of(table: Option<&Table>) -> Costs
     }
 }
 
-// The numbers of an array.
+// Returns the numbers of an array.
 fn naturals_of(alloc: Global, array: &Array) -> Result<Vec<u32>, AllocError>
     requires { are_within (pos 0) (pos TOTAL_LIMIT) (integers_of (array_view array.now)) ≡ true }
     ensures { IfOk result (λ v. v.items ≡ map nat_abs (integers_of (array_view array.now))) }
@@ -51,7 +51,7 @@ fn naturals_of(alloc: Global, array: &Array) -> Result<Vec<u32>, AllocError>
     Ok(naturals)
 }
 
-// The numbers at a key of a table.
+// Returns the numbers at a key of a table, none if there is no array.
 fn naturals_in(alloc: Global, table: Option<&Table>, key: &str) -> Result<Vec<u32>, AllocError>
     requires { are_within (pos 0) (pos TOTAL_LIMIT) (spec.integers_in (option_and_then (array_at key.now) (option_map (λ t. table_view t.now) table))) ≡ true }
     ensures { IfOk result (λ v. v.items ≡ spec.naturals_in key.now (option_map (λ t. table_view t.now) table.entry)) }
@@ -65,7 +65,7 @@ fn naturals_in(alloc: Global, table: Option<&Table>, key: &str) -> Result<Vec<u3
     }
 }
 
-// Values with weights that are known to have no fault.
+// Returns values with weights that are known to have no fault.
 fn weights_of(alloc: Global, table: Option<&Table>) -> Result<Weights, AllocError>
     requires draws { AreDraws (option_map (λ t. table_view t.now) table) }
     ensures { IfOk result (λ w. w ≡ spec.weighted_of (option_map (λ t. table_view t.now) table.entry)) }
@@ -79,7 +79,7 @@ fn weights_of(alloc: Global, table: Option<&Table>) -> Result<Weights, AllocErro
     }
 }
 
-// What customers return, where a table says it.
+// Returns what customers return, if there is a table that says it.
 fn returns_of(alloc: Global, table: Option<&Table>) -> Result<Option<Weights>, AllocError>
     requires draws { MayBeDraws (option_map (λ t. table_view t.now) table) }
     ensures { IfOk result (λ r. r ≡ spec.returns_of (option_map (λ t. table_view t.now) table.entry)) }
@@ -122,7 +122,7 @@ fn policies_at(alloc: Global, table: &Table) -> Result<Vec<Policy>, AllocError>
     }
 }
 
-// The word at a place of the key.
+// Returns the word at a place of the key, and 0 if there is none.
 fn word_at(value: Option<&Value>, place: usize) -> u64
     ensures { result ≡ spec.word_at place (option_map (λ x. view x.now) value.entry) }
 {

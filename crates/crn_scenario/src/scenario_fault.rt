@@ -1,4 +1,4 @@
-// Why a text is refused.
+//! Why a text is refused as a scenario.
 
 ghost use Rattle.std.specs.Prelude.{◌≡◌};
 ghost use Rattle.crn_scenario.specs.Reading as spec;
@@ -15,7 +15,7 @@ use std::alloc::AllocError;
 pub enum ScenarioFault {
     /// 1: the bytes are not a TOML document in UTF-8.
     NoDocument,
-    /// 2: `version` is missing, no whole number, or not a version that there is.
+    /// 2: `version` is missing, no whole number, or not an existing version.
     Version,
     /// 3: a table has a key that is none of its keys.
     UnknownKey,

@@ -1,4 +1,4 @@
-// Looks into a document's tree.
+//! Looks into a document's tree.
 
 ghost use Rattle.std.specs.Prelude.{◌≡◌, map, option_map, option_copied, IfOk};
 ghost use Rattle.toml.specs.Data.{get_member};
@@ -19,50 +19,35 @@ pub fn member_at<'a>(table: &'a Table, key: &str) -> Option<&'a Value>
 pub fn integer_at(table: &Table, key: &str) -> Option<i64>
     ensures { result ≡ spec.integer_at key.now (table_view table.now) }
 {
-    match member_at(table, key) {
-        Some(value) => value.as_integer(),
-        None => None,
-    }
+    member_at(table, key)?.as_integer()
 }
 
 /// Returns a number without its sign, and 0 if there is none. In a tree without a fault no number has a minus.
 pub fn natural(number: Option<i64>) -> u64
     ensures { result ≡ spec.natural number }
 {
-    match number {
-        Some(number) => number.unsigned_abs(),
-        None => 0,
-    }
+    number.unwrap_or(0).unsigned_abs()
 }
 
 /// Returns the text at a key, if the value there is one.
 pub fn text_at<'a>(table: &'a Table, key: &str) -> Option<&'a str>
     ensures { option_copied result ≡ spec.text_at key.now (table_view table.now) }
 {
-    match member_at(table, key) {
-        Some(value) => value.as_str(),
-        None => None,
-    }
+    member_at(table, key)?.as_str()
 }
 
 /// Returns the array at a key, if the value there is one.
 pub fn array_at<'a>(table: &'a Table, key: &str) -> Option<&'a Array>
     ensures { option_map (λ a. array_view a.now) result ≡ spec.array_at key.now (table_view table.now) }
 {
-    match member_at(table, key) {
-        Some(value) => value.as_array(),
-        None => None,
-    }
+    member_at(table, key)?.as_array()
 }
 
 /// Returns the table at a key, if the value there is one.
 pub fn table_at<'a>(table: &'a Table, key: &str) -> Option<&'a Table>
     ensures { option_map (λ t. table_view t.now) result ≡ spec.table_at key.now (table_view table.now) }
 {
-    match member_at(table, key) {
-        Some(value) => value.as_table(),
-        None => None,
-    }
+    member_at(table, key)?.as_table()
 }
 
 /// Returns how many entries an array has.

@@ -1,4 +1,4 @@
-// The text of a block's words.
+//! The text of a block's words.
 
 ghost use Rattle.std.specs.Prelude.{◌≡◌, ◌++◌, IfOk, OnOk};
 ghost use Rattle.crn_trace.specs.BlockWords as spec;
@@ -33,7 +33,7 @@ fn put_line(text: &mut Vec<u8>, block: &Block, stream: Stream) -> Result<(), All
 ///
 /// # Errors
 ///
-/// `AllocError` where a growth was refused.
+/// `AllocError` if an allocation fails.
 #[tactic(auto, unfolding(crate::specs::BlockWords::words_text))]
 pub fn words_text(alloc: Global, key: [u64; 4], n: u64) -> Result<Vec<u8>, AllocError>
     ensures { IfOk result (λ text. text.items ≡ spec.words_text key n) }

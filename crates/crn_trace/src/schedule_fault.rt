@@ -1,4 +1,4 @@
-// Why a text is refused as a schedule.
+//! Why a text is refused as a schedule.
 
 ghost use Rattle.std.specs.Prelude.{◌≡◌};
 ghost use Rattle.crn_trace.specs.Schedule as spec;
@@ -13,12 +13,12 @@ pub enum ScheduleFault {
     Line,
     /// 2: a reader's number is not below the number of readers.
     Reader,
-    /// 90: a growth was refused. It says nothing of the text.
+    /// 90: an allocation failed. It says nothing about the text.
     Memory(AllocError),
 }
 
 impl ScheduleFault {
-    /// Returns the number of the fault: 1 for a line, 2 for a reader, 90 for want of memory.
+    /// Returns the number of the fault: 1 for a line, 2 for a reader, 90 if an allocation failed.
     pub fn number(&self) -> u8
         ensures { result ≡ spec.schedule_fault_number self.now }
     {

@@ -1,4 +1,4 @@
-// Schedules from their texts.
+//! Reads schedules.
 
 ghost use Rattle.std.specs.Prelude.{◌≡◌, ◌⊎◌, ℕ, ◌<◌, ◌^◌, Some, IfOk, IfErr, IfSome, decimal, true, length, alloc_error};
 ghost use Rattle.crn_proto.specs.declared.schedule.Actor.{Actor};
@@ -10,7 +10,7 @@ use crn_proto::Actor;
 use crn_spelling::decimal::number_of_text;
 use std::alloc::{AllocError, Global};
 
-// The first line without its line feed, and what follows it.
+// Returns the first line without its line feed, and the text after it.
 fn cut_line<'a>(text: &'a [u8]) -> (&'a [u8], &'a [u8])
     ensures cut { IsCut text.now result.0.now result.1.now }
     ensures shorter { 0 < length text.now → length result.1.now < length text.now }
@@ -23,7 +23,7 @@ fn cut_line<'a>(text: &'a [u8]) -> (&'a [u8], &'a [u8])
     (text, &text[text.len()..])
 }
 
-// A reader's number, of 32 bits, from its text.
+// Returns a reader's number, of 32 bits, from its text.
 fn reader_of(text: &str) -> Option<u32>
     ensures spelt { IfSome result (λ r. text.now ≡ decimal r) }
     ensures every { (r : ℕ) → r < 2 ^ 32 → text.now ≡ decimal r → result ≡ Some r }
@@ -37,7 +37,7 @@ fn reader_of(text: &str) -> Option<u32>
     }
 }
 
-// A reader's number from the bytes of its text.
+// Returns a reader's number from the bytes of its text.
 fn reader_number(digits: &[u8]) -> Option<u32>
     ensures spelt { IfSome result (λ r. digits.now ≡ decimal r) }
     ensures every { (r : ℕ) → r < 2 ^ 32 → digits.now ≡ decimal r → result ≡ Some r }
@@ -48,7 +48,7 @@ fn reader_number(digits: &[u8]) -> Option<u32>
     }
 }
 
-// The actor of a line.
+// Returns the actor of a line.
 fn actor_of(line: &[u8]) -> Option<Actor>
     ensures spelt { IfSome result (λ who. (line.now ≡ spec.actor_text who) × (spec.is_below (2 ^ 32) who ≡ true)) }
     ensures every { (who : Actor) → spec.is_below (2 ^ 32) who ≡ true → line.now ≡ spec.actor_text who → result ≡ Some who }
@@ -68,7 +68,7 @@ fn actor_of(line: &[u8]) -> Option<Actor>
     }
 }
 
-// The actors of all lines, whatever the readers' numbers are.
+// Reads the actors of all lines, with any numbers of readers.
 fn read_lines(alloc: Global, bytes: &[u8]) -> Result<Vec<Actor>, ScheduleFault>
     ensures schedule { IfOk result (λ actors. spec.IsScheduleOf bytes.now actors.items) }
     ensures refuses { IfErr result (λ f. (f ≡ ScheduleFault.Memory alloc_error) ⊎ ((f ≡ ScheduleFault.Line) × spec.HasNoSchedule bytes.now)) }
@@ -113,10 +113,10 @@ fn are_below(readers: u32, actors: &[Actor]) -> bool
 ///
 /// # Errors
 ///
-/// - `Line` where a line is none of these, or a number is over 4,294,967,295. It comes before `Reader`, wherever
+/// - `Line` if a line is none of these, or a number is over 4,294,967,295. It comes before `Reader`, wherever
 ///   the lines stand.
-/// - `Reader` where a reader's number is not below `readers`.
-/// - `Memory` where a growth was refused.
+/// - `Reader` if a reader's number is not below `readers`.
+/// - `Memory` if an allocation fails.
 pub fn read_schedule(alloc: Global, readers: u32, bytes: &[u8]) -> Result<Vec<Actor>, ScheduleFault>
     ensures schedule { IfOk result (λ actors. spec.IsScheduleOf bytes.now actors.items) }
     ensures known { IfOk result (λ actors. spec.are_below readers actors.items ≡ true) }

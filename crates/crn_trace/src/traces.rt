@@ -1,4 +1,4 @@
-// Traces: the steps of a schedule, and where they lead to.
+//! Traces: the steps of a schedule, and the state that they lead to.
 
 ghost use Rattle.std.specs.Prelude.{◌≡◌, ◌<◌, ◌++◌, OnOk, IfOk, decimal};
 ghost use Rattle.std.specs.List.{All};
@@ -12,7 +12,7 @@ use crn_spelling::decimal::put_number;
 use crn_spelling::hex::hex_word;
 use std::alloc::{AllocError, Global};
 
-// The actor as it stands in a schedule.
+// Appends the actor as it stands in a schedule.
 fn put_actor(text: &mut Vec<u8>, who: Actor) -> Result<(), AllocError>
     ensures { OnOk result (text.new.items ≡ text.old.items ++ actor_text who) }
 {
@@ -74,7 +74,7 @@ fn put_steps(text: &mut Vec<u8>, machine: &mut Machine, actors: &[Actor]) -> Res
     Ok(())
 }
 
-// A label and a number.
+// Appends a label and a number.
 fn put_count(text: &mut Vec<u8>, label: &[u8], count: u64) -> Result<(), AllocError>
     ensures { OnOk result (text.new.items ≡ text.old.items ++ label.now ++ decimal count) }
 {
@@ -82,7 +82,7 @@ fn put_count(text: &mut Vec<u8>, label: &[u8], count: u64) -> Result<(), AllocEr
     put_number(text, count)
 }
 
-// A label, and 1 where the flag holds or else 0.
+// Appends a label, and 1 if the flag holds or else 0.
 fn put_flag(text: &mut Vec<u8>, label: &[u8], flag: bool) -> Result<(), AllocError>
     ensures { OnOk result (text.new.items ≡ text.old.items ++ label.now ++ decimal (bit flag)) }
 {
@@ -133,7 +133,7 @@ fn put_readers(text: &mut Vec<u8>, machine: &Machine) -> Result<(), AllocError>
 ///
 /// # Errors
 ///
-/// `AllocError` where a growth was refused. The machine is used up then, too.
+/// `AllocError` if an allocation fails. The machine is used up then, too.
 #[tactic(auto, unfolding(crate::specs::Trace::trace_text))]
 pub fn trace_text(
     alloc: Global,
