@@ -1,5 +1,6 @@
 """Looks at the docstrings: each public item has one, and each public function says what it asks and its errors under
-headings of their own, where it asks for something or can fail, and nowhere else."""
+headings of their own, where it asks for something or can fail, and nowhere else. Each file of code begins with a comment on
+its module, and no comment says one thing in another way than all others (OTHER_WAYS)."""
 import glob
 import re
 
@@ -8,6 +9,13 @@ from pages import TOP, text_of
 PUBLIC = r"pub (?:(?:const|unsafe) )*"
 ITEM = re.compile(rf"((?:^ *//[^\n]*\n)*)(?:^ *#\[[^\n]*\n)*^ *{PUBLIC}(fn|struct|enum|trait|type|const) (\w+)([^\n]*\n"
                   r"(?:(?! *\{| *//| *pub )[^\n]+\n)*)", re.MULTILINE)
+# What comments, and restricted visibility, are not to be spelt as, each with what stands in its place.
+OTHER_WAYS = {
+    r"growth was refused|want of memory": "an allocation fails",
+    r"[Tt]akes? no memory|[Nn]eeds no memory": "allocates nothing",
+    r"could be had|gives up": "fails",
+    r"pub\((?:super|in )": "pub(crate)",
+}
 LOOSE = re.compile(r"\b(?:Condition: |Asks that |Refuses, |of these faults that holds is answered)")
 
 
@@ -36,3 +44,13 @@ def docstring_tries(_):
         for it in found:
             broken = [rule for rule, kept in forms(it[1], it[2], it[4]) if not kept]
             yield f"{name}: {it[2]} {it[3]} {', '.join(broken)}", not broken
+
+
+def voice_tries(_):
+    """Each file of code and of definitions."""
+    for name in sorted(glob.glob("crates/*/src/**/*.rt", root_dir=TOP, recursive=True)):
+        yield f"{name} begins with a comment on the module", text_of(name).startswith("//! ")
+    for name in sorted(it for kind in ("src/**/*.rt", "specs/**/*.antt") for it in glob.glob(f"crates/*/{kind}", root_dir=TOP, recursive=True)):
+        text = text_of(name)
+        other = [f"{found[0]}: {wanted}" for way, wanted in OTHER_WAYS.items() for found in re.finditer(way, text)]
+        yield f"{name} says one thing in one way", not other or "; ".join(other)

@@ -23,7 +23,7 @@ TOP = os.path.dirname(os.path.dirname(os.path.dirname(os.path.abspath(__file__))
 sys.path += [f"{TOP}/{it}" for it in ("tools", "examples/tools", "tests", "tests/program", "tests/hostile")]
 from believed import believed_tries, inner_tries
 from commands import command_tries, option_tries, toml_tries
-from docstrings import docstring_tries
+from docstrings import docstring_tries, voice_tries
 from edits import FOLDERS, crates, edits_of
 from figures import figure_tries
 from helps import example_tries
@@ -126,7 +126,7 @@ def readme_tries(program):
         yield f"README.md's table: {policy}", f"| {policy} | {low} | {high} | {total} |" in text_of("README.md")
 
 
-PARTS = [link_tries, crate_tries, name_tries, quote_tries, named_tries, edit_tries, believed_tries, inner_tries, docstring_tries, readme_tries,
+PARTS = [link_tries, crate_tries, name_tries, quote_tries, named_tries, edit_tries, believed_tries, inner_tries, docstring_tries, voice_tries, readme_tries,
          command_tries, option_tries, toml_tries, example_tries, table_tries, range_tries, rule_tries, status_tries,
          figure_tries]
 

@@ -213,7 +213,7 @@ SIZES = ("BUCKETS", "BLOCK_WORDS")
 # What a policy's thread runs: all of crn_run but the side that feeds the ring, and what it calls there.
 POLICY_SIDE = ("crn_run/src/", "crn_ring/src/", "crn_stock/src/", "crn_draw/src/", "!crn_run/src/feeding.rt")
 RULES = [
-    Rule("want of memory is made up", ALL, makes_want_of_memory),
+    Rule("a failed allocation is made up", ALL, makes_want_of_memory),
     Rule("a refused thread is made up", ALL, makes_refused_thread),
     Rule("an error of the system is made up", ALL, makes_error_of_system),
     Rule("a fault of a thread is made up", ALL, makes_fault_of_thread),
@@ -333,7 +333,7 @@ def rule_tries(texts):
 
 
 def converter_tries(texts):
-    """The functions that may make want of memory, of which there is one for each flag of the kit."""
+    """The functions that may make an `AllocError`, of which there is one for each flag of the kit."""
     found = {name for name, text in texts.items() if any(it.text == "refusal_of" and before(tokens_of(text), at) == ["fn"]
                                                          for at, it in enumerate(tokens_of(text)))}
     yield f"refusal_of stands in {sorted(found)}", found == CONVERTERS

@@ -347,6 +347,6 @@ abbrev pub fault_of_ring : RingFault → Fault
 fault_of_ring (ring.Memory refused) = fault.Memory refused
 fault_of_ring _ = fault.CommandLine
 
--- the program's word for a fault of one of its parts: want of memory is a fault of its own, wherever it was met
+-- the program's word for a fault of one of its parts: out of memory is a fault of its own
 abbrev pub HandsOn : {Part : Type 0} → (AllocError → Part) → (Part → Fault) → Part → Fault → Type 0
 HandsOn Memory named e f = ((e ≡ Memory alloc_error) × (f ≡ fault.Memory alloc_error)) ⊎ ((e ≢ Memory alloc_error) × (f ≡ named e))

@@ -394,7 +394,7 @@ pub record HasLeast (bytes : List ℕ) (k : ℕ) : Type 0 where
   pub document : IsDocument bytes tree
   pub least : IsLeast tree k
 
--- what a refusal says of the bytes: want of memory says nothing
+-- what a refusal says of the bytes: a failed allocation says nothing
 abbrev pub RefusesScenario : ScenarioFault → List ℕ → Type 0
 RefusesScenario fault.NoDocument bytes = IsNoDocument bytes
 RefusesScenario (fault.Memory _) bytes = ⊤

@@ -48,7 +48,7 @@ pub record HasUnknownReader (readers : ℕ) (bytes : List ℕ) : Type 0 where
   pub schedule : IsScheduleOf bytes actors
   pub unknown : are_below readers actors ≡ false
 
--- what a refusal says of the bytes: want of memory says nothing
+-- what a refusal says of the bytes: a failed allocation says nothing
 abbrev pub RefusesSchedule : ℕ → ScheduleFault → List ℕ → Type 0
 RefusesSchedule readers fault.Line bytes = HasNoSchedule bytes
 RefusesSchedule readers fault.Reader bytes = HasUnknownReader readers bytes

@@ -1,4 +1,4 @@
-// A reader and a writer that fail at one call, counted from 1.
+//! A reader and a writer that fail at one call, counted from 1.
 
 use crn_engines::{Fault, ReadFault, WriteFault};
 use std::alloc::Global;

@@ -1,4 +1,4 @@
-// Runs that are cut at a block and resumed, where a read or a write fails.
+//! Runs that are cut at a block and resumed, where a read or a write fails.
 
 use crate::fakes::{Narrow, Trickle, tells_read};
 use crn_engines::{leg, resume};

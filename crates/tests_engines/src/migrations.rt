@@ -1,4 +1,4 @@
-// Checkpoints of old versions that are migrated, where a read or a write fails.
+//! Checkpoints of old versions that are migrated, where a read or a write fails.
 
 use crate::fakes::{Narrow, Trickle, tells_read};
 use crn_engines::migrate;

@@ -1,4 +1,4 @@
-// Every public name stands in the crate that users import it from.
+//! Every public name stands in the crate that users import it from.
 
 use crn_cipher::laws::distinct;
 use crn_cipher::{Block, StreamId, block, threefry, unthreefry};

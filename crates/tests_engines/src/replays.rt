@@ -1,4 +1,4 @@
-// Replays, where a read or a write fails.
+//! Replays, where a read or a write fails.
 
 use crate::fakes::{Narrow, Trickle, tells_read};
 use crn_engines::replay_run;

@@ -1,5 +1,5 @@
-// The program's engine on whole texts, with readers and writers that fail, and the lines of faults. What it answers to
-// texts of all kinds is tried from outside, by tests/program.
+//! The program's engine on whole texts, with readers and writers that fail, and the lines of faults. What it answers to
+//! texts of all kinds is tried from outside, by tests/program.
 
 use crate::fakes::{Narrow, Trickle, tells_read};
 use crn_checkpoint::{CheckpointFault, MigrateFault};

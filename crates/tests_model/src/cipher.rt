@@ -1,4 +1,4 @@
-// The cipher and its blocks against words of Random123.
+//! The cipher and its blocks against words of Random123.
 
 ghost use Rattle.std.specs.Prelude.{◌≡◌, ◌<◌};
 ghost use Rattle.crn_cipher.specs.Blocks.{BlockWords};

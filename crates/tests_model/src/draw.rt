@@ -1,4 +1,4 @@
-// Draws and their faults, with values worked out by hand. `vectors` has those of an independent program.
+//! Draws and their faults, with values worked out by hand. `vectors` has those of an independent program.
 
 mod vectors;
 

@@ -1,4 +1,4 @@
-// Paired differences and their faults, with values worked out by hand. `vectors` has those of an independent program.
+//! Paired differences and their faults, with values worked out by hand. `vectors` has those of an independent program.
 
 mod vectors;
 

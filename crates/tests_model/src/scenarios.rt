@@ -1,4 +1,4 @@
-// The draws, models and scenarios that several tests run.
+//! The draws, models and scenarios that several tests run.
 
 ghost use Rattle.std.specs.Prelude.{◌≡◌, ◌≤◌, ℕ, ◌∷◌, [], length, All, IfOk};
 ghost use Rattle.crn_stock.specs.Models.{IsModel, IsPolicy, model_of, returned_values, total, AreForScenario};

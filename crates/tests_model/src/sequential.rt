@@ -1,4 +1,4 @@
-// Runs on one thread, with costs worked out by hand from the model's rules.
+//! Runs on one thread, with costs worked out by hand from the model's rules.
 
 ghost use Rattle.std.specs.Prelude.{◌≤◌};
 

@@ -1,5 +1,5 @@
-// Examples of single periods, of blocks and of whole runs, worked out by hand from the model's rules. `returns` has those
-// with returned items, `sizes` calls at the ends of all ranges, `checked` the calls that judge and compare.
+//! Examples of single periods, of blocks and of whole runs, worked out by hand from the model's rules. `returns` has those
+//! with returned items, `sizes` calls at the ends of all ranges, `checked` the calls that judge and compare.
 
 ghost use Rattle.std.specs.Prelude.{◌≡◌, ◌≤◌, ◌≤ℤ◌, pos, IfOk};
 ghost use Rattle.crn_stock.specs.Models.{IsPolicy, total};

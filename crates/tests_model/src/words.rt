@@ -1,5 +1,5 @@
-// What the tests know of the streams of a block from outside, so that a new stream changes no other file of this crate.
-// The words are Random123's `threefry4x64_R(20, ..)`.
+//! What the tests know of the streams of a block from outside, so that a new stream changes no other file of this crate.
+//! The words are Random123's `threefry4x64_R(20, ..)`.
 
 use crn_cipher::{BLOCK_WORDS, Block, STREAMS};
 

@@ -1,4 +1,4 @@
-// Schedules of the machine, worked out by hand; the words of blocks are Random123's.
+//! Schedules of the machine, worked out by hand; the words of blocks are Random123's.
 
 ghost use Rattle.std.specs.Prelude.{◌≡◌, ◌<◌, ◌≤◌, IfOk};
 ghost use Rattle.std.specs.List.{All};

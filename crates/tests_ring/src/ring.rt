@@ -1,4 +1,5 @@
-// Calls of the running ring, on one thread and on three.
+//! Calls of the running ring, on one thread and on three.
+
 mod batches;
 mod loops;
 mod rows;

@@ -1,4 +1,4 @@
-// Rings of the zero key, with their producer and readers, for tests that make all calls on one thread.
+//! Rings of the zero key, with their producer and readers, for tests that make all calls on one thread.
 
 ghost use Rattle.std.specs.Prelude.{◌≡◌, ◌∷◌, [], false, IfSome};
 ghost use Rattle.crn_proto.specs.Ring.{open_reader};

@@ -1,6 +1,6 @@
-// A checkpoint that is read, written and migrated, and the numbers of faults. Every leg of runs of all sizes, texts
-// that are refused and texts with one byte changed are tried from outside, by tests/program/checkpoints.toml and
-// legs.toml.
+//! A checkpoint that is read, written and migrated, and the numbers of faults. Every leg of runs of all sizes, texts
+//! that are refused and texts with one byte changed are tried from outside, by tests/program/checkpoints.toml and
+//! legs.toml.
 
 use crate::fixtures::{FIRST_LEG, OLD_FIRST_LEGS, TWO_REPLICATIONS};
 use crn_checkpoint::{

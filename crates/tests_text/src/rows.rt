@@ -1,4 +1,4 @@
-// Texts of rows, written and read.
+//! Texts of rows, written and read.
 
 use crn_rows::{Row, Sheet, read_rows};
 use std::alloc::{AllocError, Global};

@@ -1,5 +1,5 @@
-// The parts of a scenario that was read, and the numbers of faults. Which texts are read, and why others are not, is
-// tried on the built program: tests/program/scenarios.toml.
+//! The parts of a scenario that was read, and the numbers of faults. Which texts are read, and why others are not, is
+//! tried on the built program: tests/program/scenarios.toml.
 
 use crn_draw::Weights;
 use crn_scenario::{ScenarioFault, read_scenario};

@@ -1,5 +1,5 @@
-// A block's words, a schedule, and the numbers of faults. Reports, and schedules and traces of all sizes, are tried
-// from outside, by tests/program/reports.toml and replays.toml.
+//! A block's words, a schedule, and the numbers of faults. Reports, and schedules and traces of all sizes, are tried
+//! from outside, by tests/program/reports.toml and replays.toml.
 
 use crate::fixtures::FIRST_WORDS;
 use crn_proto::Actor;

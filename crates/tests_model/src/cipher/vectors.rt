@@ -1,3 +1,5 @@
+//! Words of Random123.
+
 /// Key, counter and output of Random123's threefry4x64 with 20 rounds, four words each, at counters of no block.
 pub const VECTORS: &str = "\
 0000000000000000 0000000000000000 0000000000000000 0000000000000000 ffffffffffffffff ffffffffffffffff ffffffffffffffff ffffffffffffffff fd745daeaffc66e9 f8be87b7c4cdfd39 f832a5121b32098b 82324590e4a05267\n\

@@ -1,4 +1,4 @@
-// Draws computed from the written-out list by an independent program.
+//! Draws computed from the written-out list by an independent program.
 
 use super::{Example, first_other_of};
 use std::test::Fail;

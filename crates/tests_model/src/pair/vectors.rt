@@ -1,4 +1,4 @@
-// Paired differences computed by an independent program from the sums over pairs.
+//! Paired differences computed by an independent program from the sums over pairs.
 
 use super::{Figures, other_figure};
 

@@ -1,4 +1,4 @@
-// The calls that judge and compare: on parts within their ranges, at the ends of the ranges, and just beyond.
+//! The calls that judge and compare: on parts within their ranges, at the ends of the ranges, and just beyond.
 
 use super::*;
 use crate::scenarios::{checked_model, checked_scenario, draws, policy_of};

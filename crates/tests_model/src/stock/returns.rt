@@ -1,5 +1,5 @@
-// Customers who return items: examples worked out by hand, and figures of an independent program that adds up all
-// orders, demands and returned items.
+//! Customers who return items: examples worked out by hand, and figures of an independent program that adds up all
+//! orders, demands and returned items.
 
 ghost use Rattle.std.specs.Prelude.{◌≡◌, ◌≤◌, ◌∷◌, [], All, IfOk};
 ghost use Rattle.crn_stock.specs.Models.{returned_values};

@@ -1,4 +1,4 @@
-// Each call that allocates, at the ends of its ranges and between: with enough memory none fails.
+//! Each call that allocates, at the ends of its ranges and between: with enough memory none fails.
 
 ghost use Rattle.crn_stock.specs.Models.{IsPolicy};
 

@@ -1,4 +1,4 @@
-// Calls by batches, with all answers worked out by hand.
+//! Calls by batches, with all answers worked out by hand.
 
 ghost use Rattle.std.specs.Prelude.{◌≡◌, ◌+◌, ◌<◌, ◌≤◌, ℕ, length, slice_get, Some};
 ghost use Rattle.crn_cipher.specs.declared.stream.Block.{Block};

@@ -1,4 +1,4 @@
-// The loop of a caller that takes by batches of 16.
+//! The loop of a caller that takes by batches of 16.
 
 ghost use Rattle.std.specs.Prelude.{◌≡◌, false, true};
 ghost use Rattle.crn_ring.specs.Calls.{IsReaderOf, reader_part};
@@ -30,7 +30,7 @@ impl Consumer {
 }
 
 // Takes all blocks up to the end, and hands each in its turn to a consumer. Answers how many were the key's own.
-pub(super) fn drain<R: Wait>(rt: &R, ring: &Ring, reader: &mut Reader) -> u64
+pub(crate) fn drain<R: Wait>(rt: &R, ring: &Ring, reader: &mut Reader) -> u64
     requires of { IsReaderOf ring.now reader.old }
     requires running { (reader_part reader.old).seen_end ≡ false }
     ensures ended { (reader_part reader.new).seen_end ≡ true }

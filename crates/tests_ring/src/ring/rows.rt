@@ -1,4 +1,4 @@
-// Calls of one thread in a row, with all answers worked out by hand. The words of blocks are Random123's.
+//! Calls of one thread in a row, with all answers worked out by hand. The words of blocks are Random123's.
 
 use crate::rings::{One, Two, Which, ring_of};
 use crn_cipher::Block;

@@ -1,4 +1,5 @@
-// A producer and two readers, each on its own thread. Each reader gets the very blocks of the key, in order.
+//! A producer and two readers, each on its own thread. Each reader gets the very blocks of the key, in order.
+
 ghost use Rattle.std.specs.Prelude.{◌≡◌, false, true};
 ghost use Rattle.crn_ring.specs.Calls.{IsProducerOf, IsReaderOf, producer_part, reader_part, spec_of};
 

@@ -1,4 +1,5 @@
-// Runs of one policy on a ring that is filled beforehand.
+//! Runs of one policy on a ring that is filled beforehand.
+
 ghost use Rattle.std.specs.Prelude.{◌≡◌, ◌≤◌, ◌<◌, ◌∷◌, ⊤, [], false, length, IfSome};
 ghost use Rattle.crn_proto.specs.Ring.{open_reader};
 ghost use Rattle.crn_stock.specs.Models.{total};

@@ -1,4 +1,5 @@
-// Gates that wait for each other, that hold a policy, and that count the blocks that they are asked for.
+//! Gates that wait for each other, that hold a policy, and that count the blocks that they are asked for.
+
 ghost use Rattle.std.specs.Prelude.{◌≡◌, ◌≤◌, ⊤, false, length, All, IfOk};
 ghost use Rattle.crn_stock.specs.Models.{total};
 ghost use Rattle.crn_sequential.specs.Runs.{IsCheckpointOf};
@@ -170,10 +171,10 @@ fn a_late_reader_holds_the_ring(rt: HostRuntime) -> Result<(), Fail> {
 
 // Answers false for one block of one policy.
 #[derive(Clone, Copy)]
-pub(super) struct HoldsAt {
-    pub(super) policy: u32,
-    pub(super) block: u64,
-    pub(super) has_refused: bool,
+pub(crate) struct HoldsAt {
+    pub(crate) policy: u32,
+    pub(crate) block: u64,
+    pub(crate) has_refused: bool,
 }
 
 impl Gate for HoldsAt {

@@ -1,4 +1,5 @@
-// Long runs: 4,096 blocks and more, up to the most that a scenario can have.
+//! Long runs: 4,096 blocks and more, up to the most that a scenario can have.
+
 ghost use Rattle.std.specs.Prelude.{◌≡◌, ◌≤◌, length};
 
 use super::runs::{run_reaches, run_whole};

@@ -1,4 +1,5 @@
-// Runs of all policies under open gates.
+//! Runs of all policies under open gates.
+
 ghost use Rattle.std.specs.Prelude.{◌≡◌, ◌≤◌, length, IfOk};
 ghost use Rattle.crn_stock.specs.Models.{total};
 ghost use Rattle.crn_sequential.specs.Runs.{IsCheckpointOf};
@@ -14,7 +15,7 @@ use std::thread::Threads;
 use tests_model::scenarios::{Slots, base, have_costs};
 
 // A run of two policies up to a block.
-pub(super) fn run_two<R: Threads + Wait + Sync>(
+pub(crate) fn run_two<R: Threads + Wait + Sync>(
     rt: &R,
     alloc: Global,
     scenario: &Scenario,
@@ -33,7 +34,7 @@ pub(super) fn run_two<R: Threads + Wait + Sync>(
 }
 
 // A run of two policies from their start to their end.
-pub(super) fn run_whole<R: Threads + Wait + Sync>(
+pub(crate) fn run_whole<R: Threads + Wait + Sync>(
     rt: &R,
     alloc: Global,
     scenario: &Scenario,
@@ -45,14 +46,14 @@ pub(super) fn run_whole<R: Threads + Wait + Sync>(
 }
 
 // Whether the readers are 0 and 1, have taken the blocks below `upto` and have seen the end.
-pub(super) fn have_read(readers: &[Reader], upto: u64) -> bool {
+pub(crate) fn have_read(readers: &[Reader], upto: u64) -> bool {
     readers.len() == 2
         && (readers[0].number(), readers[0].taken(), readers[0].ended()) == (0, upto, true)
         && (readers[1].number(), readers[1].taken(), readers[1].ended()) == (1, upto, true)
 }
 
 // Whether a run has reached block `upto` with these costs.
-pub(super) fn has_reached(
+pub(crate) fn has_reached(
     answer: &Result<Finished, RunFault>,
     upto: u64,
     a: &[u64],
@@ -69,7 +70,7 @@ pub(super) fn has_reached(
 }
 
 // Whether a whole run reaches block `upto` with these costs.
-pub(super) fn run_reaches<R: Threads + Wait + Sync>(
+pub(crate) fn run_reaches<R: Threads + Wait + Sync>(
     rt: &R,
     alloc: Global,
     scenario: &Scenario,

@@ -1,4 +1,5 @@
-// Scenarios of the zero key with policies A and B.
+//! Scenarios of the zero key with policies A and B.
+
 ghost use Rattle.std.specs.Prelude.{◌≡◌, ◌≤◌, ◌∷◌, [], length, IfOk};
 
 use crn_stock::{Model, Scenario};
@@ -8,7 +9,7 @@ use tests_model::scenarios::{
 };
 
 // Replications of the steady model with lead times of 1.
-pub(super) fn steady(
+pub(crate) fn steady(
     alloc: Global,
     slots: Slots,
     periods: u32,
@@ -34,7 +35,7 @@ fn largest_model(alloc: Global) -> Result<Model, AllocError> {
 }
 
 // All 65,536 blocks of the largest model.
-pub(super) fn largest(alloc: Global) -> Result<Scenario, AllocError>
+pub(crate) fn largest(alloc: Global) -> Result<Scenario, AllocError>
     ensures two { IfOk result (λ s. length s.policies ≡ 2) }
 {
     let model = largest_model(alloc)?;
