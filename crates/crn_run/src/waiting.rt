@@ -55,6 +55,7 @@ pub(crate) struct Waiting {
     sleeper: Parker,
 }
 
+// Calls of a wait stay calls: inlined, they would take registers from the loop that runs blocks.
 impl Waiting {
     /// Returns the waits of a thread that has not waited yet.
     pub(crate) fn new() -> Waiting
@@ -74,6 +75,8 @@ impl Waiting {
     /// # Asks
     ///
     /// The reader has taken all blocks that it knows to be published.
+    #[cold]
+    #[inline(never)]
     pub(crate) fn wait_for_block<R: Wait>(&mut self, rt: &R, ring: &Ring, reader: &Reader)
         requires { (reader_part reader.now).seen ≤ (reader_part reader.now).taken }
     {
@@ -86,6 +89,8 @@ impl Waiting {
     /// # Asks
     ///
     /// By what the producer last loaded of it, a reader has not freed the block's slot.
+    #[cold]
+    #[inline(never)]
     pub(crate) fn wait_for_slot<R: Wait>(&mut self, rt: &R, ring: &Ring, producer: &Producer)
         requires { LacksSlot (spec_of ring.now) (producer_part producer.now) }
     {
