@@ -12,4 +12,4 @@ pub returns-clause-after : goal.returns-clause-after
 returns-clause-after c =
     let old = c.args.self.now in
     let left : c.self.inside.periods - c.self.inside.period ≡ old.periods - old.period = ap (λ (w : Parts). w.periods - w.period) c.self.view_is in
-    c.advance.ensures.after ∙ ap (λ (n : ℕ). after_draws (terms_in c.args.terms) (drawn_from c.args.model.now c.args.block.now) n old) left
+    c.advance.ensures.after ∙ ap (λ (n : ℕ). after_draws (terms_in c.args.terms.now) (drawn_from c.args.model.now c.args.block.now) n old) left
