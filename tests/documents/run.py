@@ -2,7 +2,7 @@
 """Compares the pages with the repository and the program: tests/documents/run.py PROGRAM.
 
 That each link leads to a file and a heading; that the map's crates stand on what crates.txt says; that what
-READING.md quotes stands in the files that it names, that DEFINITIONS.md lists what must be believed, that specs/Inner has
+READING.md and CALLING.md quote stands in the files that it names, that DEFINITIONS.md lists what must be believed, that specs/Inner has
 what no public contract states (believed.py), and that what pages for engineers name is there; that each wrong implementation says what goes wrong, in a sentence of its own,
 and which function refuses it; that public items have docstrings of one form (docstrings.py); and that the scenario and the report of README
 are those that the program takes and writes.
@@ -52,7 +52,7 @@ def crate_tries(_):
     """What each crate stands on, by the map."""
     listed = {line.split(":")[0]: line.split(":")[1].split() for line in text_of("crates.txt").splitlines()
               if ":" in line and not line.startswith("#")}
-    rows = re.findall(r"^\| `((?:crn|tests_)[a-z_]*)` \|[^|]*\|([^|]*)\|", text_of("docs/ARCHITECTURE.md"), re.MULTILINE)
+    rows = re.findall(r"^\| `((?:crn|tests_|uses)[a-z_]*)` \|[^|]*\|([^|]*)\|", text_of("docs/ARCHITECTURE.md"), re.MULTILINE)
     yield "docs/ARCHITECTURE.md has each crate once", sorted(name for name, _ in rows) == sorted(listed)
     for name, row in rows:
         yield f"docs/ARCHITECTURE.md: {name}", sorted(re.findall("`([a-z_]+)`", row)) == sorted(listed.get(name, []))
@@ -72,14 +72,15 @@ def name_tries(_):
 
 def quote_tries(_):
     """Each quoted line stands in one of the files that the paragraph before it names."""
-    page = text_of("docs/READING.md")
-    links = page[page.index("## The chain"):page.index("## What must be believed")]
-    for before, block in re.findall(r"((?:^(?!```)[^\n]*\n)+)^```\n(.*?)^```$", links, re.MULTILINE | re.DOTALL):
-        files = [it for it in re.findall(r"`(crates/[^`]*\.(?:rt|antt))`", before)]
-        texts = [re.sub(r"\s+", " ", text_of(it)) for it in files if os.path.exists(f"{TOP}/{it}")]
-        for line in block.splitlines():
-            wanted = re.sub(r"\s+", " ", line).strip()
-            yield f"docs/READING.md quotes {wanted}", len(texts) == len(files) > 0 and any(wanted in it for it in texts)
+    reading = text_of("docs/READING.md")
+    chain = reading[reading.index("## The chain"):reading.index("## What must be believed")]
+    for page, text in (("docs/READING.md", chain), ("docs/CALLING.md", text_of("docs/CALLING.md"))):
+        for before, block in re.findall(r"((?:^(?!```)[^\n]*\n)+)^```\n(.*?)^```$", text, re.MULTILINE | re.DOTALL):
+            files = [it for it in re.findall(r"`(crates/[^`]*\.(?:rt|antt))`", before)]
+            texts = [re.sub(r"\s+", " ", text_of(it)) for it in files if os.path.exists(f"{TOP}/{it}")]
+            for line in block.splitlines():
+                wanted = re.sub(r"\s+", " ", line).strip()
+                yield f"{page} quotes {wanted}", len(texts) == len(files) > 0 and any(wanted in it for it in texts)
 
 
 # Names in pages that stand for any of their kind.
@@ -93,7 +94,7 @@ def named_tries(_):
     words = {word for it in paths if it.endswith((".rt", ".antt", ".edit")) for word in re.findall(r"\w+", text_of(it))}
     words |= {word for it in paths if it.endswith(".py") for word in re.findall(r"^ *(?:def|class) (\w+)", text_of(it), re.MULTILINE)}
     words |= {os.path.splitext(os.path.basename(it))[0] for it in paths} | {it.split("/")[1] for it in paths}
-    for page in ("docs/CHANGING.md", "docs/ARCHITECTURE.md", "docs/PROOFS.md", "docs/READING.md", "CONTRIBUTING.md"):
+    for page in ("docs/CALLING.md", "docs/CHANGING.md", "docs/ARCHITECTURE.md", "docs/PROOFS.md", "docs/READING.md", "CONTRIBUTING.md"):
         names = {it for span in re.findall(r"`([^`\n]+)`", text_of(page)) for it in re.findall(r"\b[a-z]+_[a-z0-9_]+\b", span)}
         yield f"{page} names what there is: not {sorted(names - words)}", bool(names) and names <= words | STANDING_FOR_ANY
 

@@ -1,8 +1,8 @@
 #!/usr/bin/env python3
 """Looks in the sources of the program for what no contract can see: tests/sources/run.py.
 
-A fault that the system is the cause of carries the value that reported it, and no contract can tell a value that was
-handed on from one that was made up. So nothing makes one, and what an allocation asks for is a length, a getter, a field
+A fault that the system is the cause of carries the value that reported it, or for a thread the evidence of it, and no
+contract can tell a value that was handed on from one that was made up. So nothing makes one, and what an allocation asks for is a length, a getter, a field
 or one of SIZES. Nothing that was allocated is forgotten. The ring moves its words by loads and stores alone, and only the
 side that feeds it makes blocks. RULES say what may not stand in the crates of the program.
 Each rule is then tried on the sources with a line of PLANTS put in, which it must find. There is a line for each failure,
