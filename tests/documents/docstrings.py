@@ -14,6 +14,7 @@ OTHER_WAYS = {
     r"growth was refused|want of memory": "an allocation fails",
     r"[Tt]akes? no memory|[Nn]eeds no memory": "allocates nothing",
     r"could be had|gives up": "fails",
+    r"\ba front of\b": "a prefix of",
     r"pub\((?:super|in )": "pub(crate)",
 }
 LOOSE = re.compile(r"\b(?:Condition: |Asks that |Refuses, |of these faults that holds is answered)")

@@ -3,7 +3,7 @@ use Rattle.std.specs.Prelude.{ℕ, ◌<◌, ◌≤◌, List, length, take, Optio
 use Rattle.std.specs.Io.KnownBytes.{Appends, Consumes, IsAtEnd}
 use Rattle.crn_engines.specs.declared.input.TheConstants.{INPUT_LIMIT}
 
--- the writer's bytes grow by a front of the text, which may be empty or the whole
+-- the writer's bytes grow by a prefix of the text, which may be empty or the whole
 abbrev pub AppendsFront : Option (List ℕ) → Option (List ℕ) → List ℕ → Type 0
 AppendsFront old new text = (k : ℕ) × Appends old new (take k text)
 
@@ -25,7 +25,7 @@ pub record Wrote (Made : List ℕ → Type 0) (held held' : Option (List ℕ)) :
   pub made : Made text
   pub written : Appends held held' text
 
--- a front of a text that was made was written
+-- a prefix of a text that was made was written
 pub record WroteFrontOf (Made : List ℕ → Type 0) (held held' : Option (List ℕ)) : Type 0 where
   pub text : List ℕ
   pub made : Made text

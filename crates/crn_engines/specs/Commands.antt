@@ -56,7 +56,7 @@ pub record MadeReport (reading reading' : Option (List ℕ)) (text : List ℕ) :
 abbrev pub WroteReport : Option (List ℕ) → Option (List ℕ) → Option (List ℕ) → Option (List ℕ) → Type 0
 WroteReport reading reading' held held' = Wrote (MadeReport reading reading') held held'
 
--- the whole input was read, and a front of its report was written
+-- the whole input was read, and a prefix of its report was written
 abbrev pub WroteFront : Option (List ℕ) → Option (List ℕ) → Option (List ℕ) → Option (List ℕ) → Type 0
 WroteFront reading reading' held held' = WroteFrontOf (MadeReport reading reading') held held'
 
@@ -84,7 +84,7 @@ pub record MadeLeg (n : ℕ) (reading reading' : Option (List ℕ)) (text : List
 abbrev pub WroteLeg : ℕ → Option (List ℕ) → Option (List ℕ) → Option (List ℕ) → Option (List ℕ) → Type 0
 WroteLeg n reading reading' held held' = Wrote (MadeLeg n reading reading') held held'
 
--- the whole input was read, and a front of the text of its leg was written
+-- the whole input was read, and a prefix of the text of its leg was written
 abbrev pub WroteLegFront : ℕ → Option (List ℕ) → Option (List ℕ) → Option (List ℕ) → Option (List ℕ) → Type 0
 WroteLegFront n reading reading' held held' = WroteFrontOf (MadeLeg n reading reading') held held'
 
@@ -152,7 +152,7 @@ pub record MadeResumed (saved saved' reading reading' : Option (List ℕ)) (text
 abbrev pub WroteResumed : Option (List ℕ) → Option (List ℕ) → Option (List ℕ) → Option (List ℕ) → Option (List ℕ) → Option (List ℕ) → Type 0
 WroteResumed saved saved' reading reading' held held' = Wrote (MadeResumed saved saved' reading reading') held held'
 
--- both inputs were read whole, and a front of the report onward from the checkpoint was written
+-- both inputs were read whole, and a prefix of the report onward from the checkpoint was written
 abbrev pub WroteResumedFront : Option (List ℕ) → Option (List ℕ) → Option (List ℕ) → Option (List ℕ) → Option (List ℕ) → Option (List ℕ) → Type 0
 WroteResumedFront saved saved' reading reading' held held' = WroteFrontOf (MadeResumed saved saved' reading reading') held held'
 
@@ -205,7 +205,7 @@ pub record MadeMigrated (reading reading' : Option (List ℕ)) (text : List ℕ)
 abbrev pub WroteMigrated : Option (List ℕ) → Option (List ℕ) → Option (List ℕ) → Option (List ℕ) → Type 0
 WroteMigrated reading reading' held held' = Wrote (MadeMigrated reading reading') held held'
 
--- the whole input was read, and a front of the text that it becomes was written
+-- the whole input was read, and a prefix of the text that it becomes was written
 abbrev pub WroteMigratedFront : Option (List ℕ) → Option (List ℕ) → Option (List ℕ) → Option (List ℕ) → Type 0
 WroteMigratedFront reading reading' held held' = WroteFrontOf (MadeMigrated reading reading') held held'
 
@@ -244,7 +244,7 @@ pub record MadeTrace (spec : RingSpec) (reading reading' : Option (List ℕ)) (t
 abbrev pub WroteTrace : RingSpec → Option (List ℕ) → Option (List ℕ) → Option (List ℕ) → Option (List ℕ) → Type 0
 WroteTrace spec reading reading' held held' = Wrote (MadeTrace spec reading reading') held held'
 
--- the whole input was read, and a front of its trace was written
+-- the whole input was read, and a prefix of its trace was written
 abbrev pub WroteTraceFront : RingSpec → Option (List ℕ) → Option (List ℕ) → Option (List ℕ) → Option (List ℕ) → Type 0
 WroteTraceFront spec reading reading' held held' = WroteFrontOf (MadeTrace spec reading reading') held held'
 
@@ -284,7 +284,7 @@ Answered (command.Resume _) a b = WroteResumed a.saved b.saved a.reading b.readi
 Answered (command.Migrate _) a b = Keeps a.reading b.reading × WroteMigrated a.saved b.saved a.held b.held
 Answered (command.Help text) a b = Unread a b × Appends a.held b.held (string_bytes text)
 
--- a front of what the command asks for was written
+-- a prefix of what the command asks for was written
 abbrev pub AnsweredFront : Command → Streams → Streams → Type 0
 AnsweredFront command.Run a b = WroteFront a.reading b.reading a.held b.held
 AnsweredFront (command.Words key n) a b = AppendsFront a.held b.held (words_text key n)
@@ -326,7 +326,7 @@ status_of (fault.Thread _) = 6
 status_of fault.Gate = 6
 status_of (fault.Memory _) = 7
 
--- whether a front of the output may have been written
+-- whether a prefix of the output may have been written
 abbrev pub is_writing : Fault → Bool
 is_writing (fault.Writing _) = true
 is_writing _ = false
