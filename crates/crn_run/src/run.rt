@@ -55,8 +55,6 @@ pub struct Finished {
 /// - [`RunFault::Gate`]: a policy's gate was asked, as it was for each block before, and answered false. Each policy's gate has
 ///   passed all blocks or answered false so, since no reader found an early end.
 /// - [`RunFault::Memory`]: an allocation failed, and no thread was started.
-///
-/// A gate that was asked keeps what it stored.
 pub fn run_all<R: Threads + Wait + Sync, G: Gate + Send>(
     rt: &R,
     alloc: Global,
