@@ -1,0 +1,64 @@
+"""Leads a planner from a history of demand to stock decisions, with the proved simulator crnsim.
+
+The names below are the public interface. Each is imported when it is first used, so that a command starts fast.
+"""
+from __future__ import annotations
+
+import importlib
+from typing import TYPE_CHECKING, Any
+
+__version__ = "0.1.0"
+
+# The module that has each public name.
+_HOMES = {
+    "CrnplanError": "errors",
+    "Fault": "errors",
+    "ProgramError": "errors",
+    "Refused": "errors",
+    "ScenarioError": "errors",
+    "Costs": "scenario",
+    "Policy": "scenario",
+    "Scenario": "scenario",
+    "Table": "scenario",
+    "Report": "engine.report",
+    "find_program": "engine.program",
+    "History": "history",
+    "read_history": "history",
+    "read_lead_times": "history",
+    "DemandLaw": "demand",
+    "LeadLaw": "demand",
+    "fit_demand": "demand",
+    "fit_lead": "demand",
+    "check_keys": "decision.keys",
+    "sensitivity": "decision.sensitivity",
+    "sweep": "sweep",
+    "trajectories": "engine.trajectory",
+    "plan_item": "item",
+}
+
+__all__ = ["__version__", *_HOMES]
+
+if TYPE_CHECKING:
+    from .decision.keys import check_keys
+    from .decision.sensitivity import sensitivity
+    from .demand import DemandLaw, LeadLaw, fit_demand, fit_lead
+    from .engine.program import find_program
+    from .engine.report import Report
+    from .engine.trajectory import trajectories
+    from .errors import CrnplanError, Fault, ProgramError, Refused, ScenarioError
+    from .history import History, read_history, read_lead_times
+    from .item import plan_item
+    from .scenario import Costs, Policy, Scenario, Table
+    from .sweep import sweep
+
+
+def __getattr__(name: str) -> Any:
+    """Imports a public name from its module."""
+    if name not in _HOMES:
+        raise AttributeError(f"module {__name__!r} has no attribute {name!r}")
+    return getattr(importlib.import_module(f"{__name__}.{_HOMES[name]}"), name)
+
+
+def __dir__() -> list[str]:
+    """Returns the public names, for completion in a shell."""
+    return sorted(__all__)

@@ -1,0 +1,4 @@
+"""Runs the command: python -m crnplan."""
+from .commands import main
+
+main()

@@ -1,0 +1,95 @@
+"""The command crnplan. Each subcommand is a small module of this folder, imported only if it is asked for.
+
+The module `NAME` has a click command `command`. There is no arithmetic in a command: it reads its words, calls the
+package and prints.
+"""
+from __future__ import annotations
+
+import difflib
+import importlib
+import os
+import sys
+from typing import Any
+
+import click
+
+from .. import __version__
+from ..errors import CrnplanError
+
+# The subcommands in the order in which a planner meets them, with one line for the list of `--help`.
+COMMANDS = {
+    "item": "Plan one item: from a history and settings to a decision.",
+    "history": "Make tables of a scenario from a history.",
+    "why": "Say all that is wrong with a scenario, with line and advice.",
+    "suggest": "Suggest policies from exact long-run theory.",
+    "run": "Run a scenario on any number of policies.",
+    "decide": "Rank a report's policies with intervals and verdicts.",
+    "check": "Run a winner again on new keys.",
+    "sensitivity": "Rank policies again if a cost or a law differs.",
+    "trajectory": "Show stock and orders period by period.",
+    "sweep": "Run a grid of policies and levels.",
+    "where": "Say which program crnsim is used, and try it.",
+}
+
+
+class Group(click.Group):
+    """A group whose subcommands are imported when they are asked for."""
+
+    def list_commands(self, ctx: click.Context) -> list[str]:
+        """Returns the names of the subcommands, in order."""
+        return list(COMMANDS)
+
+    def get_command(self, ctx: click.Context, cmd_name: str) -> click.Command | None:
+        """Imports a subcommand."""
+        if cmd_name not in COMMANDS:
+            return None
+        command: click.Command = importlib.import_module(f"{__name__}.{cmd_name}").command
+        return command
+
+    def resolve_command(self, ctx: click.Context, args: list[str]) -> tuple[str | None, click.Command | None, list[str]]:
+        """Finds the subcommand, or suggests those that are spelt like it."""
+        if args and args[0] not in COMMANDS and not args[0].startswith("-"):
+            close = difflib.get_close_matches(args[0], COMMANDS, 2)
+            advice = f"; did you mean {' or '.join(close)}?" if close else f"; they are {', '.join(COMMANDS)}"
+            raise click.UsageError(f"there is no command '{args[0]}'{advice}", ctx)
+        return super().resolve_command(ctx, args)
+
+    def format_commands(self, ctx: click.Context, formatter: click.HelpFormatter) -> None:
+        """Lists the subcommands without importing them."""
+        with formatter.section("Commands"):
+            formatter.write_dl(list(COMMANDS.items()))
+
+
+@click.group(cls=Group, context_settings={"help_option_names": ["-h", "--help"], "max_content_width": 100},
+             epilog="Example: crnplan item history.csv settings.toml --out plan")
+@click.version_option(__version__, "-V", "--version", prog_name="crnplan", message="%(prog)s %(version)s")
+def group() -> None:
+    """Lead from a history of demand to a stock decision.
+
+    What the program crnsim computes is exact and proved for its stream; what theory computes is rounded and unproved.
+    """
+
+
+def main() -> None:
+    """Runs the command. Ends with status 0; 1 if the answer is no; 2 if an input or a word is refused; 130 if interrupted."""
+    try:
+        result: Any = group.main(standalone_mode=False)
+        sys.exit(result if isinstance(result, int) else 0)
+    except click.UsageError as fault:
+        hint = f" {fault.ctx.command_path} --help shows the words." if fault.ctx else ""
+        print(f"crnplan: {fault.format_message()}.{hint}" if hint else f"crnplan: {fault.format_message()}", file=sys.stderr)
+        sys.exit(2)
+    except click.ClickException as fault:
+        print(f"crnplan: {fault.format_message()}", file=sys.stderr)
+        sys.exit(2)
+    except CrnplanError as fault:
+        for line in str(fault).splitlines():
+            print(f"crnplan: {line}", file=sys.stderr)
+        sys.exit(fault.status)
+    except (KeyboardInterrupt, click.Abort):
+        print("crnplan: interrupted", file=sys.stderr)
+        sys.exit(130)
+    except BrokenPipeError:
+        # The reader of standard output has gone. Nothing more is to be said, not even at the exit.
+        os.dup2(os.open(os.devnull, os.O_WRONLY), sys.stdout.fileno())
+        sys.exit(0)
