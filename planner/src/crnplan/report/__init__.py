@@ -1,1 +1,1 @@
-"""See the modules."""
+"""Shows figures to a person: tables as text, and pictures by matplotlib."""
