@@ -1,0 +1,124 @@
+"""What all suites of the repository share: options, the built program, counted cases, and tests that must run alone.
+
+    .venv/bin/python -m pytest -n 4                   all suites
+    .venv/bin/python -m pytest tests/program -k resume
+    .venv/bin/python -m pytest --program PATH         the tests of another program
+    .venv/bin/python -m pytest --free                 new random texts on each run
+"""
+from __future__ import annotations
+
+import collections
+import contextlib
+import fcntl
+import os
+import tempfile
+from collections.abc import Callable, Iterable, Iterator
+from pathlib import Path
+from typing import Any
+
+import pytest
+from hypothesis import HealthCheck, settings
+
+TOP = Path(__file__).resolve().parent
+PROGRAM = TOP / "crates" / "crnsim" / "out" / "crnsim"
+# The property of a test that stands for so many cases.
+CASES = "cases"
+LOCK = "serial_lock"
+# A failure names so many of its cases, and says how many more there are.
+MOST_NAMED = 20
+
+Cases = Iterable[tuple[str, object]]
+
+
+def pytest_addoption(parser: pytest.Parser) -> None:
+    """Adds the options of the repository."""
+    group = parser.getgroup("crnsim")
+    group.addoption("--program", metavar="PATH", type=Path, help=f"test this program (default: {PROGRAM.relative_to(TOP)})")
+    group.addoption("--free", action="store_true", help="draw new random examples on each run, not the same ones")
+
+
+def pytest_configure(config: pytest.Config) -> None:
+    """Chooses the profile of hypothesis, and makes the file by whose lock the tests of a parallel run wait for one another."""
+    shared: dict[str, Any] = {"deadline": None, "database": None, "suppress_health_check": [HealthCheck.too_slow]}
+    settings.register_profile("gate", derandomize=True, **shared)
+    settings.register_profile("free", print_blob=True, **shared)
+    settings.load_profile("free" if config.getoption("--free") else "gate")
+    named = config.getoption("--program")
+    if named and not os.access(named, os.X_OK):
+        raise pytest.UsageError(f"--program {named}: there is no such program")
+    if not hasattr(config, "workerinput") and getattr(config.option, "numprocesses", None):
+        handle, path = tempfile.mkstemp(prefix="crnsim-")
+        os.close(handle)
+        config.add_cleanup(lambda: os.unlink(path))
+        setattr(config, LOCK, path)
+
+
+@pytest.hookimpl(optionalhook=True)
+def pytest_configure_node(node: Any) -> None:
+    """Tells a worker of a parallel run where the lock is."""
+    node.workerinput[LOCK] = getattr(node.config, LOCK)
+
+
+def pytest_collection_modifyitems(items: list[pytest.Item]) -> None:
+    """Puts the tests that run alone last. The others stay in their order."""
+    items.sort(key=is_serial)
+
+
+def is_serial(item: pytest.Item) -> bool:
+    """Returns whether a test must run alone."""
+    return item.get_closest_marker("serial") is not None
+
+
+@pytest.hookimpl(hookwrapper=True, tryfirst=True)
+def pytest_runtest_protocol(item: pytest.Item) -> Iterator[None]:
+    """Runs a test, in a worker under a lock: shared by all but those that run alone. The wait is no part of its timeout."""
+    path = getattr(item.config, "workerinput", {}).get(LOCK)
+    with open(path, encoding="ascii") if path else contextlib.nullcontext() as file:
+        if file:
+            fcntl.flock(file, fcntl.LOCK_EX if is_serial(item) else fcntl.LOCK_SH)
+        yield
+
+
+def pytest_terminal_summary(terminalreporter: Any) -> None:
+    """Says how many cases the tests of each folder stand for."""
+    counts: collections.Counter[str] = collections.Counter()
+    for report in terminalreporter.getreports("passed"):
+        folder = os.path.dirname(report.nodeid.split("::")[0])
+        counts[folder] += dict(report.user_properties).get(CASES, 1)
+    for folder, count in sorted(counts.items()):
+        terminalreporter.write_line(f"{folder}: {count:,} cases")
+
+
+@pytest.fixture(scope="session")
+def top() -> Path:
+    """Returns the folder of the repository."""
+    return TOP
+
+
+@pytest.fixture(scope="session")
+def program(request: pytest.FixtureRequest) -> Path:
+    """Returns the absolute path of the program that is tested. Without one the run ends."""
+    path = Path(os.path.abspath(request.config.getoption("--program") or PROGRAM))
+    if not os.access(path, os.X_OK):
+        request.session.shouldfail = f"there is no program {path}: run tools/build, or give --program PATH"
+        pytest.fail(request.session.shouldfail, pytrace=False)
+    return path
+
+
+@pytest.fixture
+def check_all(record_property: Callable[[str, object], None]) -> Callable[[Cases], None]:
+    """Returns a function that checks the cases of a test: pairs of a name and a verdict.
+
+    True is a case that holds. Anything else is one that does not; a text says why. All that fail are named, and the summary
+    counts each case.
+    """
+    def check(cases: Cases) -> None:
+        verdicts = list(cases)
+        record_property(CASES, len(verdicts))
+        assert verdicts, "there are no cases"
+        failed = [f"{name}: {verdict}" if isinstance(verdict, str) else name for name, verdict in verdicts if verdict is not True]
+        more = [f"and {len(failed) - MOST_NAMED} more"] if len(failed) > MOST_NAMED else []
+        if failed:
+            pytest.fail("\n".join([f"{len(failed)} of {len(verdicts)} cases", *failed[:MOST_NAMED], *more]), pytrace=False)
+
+    return check

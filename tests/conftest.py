@@ -1,0 +1,37 @@
+"""Fixtures of the tests of the program: folders and small C libraries."""
+from __future__ import annotations
+
+import subprocess
+from collections.abc import Callable
+from pathlib import Path
+
+import pytest
+
+HERE = Path(__file__).resolve().parent
+Compiler = Callable[[Path], Path]
+
+
+@pytest.fixture
+def room(tmp_path: Path) -> Path:
+    """Returns an empty folder of the test's own."""
+    return tmp_path
+
+
+@pytest.fixture(scope="session")
+def compiled(tmp_path_factory: pytest.TempPathFactory) -> Compiler:
+    """Returns a function that builds the library of a C file, to be loaded before a program, once in a process of tests."""
+    folder, built = tmp_path_factory.mktemp("libraries"), {}
+
+    def build(source: Path) -> Path:
+        if source not in built:
+            built[source] = folder / f"{source.stem}.so"
+            subprocess.run(["cc", "-O1", "-shared", "-fPIC", "-o", built[source], source, "-ldl"], check=True)
+        return built[source]
+
+    return build
+
+
+@pytest.fixture(scope="session")
+def preload_library(compiled: Compiler) -> Path:
+    """Returns the library of preload.c, which counts a run's requests, refuses some and holds its threads."""
+    return compiled(HERE / "preload.c")
