@@ -1,0 +1,146 @@
+"""Gives the formats of crnsim as typed constants: keys, ranges, rules, versions, columns, commands and statuses.
+
+They are read once from formats.toml. docs/FORMATS.md says what each key means. Which scenarios crnsim takes is proved; this
+module is not.
+"""
+from __future__ import annotations
+
+import re
+import tomllib
+from collections.abc import Iterable
+from dataclasses import dataclass
+from pathlib import Path
+from typing import Any
+
+# What stands at each key of a table: a kind, then the limits of a number or of the numbers of a list, or the shape of a table.
+Shape = dict[str, tuple[Any, ...]]
+
+# Keys that are judged by rules of their own, by which their kind is named.
+OWN_KINDS = ("version", "key", "ring", "name")
+
+
+@dataclass(frozen=True)
+class Key:
+    """A key of a scenario: its table (empty for the document), its name, its ranges, and the first version that has it.
+
+    A range is a pair of the least and the greatest value. A least that is another key's value is that key's name.
+    """
+
+    table: str
+    name: str
+    ranges: tuple[tuple[int | str, int], ...]
+    since: int
+
+
+def key_of(table: str, name: str) -> Key:
+    """Returns a key of a table. Raises LookupError if there is none."""
+    for key in KEYS:
+        if (key.table, key.name) == (table, name):
+            return key
+    raise LookupError(f"there is no key {name} in table {table or 'of the document'}")
+
+
+def limits(table: str, name: str) -> tuple[int, int]:
+    """Returns the least and the greatest of a key. If the least is another key's value, it is that key's least."""
+    low, high = key_of(table, name).ranges[0]
+    return (limits(table, low)[0] if isinstance(low, str) else low), high
+
+
+def _shape(version: int) -> Shape:
+    """Returns what stands at each key of the document in a version.
+
+    A table has the kind `table`, `draws` (values with weights) or `policies`, and its keys in the same way.
+    """
+    document: Shape = {}
+    tables: dict[str, Shape] = {}
+    for key in (it for it in KEYS if it.since <= version):
+        kind = key.name if key.name in OWN_KINDS else "numbers" if key.table in DRAWS else "number"
+        its = (kind,) if kind in OWN_KINDS else (kind, *limits(key.table, key.name))
+        (tables.setdefault(key.table, {}) if key.table else document)[key.name] = its
+    for name, shape in tables.items():
+        document[name] = ("policies" if name == "policy" else "draws" if name in DRAWS else "table", shape)
+    return document
+
+
+def version_with(names: Iterable[str]) -> int:
+    """Returns the first version that has all those of these keys of the document that some version has."""
+    named = set(names)
+    return next(it for it in VERSIONS if not (SHAPES[VERSIONS[-1]].keys() - SHAPES[it].keys()) & named)
+
+
+def _least_value(kind: str, *more: Any) -> Any:
+    """Returns a small value of a kind, without a fault."""
+    if kind in ("table", "draws"):
+        least = {name: _least_value(*its) for name, its in more[0].items()}
+        return {**least, "weights": [1]} if kind == "draws" else least
+    if kind == "policies":
+        return [_least_value("table", more[0])]
+    if kind in OWN_KINDS:
+        return {"version": VERSIONS[-1], "key": ["0" * DIGITS_OF_WORD] * WORDS_OF_KEY, "ring": 1, "name": "A"}[kind]
+    return [more[0] + 1] if kind == "numbers" else more[0]
+
+
+def least_scenario(version: int | None = None) -> dict[str, Any]:
+    """Returns a scenario's tree of a version, by default the newest: each number is at its least, each list has one."""
+    version = version or VERSIONS[-1]
+    return {**_least_value("table", SHAPES[version]), "version": version}
+
+
+def status_of(fault: str) -> int:
+    """Returns the exit status of a fault's line, such as `scenario 6`; 0 for the empty text."""
+    return STATUSES[re.sub(" [0-9]+$", "", fault)] if fault else 0
+
+
+def _key_from(its: dict[str, Any]) -> Key:
+    """Returns a key from its table in formats.toml."""
+    return Key(its.get("table", ""), its["name"], tuple((low, high) for low, high in its.get("ranges", [])), its.get("since", 1))
+
+
+_FORMATS = tomllib.loads(Path(__file__).with_name("formats.toml").read_text("utf-8"))
+_SCENARIO, _CHECKPOINT = _FORMATS["scenario"], _FORMATS["checkpoint"]
+
+# Scenarios. DRAWS are the tables of values and weights, each of which has a stream of random words.
+VERSIONS: tuple[int, ...] = tuple(_SCENARIO["versions"])
+KEYS: tuple[Key, ...] = tuple(map(_key_from, _SCENARIO["keys"]))
+DRAWS: tuple[str, ...] = tuple(it.table for it in KEYS if it.name == "values")
+COSTS: tuple[str, ...] = tuple(it.name for it in KEYS if it.table == "costs")
+SHAPES: dict[int, Shape] = {it: _shape(it) for it in VERSIONS}
+LIMITS: dict[str, dict[str, tuple[int, int]]] = {
+    table: {it.name: limits(table, it.name) for it in KEYS if it.table == table and it.ranges} for table in {it.table: 0 for it in KEYS}}
+POLICIES: tuple[int, int] = (_SCENARIO["policies"][0], _SCENARIO["policies"][1])
+WEIGHT_SUMS: tuple[int, int] = (int(key_of("demand", "weights").ranges[1][0]), key_of("demand", "weights").ranges[1][1])
+WORDS_OF_KEY: int = _SCENARIO["words_of_key"]
+DIGITS_OF_WORD: int = _SCENARIO["digits_of_word"]
+WORD = re.compile(f"[0-9a-f]{{{DIGITS_OF_WORD}}}")
+NAME = re.compile("[{}]{{{},{}}}".format(
+    "".join(re.escape(it) if len(it) == 1 else it for it in _SCENARIO["name_characters"]), *limits("policy", "name")))
+RING_SIZES: tuple[int, ...] = tuple(2**it for it in range(64) if limits("", "ring")[0] <= 2**it <= limits("", "ring")[1])
+MOST_LEVELS: int = _SCENARIO["most_levels"]
+MOST_BYTES: int = _SCENARIO["most_bytes"]
+MOST_PERIODS = limits("", "periods")[1]
+MOST_REPLICATIONS = limits("", "replications")[1]
+MOST_DEMAND = limits("demand", "values")[1]
+MOST_LEAD = limits("lead", "values")[1]
+MOST_WEIGHT = WEIGHT_SUMS[1]
+MOST_ITEMS = limits("policy", "S")[1]
+MOST_LETTERS = limits("policy", "name")[1]
+# The number of each rule by its name.
+RULES: dict[str, int] = _SCENARIO["rules"]
+CHECKPOINT_RULES: dict[str, int] = _CHECKPOINT["rules"]
+
+# Reports: the kind of each column by its name, in order, the heading line, and the columns of each kind.
+COLUMNS: dict[str, str] = _FORMATS["report"]["columns"]
+HEADER = ",".join(COLUMNS)
+WHOLE: tuple[str, ...] = tuple(name for name, kind in COLUMNS.items() if kind == "whole")
+FRACTIONS: tuple[str, ...] = tuple(name for name, kind in COLUMNS.items() if kind == "fraction")
+
+# Checkpoints: the versions, rising; the fields of each row by its kind, and the kinds with a value and its weight, in order.
+CHECKPOINT_VERSIONS: tuple[int, ...] = tuple(_CHECKPOINT["versions"])
+ROWS: dict[str, tuple[str, ...]] = {kind: tuple(fields) for kind, *fields in _CHECKPOINT["rows"]}
+DRAW_ROWS: tuple[str, ...] = tuple(kind for kind, fields in ROWS.items() if fields[:2] == ("value", "weight"))
+MOST_CHECKPOINT_BYTES: int = _CHECKPOINT["most_bytes"]
+MOST_COST: int = _CHECKPOINT["most_cost"]
+
+# The program: the words of each command, options left out, and the status by the line of a fault.
+COMMANDS: tuple[str, ...] = tuple(_FORMATS["program"]["commands"])
+STATUSES: dict[str, int] = _FORMATS["program"]["statuses"]
