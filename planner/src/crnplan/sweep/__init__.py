@@ -1,0 +1,127 @@
+"""Compares a grid of (s,S) policies with a base by many runs of crnsim, on this machine or on a Dask cluster."""
+from __future__ import annotations
+
+import os
+import sys
+from collections.abc import Callable, Iterable, Iterator, Sequence
+from concurrent import futures
+from pathlib import Path
+from types import ModuleType
+from typing import Any
+
+from ..engine.program import find_program
+from ..engine.report import Report, read_rows
+from ..errors import ProgramError, Refused
+from ..scenario import Policy, Scenario
+from . import worker
+from .grid import Part, grid_of, joined, keep, kept_lines, lines_of, parts_of
+from .progress import progress as progress_of
+
+NO_DISTRIBUTED = ("--cluster needs distributed, which is missing here; install it (on Debian: apt-get install "
+                  "python3-distributed)")
+# The status, standard output and error of a run.
+Answer = tuple[int, str, str]
+Answers = Iterator[tuple[Part, Answer]]
+
+
+def answers_here(jobs: int | None, program: str, parts: Sequence[Part]) -> Answers:
+    """Yields the answers to scenarios as they come, from so many runs at a time on this machine; None means all cores."""
+    with futures.ThreadPoolExecutor(jobs or os.cpu_count()) as pool:
+        running = {pool.submit(worker.run_scenario, program, part.text): part for part in parts}
+        try:
+            for done in futures.as_completed(running):
+                yield running[done], done.result()
+        finally:
+            pool.shutdown(wait=False, cancel_futures=True)
+
+
+def answers_of_cluster(address: str, program: str, parts: Sequence[Part]) -> Answers:
+    """Yields the answers to scenarios as they come, from the workers of a Dask scheduler. Raises Refused if it ends."""
+    try:
+        import cloudpickle
+        import distributed
+    except ImportError as fault:
+        raise Refused(NO_DISTRIBUTED) from fault
+    # Workers are sent the function itself, not its name: they need no crnplan.
+    cloudpickle.register_pickle_by_value(worker)
+    try:
+        with distributed.Client(address, timeout=10) as client:
+            running = [client.submit(worker.run_scenario, program, part.text, pure=False) for part in parts]
+            asked = {future.key: part for future, part in zip(running, parts)}
+            for future, answer in distributed.as_completed(running, with_results=True):
+                if future.cancelled():
+                    raise Refused(f"--cluster {address}: a run was cancelled (has the scheduler ended?)")
+                yield asked[future.key], answer
+    except (OSError, ValueError, distributed.scheduler.KilledWorker) as fault:
+        raise Refused(f"--cluster {address}: {fault}") from fault
+
+
+def answered(part: Part, answer: Answer) -> list[str]:
+    """Returns the lines of the report that a run has written. Raises ProgramError if there is none."""
+    status, report, errors = answer
+    lines = lines_of(part, report) if status == 0 else None
+    if lines is None:
+        hint = " (crnplan why says why)" if status == 3 else ""
+        raise ProgramError(f"{errors}{hint}" if errors else f"no report, status {status}")
+    return lines
+
+
+def lines_of_parts(parts: Sequence[Part], folder: Path | None, answers: Callable[[Sequence[Part]], Answers],
+                   shown: bool) -> list[list[str]]:
+    """Returns the lines of each scenario, in order: kept ones, or else those of a run, which are kept then."""
+    kept = {} if folder is None else {part.number: kept_lines(folder, part) for part in parts}
+    lines = {number: its for number, its in kept.items() if its is not None}
+    wanted = [part for part in parts if part.number not in lines]
+    with progress_of(len(parts), len(lines), shown) as show:
+        for part, answer in answers(wanted) if wanted else ():
+            lines[part.number] = answered(part, answer)
+            if folder is not None:
+                keep(folder, part, answer[1])
+            show(len(lines))
+    return [lines[part.number] for part in parts]
+
+
+def program_for(named: str | Path | None, cluster: str | None) -> str:
+    """Returns the program's path. The workers of a cluster may have a named one even if this machine has not."""
+    if cluster is None or named is None:
+        return str(find_program(named))
+    return os.path.abspath(named) if os.sep in str(named) else str(named)
+
+
+def sweep(scenario: Scenario, s: Iterable[int], S: Iterable[int], *, jobs: int | None = None,
+          out: str | Path | None = None, cluster: str | None = None, program: str | Path | None = None,
+          progress: bool = False) -> Report:
+    """Compares all pairs of reorder points `s` and levels `S` (items) with the scenario's first policy, the base.
+
+    Pairs with s above S are left out. All policies meet the same demands, under the scenario's key. The report has the
+    base first, and then the grid by `diff_total`, the cheapest first: the same bytes whatever the number of runs at a
+    time, `jobs` (by default one for each core). With `out`, a folder, each report is kept, and the same sweep begun again
+    runs only what is not there. With `cluster`, the address of a Dask scheduler, its workers run the program at its path.
+    `progress` shows on standard error how many scenarios are done. Raises Refused, and ProgramError if a run fails.
+    """
+    folder = None if out is None else Path(out)
+    grid = grid_of(scenario.policies[0], s, list(S))
+    path = program_for(program, cluster)
+
+    def answers(parts: Sequence[Part]) -> Answers:
+        """Yields the answers to scenarios from where they are run."""
+        return answers_here(jobs, path, parts) if cluster is None else answers_of_cluster(cluster, path, parts)
+    try:
+        if folder is not None:
+            folder.mkdir(parents=True, exist_ok=True)
+        text = joined(lines_of_parts(parts_of(scenario, grid), folder, answers, progress))
+    except OSError as fault:
+        raise Refused(f"{fault.filename}: {fault.strerror}") from fault
+    rows = read_rows(text)
+    return Report(rows, scenario.with_policies(Policy(row.policy, row.s, row.S) for row in rows))
+
+
+class _Callable(ModuleType):
+    """Lets `crnplan.sweep` be called: it is a module as soon as this one is imported, and the public function too."""
+
+    def __call__(self, *words: Any, **options: Any) -> Report:
+        """Calls the function `sweep`."""
+        return sweep(*words, **options)
+
+
+sys.modules[__name__].__class__ = _Callable

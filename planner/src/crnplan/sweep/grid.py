@@ -1,0 +1,115 @@
+"""Splits a grid of (s,S) policies into scenarios, and keeps their reports in a folder."""
+from __future__ import annotations
+
+import dataclasses
+import os
+from collections.abc import Iterable, Sequence
+from dataclasses import dataclass
+from pathlib import Path
+
+from .. import formats
+from ..errors import Refused
+from ..scenario import Policy, Scenario
+
+# Each scenario of a sweep has the base, which leaves room for one policy less.
+GRID_POLICIES = formats.POLICIES[1] - 1
+COLUMNS = list(formats.COLUMNS)
+
+
+@dataclass(frozen=True)
+class Part:
+    """A scenario of a sweep: its number from 0, its policies, of which the first is the base, and its text."""
+
+    number: int
+    policies: tuple[Policy, ...]
+    text: str
+
+
+def name_of(point: int, level: int) -> str:
+    """Returns the name of a pair of the grid, shortened if it is too long."""
+    name = f"s{point}_S{level}"
+    return name if len(name) <= formats.MOST_LETTERS else name.replace("_", "")
+
+
+def numbers_of(name: str, first: int, last: int, step: int) -> range:
+    """Returns the numbers from `first` to `last` of one side of the grid, in items. `name` is s or S."""
+    if not (0 <= first <= last <= formats.MOST_ITEMS and step >= 1):
+        raise Refused(f"--{name}: FROM and TO are 0 to {formats.MOST_ITEMS:,} and rise, and STEP is at least 1")
+    return range(first, last + 1, step)
+
+
+def grid_of(base: Policy, points: Iterable[int], levels: Sequence[int]) -> list[Policy]:
+    """Returns the pairs of the grid with s <= S, without the base's own pair. Raises Refused if there is none."""
+    pairs = [(point, level) for point in points for level in levels
+             if point <= level and (point, level) != (base.s, base.S)]
+    grid = [Policy(name_of(*pair), *pair) for pair in pairs]
+    if not grid:
+        raise Refused("the grid has no pair with s <= S beside the base")
+    if base.name in {policy.name for policy in grid}:
+        raise Refused(f"the base is called {base.name}, as a pair of the grid; give it another name")
+    return grid
+
+
+def parts_of(scenario: Scenario, grid: Sequence[Policy]) -> list[Part]:
+    """Returns the scenarios of a sweep: each has the base and up to 15 pairs, and all else as the given one."""
+    plain = dataclasses.replace(scenario, source=None)
+    parts = [(scenario.policies[0], *grid[first:first + GRID_POLICIES]) for first in range(0, len(grid), GRID_POLICIES)]
+    return [Part(number, part, plain.with_policies(part).toml()) for number, part in enumerate(parts)]
+
+
+def lines_of(part: Part, report: str) -> list[str] | None:
+    """Returns the lines of a scenario's report without its heading, or None if the text is no such report."""
+    heading, *lines = report.split("\n")
+    if heading != formats.HEADER or not lines or lines.pop() != "":
+        return None
+    cells = [line.split(",") for line in lines]
+    wanted = [[policy.name, str(policy.s), str(policy.S)] for policy in part.policies]
+    whole = all(len(row) == len(COLUMNS) for row in cells)
+    return lines if whole and [row[:3] for row in cells] == wanted else None
+
+
+def joined(lines: Sequence[Sequence[str]]) -> str:
+    """Returns the report of all lines of all parts: the base, and then the grid by `diff_total`, the cheapest first.
+
+    Pairs of equal cost stay in the order of the grid. Raises Refused if two parts have not the same base.
+    """
+    base = lines[0][0]
+    if any(part[0] != base for part in lines):
+        raise Refused("the base has not the same row in all reports")
+    place = COLUMNS.index("diff_total")
+    ranked = sorted((line for part in lines for line in part[1:]), key=lambda line: int(line.split(",")[place]))
+    return "".join(f"{line}\n" for line in [formats.HEADER, base, *ranked])
+
+
+def write_whole(path: Path, text: str) -> None:
+    """Writes a file that is there whole or not at all."""
+    part = path.with_name(f"{path.name}.part")
+    with part.open("w", encoding="utf-8", newline="") as file:
+        file.write(text)
+        file.flush()
+        os.fsync(file.fileno())
+    part.replace(path)
+
+
+def kept_text(path: Path) -> str | None:
+    """Returns the text of a file that is kept, or None if there is none."""
+    try:
+        return path.read_bytes().decode("utf-8", "replace")
+    except FileNotFoundError:
+        return None
+
+
+def kept_lines(folder: Path, part: Part) -> list[str] | None:
+    """Returns the lines of the report that is kept of a scenario, or None if there is none or one of another scenario."""
+    if kept_text(folder / f"{part.number:05}.toml") != part.text:
+        return None
+    report = kept_text(folder / f"{part.number:05}.csv")
+    return None if report is None else lines_of(part, report)
+
+
+def keep(folder: Path, part: Part, report: str) -> None:
+    """Keeps a report. The scenario's text, which says whose it is, is removed first and written last."""
+    scenario = folder / f"{part.number:05}.toml"
+    scenario.unlink(missing_ok=True)
+    write_whole(folder / f"{part.number:05}.csv", report)
+    write_whole(scenario, part.text)
