@@ -1,6 +1,7 @@
 """A scenario of crnsim as a value: made from data, read, changed and written.
 
-A `Scenario` is immutable. Its numbers are the program's whole numbers.
+A `Scenario` is immutable. Its numbers are the program's whole numbers. Whether the program takes a scenario is proved of the
+program, not of this module.
 """
 from __future__ import annotations
 
@@ -21,7 +22,7 @@ Tree = dict[str, Any]
 
 @dataclass(frozen=True)
 class Policy:
-    """An (s,S) policy: if the inventory position is at most s, order up to S. Both in items."""
+    """An (s,S) policy: if the inventory position is below s, order up to S. Both in items."""
 
     name: str
     s: int
@@ -56,13 +57,23 @@ class Table:
         kept = sorted(it for it in weights if weights[it])
         return cls(tuple(int(it) for it in kept), tuple(int(weights[it]) for it in kept))
 
+    @classmethod
+    def of_tree(cls, tree: Tree) -> Table:
+        """Makes a table from a tree with the keys `values` and `weights`, as they stand there."""
+        return cls(tuple(tree["values"]), tuple(tree["weights"]))
+
+    @property
+    def tree(self) -> Tree:
+        """Returns the tree that tomllib would read."""
+        return {"values": list(self.values), "weights": list(self.weights)}
+
 
 @dataclass(frozen=True)
 class Scenario:
     """A scenario. `returns` is None if there are none; then `version` may be 1."""
 
     version: int
-    key: tuple[str, str, str, str]
+    key: tuple[str, ...]
     periods: int
     replications: int
     initial: int
@@ -74,16 +85,24 @@ class Scenario:
     returns: Table | None = None
     # The text that it was read from, for its comments. Two scenarios with the same numbers are equal.
     source: str | None = field(default=None, compare=False, repr=False)
+    # What one unit of the money that it was made from counts in `costs`: a power of ten.
+    scale: Fraction = field(default=Fraction(1), compare=False)
 
     @classmethod
     def of_tree(cls, tree: Tree, source: str | None = None) -> Scenario:
         """Makes a scenario from a tree as tomllib gives it, which is known to have no fault."""
-        raise NotImplementedError
+        plain = {name: tree[name] for name in ("version", "periods", "replications", "initial", "ring")}
+        return cls(**plain, key=tuple(tree["key"]), costs=Costs(**tree["costs"]), demand=Table.of_tree(tree["demand"]),
+                   lead=Table.of_tree(tree["lead"]), policies=tuple(Policy(**it) for it in tree["policy"]),
+                   returns=Table.of_tree(tree["returns"]) if "returns" in tree else None, source=source)
 
     @property
     def tree(self) -> Tree:
         """Returns the tree that tomllib would read: a new dict of str, int and list."""
-        raise NotImplementedError
+        returns = {"returns": self.returns.tree} if self.returns else {}
+        return {"version": self.version, "key": list(self.key), "periods": self.periods, "replications": self.replications,
+                "initial": self.initial, "ring": self.ring, "costs": dataclasses.asdict(self.costs), "demand": self.demand.tree,
+                "lead": self.lead.tree, **returns, "policy": [dataclasses.asdict(it) for it in self.policies]}
 
     @classmethod
     def read(cls, path: str | Path) -> Scenario:
@@ -112,7 +131,8 @@ class Scenario:
 
     def toml(self) -> str:
         """Returns the scenario as the program reads it: with the comments of its source, if it has one."""
-        raise NotImplementedError
+        from .document.writing import toml_text
+        return toml_text(self.tree, self.source)
 
     def suggest(self) -> pd.DataFrame:
         """Returns suggested policies with exact long-run figures: policy, s, S, cost, fill, short, stock, orders."""

@@ -1,1 +1,2 @@
-"""See the modules."""
+"""Reads a scenario's TOML text and says all that is wrong with it, each with its line and with advice."""
+from __future__ import annotations

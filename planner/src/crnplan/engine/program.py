@@ -1,0 +1,81 @@
+"""Finds the program crnsim and runs it.
+
+What the program writes is exact and proved for its stream; this module is not.
+"""
+from __future__ import annotations
+
+import os
+import shutil
+import subprocess
+from collections.abc import Iterable
+from concurrent.futures import ThreadPoolExecutor
+from pathlib import Path
+
+from ..errors import ProgramError
+
+VARIABLE = "CRNSIM"
+# Runs at a time. A run itself uses several processors.
+JOBS = 4
+
+
+def _named(path: str | Path, how: str) -> Path:
+    """Returns the absolute path of a program that is named: a path, or a plain name that is searched on PATH."""
+    found = shutil.which(path)
+    if found is None:
+        here = f"{path} can't be run" if os.path.exists(path) else f"there is no program {path}"
+        raise ProgramError(f"{how}: {here}; build crnsim, or name it with --program")
+    return Path(os.path.abspath(found))
+
+
+def _build() -> Path | None:
+    """Returns the build of the repository in which the package stands; None if it stands in none."""
+    builds = (it / "crates/crnsim/out/crnsim" for it in Path(__file__).resolve().parents if (it / "crates/crnsim").is_dir())
+    return next((it for it in builds if os.access(it, os.X_OK)), None)
+
+
+def program_and_reason(named: str | Path | None = None) -> tuple[Path, str]:
+    """Returns the absolute path of the program, and how it was found.
+
+    It is the first of these that there is: the named one; that of the variable CRNSIM; the repository's build, if the package
+    stands in the repository; crnsim on PATH. Raises ProgramError if there is none, or if the named one is missing.
+    """
+    if named is not None:
+        return _named(named, "--program"), "named"
+    if os.environ.get(VARIABLE):
+        return _named(os.environ[VARIABLE], VARIABLE), f"the variable {VARIABLE}"
+    build = _build()
+    if build:
+        return build, "the build of the repository"
+    if shutil.which("crnsim"):
+        return _named("crnsim", "PATH"), "PATH"
+    raise ProgramError(f"crnsim was not found; build it, put it on PATH, or name it with --program or the variable {VARIABLE}")
+
+
+def find_program(named: str | Path | None = None) -> Path:
+    """Returns the absolute path of the program: `program_and_reason` says which."""
+    return program_and_reason(named)[0]
+
+
+def run_program(program: Path, text: str, *words: str) -> str:
+    """Runs the program with words on a text, and returns its standard output.
+
+    Raises ProgramError with the program's line if its status is not 0.
+    """
+    try:
+        ran = subprocess.run([program, *words], input=text.encode(), capture_output=True)
+    except OSError as fault:
+        raise ProgramError(f"{program}: {fault.strerror}; build crnsim, or name it with --program") from fault
+    if ran.returncode == 0:
+        return ran.stdout.decode()
+    line = "; ".join(ran.stderr.decode(errors="replace").split("\n")).strip("; ") or f"no output, status {ran.returncode}"
+    raise ProgramError(f"{program}: {line}" + "; crnplan why says why" * (ran.returncode == 3))
+
+
+def run_all(program: Path, texts: Iterable[str], *words: str, jobs: int = JOBS) -> list[str]:
+    """Runs the program on each text, several at a time, and returns the outputs in the order of the texts."""
+    with ThreadPoolExecutor(jobs) as pool:
+        running = [pool.submit(run_program, program, text, *words) for text in texts]
+        try:
+            return [it.result() for it in running]
+        finally:
+            pool.shutdown(wait=True, cancel_futures=True)
