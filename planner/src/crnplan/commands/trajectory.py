@@ -1,0 +1,54 @@
+"""The command `crnplan trajectory`."""
+from __future__ import annotations
+
+import csv
+import json
+import sys
+from pathlib import Path
+
+import click
+
+from ..engine.trajectory import MOST_DRAWN, Period, chosen, shown_periods, trajectories
+from ..report.pictures import open_pyplot, picture_path
+from ..report.tables import aligned
+from ..scenario import Policy, Scenario
+
+COLUMNS = ("policy", "period", *Period._fields)
+
+
+def rows_of(policies: list[Policy], found: list[list[Period]]) -> list[tuple[str | int, ...]]:
+    """Returns the rows of the table."""
+    return [(policy.name, number, *period) for policy, periods in zip(policies, found)
+            for number, period in enumerate(periods)]
+
+
+@click.command(epilog="Example: crnplan trajectory examples/spare_part.toml today both --out stock.svg")
+@click.argument("scenario", metavar="SCENARIO.toml")
+@click.argument("names", metavar="POLICY...", nargs=-1, required=True)
+@click.option("--periods", type=int, metavar="N", help=f"The first N periods; at most {MOST_DRAWN} if N is not given.")
+@click.option("--program", metavar="PATH", help="The program crnsim.")
+@click.option("--out", type=picture_path, metavar="FILE", help="Draw a picture, as .png or .svg.")
+@click.option("--csv", "is_csv", is_flag=True, help="Print the table as CSV.")
+@click.option("--json", "is_json", is_flag=True, help="Print the table as JSON.")
+def command(scenario: str, names: tuple[str, ...], periods: int | None, program: str | None, out: Path | None, is_csv: bool,
+            is_json: bool) -> None:
+    """Show stock, inventory position and orders of one replication, period by period.
+
+    It shows replication 0 and up to eight policies. Periods are numbered from 0. "ordered" is the order of a period's
+    review, "net_demand" its demand less what customers return, "stock" and "position" (stock and all that is on order) are
+    those at its end. All figures are exact and come from the program. SCENARIO.toml may be -, for standard input.
+    """
+    read = Scenario.read(scenario)
+    policies, count = chosen(read, names), shown_periods(read, periods, out is not None)
+    pyplot = open_pyplot() if out else None
+    found = trajectories(read.with_policies(policies), count, program=program)
+    if out:
+        from ..report.trajectory_pictures import draw_trajectories
+        draw_trajectories(pyplot, policies, found, read.initial, out)
+    rows = rows_of(policies, found)
+    if is_json:
+        print(json.dumps([dict(zip(COLUMNS, row)) for row in rows], indent=1))
+    elif is_csv:
+        csv.writer(sys.stdout, lineterminator="\n").writerows([COLUMNS, *rows])
+    elif not out:
+        print(aligned([list(map(str, row)) for row in (COLUMNS, *rows)]), end="")

@@ -1,0 +1,141 @@
+"""Counts stock, inventory position and orders of replication 0, period by period.
+
+The figures are exact and come from the program; this module is not proved. Costs do not steer orders, so a run with chosen
+costs counts what they are paid for, and the difference of the totals of t + 1 and t periods is what period t has counted.
+
+- **Packed.** With `unit` = 1 and `holding` = c, one run counts c times the stock plus the items ordered. Both can be told
+  apart if fewer than c items are ordered and the stock is at least 0. So all levels and the initial stock are raised by so
+  many items that none is ever owed. That changes no order, since orders depend on the levels less the position alone.
+- **Apart.** If the levels have no room for that, three runs count items ordered, in stock and owed.
+- **Net demand.** A replication of 1 to 4 periods takes one block of the stream, so the last checkpoint of four runs, with as
+  many replications as there are blocks, lists what a policy that never orders has in stock in each period.
+"""
+from __future__ import annotations
+
+import itertools
+from collections.abc import Iterable, Iterator, Sequence
+from dataclasses import replace
+from pathlib import Path
+from typing import NamedTuple
+
+from .. import formats
+from ..errors import Refused
+from ..scenario import Costs, Policy, Scenario
+from .program import find_program, run_all
+from .report import read_rows
+
+MOST_DRAWN = 208
+MOST_POLICIES = 8
+PERIODS_OF_BLOCK = 4
+AMPLE = Policy("ample", 0, 0)
+APART = Costs(0, 1, 0, 0), Costs(0, 0, 1, 0), Costs(0, 0, 0, 1)
+
+
+class Period(NamedTuple):
+    """What a period comes to for a policy, in items; stock and position at its end."""
+
+    ordered: int
+    net_demand: int
+    stock: int
+    position: int
+
+
+def chosen(scenario: Scenario, names: Sequence[str]) -> list[Policy]:
+    """Returns the policies with these names, in this order. Raises Refused if one is missing, or if there are too many."""
+    known = {policy.name: policy for policy in scenario.policies}
+    for name in names:
+        if name not in known:
+            raise Refused(f"there is no policy {name!r}; the scenario has {', '.join(known)}")
+    if len(set(names)) != len(names) or not 1 <= len(names) <= MOST_POLICIES:
+        raise Refused(f"give 1 to {MOST_POLICIES} policies, each once")
+    return [known[name] for name in names]
+
+
+def shown_periods(scenario: Scenario, asked: int | None, is_drawn: bool) -> int:
+    """Returns how many periods are shown: `asked`, or as many as a picture has room for."""
+    periods = min(scenario.periods, MOST_DRAWN) if asked is None else asked
+    if not 1 <= periods <= scenario.periods:
+        raise Refused(f"--periods {periods}: the scenario has 1 to {scenario.periods} periods")
+    if is_drawn and periods > MOST_DRAWN:
+        raise Refused(f"--periods {periods}: a picture has room for {MOST_DRAWN} periods")
+    return periods
+
+
+def steps_of(totals: Iterable[int]) -> list[int]:
+    """Returns what each period has counted, from the totals of 1, 2, .. periods."""
+    return [after - before for before, after in itertools.pairwise([0, *totals])]
+
+
+def _text_of(scenario: Scenario, costs: Costs, periods: int, replications: int = 1) -> str:
+    """Returns the text of a run that counts."""
+    return replace(scenario, costs=costs, periods=periods, replications=replications, ring=formats.RING_SIZES[-1],
+                   source=None).toml()
+
+
+def _totals(program: Path, scenario: Scenario, costs: Sequence[Costs], periods: int) -> Iterator[list[list[int]]]:
+    """Yields, for each of the costs, the totals of 1, 2, .. periods of each policy."""
+    texts = (_text_of(scenario, its, last) for its in costs for last in range(1, periods + 1))
+    totals = [[row.total for row in read_rows(report, str(program))] for report in run_all(program, texts)]
+    for first in range(0, len(totals), periods):
+        yield [list(it) for it in zip(*totals[first:first + periods])]
+
+
+def raised_by(scenario: Scenario) -> int:
+    """Returns by how much stock and levels must be raised so that no item is ever owed.
+
+    The position after a review is at least s, and all that was on order then has arrived after the longest lead time. Before
+    that, the initial stock alone meets the demand.
+    """
+    lowest = min(scenario.initial, *(policy.s for policy in scenario.policies))
+    return max(0, (scenario.lead.values[-1] + 1) * scenario.demand.values[-1] - lowest)
+
+
+def most_ordered(scenario: Scenario) -> int:
+    """Returns a bound of the items ordered in a period: a position is at most one demand below s, or it is the initial one."""
+    return max(policy.S - min(policy.s - scenario.demand.values[-1], scenario.initial) for policy in scenario.policies)
+
+
+def _packed(program: Path, scenario: Scenario, periods: int) -> list[tuple[list[int], list[int]]] | None:
+    """Returns what each policy orders and has in stock in each period, by one run for each period. None if it has no room."""
+    more, scale = raised_by(scenario), most_ordered(scenario) + 1
+    raised = replace(scenario, initial=scenario.initial + more, policies=tuple(
+        Policy(policy.name, policy.s + more, policy.S + more) for policy in scenario.policies))
+    most = max(raised.initial, *(policy.S for policy in raised.policies))
+    if scale > formats.limits("costs", "holding")[1] or most > formats.MOST_ITEMS:
+        return None
+    totals, = _totals(program, raised, [Costs(0, 1, scale, 0)], periods)
+    return [([it % scale for it in steps], [it // scale - more for it in steps]) for steps in map(steps_of, totals)]
+
+
+def _apart(program: Path, scenario: Scenario, periods: int) -> list[tuple[list[int], list[int]]]:
+    """Returns what each policy orders and has in stock in each period, by three runs for each period."""
+    ordered, held, owed = ([steps_of(it) for it in totals] for totals in _totals(program, scenario, APART, periods))
+    return [(orders, [more - less for more, less in zip(surplus, lacking)])
+            for orders, surplus, lacking in zip(ordered, held, owed)]
+
+
+def net_demands(scenario: Scenario, periods: int, program: Path) -> list[int]:
+    """Returns the net demand of each of the first periods of replication 0."""
+    blocks = -(-periods // PERIODS_OF_BLOCK)
+    ample = replace(scenario, initial=formats.MOST_ITEMS, policies=(AMPLE,))
+    texts = (_text_of(ample, APART[1], last, blocks) for last in range(1, PERIODS_OF_BLOCK + 1))
+    listed = [[int(line.split(",")[2]) for line in checkpoint.splitlines() if line.startswith("cost,")]
+              for checkpoint in run_all(program, texts, "leg", str(blocks))]
+    stocks = [[formats.MOST_ITEMS, *steps_of(totals)] for totals in zip(*listed)]
+    return [before - after for block in stocks for before, after in itertools.pairwise(block)][:periods]
+
+
+def trajectories(scenario: Scenario, periods: int, *, program: str | Path | None = None) -> list[list[Period]]:
+    """Returns the first periods of each policy of a scenario in replication 0.
+
+    Replication 0 keeps its random numbers if the number of periods changes; the others do not, so they cannot be shown.
+    Raises Refused if the scenario has fewer periods, and ProgramError if the program cannot be run.
+    """
+    path, periods = find_program(program), shown_periods(scenario, periods, False)
+    net = net_demands(scenario, periods, path)
+    found = []
+    for orders, stocks in _packed(path, scenario, periods) or _apart(path, scenario, periods):
+        changes = (order - demand for order, demand in zip(orders, net))
+        positions = itertools.islice(itertools.accumulate(changes, initial=scenario.initial), 1, None)
+        found.append([Period(*it) for it in zip(orders, net, stocks, positions)])
+    return found
