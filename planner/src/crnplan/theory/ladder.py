@@ -1,0 +1,79 @@
+"""Splits the walk of the inventory position into its lows and the heights between them.
+
+Counted down from S, the position after a review is a random walk that starts anew with each order. Without returns, how
+often it visits each place is a renewal sequence (Veinott and Wagner, Computing optimal (s,S) inventory policies, 1965).
+With returns, it is the renewal sequence of the walk's lows, spread over the heights that the walk visits before its next
+low: the Wiener-Hopf factors of a random walk (Feller, An Introduction to Probability Theory and Its Applications, volume
+II, chapters XII and XVIII).
+"""
+from __future__ import annotations
+
+import math
+
+import numpy as np
+
+from .laws import Floats, Law
+
+DIGITS = 36  # e^-36 is below the rounding of a number.
+
+
+def decay_of(net: Law) -> float:
+    """Returns the rate at which the chance of a height above the last low falls, from one cell to the next."""
+    def excess(rate: float) -> float:
+        """Returns the logarithm of the mean of e^(-rate * net demand)."""
+        powers = -rate * net.cells
+        top = powers.max()
+        return float(top + math.log(net.chances @ np.exp(powers - top)))
+    high = 1e-12
+    while excess(high) < 0:
+        high *= 2
+    low = high / 2
+    for _ in range(60):
+        middle = (low + high) / 2
+        low, high = (middle, high) if excess(middle) < 0 else (low, middle)
+    return low
+
+
+def cells_of_ladder(net: Law, decay: float) -> tuple[float, int]:
+    """Returns the tilt of the transforms in `ladder`, and how many cells they need."""
+    tilt = min(decay / 2, 10 / net.high)
+    need = max(2 * DIGITS / tilt, 2 * DIGITS / (decay - tilt), 4 * len(net.chances))
+    return tilt, 1 << math.ceil(math.log2(need))
+
+
+def ladder(net: Law) -> tuple[Floats, Floats]:
+    """Returns how often each height above a low is visited before the next low, and the law of the fall to that low.
+
+    Without returns, the only height is 0. With returns, these are the Wiener-Hopf factors of 1 less the transform of the
+    net demand. The logarithm of that is split on a circle within which it has no zero.
+    """
+    if net.low >= 0:
+        stay = net.chances[0] if net.low == 0 else 0.0
+        falls = np.zeros(net.high + 1)
+        falls[net.low:] = net.chances / (1 - stay)
+        falls[0] = 0.0
+        return np.array([1 / (1 - stay)]), falls
+    tilt, room = cells_of_ladder(net, decay_of(net))
+    tilted = np.zeros(room)
+    tilted[net.cells % room] = net.chances * np.exp(-tilt * net.cells)
+    logarithm = np.fft.ifft(np.log(1 - np.fft.fft(tilted))).real
+    down, up = logarithm.copy(), logarithm
+    down[0], down[room // 2:], up[1:room // 2] = 0, 0, 0
+    falls = -np.fft.ifft(np.exp(np.fft.fft(down))).real[:net.high + 1] * np.exp(tilt * np.arange(net.high + 1))
+    falls[0] = 0.0
+    visits = np.fft.ifft(np.exp(-np.fft.fft(up))).real[-np.arange(room // 2) % room]
+    visits = np.clip(visits * np.exp(-tilt * np.arange(room // 2)), 0, None)
+    kept = np.flatnonzero(visits > 1e-13 * visits.sum())[-1] + 1
+    falls = np.clip(falls, 0, None)
+    return visits[:kept], falls / falls.sum()
+
+
+def with_more_lows(lows: Floats, falls: Floats, count: int) -> Floats:
+    """Returns the chances that each of the first `count` places is a low of the walk. `lows` are the first of them."""
+    longer, reach = np.zeros(count), len(falls) - 1
+    longer[:len(lows)] = lows
+    turned = falls[:0:-1]
+    for place in range(len(lows), count):
+        back = min(place, reach)
+        longer[place] = turned[reach - back:] @ longer[place - back:place]
+    return longer

@@ -1,0 +1,191 @@
+"""Chooses the lattice on which a scenario is counted: as fine as its time allows.
+
+If all demands and returns are multiples of a step, and the tables of that step are small enough, the lattice is exact. Else
+values are shared between the two cells beside them, such that means stay. The same scenario on a lattice twice as coarse
+then shows how much that matters.
+"""
+from __future__ import annotations
+
+import math
+from dataclasses import dataclass
+
+import numpy as np
+
+from ..errors import Refused
+from ..formats import MOST_ITEMS
+from ..scenario import Scenario, Table
+from .ladder import DIGITS, decay_of
+from .laws import law_of, reflected, sum_of
+from .long_run import LongRun, gap_grid
+from .one_lead import OneLead
+from .overtaking import FEW_STEPS, OTHER_PRODUCTS, TRANSFORM_PRODUCTS, SeveralLeads
+from .walk import Walk
+
+MOST_PRODUCTS = 300_000_000  # of cells of levels and of gaps
+MOST_CELLS = 60_000  # of a law
+MOST_TRANSFORM = 1 << 20  # cells of a transform
+MOST_CHAIN = 2_500_000_000  # products of all passes over late orders
+CELLS_OF_SHAPE = 400  # in which a scenario's shape is looked at
+LEAST_CELLS = 8  # of the largest net demand or order
+COARSER = 1.2  # by how much a step may grow if more values then lie on the lattice
+
+
+@dataclass(frozen=True)
+class Shape:
+    """How large the numbers of a scenario are, in items and periods."""
+
+    mean: float
+    deviation: float
+    high: int
+    values: int
+    lead: int
+    leads: int
+    order: float
+    height: float
+
+    @property
+    def gap(self) -> int:
+        """Returns the largest gap that is looked at."""
+        return min(MOST_ITEMS, int(3 * self.order + 3 * self.high))
+
+    @property
+    def spread(self) -> float:
+        """Returns how wide the law of the stock is, about."""
+        return 18 * self.deviation * math.sqrt(self.lead + 1) + self.height
+
+    @property
+    def level(self) -> float:
+        """Returns the largest level that is looked at, about."""
+        return min(MOST_ITEMS, (self.lead + 1) * self.mean + self.spread / 2 + self.gap)
+
+
+def net_tables(scenario: Scenario) -> list[Table]:
+    """Returns the tables of demand and, if there are any, returns."""
+    return [scenario.demand, *([scenario.returns] if scenario.returns else [])]
+
+
+def values_of(scenario: Scenario) -> list[int]:
+    """Returns all demands and returns above 0 that have a weight."""
+    return [value for it in net_tables(scenario) for value, weight in zip(it.values, it.weights) if value * weight]
+
+
+def height_of(scenario: Scenario, high: int) -> float:
+    """Returns how far above S returns may lift the stock, in items: beyond, the chance is below any rounding."""
+    if scenario.returns is None:
+        return 0.0
+    step = max(1, high // CELLS_OF_SHAPE)
+    net = sum_of(law_of(scenario.demand, step), reflected(law_of(scenario.returns, step)))
+    return 0.0 if net.low >= 0 else step * DIGITS / decay_of(net)
+
+
+def moments_of(table: Table | None) -> tuple[float, float]:
+    """Returns the mean and the mean square of a table; 0 if there is none."""
+    if table is None:
+        return 0.0, 0.0
+    values, weights = np.array(table.values, float), np.array(table.weights, float)
+    return values @ weights / weights.sum(), values**2 @ weights / weights.sum()
+
+
+def shape_of(scenario: Scenario) -> Shape:
+    """Returns the shape of a scenario. Raises Refused if it has no best policy."""
+    costs, values = scenario.costs, values_of(scenario)
+    for name, cost in (("holding", costs.holding), ("backlog", costs.backlog)):
+        if cost == 0:
+            raise Refused(f"the cost {name} is 0, so there is no best policy: stock, or being short, costs nothing; give it a "
+                          "cost above 0")
+    (demand, demand_square), (back, back_square) = moments_of(scenario.demand), moments_of(scenario.returns)
+    mean, variance = demand - back, demand_square - demand**2 + back_square - back**2
+    if mean <= 1e-9 * demand:
+        raise Refused(f"on average {back:g} items come back and {demand:g} are asked for in a period, so there is "
+                      "nothing to order in the long run; look at the tables demand and returns" if demand else
+                      "no item is ever asked for; give a demand above 0 a weight")
+    rate = 2 * costs.setup * (costs.holding + costs.backlog) / (costs.holding * costs.backlog)
+    order = math.sqrt(rate * mean) + (rate * variance)**(1 / 3)
+    leads = [value for value, weight in zip(scenario.lead.values, scenario.lead.weights) if weight]
+    height = height_of(scenario, max(values)) if back else 0.0
+    return Shape(mean, math.sqrt(variance), max(values), len(set(values)) + 1, max(leads), len(leads), order, height)
+
+
+def chain_cost(shape: Shape, step: int, gap: float) -> float:
+    """Returns how many products a pass over late orders takes, about."""
+    high, width = shape.high / step + 1, gap + shape.height / step
+    late = gap + shape.lead * shape.mean / step + 10 * math.sqrt(shape.lead) * shape.deviation / step + 2 * high
+    orders = min(shape.lead, late / (gap + 1))
+    amounts = min(late, 1 + orders * (orders + 1) / 2 * high)
+    steps = min(high, shape.values if step == 1 else 2 * shape.values)
+    return (width + high) * amounts * shape.lead * (
+        OTHER_PRODUCTS + (steps if steps <= FEW_STEPS else TRANSFORM_PRODUCTS))
+
+
+def is_small(shape: Shape, step: int, widest: int) -> bool:
+    """Returns whether the tables of a scenario on this lattice can be made in time."""
+    gap = shape.gap / step
+    if shape.height * 4 / step > MOST_TRANSFORM or (shape.spread + shape.gap) / step > MOST_CELLS:
+        return False
+    if shape.leads == 1:
+        return shape.level / step * gap <= MOST_PRODUCTS
+    passes = [chain_cost(shape, step, it) for it in [*gap_grid(int(gap)), widest / step]]
+    return 2 * sum(passes) <= MOST_CHAIN
+
+
+def blur(scenario: Scenario, step: int) -> float:
+    """Returns the variance that a lattice adds to the demand and the returns of a period."""
+    total = 0.0
+    for table in net_tables(scenario):
+        values, weights = np.array(table.values, float), np.array(table.weights, float)
+        total += weights @ (values % step * (step - values % step)) / weights.sum()
+    return total
+
+
+def lattice_of(scenario: Scenario, shape: Shape, widest: int) -> tuple[int, bool]:
+    """Returns the step of the lattice, and whether it is exact.
+
+    If it is not exact, some coarser steps are looked at too: the one that adds the least variance is taken.
+    """
+    base = math.gcd(*values_of(scenario))
+    times = 1
+    while not is_small(shape, base * times, widest):
+        times = max(times + 1, int(times * 1.1))
+        if base * times * LEAST_CELLS > max(shape.high, shape.order):
+            raise Refused("the numbers of this scenario are too far apart for the theory's tables: what comes back is "
+                          "nearly what is asked for, or one order lasts for far too long; compare policies of your own by "
+                          "runs")
+    if times == 1:
+        return base, True
+    steps = (base * it for it in range(times, int(COARSER * times) + 1))
+    return min(steps, key=lambda step: blur(scenario, step)), False
+
+
+def theory_on(scenario: Scenario, shape: Shape, step: int, exact: bool) -> LongRun:
+    """Returns the theory of a scenario on a lattice."""
+    return (OneLead if shape.leads == 1 else SeveralLeads)(scenario, step, exact, -(-shape.gap // step))
+
+
+def walk_of(scenario: Scenario, gap: int) -> Walk | None:
+    """Returns the position of a scenario on a lattice that is fine enough for gaps up to so many items.
+
+    None if nothing is to be ordered in the long run, or if the tables of such a lattice are too large.
+    """
+    tables = net_tables(scenario)
+    (demand, _), (back, _) = moments_of(scenario.demand), moments_of(scenario.returns)
+    if demand - back <= 1e-9 * demand:
+        return None
+    high = max(max(it.values) for it in tables)
+    height = height_of(scenario, high)
+    base = step = math.gcd(*(value for it in tables for value in it.values))
+    while gap / step * min(high, gap) / step > MOST_PRODUCTS or 4 * height / step > MOST_TRANSFORM:
+        step *= 2
+    return Walk(scenario, step, step == base) if step == base or step * LEAST_CELLS <= max(high, gap) else None
+
+
+def theories_of(scenario: Scenario, widest: int | None = None) -> tuple[LongRun, LongRun | None]:
+    """Returns the theory of a scenario, and the one on a lattice twice as coarse, or None if the lattice is exact.
+
+    `widest` is the greatest S - s, in items, that is looked at beside the best; by default that of the first policy.
+    Raises Refused if the scenario has no best policy, or if its numbers are too far apart.
+    """
+    if widest is None:
+        widest = scenario.policies[0].S - scenario.policies[0].s
+    shape = shape_of(scenario)
+    step, exact = lattice_of(scenario, shape, widest)
+    return theory_on(scenario, shape, step, exact), None if exact else theory_on(scenario, shape, 2 * step, False)

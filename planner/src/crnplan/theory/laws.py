@@ -1,0 +1,138 @@
+"""Computes with laws (probability distributions) of whole numbers: sums, tails and expected surpluses.
+
+A law is counted in cells of `step` items. Levels of stock are counted in items. All figures are rounded and unproved.
+"""
+from __future__ import annotations
+
+from dataclasses import dataclass
+
+import numpy as np
+import numpy.typing as npt
+
+from ..scenario import Table
+
+Floats = npt.NDArray[np.float64]
+Whole = npt.NDArray[np.int64]
+
+LEAST_CHANCE = 1e-17
+MOST_PRODUCTS = 50_000  # of a direct convolution; a transform is faster for more
+
+
+@dataclass(frozen=True, eq=False)
+class Law:
+    """The chances of the cells low, low + 1, and so on."""
+
+    low: int
+    chances: Floats
+
+    @property
+    def high(self) -> int:
+        """Returns the greatest cell."""
+        return self.low + len(self.chances) - 1
+
+    @property
+    def cells(self) -> Whole:
+        """Returns all cells, in order."""
+        return self.low + np.arange(len(self.chances))
+
+    @property
+    def mean(self) -> float:
+        """Returns the mean, in cells."""
+        return float(self.chances @ self.cells)
+
+    @property
+    def variance(self) -> float:
+        """Returns the variance, in squared cells."""
+        return float(self.chances @ (self.cells - self.mean)**2)
+
+
+NOTHING = Law(0, np.ones(1))
+
+
+def scaled(low: int, chances: Floats) -> Law:
+    """Returns the law with these chances, cut where its ends are all but impossible, and scaled to a sum of 1."""
+    chances = np.clip(chances, 0, None)
+    kept = np.flatnonzero(chances > LEAST_CHANCE * chances.sum())
+    chances = chances[kept[0]:kept[-1] + 1]
+    return Law(int(low + kept[0]), chances / chances.sum())
+
+
+def law_of(table: Table, step: int) -> Law:
+    """Returns the law of a table. A value between two cells is shared by both, such that the mean stays."""
+    chances = np.zeros(max(table.values) // step + 2)
+    for value, weight in zip(table.values, table.weights):
+        cell, rest = divmod(value, step)
+        chances[cell] += weight * (step - rest) / step
+        chances[cell + 1] += weight * rest / step
+    return scaled(0, chances)
+
+
+def reflected(law: Law) -> Law:
+    """Returns the law of the number with the other sign."""
+    return Law(-law.high, law.chances[::-1])
+
+
+def room_for(size: int) -> int:
+    """Returns the least power of two, or 3 or 5 times one, that is at least `size`: a transform of it is fast.
+
+    `scipy.fft.next_fast_len` allows more sizes, but they round otherwise, and equal costs would then be ranked otherwise.
+    """
+    return min(odd << max(0, (-(-size // odd) - 1).bit_length()) for odd in (1, 3, 5))
+
+
+def convolved(left: Floats, right: Floats) -> Floats:
+    """Returns the coefficients of the product of two polynomials."""
+    size = len(left) + len(right) - 1
+    if len(left) * len(right) <= MOST_PRODUCTS:
+        return np.convolve(left, right)
+    room = room_for(size)
+    return np.fft.irfft(np.fft.rfft(left, room) * np.fft.rfft(right, room), room)[:size]
+
+
+def sum_of(left: Law, right: Law) -> Law:
+    """Returns the law of the sum of two independent numbers."""
+    return scaled(left.low + right.low, convolved(left.chances, right.chances))
+
+
+def power_of(law: Law, count: int) -> Law:
+    """Returns the law of the sum of `count` independent numbers of one law."""
+    total = NOTHING
+    while count:
+        if count & 1:
+            total = sum_of(total, law)
+        law, count = (sum_of(law, law), count >> 1) if count > 1 else (law, 0)
+    return total
+
+
+class Surplus:
+    """What is expected to be left of a level, and to be lacking, if a random amount is taken from it."""
+
+    def __init__(self, law: Law, step: int) -> None:
+        """Sums up the law of the amount, so that each level takes one look."""
+        self.law, self.step, self.mean = law, step, law.mean * step
+        self.below = np.concatenate([[0], np.cumsum(law.chances)])
+        self.taken = np.concatenate([[0], np.cumsum(law.chances * law.cells)]) * step
+
+    def place(self, level: int | Whole) -> Whole:
+        """Returns how many cells of the law are at most a level."""
+        cells: Whole = np.minimum(np.maximum(level // self.step - self.law.low + 1, 0), len(self.law.chances))
+        return cells
+
+    def left(self, level: int | Whole) -> Floats:
+        """Returns the expected surplus of a level over the amount, in items."""
+        place = self.place(level)
+        surplus: Floats = level * self.below[place] - self.taken[place]
+        return surplus
+
+    def lacking(self, level: int | Whole) -> Floats:
+        """Returns the expected surplus of the amount over a level, in items."""
+        return self.left(level) - level + self.mean
+
+    def chance_lacking(self, level: int) -> float:
+        """Returns the chance that the amount is above a level."""
+        return float(1 - self.below[self.place(level)])
+
+    def quantile(self, share: float) -> int:
+        """Returns the least level, in items, that the amount does not exceed with this chance."""
+        cell = int(np.searchsorted(self.below[1:], share * (1 - 1e-12)))
+        return self.step * (self.law.low + min(cell, len(self.law.chances) - 1))
