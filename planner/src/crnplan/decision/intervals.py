@@ -41,6 +41,13 @@ class Compared(Row):
     verdict: str = "undecided"
 
 
+def checked_level(level: float) -> float:
+    """Returns a level of confidence. Raises Refused if it is not between 0 and 1."""
+    if not 0 < level < 1:
+        raise Refused(f"--level {level:g}: a level is between 0 and 1, as 0.95")
+    return level
+
+
 def t_quantile(probability: float, degrees: int) -> float:
     """Returns the quantile of Student's t with this number of degrees of freedom."""
     from scipy.special import stdtrit

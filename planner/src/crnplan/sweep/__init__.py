@@ -10,11 +10,11 @@ from types import ModuleType
 from typing import Any
 
 from ..engine.program import find_program
-from ..engine.report import Report, read_rows
+from ..engine.report import Report, Row
 from ..errors import ProgramError, Refused
 from ..scenario import Policy, Scenario
 from . import worker
-from .grid import Part, grid_of, joined, keep, kept_lines, lines_of, parts_of
+from .grid import Part, grid_of, joined, keep, kept_rows, parts_of, rows_of_part
 from .progress import progress as progress_of
 
 NO_DISTRIBUTED = ("--cluster needs distributed, which is missing here; install it (on Debian: apt-get install "
@@ -56,29 +56,29 @@ def answers_of_cluster(address: str, program: str, parts: Sequence[Part]) -> Ans
         raise Refused(f"--cluster {address}: {fault}") from fault
 
 
-def answered(part: Part, answer: Answer) -> list[str]:
-    """Returns the lines of the report that a run has written. Raises ProgramError if there is none."""
+def answered(part: Part, answer: Answer) -> list[Row]:
+    """Returns the rows of the report that a run has written. Raises ProgramError if there is none."""
     status, report, errors = answer
-    lines = lines_of(part, report) if status == 0 else None
-    if lines is None:
-        hint = " (crnplan why says why)" if status == 3 else ""
+    rows = rows_of_part(part, report) if status == 0 else None
+    if rows is None:
+        hint = "; crnplan why says why" * (status == 3)
         raise ProgramError(f"{errors}{hint}" if errors else f"no report, status {status}")
-    return lines
+    return rows
 
 
-def lines_of_parts(parts: Sequence[Part], folder: Path | None, answers: Callable[[Sequence[Part]], Answers],
-                   shown: bool) -> list[list[str]]:
-    """Returns the lines of each scenario, in order: kept ones, or else those of a run, which are kept then."""
-    kept = {} if folder is None else {part.number: kept_lines(folder, part) for part in parts}
-    lines = {number: its for number, its in kept.items() if its is not None}
-    wanted = [part for part in parts if part.number not in lines]
-    with progress_of(len(parts), len(lines), shown) as show:
+def reports_of(parts: Sequence[Part], folder: Path | None, answers: Callable[[Sequence[Part]], Answers],
+               shown: bool) -> list[list[Row]]:
+    """Returns the rows of each scenario, in order: kept ones, or else those of a run, which are kept then."""
+    kept = {} if folder is None else {part.number: kept_rows(folder, part) for part in parts}
+    rows = {number: its for number, its in kept.items() if its is not None}
+    wanted = [part for part in parts if part.number not in rows]
+    with progress_of(len(parts), len(rows), shown) as show:
         for part, answer in answers(wanted) if wanted else ():
-            lines[part.number] = answered(part, answer)
+            rows[part.number] = answered(part, answer)
             if folder is not None:
                 keep(folder, part, answer[1])
-            show(len(lines))
-    return [lines[part.number] for part in parts]
+            show(len(rows))
+    return [rows[part.number] for part in parts]
 
 
 def program_for(named: str | Path | None, cluster: str | None) -> str:
@@ -109,10 +109,9 @@ def sweep(scenario: Scenario, s: Iterable[int], S: Iterable[int], *, jobs: int |
     try:
         if folder is not None:
             folder.mkdir(parents=True, exist_ok=True)
-        text = joined(lines_of_parts(parts_of(scenario, grid), folder, answers, progress))
+        rows = joined(reports_of(parts_of(scenario, grid), folder, answers, progress))
     except OSError as fault:
         raise Refused(f"{fault.filename}: {fault.strerror}") from fault
-    rows = read_rows(text)
     return Report(rows, scenario.with_policies(Policy(row.policy, row.s, row.S) for row in rows))
 
 

@@ -8,12 +8,12 @@ from dataclasses import dataclass
 from pathlib import Path
 
 from .. import formats
+from ..engine.report import Row, report_text, rows_of
 from ..errors import Refused
 from ..scenario import Policy, Scenario
 
 # Each scenario of a sweep has the base, which leaves room for one policy less.
 GRID_POLICIES = formats.POLICIES[1] - 1
-COLUMNS = list(formats.COLUMNS)
 
 
 @dataclass(frozen=True)
@@ -57,28 +57,24 @@ def parts_of(scenario: Scenario, grid: Sequence[Policy]) -> list[Part]:
     return [Part(number, part, plain.with_policies(part).toml()) for number, part in enumerate(parts)]
 
 
-def lines_of(part: Part, report: str) -> list[str] | None:
-    """Returns the lines of a scenario's report without its heading, or None if the text is no such report."""
-    heading, *lines = report.split("\n")
-    if heading != formats.HEADER or not lines or lines.pop() != "":
+def rows_of_part(part: Part, report: str) -> list[Row] | None:
+    """Returns the rows of a scenario's report, or None if the text is no such report, byte for byte."""
+    try:
+        rows = rows_of(part.policies, report, "")
+    except Refused:
         return None
-    cells = [line.split(",") for line in lines]
-    wanted = [[policy.name, str(policy.s), str(policy.S)] for policy in part.policies]
-    whole = all(len(row) == len(COLUMNS) for row in cells)
-    return lines if whole and [row[:3] for row in cells] == wanted else None
+    return rows if report_text(rows) == report else None
 
 
-def joined(lines: Sequence[Sequence[str]]) -> str:
-    """Returns the report of all lines of all parts: the base, and then the grid by `diff_total`, the cheapest first.
+def joined(reports: Sequence[Sequence[Row]]) -> tuple[Row, ...]:
+    """Returns the rows of all reports: the base, and then the grid by `diff_total`, the cheapest first.
 
-    Pairs of equal cost stay in the order of the grid. Raises Refused if two parts have not the same base.
+    Pairs of equal cost stay in the order of the grid. Raises Refused if two reports have not the same base.
     """
-    base = lines[0][0]
-    if any(part[0] != base for part in lines):
+    base = reports[0][0]
+    if any(rows[0] != base for rows in reports):
         raise Refused("the base has not the same row in all reports")
-    place = COLUMNS.index("diff_total")
-    ranked = sorted((line for part in lines for line in part[1:]), key=lambda line: int(line.split(",")[place]))
-    return "".join(f"{line}\n" for line in [formats.HEADER, base, *ranked])
+    return base, *sorted((row for rows in reports for row in rows[1:]), key=lambda row: row.diff_total)
 
 
 def write_whole(path: Path, text: str) -> None:
@@ -99,12 +95,12 @@ def kept_text(path: Path) -> str | None:
         return None
 
 
-def kept_lines(folder: Path, part: Part) -> list[str] | None:
-    """Returns the lines of the report that is kept of a scenario, or None if there is none or one of another scenario."""
+def kept_rows(folder: Path, part: Part) -> list[Row] | None:
+    """Returns the rows of the report that is kept of a scenario, or None if there is none or one of another scenario."""
     if kept_text(folder / f"{part.number:05}.toml") != part.text:
         return None
     report = kept_text(folder / f"{part.number:05}.csv")
-    return None if report is None else lines_of(part, report)
+    return None if report is None else rows_of_part(part, report)
 
 
 def keep(folder: Path, part: Part, report: str) -> None:
