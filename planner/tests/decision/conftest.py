@@ -1,0 +1,4 @@
+"""Gives the tests of decisions their fixtures."""
+from planner.tests.decision.answers import crnplan, room
+
+__all__ = ["crnplan", "room"]
