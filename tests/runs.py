@@ -77,7 +77,7 @@ def prepared(closed: bool, kilobytes: int | None) -> Callable[[], None] | None:
     return prepare if closed or kilobytes else None
 
 
-def run(program: Path, words: Words, data: bytes | int | IO[bytes] | None = None, *, to: str | None = None, cwd: Path = TOP,
+def run(program: Path | str, words: Words, data: bytes | int | IO[bytes] | None = None, *, to: str | None = None, cwd: Path = TOP,
         kilobytes: int | None = None, environment: Mapping[str, str] | None = None, seconds: float = SECONDS) -> Shown:
     """Runs the program in a folder, and returns what it shows. A run that does not end in time is killed.
 

@@ -1,0 +1,24 @@
+"""Which functions of the period loop the built program calls.
+
+The loop over a batch's blocks has all code of a whole block's four periods. LLVM leaves a function out that has grown too large, or
+that a second place calls, with no message: then the largest run takes up to a quarter longer, and nothing else shows it. What is left
+out has a symbol.
+"""
+from __future__ import annotations
+
+import re
+import subprocess
+from pathlib import Path
+
+# The functions of the loop, as their symbols begin.
+LOOP = re.compile(r"crn_stock::(period|terms)::|crn_stock::state::State::(advance|run_|take_)"
+                  r"|crn_draw::(guide::(draw|searched)|weights::Weights::pick)")
+# Those that are left out: what a block that the end of a replication cuts short needs, and the search for a draw.
+LEFT_OUT = {"crn_stock::state::State::run_short_block", "crn_draw::guide::searched"}
+
+
+def test_loop_has_its_code(program: Path) -> None:
+    """Of the functions of the loop only those that may be left out have a symbol."""
+    listed = subprocess.run(["nm", program], capture_output=True, text=True, check=True).stdout
+    names = {line.split(" ", 2)[2].split("::<")[0] for line in listed.splitlines() if line[:1] != " "}
+    assert {it for it in names if LOOP.match(it)} == LEFT_OUT
