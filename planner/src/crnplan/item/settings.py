@@ -1,0 +1,282 @@
+"""Reads the settings of an item, and says all that is wrong with them: file, line, column, what, and what to do."""
+from __future__ import annotations
+
+import datetime
+from collections.abc import Callable, Iterator, Mapping
+from dataclasses import dataclass
+from decimal import Decimal
+from difflib import get_close_matches
+from pathlib import Path
+from typing import Any
+
+from .. import formats
+from ..document.lines import Place, places_of
+from ..document.reading import read_bytes, read_document, text_of_document
+from ..document.values import kind_of, shown
+from ..errors import Fault, Refused, RefusedFaults
+
+NOWHERE = Place(0, 0)
+MOST_KEYS = 64
+# A check: it returns what is wrong with a value and what to do, or the empty text.
+Check = Callable[[Any], str]
+Trouble = tuple[tuple[str, ...], str]
+
+
+@dataclass(frozen=True)
+class Rule:
+    """What may stand at a key, whether it must be there, and its value if it is not."""
+
+    check: Check
+    needed: bool = False
+    default: Any = None
+
+
+def _wrong(value: Any, wanted: str, advice: str) -> str:
+    """Returns what is said of a value of the wrong kind."""
+    return f"{shown(value)} is {kind_of(value)}; {advice}" if wanted not in kind_of(value) else f"{shown(value)}: {advice}"
+
+
+def whole(least: int, most: int) -> Check:
+    """Returns the check of a whole number in a range."""
+    def check(value: Any) -> str:
+        if type(value) is not int:
+            return _wrong(value, "a whole number", "write a whole number, as 60")
+        return "" if least <= value <= most else f"{shown(value)} is not from {least:,} to {most:,}; write a number in this range"
+    return check
+
+
+def whole_numbers(least: int, most: int) -> Check:
+    """Returns the check of a list of whole numbers in a range."""
+    one = whole(least, most)
+
+    def check(value: Any) -> str:
+        if not isinstance(value, list) or not value:
+            return f"{shown(value)} is {'an empty list' if value == [] else kind_of(value)}; write a list, as [2, 3, 2]"
+        return next(filter(None, map(one, value)), "")
+    return check
+
+
+def money(value: Any) -> str:
+    """Checks an amount of money: a number that is not below 0."""
+    if type(value) is not int and not isinstance(value, float):
+        return _wrong(value, "a number", "write a number with a point and without quotes, as 12.50")
+    return "" if 0 <= value < float("inf") else f"{shown(value)} is no cost; write 0 or more"
+
+
+def level(value: Any) -> str:
+    """Checks the level of intervals."""
+    is_level = isinstance(value, float) and 0 < value < 1
+    return "" if is_level else f"{shown(value)} is not between 0 and 1; write 0.95 for intervals that hold in 95 of 100 samples"
+
+
+def text(value: Any) -> str:
+    """Checks a text."""
+    return "" if isinstance(value, str) and value else _wrong(value, "a text", 'write it in double quotes, as "demand"')
+
+
+def date(value: Any) -> str:
+    """Checks a date, as TOML's or as a text."""
+    return "" if type(value) is datetime.date else text(value)
+
+
+def flag(value: Any) -> str:
+    """Checks a yes or no."""
+    return "" if isinstance(value, bool) else _wrong(value, "true or false", "write true or false, without quotes")
+
+
+def key(value: Any) -> str:
+    """Checks a key: a text, or four words."""
+    if isinstance(value, list):
+        are_words = len(value) == formats.WORDS_OF_KEY and all(isinstance(it, str) and formats.WORD.fullmatch(it) for it in value)
+        return "" if are_words else f"{shown(value)} is no key; write four texts, each of 16 digits of 0-9a-f, or any one text"
+    return text(value)
+
+
+def choice(*values: str) -> Check:
+    """Returns the check of one of some texts."""
+    def check(value: Any) -> str:
+        if value in values:
+            return ""
+        close = get_close_matches(str(value), values, 1)
+        advice = f'did you mean "{close[0]}"?' if close else "write " + " or ".join(f'"{it}"' for it in values)
+        return f"{shown(value)} is none of {', '.join(values)}; {advice}"
+    return check
+
+
+def _limits(table: str, name: str) -> Check:
+    """Returns the check of a whole number with the range of a scenario's key."""
+    return whole(*formats.limits(table, name))
+
+
+NEEDED_WHOLE = Rule(_limits("policy", "S"), True)
+TABLES: dict[str, dict[str, Rule]] = {
+    "history": {"demand": Rule(text, True), "returns": Rule(text), "date": Rule(text), "every": Rule(choice("day", "week", "month")),
+                "decimal": Rule(choice(".", ",")), "delimiter": Rule(choice(",", ";", "tab")), "encoding": Rule(text),
+                "date_format": Rule(text), "net": Rule(flag, default=False), "whole": Rule(flag, default=False),
+                "box": Rule(whole(1, formats.MOST_ITEMS), default=1), "item": Rule(text), "from": Rule(date), "to": Rule(date)},
+    "lead": {"file": Rule(text), "column": Rule(text), "orders": Rule(text), "ordered": Rule(text), "received": Rule(text),
+             "times": Rule(whole_numbers(*formats.limits("lead", "values")))},
+    "costs": {"setup": Rule(money, True), "holding": Rule(money, True), "backlog": Rule(money, True), "unit": Rule(money, default=0)},
+    "today": {"s": NEEDED_WHOLE, "S": NEEDED_WHOLE, "stock": NEEDED_WHOLE},
+    "run": {"horizon": Rule(_limits("", "periods"), default=104), "replications": Rule(whole(2, formats.MOST_REPLICATIONS), default=64),
+            "key": Rule(key, default="crnplan"), "level": Rule(level, default=0.95)},
+    "check": {"policy": Rule(text, default="best"), "key": Rule(key), "keys": Rule(whole(1, MOST_KEYS), default=1),
+              "replications": Rule(whole(2, formats.MOST_REPLICATIONS), default=formats.MOST_REPLICATIONS)}}
+HOMES = {name: table for table, rules in reversed(TABLES.items()) for name in rules}
+NEED_DATE = ("net", "whole", "from", "to")
+# The ways to give lead times: the key that chooses it, and the keys that it needs and takes.
+LEADS = {"file": ("column",), "orders": ("ordered", "received"), "times": ()}
+
+
+@dataclass(frozen=True)
+class Settings:
+    """The settings of an item: its tables, each with all keys. Keys that are not given have their default, or None."""
+
+    path: Path
+    tables: Mapping[str, Mapping[str, Any]]
+
+    def __getitem__(self, table: str) -> Mapping[str, Any]:
+        """Returns a table."""
+        return self.tables[table]
+
+    @property
+    def period(self) -> str:
+        """Returns how a period is called."""
+        return str(self["history"]["every"] or "period")
+
+    @property
+    def scale(self) -> int:
+        """Returns by how much costs are multiplied, so that all are whole: a power of ten, by the decimals that are written."""
+        return 10**max(-int(it.as_tuple().exponent) for it in self["costs"].values())
+
+    @property
+    def lead_path(self) -> Path | None:
+        """Returns the file of lead times or of orders, from the folder of the settings; None if there is none."""
+        name = self["lead"]["file"] or self["lead"]["orders"]
+        return self.path.parent / name if name else None
+
+
+def _decimal(value: Any) -> Decimal:
+    """Returns an amount of money as it is spelt. A number with an exponent is written out."""
+    amount = Decimal(str(getattr(value, "spelt", value)).replace("_", ""))
+    return amount if amount.as_tuple().exponent <= 0 else Decimal(int(amount))  # type: ignore[operator]
+
+
+def _unknown(table: str, name: str, known: Mapping[str, Any]) -> str:
+    """Returns what is said of a key that should not be there."""
+    close = get_close_matches(name.lower(), known, 1)
+    if close:
+        return f"there is no such key; did you mean {close[0]}?"
+    if HOMES.get(name, table) != table:
+        return f"there is no such key here; move this line to [{HOMES[name]}]"
+    return f"there is no such key; the keys of [{table}] are {', '.join(known)}"
+
+
+def _table_troubles(tree: Mapping[str, Any]) -> Iterator[Trouble]:
+    """Yields what is wrong with the tables of the document, apart from their keys."""
+    for name, value in tree.items():
+        if name not in TABLES:
+            close = get_close_matches(name.lower(), TABLES, 1)
+            advice = (f"did you mean [{close[0]}]?" if close else f"move this line to [{HOMES[name]}]" if name in HOMES else
+                      f"the tables are {', '.join(f'[{it}]' for it in TABLES)}")
+            yield (name,), f"there is no such {'table' if isinstance(value, dict) else 'key'}; {advice}"
+        elif not isinstance(value, dict):
+            yield (name,), f"{shown(value)} is {kind_of(value)}; write the keys of {name} below a line [{name}]"
+
+
+def _key_troubles(tree: Mapping[str, Any]) -> Iterator[Trouble]:
+    """Yields what is wrong with the keys of each table, and with their values."""
+    for table, rules in TABLES.items():
+        given = tree.get(table, {})
+        if not isinstance(given, dict):
+            continue
+        for name in given.keys() - rules.keys():
+            yield (table, name), _unknown(table, name, rules)
+        for name, rule in rules.items():
+            reason = rule.check(given[name]) if name in given else ""
+            if reason:
+                yield (table, name), reason
+            elif rule.needed and name not in given:
+                yield (table,), f"the key {name} is missing; write it below a line [{table}]"
+
+
+def _lead_troubles(lead: Mapping[str, Any]) -> Iterator[Trouble]:
+    """Yields what is wrong with the way in which lead times are given."""
+    ways = [it for it in LEADS if it in lead]
+    if len(ways) != 1:
+        told = f"{' and '.join(ways)} are there; keep one" if ways else "there are no lead times"
+        yield ("lead",), f"{told}; write file and column, or orders, ordered and received, or times = [2, 3, 2]"
+        return
+    for name in LEADS[ways[0]]:
+        if name not in lead:
+            yield ("lead", ways[0]), f"the key {name} is missing; write the name of a column of the file"
+    for name in lead.keys() & TABLES["lead"].keys() - {ways[0], *LEADS[ways[0]]}:
+        yield ("lead", name), f"this key is not used with {ways[0]}; remove it"
+
+
+def _range_troubles(costs: Mapping[str, Any]) -> Iterator[Trouble]:
+    """Yields the costs that are out of the program's range once all are whole numbers."""
+    amounts = {name: _decimal(value) for name, value in costs.items()}
+    scale = 10**max(-int(it.as_tuple().exponent) for it in amounts.values())
+    for name, amount in amounts.items():
+        most = formats.limits("costs", name)[1]
+        if amount * scale > most:
+            yield ("costs", name), (f"{amount} is {int(amount * scale):,} in units of {Decimal(1) / scale}, above {most:,}; write "
+                                    "all costs with fewer decimals, or in a larger unit of money")
+
+
+def _joint_troubles(tree: Mapping[str, Any], path: Path) -> Iterator[Trouble]:
+    """Yields what is wrong with keys beside each other, which by themselves have no fault."""
+    history, lead, today = tree["history"], tree["lead"], tree["today"]
+    for name in NEED_DATE:
+        if history.get(name) and "date" not in history:
+            yield ("history", name), "this key needs the column of dates; write date and every too, or remove it"
+    if ("date" in history or "orders" in lead) and "every" not in history:
+        yield ("history",), 'the key every is missing; write every = "week", or day or month'
+    yield from _lead_troubles(lead)
+    for name in ("file", "orders"):
+        if name in lead and not (path.parent / lead[name]).is_file():
+            yield ("lead", name), f"there is no file {path.parent / lead[name]}; name one, from the folder of this file"
+    if today["s"] > today["S"]:
+        yield ("today", "s"), f"s = {today['s']} is above S = {today['S']}; interchange them, or raise S"
+    yield from _range_troubles(tree["costs"])
+
+
+def _faults(tree: Mapping[str, Any], path: Path, places: Mapping[Any, Place]) -> list[Fault]:
+    """Returns all faults of the settings, by line."""
+    troubles = [*_table_troubles(tree), *_key_troubles(tree)]
+    spoilt = {it[0] for it, _ in troubles}
+    good = {name: tree.get(name, {}) if name not in spoilt else None for name in TABLES}
+    if not spoilt:
+        troubles += _joint_troubles({name: its or {} for name, its in good.items()}, path)
+    elif good["lead"] is not None:
+        troubles += _lead_troubles(good["lead"])
+    faults = []
+    for where, what in troubles:
+        home = f"[{where[0]}] {where[1]}" if len(where) > 1 else f"[{where[0]}]"
+        faults.append(Fault(f"{home}: {what}", str(path), *places.get(where, NOWHERE)))
+    return sorted(faults, key=lambda it: (it.line, it.column))
+
+
+def read_settings(path: str | Path) -> Settings:
+    """Returns the settings of a file. Raises RefusedFaults with all that is wrong with it."""
+    path = Path(path)
+    data = read_bytes(path)
+    tree, found = read_document(data)
+    if found:
+        raise RefusedFaults([Fault(f"this is no TOML document: {it.reason}", str(path), *it.place) for it in found])
+    faults = _faults(tree, path, places_of(text_of_document(data), tree))
+    if faults:
+        raise RefusedFaults(faults)
+    tables = {table: {name: tree.get(table, {}).get(name, rule.default) for name, rule in rules.items()}
+              for table, rules in TABLES.items()}
+    tables["costs"] = {name: _decimal(value) for name, value in tables["costs"].items()}
+    return Settings(path, tables)
+
+
+def need_file(path: str | Path) -> bytes:
+    """Returns the bytes of a file. Raises Refused if it cannot be read."""
+    try:
+        return Path(path).read_bytes()
+    except OSError as fault:
+        raise Refused(f"{path}: {fault.strerror}; name a file that can be read") from fault
