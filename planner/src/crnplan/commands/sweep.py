@@ -2,12 +2,15 @@
 from __future__ import annotations
 
 import json
+from fractions import Fraction
 
 import click
 
+from ..engine.report import cell_text
 from ..scenario import Scenario
 from ..sweep import sweep
 from ..sweep.grid import numbers_of
+
 
 @click.command(epilog="Example: crnplan sweep scenario.toml --s 6 16 1 --S 20 40 2 > sweep.csv")
 @click.argument("base", metavar="BASE.toml")
@@ -34,7 +37,7 @@ def command(base: str, points: tuple[int, int, int], levels: tuple[int, int, int
     report = sweep(Scenario.read(base), numbers_of("s", *points), numbers_of("S", *levels), jobs=jobs, out=out,
                    cluster=cluster, program=program, progress=True)
     if as_json:
-        rows = [{name: cell if isinstance(cell, (int, str)) or cell is None else str(cell) for name, cell in vars(row).items()}
+        rows = [{name: cell_text(cell) if isinstance(cell, Fraction) else cell for name, cell in vars(row).items()}
                 for row in report.rows]
         print(json.dumps(rows, indent=2))
     else:

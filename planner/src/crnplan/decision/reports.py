@@ -16,14 +16,15 @@ def read_report(path: str | Path, replications: int) -> list[Row]:
 
     Raises Refused if it cannot be read, or if it is no report of this number of replications.
     """
+    name = "standard input" if str(path) == "-" else str(path)
     try:
         data = sys.stdin.buffer.read() if str(path) == "-" else Path(path).read_bytes()
-        rows = read_rows(data.decode("utf-8"), str(path))
+        rows = read_rows(data.decode("utf-8"), name)
     except OSError as fault:
-        raise Refused(f"{path}: {fault.strerror}; name a report that crnsim has written") from fault
+        raise Refused(f"{name}: {fault.strerror}; name a report that crnsim has written") from fault
     except UnicodeDecodeError as fault:
-        raise Refused(f"{path}: this is no report of crnsim: {fault}") from fault
-    check_replications(rows, replications, str(path))
+        raise Refused(f"{name}: this is no report of crnsim: {fault}") from fault
+    check_replications(rows, replications, name)
     return rows
 
 

@@ -97,7 +97,7 @@ def end_warning(scenario: Scenario, rows: Sequence[Row]) -> str:
     from ..theory.end_effect import end_effects
     start = f"WARNING: unit = {unit} is paid for each item ordered, also for those left when a replication ends."
     advice = "More replications or another key do not change it. Compare with unit = 0 too, which leaves it out."
-    effects = end_effects(scenario, [(row.s, row.S) for row in rows])
+    effects = end_effects(scenario, rows)
     if effects is None:
         return f"{start} How much that favours policies that end with little stock is not known here.\n{advice}\n"
     named_effects = list(zip(effects, (row.policy for row in rows)))

@@ -1,0 +1,124 @@
+"""A Dask cluster of two workers on this machine, for the tests of crnplan sweep with --cluster.
+
+Each process knows its name from its environment, and so does a program that it runs. It has a process group of its own,
+so that it ends together with whatever it has started. Only the loopback is listened on. The processes of the cluster find
+a package crnplan that cannot be imported: workers need the program and nothing else.
+"""
+from __future__ import annotations
+
+import contextlib
+import json
+import os
+import signal
+import subprocess
+import sys
+import time
+from collections.abc import Callable
+from pathlib import Path
+from typing import TypeVar
+
+# What a cluster may take, from its first process to its last one. A process whose driver was ended by force ends by
+# itself soon after that.
+SECONDS = 60
+LOOPBACK = "127.0.0.1"
+WORKERS = ("stays", "leaves")
+WAITING = "import distributed, sys; distributed.Client(sys.argv[1]).wait_for_workers(int(sys.argv[2]), 30)"
+NO_CRNPLAN = "raise ImportError('a worker has no crnplan')\n"
+Found = TypeVar("Found")
+
+
+class Cluster:
+    """The processes of a cluster, and of those that use it."""
+
+    def __init__(self, room: Path) -> None:
+        """Starts nothing. What the processes print goes to files of the room."""
+        self.room, self.address = room, ""
+        self.processes: dict[str, subprocess.Popen[bytes]] = {}
+        self.latest = time.monotonic() + SECONDS
+        self.environment = {name: value for name, value in os.environ.items() if not name.startswith("DASK_")}
+        self.environment["DASK_CONFIG"] = str(room / "no_settings")
+        (room / "hidden").mkdir()
+        (room / "hidden/crnplan.py").write_text(NO_CRNPLAN, "utf-8")
+
+    def start(self, name: str, *words: str, hidden: bool = True) -> None:
+        """Starts Python on these words, without crnplan unless `hidden` is false."""
+        environment = {**self.environment, "CRNSIM_WORKER": name}
+        if hidden:
+            environment["PYTHONPATH"] = str(self.room / "hidden")
+        with (self.room / f"{name}.out").open("wb") as output, (self.room / f"{name}.errors").open("wb") as errors:
+            self.processes[name] = subprocess.Popen([sys.executable, *words], cwd=self.room, env=environment,
+                                                    stdin=subprocess.DEVNULL, stdout=output, stderr=errors,
+                                                    start_new_session=True)
+
+    def has_ended(self, name: str) -> bool:
+        """Returns whether a process has ended. It keeps its number, and its group, until `end` asks for its status."""
+        return os.waitid(os.P_PID, self.processes[name].pid, os.WEXITED | os.WNOHANG | os.WNOWAIT) is not None
+
+    def end(self, name: str) -> None:
+        """Ends a process, and whatever it has started, at once; if it has ended, what it has left behind."""
+        process = self.processes[name]
+        if process.returncode is None:
+            with contextlib.suppress(ProcessLookupError):
+                os.killpg(process.pid, signal.SIGKILL)
+            process.wait()
+
+    def end_all(self) -> None:
+        """Ends all processes."""
+        for name in self.processes:
+            self.end(name)
+
+    def have_all_ended(self) -> bool:
+        """Returns whether nothing is left of all processes, which may take a moment."""
+        for _ in range(100):
+            if not self.living():
+                return True
+            time.sleep(0.05)
+        return False
+
+    def living(self) -> int:
+        """Returns how many processes live that were started, or that these have started: those of their groups."""
+        groups, found = {str(it.pid) for it in self.processes.values()}, 0
+        for path in Path("/proc").glob("[0-9]*/stat"):
+            with contextlib.suppress(OSError):
+                state, _, group = path.read_text("latin-1").rpartition(")")[2].split()[:3]
+                found += group in groups and state != "Z"
+        return found
+
+    def wait_until(self, what: str, happened: Callable[[], Found], during: str = "") -> Found:
+        """Waits until something has happened, as long as there is time and a process goes on meanwhile."""
+        while not (found := happened()):
+            if time.monotonic() > self.latest or (during and self.has_ended(during)):
+                raise TimeoutError(f"{what}: not in time; {' '.join(map(self.last_words, self.processes))}")
+            time.sleep(0.05)
+        return found
+
+    def wait_for_end(self, name: str) -> int:
+        """Returns the status with which a process ends by itself."""
+        self.wait_until(f"the end of {name}", lambda: self.has_ended(name))
+        self.end(name)
+        return int(self.processes[name].returncode)
+
+    def last_words(self, name: str) -> str:
+        """Returns the last line that a process has written among its errors."""
+        text = (self.room / f"{name}.errors").read_text("utf-8", "replace")
+        return f"[{name}: {(text.strip() or '-').splitlines()[-1][:200]}]"
+
+    def scheduler_address(self) -> str:
+        """Returns the address that the scheduler has written; the empty text if it is not there yet."""
+        try:
+            return str(json.loads((self.room / "scheduler.json").read_text("utf-8"))["address"])
+        except (OSError, ValueError):
+            return ""
+
+    def open(self) -> None:
+        """Starts the scheduler and its workers, and waits until they know each other."""
+        here = ["--host", LOOPBACK, "--no-dashboard", "--dashboard-address", f"{LOOPBACK}:0"]
+        self.start("scheduler", "-m", "distributed.cli.dask_scheduler", *here, "--port", "0", "--scheduler-file",
+                   "scheduler.json", "--idle-timeout", f"{SECONDS}s")
+        self.address = self.wait_until("the scheduler's address", self.scheduler_address, "scheduler")
+        for name in WORKERS:
+            self.start(name, "-m", "distributed.cli.dask_worker", self.address, *here, "--no-nanny", "--nthreads", "1",
+                       "--memory-limit", "0", "--local-directory", str(self.room / f"of_{name}"), "--name", name,
+                       "--death-timeout", f"{SECONDS}s", "--lifetime", f"{2 * SECONDS}s")
+        self.start("asker", "-c", WAITING, self.address, str(len(WORKERS)))
+        assert self.wait_for_end("asker") == 0, f"the workers did not come: {self.last_words('asker')}"

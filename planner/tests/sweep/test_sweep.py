@@ -1,0 +1,188 @@
+"""Tests of crnplan sweep: its table, what it refuses, and sweeps that are cut off and go on."""
+from __future__ import annotations
+
+import os
+import signal
+import subprocess
+import sys
+import time
+from collections.abc import Callable
+from pathlib import Path
+
+import pytest
+
+import crnplan as crn
+from planner.tests.decision.answers import Command, changed, priced
+
+COUNTING = '#!/bin/sh\necho >> "{room}/runs"\n{how}"{program}"\n'
+GRID = ["--s", "10", "60", "10", "--S", "40", "90", "10", "--jobs", "1", "--program", "./counting"]
+PAIRS = [(s, S) for s in range(10, 61, 10) for S in range(40, 91, 10) if s <= S and (s, S) != (20, 40)]
+SCENARIOS = 3
+
+
+@pytest.fixture
+def base(room: Path, program: Path) -> Path:
+    """Writes the base and a program that counts its runs, and returns the base's path."""
+    (room / "counting").write_text(COUNTING.format(room=room, program=program, how="exec "), "utf-8")
+    (room / "counting").chmod(0o755)
+    path = room / "base.toml"
+    path.write_text(priced(room / "examples/two_policies.toml", 3), "utf-8")
+    return path
+
+
+@pytest.fixture
+def runs(room: Path) -> Callable[[], int]:
+    """Returns a function that tells how often the program has been run since it was asked last."""
+    counted = [0]
+
+    def count() -> int:
+        """Returns the number of new runs."""
+        path = room / "runs"
+        counted.append(len(path.read_text("utf-8")) if path.exists() else 0)
+        return counted[-1] - counted[-2]
+    return count
+
+
+def test_the_table_has_the_programs_rows_by_rank(base: Path, room: Path, crnplan: Command) -> None:
+    """Checks the pairs of a sweep, their ranks, and the row of one pair, which is the program's."""
+    table = crnplan("sweep", base, *GRID).output
+    first, *rows = [line.split(",") for line in table.splitlines()[1:]]
+    assert first[0] == "A" and sorted((int(row[1]), int(row[2])) for row in rows) == PAIRS
+    assert [int(row[5]) for row in rows] == sorted(int(row[5]) for row in rows)
+    one = changed(base.read_text("utf-8"), 'name = "B"\ns = 60\nS = 80', 'name = "s60_S60"\ns = 60\nS = 60')
+    alone = subprocess.run(["./counting"], input=one, cwd=room, capture_output=True, text=True, check=True).stdout.splitlines()
+    assert set(alone) < set(table.splitlines()) and len(alone) == 3
+
+
+@pytest.mark.parametrize("jobs", [1, 3])
+def test_any_number_of_runs_at_a_time_gives_the_same_bytes(base: Path, crnplan: Command, jobs: int) -> None:
+    """Compares sweeps with other numbers of runs at a time, by the command and by the function."""
+    words = ["--s", "1", "60", "3", "--S", "60", "90", "3"]
+    one = crnplan("sweep", base, *words, "--jobs", "2")
+    assert one.status == 0 and crnplan("sweep", base, *words, "--jobs", jobs).output == one.output
+    report = crn.sweep(crn.Scenario.read(base), range(1, 61, 3), range(60, 91, 3), jobs=jobs)
+    assert report.text == one.output and report.scenario.policies[0].name == "A"
+
+
+# A file of a sweep's folder, how much of it is left (0: it is removed) and what is put behind; how many runs it then takes.
+CUTS = [("00001.csv", 0, "", 1), ("00000.toml", 0, "", 1), ("00000.toml", 9, "", 1), ("00002.csv", -2, "", 1),
+        ("00001.csv", None, "A", 1), ("", 0, "", 0)]
+
+
+@pytest.mark.parametrize(("cut", "left", "behind", "expected"), CUTS, ids=[f"{it[0] or 'nothing'} {it[1]} {it[2]}" for it in CUTS])
+def test_goes_on_where_it_was_cut_off(base: Path, room: Path, crnplan: Command, runs: Callable[[], int], cut: str,
+                                      left: int | None, behind: str, expected: int) -> None:
+    """Checks that a sweep runs only what is not kept whole, and prints the same table."""
+    whole = crnplan("sweep", base, *GRID)
+    assert whole.status == 0 and runs() == SCENARIOS
+    assert crnplan("sweep", base, *GRID, "--out", "kept").output == whole.output and runs() == SCENARIOS
+    kept = {path.name: path.read_bytes() for path in (room / "kept").iterdir()}
+    if left == 0 and cut:
+        (room / "kept" / cut).unlink()
+    elif cut:
+        (room / "kept" / cut).write_bytes(kept[cut][:left] + behind.encode())
+    again = crnplan("sweep", base, *GRID, "--out", "kept")
+    assert again.output == whole.output and runs() == expected
+    assert {path.name: path.read_bytes() for path in (room / "kept").iterdir()} == kept
+
+
+def test_another_base_is_run_again(base: Path, crnplan: Command, runs: Callable[[], int]) -> None:
+    """Checks that reports of another scenario are not taken, and that the folder may return to the first one."""
+    text = base.read_text("utf-8")
+    tables = []
+    for setup in (32, 33, 32):
+        base.write_text(text.replace("setup = 32", f"setup = {setup}"), "utf-8")
+        tables.append(crnplan("sweep", base, *GRID, "--out", "kept").output)
+        assert runs() == SCENARIOS
+    assert tables[0] == tables[2] != tables[1]
+
+
+def test_comments_of_the_base_change_nothing(base: Path, crnplan: Command, runs: Callable[[], int]) -> None:
+    """Checks that a base with another comment and another spelling of the same numbers is the same sweep."""
+    table = crnplan("sweep", base, *GRID, "--out", "kept").output
+    base.write_text("# another comment\n" + base.read_text("utf-8").replace("setup = 32", "setup = 3_2"), "utf-8")
+    assert runs() == SCENARIOS and crnplan("sweep", base, *GRID, "--out", "kept").output == table and runs() == 0
+
+
+def refused(told: tuple[int, str, str], part: str) -> bool:
+    """Returns whether a sweep has ended with status 2, no table, and this part of its last line."""
+    return told[:2] == (2, "") and part in told[2].splitlines()[-1]
+
+
+def test_a_base_with_a_fault_is_refused(base: Path, crnplan: Command) -> None:
+    """Checks that a fault of the base is reported before anything is run."""
+    base.write_text(base.read_text("utf-8").replace("initial = 60", "initial = -1"), "utf-8")
+    assert refused(crnplan("sweep", base, *GRID), "fault 6")
+
+
+def test_reports_of_two_bases_are_refused(base: Path, room: Path, crnplan: Command) -> None:
+    """Checks that a kept report whose base has another row than that of the other reports is refused."""
+    crnplan("sweep", base, *GRID, "--out", "kept")
+    other = room / "kept/00001.csv"
+    other.write_text(changed(other.read_text("utf-8"), "A,20,40,222,", "A,20,40,223,"), "utf-8")
+    assert refused(crnplan("sweep", base, *GRID, "--out", "kept"), "not the same row")
+
+
+def test_a_failing_program_is_refused(base: Path, room: Path, program: Path, crnplan: Command) -> None:
+    """Checks that a program that writes a report and fails is refused."""
+    (room / "counting").write_text(COUNTING.format(room=room, program=program, how="") + "exit 5\n", "utf-8")
+    assert refused(crnplan("sweep", base, *GRID), "no report, status 5")
+
+
+@pytest.mark.parametrize(("words", "part"), [
+    (["--s", "9", "3", "1", "--S", "9", "9", "1"], "--s: FROM and TO are 0 to 1,000,000 and rise, and STEP is at least 1"),
+    (["--s", "1", "3", "1", "--S", "9", "1000001", "1"], "--S: FROM and TO are 0 to 1,000,000"),
+    (["--s", "1", "3", "0", "--S", "9", "9", "1"], "STEP is at least 1"),
+    (["--s", "20", "20", "1", "--S", "40", "40", "1"], "the grid has no pair with s <= S beside the base"),
+    (["--s", "50", "60", "1", "--S", "40", "40", "1"], "the grid has no pair with s <= S beside the base"),
+    (["--s", "1", "3", "1", "--S", "9", "9", "1", "--program", "./nobody"], "there is no program ./nobody"),
+    (["--s", "1", "3", "1", "--S", "9", "9", "1", "--out", "base.toml"], "base.toml: File exists")],
+    ids=["from above to", "too large", "no step", "the base alone", "no pair", "no program", "no folder"])
+def test_words_are_refused(base: Path, crnplan: Command, words: list[str], part: str) -> None:
+    """Checks what is said of grids, programs and folders that cannot be used."""
+    assert refused(crnplan("sweep", "base.toml", *words), part)
+
+
+def test_a_base_with_the_name_of_a_pair_is_refused(base: Path, crnplan: Command) -> None:
+    """Checks that no two policies of a report have one name."""
+    base.write_text(changed(base.read_text("utf-8"), 'name = "A"', 'name = "s1_S9"'), "utf-8")
+    assert refused(crnplan("sweep", base, "--s", "1", "3", "1", "--S", "9", "9", "1"), "the base is called s1_S9")
+
+
+def test_json_has_the_fields_of_the_report(base: Path, crnplan: Command) -> None:
+    """Compares the data with the table, cell by cell."""
+    import csv
+    import json
+    heading, *rows = csv.reader(crnplan("sweep", base, *GRID).output.splitlines())
+    data = json.loads(crnplan("sweep", base, *GRID, "--json").output)
+    assert [list(it) for it in data] == [heading] * len(rows)
+    assert [["-" if it is None else str(it) for it in record.values()] for record in data] == rows
+
+
+# Runs of a program that waits, the third one for ever, until there is a file.
+WAITING = """#!/bin/sh
+echo >> "{room}/runs"
+if [ "$(wc -l < "{room}/runs")" -eq 3 ] && [ ! -e "{room}/go_on" ]; then touch "{room}/third"; exec sleep 60; fi
+exec "{program}"
+"""
+
+
+def test_goes_on_after_an_interrupt(base: Path, room: Path, program: Path, crnplan: Command, runs: Callable[[], int]) -> None:
+    """Interrupts a sweep at its third scenario, as Ctrl-C does. The same sweep begun again runs the rest alone."""
+    (room / "counting").write_text(WAITING.format(room=room, program=program), "utf-8")
+    words = ["sweep", str(base), *GRID, "--s", "1", "60", "3", "--out", "kept"]
+    with subprocess.Popen([sys.executable, "-m", "crnplan", *words], stdout=subprocess.PIPE, stderr=subprocess.PIPE, text=True,
+                          start_new_session=True) as process:
+        for _ in range(600):
+            if (room / "third").exists():
+                break
+            time.sleep(0.05)
+        os.killpg(process.pid, signal.SIGINT)
+        output, errors = process.communicate(timeout=60)
+    assert (process.returncode, output) == (130, "") and errors.endswith("crnplan: interrupted\n")
+    assert len(list((room / "kept").glob("*.toml"))) == 2 and runs() == 3
+    (room / "go_on").touch()
+    after = crnplan(*words)
+    parts = len(list((room / "kept").glob("*.toml")))
+    assert after.status == 0 and runs() == parts - 2 > 1
+    assert after.output == crnplan(*words[:-2]).output and runs() == parts
