@@ -6,11 +6,19 @@ program, not of this module.
 from __future__ import annotations
 
 import dataclasses
+import hashlib
+from collections import Counter
 from collections.abc import Iterable, Mapping, Sequence
 from dataclasses import dataclass, field
 from fractions import Fraction
 from pathlib import Path
 from typing import TYPE_CHECKING, Any
+
+from . import formats
+from .document import reading
+from .document.writing import toml_text
+from .errors import Refused
+from .money import scaled_costs, whole
 
 if TYPE_CHECKING:
     import pandas as pd
@@ -18,6 +26,8 @@ if TYPE_CHECKING:
     from .engine.report import Report
 
 Tree = dict[str, Any]
+# The fields that `Scenario.changed` takes.
+CHANGEABLE = (*(it for it in formats.SHAPES[formats.VERSIONS[-1]] if it != "policy"), "policies")
 
 
 @dataclass(frozen=True)
@@ -27,6 +37,12 @@ class Policy:
     name: str
     s: int
     S: int
+
+    @classmethod
+    def of_levels(cls, s: int, S: int, name: str = "") -> Policy:
+        """Makes a policy. Its name is by default s1_S2, or s1S2 if that is too long."""
+        own = f"s{s}_S{S}"
+        return cls(name or (own if len(own) <= formats.MOST_LETTERS else own.replace("_", "")), s, S)
 
 
 @dataclass(frozen=True)
@@ -106,24 +122,69 @@ class Scenario:
 
     @classmethod
     def read(cls, path: str | Path) -> Scenario:
-        """Reads and checks a TOML file; `-` is standard input. Raises ScenarioError with all faults and their places."""
-        raise NotImplementedError
+        """Reads and checks a TOML file; `-` is standard input.
+
+        Raises Refused if it cannot be read, and ScenarioError with all faults and their places.
+        """
+        return cls.parse(reading.read_bytes(path), "" if str(path) == "-" else str(path))
 
     @classmethod
     def parse(cls, data: bytes | str, name: str = "") -> Scenario:
-        """Reads and checks a text. `name` stands before each fault."""
-        raise NotImplementedError
+        """Reads and checks a text. `name` stands before each fault. Raises as `read` does."""
+        data = reading.check_size(data.encode() if isinstance(data, str) else data, name)
+        tree, found = reading.read_scenario(data)
+        if found:
+            raise reading.error_of(found, name)
+        return cls.of_tree(tree, reading.text_of_document(data))
 
     @classmethod
     def of(cls, demand: Any, lead: Any, *, setup: Any, holding: Any, backlog: Any, unit: Any = 0, returns: Any = None,
            today: tuple[int, int], initial: int | None = None, periods: int = 104, replications: int = 64,
            key: str | Sequence[str] = "crnsim") -> Scenario:
-        """Makes a scenario from laws, tables, mappings or observed whole numbers. `today` is the pair (s, S)."""
-        raise NotImplementedError
+        """Makes a scenario from laws, tables, mappings or observed whole numbers.
+
+        `demand`, `lead` and `returns` are each a law with a `table`, a `Table`, a mapping of values to weights, or observed
+        whole numbers: items in a period, periods until an order arrives. Costs are amounts of money, as 12.5, "12.50" or a
+        Decimal; `scale` of the result says what one unit of money counts in its `costs`. `today` is the pair (s, S), the policy
+        of that name. `initial` is in items, by default halfway between s and S. `key` has four words of 16 digits of 0-9a-f, or
+        is any text from which they follow. Raises Refused, and ScenarioError with all faults.
+        """
+        costs, scale = scaled_costs({"setup": setup, "unit": unit, "holding": holding, "backlog": backlog})
+        low, high = (whole(it, f"today: {name}") for it, name in zip(today, "sS", strict=True))
+        tree = {"version": 1 if returns is None else 2, "key": _key_words(key), "periods": whole(periods, "periods"),
+                "replications": whole(replications, "replications"),
+                "initial": (low + high) // 2 if initial is None else whole(initial, "initial"), "ring": formats.RING_SIZES[-1],
+                "costs": costs, "demand": _table(demand, "demand").tree, "lead": _table(lead, "lead").tree,
+                **({} if returns is None else {"returns": _table(returns, "returns").tree}),
+                "policy": [{"name": "today", "s": low, "S": high}]}
+        return dataclasses.replace(cls.of_tree(reading.checked_tree(tree)), scale=scale)
 
     def changed(self, **changes: Any) -> Scenario:
-        """Returns the scenario with changed fields, checked. `costs` may be a mapping of some costs."""
-        raise NotImplementedError
+        """Returns the scenario with changed fields, checked. Raises Refused, and ScenarioError with all faults.
+
+        `costs` may be a mapping of some costs, as the program counts them. Laws are given as to `of`, policies as to `run`. The
+        version follows from `returns`, unless it is given.
+        """
+        tree = self.tree
+        for name, value in changes.items():
+            if name == "policies":
+                tree["policy"] = [dataclasses.asdict(it) for it in policies_of(value)]
+            elif name == "costs":
+                its = dataclasses.asdict(value) if isinstance(value, Costs) else value
+                tree["costs"] |= {cost: whole(its[cost], f"costs: {cost}") for cost in its}
+            elif name in formats.DRAWS:
+                tree[name] = None if value is None else _table(value, name).tree
+            elif name == "key":
+                tree["key"] = _key_words(value)
+            elif name in formats.LIMITS[""] or name == "version":
+                tree[name] = whole(value, name)
+            else:
+                raise Refused(f"a scenario has no field {name!r}; it has {', '.join(CHANGEABLE)}")
+        if tree.get("returns") is None:
+            tree.pop("returns", None)
+        if "returns" in changes and "version" not in changes:
+            tree["version"] = formats.version_with(tree)
+        return dataclasses.replace(Scenario.of_tree(reading.checked_tree(tree), self.source), scale=self.scale)
 
     def with_policies(self, policies: Iterable[Policy]) -> Scenario:
         """Returns the scenario with these policies in place of its own, unchecked."""
@@ -131,14 +192,63 @@ class Scenario:
 
     def toml(self) -> str:
         """Returns the scenario as the program reads it: with the comments of its source, if it has one."""
-        from .document.writing import toml_text
-        return toml_text(self.tree, self.source)
+        head = "" if self.scale == 1 else f"# Costs: {self.scale} for one unit of money\n\n"
+        return toml_text(self.tree, self.source) if self.source is not None else head + toml_text(self.tree)
 
     def suggest(self) -> pd.DataFrame:
         """Returns suggested policies with exact long-run figures: policy, s, S, cost, fill, short, stock, orders."""
         from .theory.suggestions import suggested
         return suggested(self)
 
+    def _with_base(self, policies: Any) -> Scenario:
+        """Returns the scenario with its first policy and then these, each pair of levels once unless it is named."""
+        base = self.policies[0]
+        unnamed = Policy.of_levels(base.s, base.S)
+        others = (it for it in policies_of(policies) if it not in (base, unnamed))
+        return self.with_policies(dict.fromkeys([base, *others]))
+
     def run(self, policies: Any = None, *, program: str | Path | None = None) -> Report:
-        """Runs crnsim on any number of policies, of which the first is the base, and returns the exact report."""
-        raise NotImplementedError
+        """Runs crnsim on any number of policies and returns the exact report. The base is the scenario's first policy.
+
+        `policies` are the others, by default the scenario's own: Policy objects, pairs (s, S), a mapping of names to pairs, or a
+        table with the columns s and S, and `policy` as a column or its index. More than 16 go in several runs with the base in
+        each. Raises Refused, ScenarioError with all faults, and ProgramError.
+        """
+        from .engine.report import report_of
+        return report_of(self if policies is None else self._with_base(policies), program)
+
+
+def _key_words(key: str | Sequence[str]) -> list[str]:
+    """Returns the four words of a key. They follow from a text by SHA-256."""
+    if not isinstance(key, str):
+        return list(key)
+    digits, length = hashlib.sha256(key.encode()).hexdigest(), formats.DIGITS_OF_WORD
+    return [digits[place:place + length] for place in range(0, formats.WORDS_OF_KEY * length, length)]
+
+
+def _table(law: Any, name: str) -> Table:
+    """Returns the table of a law, of a mapping of values to weights, or of observed whole numbers."""
+    law = getattr(law, "table", law)
+    if isinstance(law, Table):
+        return law
+    if not isinstance(law, Mapping):
+        # An array or a Series, as Python's numbers; or any iterable.
+        numbers = law.tolist() if hasattr(law, "tolist") else law
+        law = Counter(whole(it, f"{name}: entry {place}") for place, it in enumerate(numbers, 1))
+    return Table.of({whole(it, f"{name}: value"): whole(law[it], f"{name}: weight of {it}") for it in law})
+
+
+def policies_of(policies: Any) -> list[Policy]:
+    """Returns policies, from those, pairs (s, S), a mapping of names to pairs, or a table with the columns s and S."""
+    if hasattr(policies, "columns"):
+        if "policy" in policies:
+            policies = policies.set_index("policy")
+        named = "policy" == policies.index.name or policies.index.dtype == object
+        names = map(str, policies.index) if named else [""] * len(policies)
+        given = list(zip(names, policies["s"], policies["S"]))
+    elif isinstance(policies, Mapping):
+        given = [(name, low, high) for name, (low, high) in policies.items()]
+    else:
+        pairs = (("", it) if not isinstance(it, Policy) else (it.name, (it.s, it.S)) for it in policies)
+        given = [(name, low, high) for name, (low, high) in pairs]
+    return [Policy.of_levels(whole(low, "s"), whole(high, "S"), name) for name, low, high in given]

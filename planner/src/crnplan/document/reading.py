@@ -5,7 +5,6 @@ Which scenarios crnsim takes, and the number that it reports, is proved of the p
 """
 from __future__ import annotations
 
-import contextlib
 import math
 import re
 import sys
@@ -15,7 +14,7 @@ from pathlib import Path as FilePath
 from typing import Any
 
 from ..errors import Fault, Refused, ScenarioError
-from ..formats import MOST_BYTES, MOST_LEVELS
+from ..formats import MOST_BYTES, MOST_LEVELS, RULES
 from .causes import usual_cause
 from .faults import faults_of, place_text
 from .lines import Place, places_of
@@ -121,7 +120,9 @@ def _small_float(spelt: str) -> SpeltFloat:
 def read_bytes(path: str | FilePath) -> bytes:
     """Returns the bytes of a file, or of standard input if the path is `-`. Raises Refused if crnsim would not read them."""
     try:
-        with contextlib.nullcontext(sys.stdin.buffer) if str(path) == "-" else open(path, "rb") as file:
+        if str(path) == "-":
+            return check_size(sys.stdin.buffer.read(MOST_BYTES + 1), "")
+        with open(path, "rb") as file:
             return check_size(file.read(MOST_BYTES + 1), str(path))
     except OSError as fault:
         raise Refused(f"{path}: {fault.strerror}") from fault
@@ -183,9 +184,13 @@ def error_of(found: list[Found], file: str = "") -> ScenarioError:
     return ScenarioError(faults, "\n".join(lines + [f"and {more} more faults; crnplan why says all"] * (more > 0)))
 
 
-def checked_tree(tree: Tree) -> Tree:
-    """Returns a tree that is made, not read, if it has no fault. Raises ScenarioError with all faults."""
-    found = [Found(it.rule, NOWHERE, place_text(it.path, tree), it.reason) for it in faults_of(tree)]
+def checked_tree(tree: Tree, any_number: bool = False) -> Tree:
+    """Returns a tree that is made, not read, if it has no fault. Raises ScenarioError with all faults.
+
+    With `any_number` it may have more policies than the program takes in one run.
+    """
+    faults = (it for it in faults_of(tree) if not any_number or it.rule != RULES["PolicyCount"] or not tree["policy"])
+    found = [Found(it.rule, NOWHERE, place_text(it.path, tree), it.reason) for it in faults]
     if found:
         raise error_of(found)
     return tree

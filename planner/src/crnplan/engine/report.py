@@ -10,11 +10,15 @@ import re
 from collections.abc import Iterable, Sequence
 from dataclasses import dataclass
 from fractions import Fraction
+from pathlib import Path
 from typing import TYPE_CHECKING, Any
 
 from .. import formats
+from ..document.reading import checked_tree
 from ..document.values import name_faults, shown
-from ..errors import Fault, Refused
+from ..document.writing import plain_text
+from ..errors import Fault, ProgramError, Refused
+from .program import find_program, run_all
 
 if TYPE_CHECKING:
     import pandas as pd
@@ -115,10 +119,13 @@ def read_rows(text: str, place: str = "") -> list[Row]:
 
 
 def rows_of(policies: Sequence[Policy], text: str, program: str) -> list[Row]:
-    """Returns the rows of the report on these policies. Raises Refused if the program's output is no such report."""
-    rows = read_rows(text, program)
+    """Returns the rows of the report on these policies. Raises ProgramError if the program's output is no such report."""
+    try:
+        rows = read_rows(text, program)
+    except Refused:
+        rows = []
     if [(it.policy, it.s, it.S) for it in rows] != [(it.name, it.s, it.S) for it in policies]:
-        raise Refused(f"{program}: what it writes is no report of the scenario; name crnsim with --program")
+        raise ProgramError(f"{program}: what it writes is no report of the scenario; name crnsim with --program")
     return rows
 
 
@@ -154,3 +161,20 @@ class Report:
     def _repr_html_(self) -> str:
         """Shows the decision in a notebook."""
         return str(self.decide().to_html(float_format="{:,.2f}".format))
+
+
+def report_of(scenario: Scenario, program: str | Path | None = None) -> Report:
+    """Runs a scenario, whose first policy is the base, on any number of policies: at most 16 in a run, with the base in each.
+
+    Raises ScenarioError with all faults, and ProgramError.
+    """
+    checked_tree(scenario.tree, any_number=True)
+    base, *others = scenario.policies
+    most = formats.POLICIES[1] - 1
+    parts = [scenario.with_policies([base, *others[first:first + most]]) for first in range(0, max(1, len(others)), most)]
+    found = find_program(program)
+    texts = run_all(found, [plain_text(it.tree) for it in parts])
+    reports = [rows_of(part.policies, text, str(found)) for part, text in zip(parts, texts)]
+    if any(rows[0] != reports[0][0] for rows in reports):
+        raise ProgramError(f"{found}: the base has not the same row in all reports; name crnsim with --program")
+    return Report((reports[0][0], *(row for rows in reports for row in rows[1:])), scenario)

@@ -1,0 +1,69 @@
+"""Makes whole numbers of what stands in tables and notebooks, and scales amounts of money to the program's whole numbers."""
+from __future__ import annotations
+
+from collections.abc import Mapping
+from fractions import Fraction
+from typing import Any
+
+from . import formats
+from .document.values import shown
+from .errors import Refused
+
+# Costs are scaled by a power of ten from -8 to 8.
+MOST_DECIMALS = 8
+
+
+def exact(value: Any) -> Fraction | None:
+    """Returns a number exactly; a float is what its shortest spelling says. None if it is no finite number."""
+    if isinstance(value, bool):
+        return None
+    try:
+        return Fraction(str(value))
+    except (ValueError, ZeroDivisionError):
+        return None
+
+
+def whole(value: Any, name: str) -> int:
+    """Returns a whole number of any type: int, numpy's, or a float, Decimal or Fraction without a rest.
+
+    Raises Refused if it is none. `name` says what it is.
+    """
+    number = None if isinstance(value, str) else exact(value)
+    if number is None or number.denominator != 1:
+        raise Refused(f"{name}: {shown(value)} is not a whole number; round it, or count in a smaller unit")
+    return int(number)
+
+
+def _amount(value: Any, name: str) -> Fraction:
+    """Returns an amount of money. Raises Refused if it is none, or no decimal."""
+    number = exact(value)
+    if number is None:
+        raise Refused(f"costs: {name}: {shown(value)} is not an amount; write it as 12.50")
+    if (number * 10**MOST_DECIMALS).denominator != 1:
+        raise Refused(f"costs: {name}: {shown(value)} has more than {MOST_DECIMALS} decimals; round it")
+    return number
+
+
+def _beyond(amounts: Mapping[str, Fraction], scale: Fraction) -> str:
+    """Returns the name of the first amount that is not whole, or above the program's range, with a scale; empty if none is."""
+    scaled = {name: amount * scale for name, amount in amounts.items()}
+    return next((name for name, it in scaled.items() if it.denominator > 1 or it > formats.limits("costs", name)[1]), "")
+
+
+def scaled_costs(costs: Mapping[str, Any]) -> tuple[dict[str, int], Fraction]:
+    """Returns costs as the program's whole numbers, and what one unit of money counts in them: a power of ten.
+
+    Each cost is an int, float, Decimal, Fraction or text, such as "12.50". The scale is 1 if that can be, or if all are whole.
+    Raises Refused if no scale makes all costs whole and keeps them within their ranges.
+    """
+    amounts = {name: _amount(value, name) for name, value in costs.items()}
+    scales = [Fraction(10)**power for power in sorted(range(-MOST_DECIMALS, MOST_DECIMALS + 1), key=abs)]
+    scale = next((it for it in scales if not _beyond(amounts, it)), None)
+    if scale is None:
+        finest = max(amounts, key=lambda name: amounts[name].denominator)
+        scale = next(it for it in scales if it >= 1 and all((one * it).denominator == 1 for one in amounts.values()))
+        name = _beyond(amounts, scale)
+        if scale > 1:
+            raise Refused(f"costs: {finest} = {costs[finest]} is whole only if all costs count {int(scale):,} times; then {name} is "
+                          f"{int(amounts[name] * scale):,}, above {formats.limits('costs', name)[1]:,}; round {finest}")
+    return {name: int(amount * scale) for name, amount in amounts.items()}, scale
