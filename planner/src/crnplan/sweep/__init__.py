@@ -1,6 +1,7 @@
 """Compares a grid of (s,S) policies with a base by many runs of crnsim, on this machine or on a Dask cluster."""
 from __future__ import annotations
 
+import importlib
 import os
 import sys
 from collections.abc import Callable, Iterable, Iterator, Sequence
@@ -38,8 +39,8 @@ def answers_here(jobs: int | None, program: str, parts: Sequence[Part]) -> Answe
 def answers_of_cluster(address: str, program: str, parts: Sequence[Part]) -> Answers:
     """Yields the answers to scenarios as they come, from the workers of a Dask scheduler. Raises Refused if it ends."""
     try:
-        import cloudpickle
-        import distributed
+        cloudpickle: Any = importlib.import_module("cloudpickle")
+        distributed: Any = importlib.import_module("distributed")
     except ImportError as fault:
         raise Refused(NO_DISTRIBUTED) from fault
     # Workers are sent the function itself, not its name: they need no crnplan.
