@@ -1,1 +1,1 @@
-"""See the modules."""
+"""Runs the program crnsim and reads what it writes, exactly."""
