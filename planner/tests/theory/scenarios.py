@@ -1,0 +1,22 @@
+"""Scenarios for the tests of the theory, as far as it looks at them."""
+from __future__ import annotations
+
+from collections.abc import Sequence
+
+from crnplan.scenario import Costs, Policy, Scenario, Table
+
+# Values and their weights.
+Pair = tuple[Sequence[int], Sequence[int]]
+COSTS = Costs(7, 2, 1, 4)
+
+
+def table(pair: Pair) -> Table:
+    """Returns a table of values and weights."""
+    return Table(tuple(pair[0]), tuple(pair[1]))
+
+
+def scenario_of(demand: Pair, lead: Pair = ((1,), (1,)), back: Pair | None = None, costs: Costs = COSTS,
+                levels: tuple[int, int] = (1, 5)) -> Scenario:
+    """Returns a scenario with one policy of these levels."""
+    return Scenario(2 if back else 1, ("0" * 16, "0" * 16, "0" * 16, "0" * 16), 1, 1, 0, 1, costs, table(demand),
+                    table(lead), (Policy("today", *levels),), table(back) if back else None)

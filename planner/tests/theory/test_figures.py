@@ -1,0 +1,139 @@
+"""Tests figures and searches with a Markov chain, a second theory, published optima and all pairs."""
+from __future__ import annotations
+
+import math
+
+import numpy as np
+import pytest
+from hypothesis import given, settings
+from hypothesis import strategies as st
+
+from crnplan.scenario import Costs, Policy, Scenario
+from crnplan.theory import one_lead
+from crnplan.theory.lattice import theories_of
+from crnplan.theory.long_run import LongRun, search
+from crnplan.theory.one_lead import OneLead
+from crnplan.theory.suggestions import figures_of
+
+from planner.tests.theory.chain import by_chain
+from planner.tests.theory.long_run_costs import cost_of, shortfall_of
+from planner.tests.theory.scenarios import Pair, scenario_of, table
+
+# Demands, lead times and returns, and the levels of a policy.
+CHAINS = [(([0, 1, 3], [3, 2, 1]), ([1], [1]), None, (2, 5)), (([0, 2], [1, 1]), ([3], [1]), None, (4, 6)),
+          (([0, 1, 3], [3, 2, 1]), ([1, 2], [1, 2]), None, (3, 6)), (([1, 2], [2, 1]), ([1, 3], [1, 1]), None, (4, 4)),
+          (([0, 3], [2, 1]), ([1, 2, 4], [1, 1, 1]), None, (2, 5)),
+          (([1, 3], [1, 1]), ([1, 2], [1, 1]), ([0, 1], [2, 1]), (3, 5)),
+          (([0, 3], [1, 1]), ([2], [1]), ([0, 1, 2], [4, 2, 1]), (3, 5))]
+# Zheng and Federgruen (1991), table I; they order at s too, so their s is one below crnsim's, and orders arrive at once.
+PUBLISHED = [(10, 6, 40, "35.022"), (15, 10, 49, "42.698"), (20, 14, 62, "49.173"), (25, 19, 56, "54.262")]
+# A grid of gaps finds a first policy whose S costs more than that policy does.
+STEEP = [scenario_of(([6, 7], [5, 9]), costs=Costs(500, 0, 3, 10000)),
+         scenario_of(([28, 32], [2, 1]), ([2], [1]), costs=Costs(5000, 0, 3, 10000))]
+
+
+def theory_of(scenario: Scenario) -> LongRun:
+    """Returns the theory of a scenario that is counted item by item."""
+    theory, coarse = theories_of(scenario)
+    assert coarse is None
+    return theory
+
+
+def errors_of(scenario: Scenario) -> list[float]:
+    """Returns how far the figures of the first policy are from those of the chain."""
+    theory, policy = theory_of(scenario), scenario.policies[0]
+    told = [*theory.figures(policy.s, policy.S), theory.mean_position(policy.s, policy.S)]
+    return [abs(a - b) for a, b in zip(told, by_chain(scenario))]
+
+
+@pytest.mark.parametrize("demand, lead, back, levels", CHAINS)
+def test_figures_are_those_of_a_chain(demand: Pair, lead: Pair, back: Pair | None, levels: tuple[int, int]) -> None:
+    assert max(errors_of(scenario_of(demand, lead, back, levels=levels))) < 1e-7
+
+
+def laws(values: st.SearchStrategy[int], most: int) -> st.SearchStrategy[Pair]:
+    """Returns laws of up to so many values."""
+    return st.dictionaries(values, st.integers(1, 9), min_size=1, max_size=most).map(
+        lambda weights: (sorted(weights), [weights[it] for it in sorted(weights)]))
+
+
+@settings(max_examples=40)
+@given(demand=laws(st.integers(0, 5), 3).filter(lambda it: max(it[0]) > 0), lead=laws(st.integers(1, 3), 2),
+       back=st.none() | laws(st.integers(0, 1), 2), point=st.integers(0, 6), gap=st.integers(0, 6),
+       costs=st.builds(Costs, *[st.integers(0, 50)] * 2, *[st.integers(1, 50)] * 2))
+def test_figures_of_any_small_scenario(demand: Pair, lead: Pair, back: Pair | None, point: int, gap: int,
+                                       costs: Costs) -> None:
+    if back and 2 * table(back).mean > table(demand).mean:
+        back = None
+    scenario = scenario_of(demand, lead, back, costs, (point, point + gap))
+    assert max(errors_of(scenario)) < 1e-7
+
+
+def test_a_frame_of_figures() -> None:
+    scenario, policies = scenario_of(([0, 1, 3], [3, 2, 1])), [Policy("low", 2, 5), Policy("high", 3, 9)]
+    frame = figures_of(scenario, policies)
+    assert list(frame) == ["policy", "s", "S", "cost", "fill", "short", "stock", "orders"]
+    assert frame.iloc[:, :3].values.tolist() == [["low", 2, 5], ["high", 3, 9]]
+    for policy, row in zip(policies, frame.iloc[:, 3:].values.tolist()):
+        assert row == pytest.approx(by_chain(scenario.with_policies([policy]))[:-1], abs=1e-7)
+
+
+@pytest.mark.parametrize("mean, point, level, cost", PUBLISHED)
+def test_a_published_optimum(mean: int, point: int, level: int, cost: str) -> None:
+    weights = [round(1e15 * math.exp(value * math.log(mean) - mean - math.lgamma(value + 1))) for value in range(100)]
+    scenario = scenario_of((range(100), weights), ([0], [1]), costs=Costs(64, 0, 1, 9))
+    best = OneLead(scenario, 1, True, 150).best()
+    assert (f"{best.cost:.3f}", best.point - 1, best.level) == (cost, point, level)
+
+
+@pytest.mark.parametrize("lead", [([2], [1]), ([1, 2, 4], [1, 2, 1])], ids=["one lead time", "three lead times"])
+def test_the_best_of_all_pairs(lead: Pair) -> None:
+    scenario = scenario_of(([0, 1, 5], [5, 3, 2]), lead, costs=Costs(20, 0, 2, 9))
+    theory = theory_of(scenario)
+    best, fill = theory.best(), theory.best_with_fill(0.98)
+    shorts = [shortfall_of(scenario, gap) for gap in range(31)]
+    costs = {(level - gap, level): cost_of(scenario, shorts[gap], level) for level in range(31) for gap in range(level + 1)}
+    assert (best.point, best.level) == min(costs, key=costs.__getitem__)
+    filled = {pair: cost for pair, cost in costs.items() if theory.figures(*pair).fill >= 0.98}
+    assert (fill.point, fill.level) == min(filled, key=filled.__getitem__)
+    assert fill.cost == pytest.approx(filled[fill.point, fill.level], abs=1e-7)
+
+
+@pytest.mark.parametrize("scenario", STEEP, ids=["lead time 1", "lead time 2"])
+def test_the_best_if_the_first_found_has_a_high_level(scenario: Scenario) -> None:
+    theory = theory_of(scenario)
+    assert isinstance(theory, OneLead)
+    first, best = search(theory.best_of_gap, theory.most), theory.best()
+    assert theory.stock_costs(np.array([first.level]))[0] > first.cost
+    gap = best.level - best.point
+    shorts = {it: shortfall_of(scenario, it) for it in range(gap - 20, gap + 20)}
+    least = min(cost_of(scenario, it, level) for it in shorts.values() for level in range(best.level - 20, best.level + 20))
+    assert best.cost == pytest.approx(least, abs=1e-6)
+    assert cost_of(scenario, shorts[gap], best.level) == pytest.approx(least, abs=1e-6)
+
+
+def test_the_best_looks_at_few_levels(monkeypatch: pytest.MonkeyPatch) -> None:
+    """A level far above the demand of a lead time costs more than any good policy, so it is not priced."""
+    most, priced = 0, OneLead.stock_costs
+
+    def spy(self: OneLead, levels: one_lead.Whole) -> one_lead.Floats:
+        nonlocal most
+        most = max(most, len(levels))
+        return priced(self, levels)
+
+    monkeypatch.setattr(OneLead, "stock_costs", spy)
+    theory = theory_of(scenario_of(([0, 1, 5], [5, 3, 2]), ([2], [1]), costs=Costs(20, 0, 2, 9)))
+    best = theory.best()
+    assert best.level < most < 100
+
+
+@settings(max_examples=25)
+@given(demand=laws(st.integers(0, 9), 3).filter(lambda it: max(it[0]) > 0), lead=laws(st.integers(1, 4), 1),
+       costs=st.builds(Costs, st.integers(0, 60), st.just(0), st.integers(1, 9), st.integers(1, 99)))
+def test_the_best_of_one_lead_time_costs_least(demand: Pair, lead: Pair, costs: Costs) -> None:
+    scenario = scenario_of(demand, lead, costs=costs)
+    best = theory_of(scenario).best()
+    shorts = [shortfall_of(scenario, gap) for gap in range(80)]
+    least = min(cost_of(scenario, short, level) for gap, short in enumerate(shorts) for level in range(gap, 120))
+    assert best.cost <= least + 1e-6
+    assert best.cost == pytest.approx(cost_of(scenario, shortfall_of(scenario, best.level - best.point), best.level), abs=1e-6)

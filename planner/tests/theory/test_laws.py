@@ -1,0 +1,96 @@
+"""Tests sums and tails of laws with direct sums."""
+from __future__ import annotations
+
+import numpy as np
+import pytest
+from hypothesis import given
+from hypothesis import strategies as st
+
+from crnplan.scenario import Table
+from crnplan.theory.laws import MOST_PRODUCTS, NOTHING, Law, Surplus, convolved, law_of, power_of, reflected, room_for, sum_of
+
+chances = st.lists(st.integers(1, 1000), min_size=1, max_size=12)
+laws = st.builds(lambda low, weights: Law(low, np.array(weights) / sum(weights)), st.integers(-20, 20), chances)
+tables = st.dictionaries(st.integers(0, 10_000), st.integers(0, 65_536), min_size=1, max_size=9).filter(
+    lambda weights: any(weights.values())).map(Table.of)
+
+
+def as_dict(law: Law) -> dict[int, float]:
+    """Returns the chance of each cell."""
+    return dict(zip(law.cells.tolist(), law.chances.tolist()))
+
+
+def direct_sum(left: dict[int, float], right: dict[int, float]) -> dict[int, float]:
+    """Returns the chances of the sum of two independent numbers, pair by pair."""
+    total: dict[int, float] = {}
+    for value, chance in left.items():
+        for other, its in right.items():
+            total[value + other] = total.get(value + other, 0.0) + chance * its
+    return total
+
+
+@given(laws, laws)
+def test_a_sum_equals_the_direct_sum(left: Law, right: Law) -> None:
+    assert as_dict(sum_of(left, right)) == pytest.approx(direct_sum(as_dict(left), as_dict(right)), abs=1e-14)
+
+
+@pytest.mark.parametrize("left, right", [(240, 208), (900, 700), (4000, 13)])
+def test_a_convolution_by_transform_equals_the_direct_sum(left: int, right: int) -> None:
+    random = np.random.default_rng(left)
+    first, second = random.random(left), random.random(right)
+    assert left * right > MOST_PRODUCTS - 100
+    sums = np.zeros(left + right - 1)
+    for place, it in enumerate(first):
+        sums[place:place + right] += it * second
+    assert convolved(first, second) == pytest.approx(sums, rel=1e-12)
+
+
+@given(laws)
+def test_a_law_reflected_twice_is_itself(law: Law) -> None:
+    twice = reflected(reflected(law))
+    assert (twice.low, twice.chances.tolist()) == (law.low, law.chances.tolist())
+    assert as_dict(reflected(law)) == {-cell: chance for cell, chance in as_dict(law).items()}
+
+
+@given(laws, st.integers(0, 7))
+def test_a_power_equals_repeated_sums(law: Law, count: int) -> None:
+    total = as_dict(NOTHING)
+    for _ in range(count):
+        total = direct_sum(total, as_dict(law))
+    told = as_dict(power_of(law, count))
+    assert {cell: told.get(cell, 0.0) for cell in total} == pytest.approx(total, abs=1e-13)
+
+
+@given(tables, st.integers(1, 700))
+def test_a_lattice_keeps_mean_and_sum(table: Table, step: int) -> None:
+    law = law_of(table, step)
+    assert law.mean * step == pytest.approx(float(table.mean), rel=1e-9, abs=1e-9)
+    assert law.chances.sum() == pytest.approx(1)
+    if all(value % step == 0 for value in table.values):
+        total = sum(table.weights)
+        its = {value // step: weight / total for value, weight in zip(table.values, table.weights)}
+        assert {cell: chance for cell, chance in as_dict(law).items() if chance} == pytest.approx(its)
+
+
+@given(laws, st.integers(1, 9), st.integers(-300, 300))
+def test_surpluses_equal_direct_sums(law: Law, step: int, level: int) -> None:
+    surplus, amounts = Surplus(law, step), {cell * step: chance for cell, chance in as_dict(law).items()}
+    assert surplus.left(level) == pytest.approx(sum(max(level - it, 0) * p for it, p in amounts.items()), abs=1e-9)
+    assert surplus.lacking(level) == pytest.approx(sum(max(it - level, 0) * p for it, p in amounts.items()), abs=1e-9)
+    assert surplus.chance_lacking(level) == pytest.approx(sum(p for it, p in amounts.items() if it > level), abs=1e-12)
+    assert surplus.left(np.array([level, level + 1]))[0] == surplus.left(level)
+
+
+@given(laws, st.integers(1, 9), st.floats(0.001, 0.999))
+def test_a_quantile_is_the_least_level(law: Law, step: int, share: float) -> None:
+    surplus = Surplus(law, step)
+    level = surplus.quantile(share)
+    assert level % step == 0
+    assert surplus.chance_lacking(level) <= 1 - share + 1e-9
+    assert level == law.low * step or surplus.chance_lacking(level - step) >= 1 - share - 1e-9
+
+
+@given(st.integers(1, 1 << 20))
+def test_the_room_of_a_transform(size: int) -> None:
+    rooms = [odd << power for odd in (1, 3, 5) for power in range(24)]
+    assert room_for(size) == min(it for it in rooms if it >= size)
