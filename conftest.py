@@ -33,12 +33,13 @@ Cases = Iterable[tuple[str, object]]
 def pytest_addoption(parser: pytest.Parser) -> None:
     """Adds the options of the repository."""
     group = parser.getgroup("crnsim")
-    group.addoption("--program", metavar="PATH", type=Path, help=f"test this program (default: {PROGRAM.relative_to(TOP)})")
+    default = PROGRAM.relative_to(TOP)
+    group.addoption("--program", metavar="PATH", type=Path, help=f"test this program (default: {default})")
     group.addoption("--free", action="store_true", help="draw new random examples on each run, not the same ones")
 
 
 def pytest_configure(config: pytest.Config) -> None:
-    """Chooses the profile of hypothesis, and makes the file by whose lock the tests of a parallel run wait for one another."""
+    """Chooses the profile of hypothesis, and makes the file whose lock the tests of a parallel run take."""
     shared: dict[str, Any] = {"deadline": None, "database": None, "suppress_health_check": [HealthCheck.too_slow]}
     settings.register_profile("gate", derandomize=True, **shared)
     settings.register_profile("free", print_blob=True, **shared)
@@ -71,7 +72,7 @@ def is_serial(item: pytest.Item) -> bool:
 
 @pytest.hookimpl(hookwrapper=True, tryfirst=True)
 def pytest_runtest_protocol(item: pytest.Item) -> Iterator[None]:
-    """Runs a test, in a worker under a lock: shared by all but those that run alone. The wait is no part of its timeout."""
+    """Runs a test, in a worker under a lock that all share but those that run alone. Waiting is not timed."""
     path = getattr(item.config, "workerinput", {}).get(LOCK)
     with open(path, encoding="ascii") if path else contextlib.nullcontext() as file:
         if file:
@@ -109,16 +110,17 @@ def program(request: pytest.FixtureRequest) -> Path:
 def check_all(record_property: Callable[[str, object], None]) -> Callable[[Cases], None]:
     """Returns a function that checks the cases of a test: pairs of a name and a verdict.
 
-    True is a case that holds. Anything else is one that does not; a text says why. All that fail are named, and the summary
-    counts each case.
+    True is a case that holds. Anything else is one that does not; a text says why. Those that fail are named, and the
+    summary counts each case.
     """
     def check(cases: Cases) -> None:
         verdicts = list(cases)
         record_property(CASES, len(verdicts))
         assert verdicts, "there are no cases"
-        failed = [f"{name}: {verdict}" if isinstance(verdict, str) else name for name, verdict in verdicts if verdict is not True]
-        more = [f"and {len(failed) - MOST_NAMED} more"] if len(failed) > MOST_NAMED else []
+        failed = [f"{name}: {its}" if isinstance(its, str) else name for name, its in verdicts if its is not True]
         if failed:
-            pytest.fail("\n".join([f"{len(failed)} of {len(verdicts)} cases", *failed[:MOST_NAMED], *more]), pytrace=False)
+            more = [f"and {len(failed) - MOST_NAMED} more"] if len(failed) > MOST_NAMED else []
+            lines = [f"{len(failed)} of {len(verdicts)} cases", *failed[:MOST_NAMED], *more]
+            pytest.fail("\n".join(lines), pytrace=False)
 
     return check

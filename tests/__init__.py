@@ -1,1 +1,2 @@
-"""Tests of the program from outside, of its theory, its sources and its pages, and of the edits that its proofs refuse."""
+"""Tests of the program from outside, of its theory, its sources and its pages, and of the edits that its proofs
+refuse."""

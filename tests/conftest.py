@@ -19,7 +19,7 @@ def room(tmp_path: Path) -> Path:
 
 @pytest.fixture(scope="session")
 def compiled(tmp_path_factory: pytest.TempPathFactory) -> Compiler:
-    """Returns a function that builds the library of a C file, to be loaded before a program, once in a process of tests."""
+    """Returns a function that builds the library of a C file, to be loaded before a program, once in a session."""
     folder, built = tmp_path_factory.mktemp("libraries"), {}
 
     def build(source: Path) -> Path:

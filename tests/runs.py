@@ -7,7 +7,7 @@ import resource
 import subprocess
 from collections.abc import Callable, Iterator, Mapping, Sequence
 from pathlib import Path
-from typing import IO, NamedTuple
+from typing import IO, Any, NamedTuple
 
 from crnplan import formats
 
@@ -77,20 +77,24 @@ def prepared(closed: bool, kilobytes: int | None) -> Callable[[], None] | None:
     return prepare if closed or kilobytes else None
 
 
-def run(program: Path | str, words: Words, data: bytes | int | IO[bytes] | None = None, *, to: str | None = None, cwd: Path = TOP,
-        kilobytes: int | None = None, environment: Mapping[str, str] | None = None, seconds: float = SECONDS) -> Shown:
+def run(program: Path | str, words: Words, data: bytes | int | IO[bytes] | None = None, *, to: str | None = None,
+        cwd: Path = TOP, kilobytes: int | None = None, environment: Mapping[str, str] | None = None,
+        seconds: float = SECONDS) -> Shown:
     """Runs the program in a folder, and returns what it shows. A run that does not end in time is killed.
 
-    Its input is a text, an open file, or one that is silent for ever (None). Its output goes to the file `to` if there is one;
-    `closed` is no output at all. Its address space may have a limit.
+    Its input is a text, an open file, or one that is silent for ever (None). Its output goes to the file `to` if there
+    is one; `closed` is no output at all. Its address space may have a limit.
     """
     with contextlib.ExitStack() as stack:
         closed = to == "closed"
         output = stack.enter_context(open(to, "wb")) if to and not closed else subprocess.PIPE
-        given = {"input": data} if isinstance(data, bytes) else {"stdin": stack.enter_context(silent()) if data is None else data}
+        if not isinstance(data, bytes):
+            given: dict[str, Any] = {"stdin": stack.enter_context(silent()) if data is None else data}
+        else:
+            given = {"input": data}
         try:
-            ran = subprocess.run([program, *words], stdout=output, stderr=subprocess.PIPE, cwd=cwd, timeout=seconds, check=False,
-                                 env={**os.environ, **environment} if environment else None,
+            ran = subprocess.run([program, *words], stdout=output, stderr=subprocess.PIPE, cwd=cwd, timeout=seconds,
+                                 check=False, env={**os.environ, **environment} if environment else None,
                                  preexec_fn=prepared(closed, kilobytes), **given)
         except subprocess.TimeoutExpired:
             return Shown(b"", b"", None)

@@ -1,18 +1,19 @@
 """The cases of the built program in this folder's TOML files.
 
-A file has groups of cases: what a group says holds for each of its cases. A case has the words of the command line (args), and
-may have what stands on standard input (input) and in the file FILE (file), what is wanted on standard output (output, or some
-parts of it (has), in lines of at most so many columns), and the fault's line, whose status docs/FORMATS.md has. Each of these
-texts is given, or is that of a file of the repository (input_from), or is made of some numbers by a function of makers.py
-(input_made), with one change (input_change) and then others (input_changes), cut after so many lines (input_lines), filled up
-with a piece to a size (input_fill, input_size), followed by an end (input_end), and in UTF-8 or another encoding
-(input_encoding); so may the words of the command line be (args_encoding). A change is an old piece and a new one; if a first
-number and a count come after them, the new piece stands so many times, each time with the next number for `#`. The input and
-the file may come in pieces of so many bytes (input_pieces, file_pieces), the file then as a named pipe (pieces.py).
+A file has groups of cases: what a group says holds for each of its cases. A case has the words of the command line
+(args), and may have what stands on standard input (input) and in the file FILE (file), what is wanted on standard
+output (output, or some parts of it (has), in lines of at most so many columns), and the fault's line, whose status
+docs/FORMATS.md has. Each of these texts is given, or is that of a file of the repository (input_from), or is made of
+some numbers by a function of makers.py (input_made), with one change (input_change) and then others (input_changes),
+cut after so many lines (input_lines), filled up with a piece to a size (input_fill, input_size), followed by an end
+(input_end), and in UTF-8 or another encoding (input_encoding); so may the words of the command line be
+(args_encoding). A change is an old piece and a new one; if a first number and a count come after them, the new piece
+stands so many times, each time with the next number for `#`. The input and the file may come in pieces of so many
+bytes (input_pieces, file_pieces), the file then as a named pipe (pieces.py).
 
-A case is run with each of its commands and each of its files (of the repository), if it has lists of them. A case without input
-has a standard input that says nothing and never ends, so it fails if anything is read. Some cases stand for many: MANY has their
-keys, and the tests that take them say what they mean.
+A case is run with each of its commands and each of its files (of the repository), if it has lists of them. A case
+without input has a standard input that says nothing and never ends, so it fails if anything is read. Some cases stand
+for many: MANY has their keys, and the tests that take them say what they mean.
 """
 from __future__ import annotations
 
@@ -41,7 +42,8 @@ FILES = ("reports", "replays", "cases", "scenarios", "checkpoints", "legs", "lim
 MANY = {"blocks", "old_blocks", "prefixes", "turned", "rows", "steps", "limits"}
 # What a case is named by has at most so many letters, and these keys have no part in it.
 MOST_LETTERS = 60
-UNNAMED = ("args", "name", "commands", "files", "input", "output", "output_from", "has", "map", "blocks", "old_blocks", "prefixes")
+UNNAMED = ("args", "name", "commands", "files", "input", "output", "output_from", "has", "map", "blocks", "old_blocks",
+           "prefixes")
 
 
 @functools.cache
@@ -185,8 +187,8 @@ def wanted_by(case: Case, shown: Shown) -> bool | str:
 def compared(output: bytes, wanted: bytes) -> bytes:
     """Returns what is compared of an output.
 
-    A report is compared in the columns of the one that is wanted, if that was computed before there were more: new ones come
-    last, and have cases of their own.
+    A report is compared in the columns of the one that is wanted, if that was computed before there were more: new ones
+    come last, and have cases of their own.
     """
     header = wanted.split(b"\n")[0]
     if not formats.HEADER.encode().startswith(header + b","):

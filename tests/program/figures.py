@@ -2,12 +2,13 @@
 
 The runs are those of bounds.toml, and bounds.csv has their figures:
 
-- allocations, and the bytes that they ask for; what is left of them, not freed, at the end; the threads that are started; the
-  calls that read and write (counted by tests/preload.c; what the C library takes for a thread's start is not among them);
-- yields and sleeps of threads that wait for one another, and the instructions of the program itself, without those of the
-  libraries, as callgrind counts them. All three depend on how threads happen to run side by side. So they are taken only if a
-  run has no more blocks than its ring has slots: then each thread can be held until the producer has published all and joins it.
-  Nothing has to wait, and all figures are the same each time, beside other work too.
+- allocations, and the bytes that they ask for; what is left of them, not freed, at the end; the threads that are
+  started; the calls that read and write (counted by tests/preload.c; what the C library takes for a thread's start is
+  not among them);
+- yields and sleeps of threads that wait for one another, and the instructions of the program itself, without those of
+  the libraries, as callgrind counts them. All three depend on how threads happen to run side by side. So they are
+  taken only if a run has no more blocks than its ring has slots: then each thread can be held until the producer has
+  published all and joins it. Nothing has to wait, and all figures are the same each time, beside other work too.
 """
 from __future__ import annotations
 
@@ -23,7 +24,7 @@ from tests import preload
 from tests.program.cases import HERE, Case, text_of, words_of
 from tests.runs import Shown, difference, refused, run
 
-# How the program is called, by a link in the folder where it runs: it reads its own path too, whose length must not count.
+# How the program is called, by a link in the folder where it runs: it reads its path, whose length must not count.
 CALLED = "./crnsim"
 TABLE = HERE / "bounds.csv"
 HEAD = """# What runs of the program take. figures.py says what each column has, and bounds.toml which runs these are.
@@ -37,9 +38,10 @@ COLUMNS = (*COUNTED, *HELD, INSTRUCTIONS)
 SECONDS = 100
 # Stands for a figure that depends on how threads happen to run.
 NO_FIGURE = "-"
-# Keeps the C library from copying by string instructions, of which callgrind takes a byte at a time: a long text takes minutes.
+# Keeps the C library from copying by string instructions: callgrind takes a byte at a time then, for minutes.
 NO_STRINGS = {"GLIBC_TUNABLES": ":".join(f"glibc.cpu.x86_rep_{it}sb_threshold=1000000000" for it in ("mov", "sto"))}
-CALLGRIND = ("valgrind", "-q", "--tool=callgrind", "--compress-strings=no", "--compress-pos=no", "--callgrind-out-file=callgrind")
+CALLGRIND = ("valgrind", "-q", "--tool=callgrind", "--compress-strings=no", "--compress-pos=no",
+             "--callgrind-out-file=callgrind")
 
 
 class Unfit(Exception):
@@ -89,8 +91,8 @@ def put_file(case: Case, room: Path) -> None:
 def instructions_in(file: Path, program: Path) -> int:
     """Returns the instructions of the program itself that callgrind has written to a file.
 
-    Each function's object is named above its lines, which have a place and a count. The line behind a call counts what was called,
-    which has lines too.
+    Each function's object is named above its lines, which have a place and a count. The line behind a call counts what
+    was called, which has lines too.
     """
     count, is_own, is_call = 0, False, False
     with open(file, encoding="utf-8", errors="replace") as lines:

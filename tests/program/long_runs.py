@@ -1,7 +1,7 @@
 """Long runs of the oracle, with numpy: all policies in all replications at once.
 
-Stock and position are carried from period to period, which the oracle does not do. The first and the last policy are computed in
-both ways in the first and the last replication, and must be equal.
+Stock and position are carried from period to period, which the oracle does not do. The first and the last policy are
+computed in both ways in the first and the last replication, and must be equal.
 """
 from __future__ import annotations
 
@@ -41,15 +41,16 @@ class LongRun(oracle.Run):
         self.kept = sorted({it for it in kept if it < scenario.replications} | {0, scenario.replications - 1})
         self.draws = [draws_of(scenario, it) for it in oracle.STREAMS]
         orders, stocks, self.spent = self.periods()
-        self.histories = [{it: self.history(orders[:, policy, place], stocks[:, policy, place], self.spent[:, policy, it], it)
-                           for place, it in enumerate(self.kept)} for policy in range(len(scenario.policies))]
+        self.histories = [
+            {it: self.history(orders[:, policy, place], stocks[:, policy, place], self.spent[:, policy, it], it)
+             for place, it in enumerate(self.kept)} for policy in range(len(scenario.policies))]
         for policy, replication in ((policy, replication) for policy in (0, -1) for replication in (0, self.kept[-1])):
             draws = [it[replication].tolist() for it in self.draws]
             if self.histories[policy][replication] != oracle.history(scenario, scenario.policies[policy], draws):
                 raise ValueError(f"two histories of policy {policy} in replication {replication} differ")
 
     def periods(self) -> tuple[Whole, Whole, Whole]:
-        """Returns orders and stocks by period, policy and kept replication, and what all replications spend in each period."""
+        """Returns orders and stocks by period, policy and kept replication, and what each replication spends."""
         scenario, (demands, leads, returned) = self.scenario, self.draws
         costs, shape = scenario.costs, (len(scenario.policies), scenario.replications)
         low, high = (np.array([[it[level]] for it in scenario.policies]) for level in ("s", "S"))
@@ -68,7 +69,7 @@ class LongRun(oracle.Run):
             stocks.append(stock[:, self.kept])
         return np.array(orders), np.array(stocks), np.array(spent)
 
-    def history(self, orders: Whole, stocks: Whole, spent: Whole, replication: int) -> tuple[list[Any], list[int], list[int]]:
+    def history(self, orders: Whole, stocks: Whole, spent: Whole, replication: int) -> tuple[list[Any], ...]:
         """Returns a policy's history in a replication, as the oracle has it."""
         arrivals = np.arange(len(orders)) + self.draws[1][replication]
         return list(zip(orders.tolist(), arrivals.tolist())), stocks.tolist(), spent.tolist()

@@ -1,7 +1,7 @@
 """What single runs show: the cases of a group, those with one command in a test.
 
-The oracle, a second program, is tested with them: what it writes must be what the case wants, so must agree with what was computed
-independently, and the program has to write the same.
+The oracle, a second program, is tested with them: what it writes must be what the case wants, so must agree with what
+was computed independently, and the program has to write the same.
 """
 from __future__ import annotations
 
@@ -35,8 +35,8 @@ def verdicts(program: Path, case: Case, room: Path) -> Verdicts:
     yield case["label"], next((it for it in (wanted_by(case, shown) for shown in runs) if it is not True), True)
     its = told(case)
     if its is not None:
-        verdict = wanted_by(case, its)
-        yield f"oracle, {case['label']}", as_wanted(runs[0], its) if verdict is True else f"the oracle is wrong: {verdict}"
+        right = wanted_by(case, its)
+        yield f"oracle, {case['label']}", as_wanted(runs[0], its) if right is True else f"the oracle is wrong: {right}"
 
 
 @pytest.mark.parametrize("cases", by_command())

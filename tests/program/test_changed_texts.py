@@ -1,9 +1,10 @@
 """Texts that are cut short, or have one byte, row or more changed: each is refused as it should be.
 
-prefixes: the fault is reported of each proper prefix of the file. turned: and of the file with each of its bytes put to this one.
-If these are refused in several ways, or accepted, a map has in place of each byte the name of an answer. A case without a file has
-its input changed. rows: the fault is reported of the file with one of these rows put in, at each place. steps: of changes of the
-input that are made one after the other, each brings the scenario's fault that comes next.
+prefixes: the fault is reported of each proper prefix of the file. turned: and of the file with each of its bytes put
+to this one. If these are refused in several ways, or accepted, a map has in place of each byte the name of an answer.
+A case without a file has its input changed. rows: the fault is reported of the file with one of these rows put in, at
+each place. steps: of changes of the input that are made one after the other, each brings the scenario's fault that
+comes next.
 """
 from __future__ import annotations
 
@@ -23,7 +24,7 @@ Changes = Iterable[tuple[str, int, bytes]]
 
 
 def changed_text(case: Case) -> bytes:
-    """Returns the text that a case changes: the file, or the input of a case without one. A map has a letter for each byte."""
+    """Returns the text that a case changes: the file, or the input of a case without one."""
     text = text_of(case, "file")
     text = input_of(case) if text is None else text
     assert len(case.get("map", text)) == len(text), "the map is for another text"
@@ -76,7 +77,7 @@ def test_rows(program: Path, case: Case, room: Path, check_all: Any) -> None:
 
 
 def steps(program: Path, case: Case) -> Verdicts:
-    """Makes the changes of a scenario one after the other: each adds a fault that comes before all those already there."""
+    """Makes the changes of a scenario one after the other: each adds a fault that comes before those already there."""
     text = input_of(case).decode()
     for number, (old, new, fault) in enumerate(case["steps"], 1):
         text = changed(text, (old, new), case)

@@ -1,7 +1,7 @@
 """Runs that are cut at blocks and resumed, and old checkpoints that are migrated: all as the oracle has them.
 
-blocks: the scenario is run, then cut at each of these blocks, or at all, and resumed on another ring (ring). old_blocks: its
-checkpoints of the old version there are migrated. long: the oracle computes a long run.
+blocks: the scenario is run, then cut at each of these blocks, or at all, and resumed on another ring (ring).
+old_blocks: its checkpoints of the old version there are migrated. long: the oracle computes a long run.
 """
 from __future__ import annotations
 
@@ -38,7 +38,7 @@ def run_of(case: Case) -> oracle.Run:
 
 
 def cuts(program: Path, case: Case, room: Path, its: oracle.Run) -> Verdicts:
-    """Runs a scenario, then cuts it and resumes it on a ring of one block or of the size said: each ends as the whole run."""
+    """Runs a scenario, then cuts it and resumes it on another ring: each ends as the whole run."""
     data, whole = input_of(case), written(oracle.report_of(its).encode())
     ring = on_ring(data, case.get("ring", 1))
     yield "run", as_wanted(run(program, ["run"], data), whole)
@@ -59,7 +59,8 @@ def migrations(program: Path, case: Case, room: Path, its: oracle.Run) -> Verdic
             yield f"migrated at {block}", as_wanted(on_file(program, room, migrate, old), written(new))
             yield f"resumed from {block}", as_wanted(on_file(program, room, resume, new, ring), whole)
             yield f"migrated twice at {block}", as_wanted(on_file(program, room, migrate, new), refused("checkpoint 5"))
-            yield f"old resumed at {block}", as_wanted(on_file(program, room, resume, old, data), refused("checkpoint 4"))
+            shown = on_file(program, room, resume, old, data)
+            yield f"old resumed at {block}", as_wanted(shown, refused("checkpoint 4"))
 
 
 @pytest.mark.parametrize("case", with_key("blocks"))

@@ -1,8 +1,8 @@
 """Which functions of the period loop the built program calls.
 
-The loop over a batch's blocks has all code of a whole block's four periods. LLVM leaves a function out that has grown too large, or
-that a second place calls, with no message: then the largest run takes up to a quarter longer, and nothing else shows it. What is left
-out has a symbol.
+The loop over a batch's blocks has all code of a whole block's four periods. LLVM leaves a function out that has grown
+too large, or that a second place calls, with no message: then the largest run takes up to a quarter longer, and
+nothing else shows it. What is left out has a symbol.
 """
 from __future__ import annotations
 

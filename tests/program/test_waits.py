@@ -1,20 +1,23 @@
 """How the threads of the longest run wait for one another: how long they sleep, and whether they spin.
 
-On a ring of 128 slots or more a thread that waits sleeps for some microseconds. All sleeps of the producer together last 0.03 to
-0.2 seconds, on an idle machine and on a busy one. If a sleep took as many milliseconds, they would last 8 seconds on each of these
-rings, since a larger ring needs fewer of them. What a thread waits for a processor does not count: the system reports it beside the
-time that the thread runs. If the system reports neither, all of the run counts as sleep.
+On a ring of 128 slots or more a thread that waits sleeps for some microseconds. All sleeps of the producer together
+last 0.03 to 0.2 seconds, on an idle machine and on a busy one. If a sleep took as many milliseconds, they would last 8
+seconds on each of these rings, since a larger ring needs fewer of them. What a thread waits for a processor does not
+count: the system reports it beside the time that the thread runs. If the system reports neither, all of the run counts
+as sleep.
 
-On a ring of 64 slots a thread that waits yields. If it spun, it would use up its turn on the processor while the others have nothing
-to run on. So the run is also made on one processor, where it takes 0.1 processor seconds on either ring, on an idle machine and on a
-busy one, and 20 and more with threads that spin.
+On a ring of 64 slots a thread that waits yields. If it spun, it would use up its turn on the processor while the
+others have nothing to run on. So the run is also made on one processor, where it takes 0.1 processor seconds on either
+ring, on an idle machine and on a busy one, and 20 and more with threads that spin.
 
-After 16 yields in vain a thread sleeps there too. If it went on, all threads would be busy with yields for as long as one of them
-waits for its processor behind other work. So in one more run a library holds the first thread that yields for 0.3 seconds (held.c).
-Meanwhile the others yield some hundreds of times, and 100,000 times and more if they never sleep.
+After 16 yields in vain a thread sleeps there too. If it went on, all threads would be busy with yields for as long as
+one of them waits for its processor behind other work. So in one more run a library holds the first thread that yields
+for 0.3 seconds (held.c). Meanwhile the others yield some hundreds of times, and 100,000 times and more if they never
+sleep.
 
-Which pause comes when, and how long a sleep is to take, is proved (Waits.antt of crn_run); that a pause does what its name says is
-not. So on each of these rings a library counts the yields and keeps the times that threads ask to sleep for (pauses.c).
+Which pause comes when, and how long a sleep is to take, is proved (Waits.antt of crn_run); that a pause does what its
+name says is not. So on each of these rings a library counts the yields and keeps the times that threads ask to sleep
+for (pauses.c).
 """
 from __future__ import annotations
 
@@ -35,8 +38,8 @@ from tests.stored import on_ring, stored
 HERE = Path(__file__).resolve().parent
 # The scenario of the longest run, the size of the ring on which threads yield, and the sizes on which they sleep.
 TEXT, SMALL, LARGE = stored("bench/largest.toml"), 64, (128, 512, 1024)
-# The sleeps of a run may last so many seconds. A host that takes the processors away wakes threads late, so the shortest of
-# some runs counts.
+# The sleeps of a run may last so many seconds. A host that takes the processors away wakes threads late, so the
+# shortest of some runs counts.
 MOST_ASLEEP, ROUNDS = 4, 3
 # A run that yields may take so many times the processor time of one that sleeps, and so many seconds more.
 TIMES, MORE = 8, 1.0
@@ -125,7 +128,7 @@ def test_pauses_on_small_ring(program: Path, compiled: Compiler) -> None:
 
 @pytest.mark.parametrize("size", LARGE)
 def test_pauses_on_large_ring(program: Path, compiled: Compiler, size: int) -> None:
-    """Threads never yield on a large ring, and ask to sleep for the time of its size. By chance none may have slept in a run."""
+    """Threads never yield on a large ring, and ask to sleep for the time of its size. By chance none may sleep."""
     producer, reader = 1_000 * (size // 64), 1_000 * max(size // 8 - 16, 1)
     for _ in range(ROUNDS):
         yields, *times = numbers_of(program, on_ring(TEXT, size), compiled(HERE / "pauses.c"))
