@@ -5,8 +5,11 @@ program, not of this module.
 """
 from __future__ import annotations
 
+import csv
 import dataclasses
 import hashlib
+import io
+import re
 from collections import Counter
 from collections.abc import Iterable, Mapping, Sequence
 from dataclasses import dataclass, field
@@ -16,6 +19,7 @@ from typing import TYPE_CHECKING, Any
 
 from . import formats
 from .document import reading
+from .document.values import shown
 from .document.writing import toml_text
 from .errors import Refused
 from .money import scaled_costs, whole
@@ -252,3 +256,32 @@ def policies_of(policies: Any) -> list[Policy]:
         pairs = (("", it) if not isinstance(it, Policy) else (it.name, (it.s, it.S)) for it in policies)
         given = [(name, low, high) for name, (low, high) in pairs]
     return [Policy.of_levels(whole(low, "s"), whole(high, "S"), name) for name, low, high in given]
+
+
+def read_policies(word: str) -> list[Policy]:
+    """Returns the policies of a word: a pair such as 10,30, or a file, which is a scenario (.toml) or a CSV table.
+
+    The table has the columns s and S, and perhaps policy; `-` is standard input. Raises Refused, and ScenarioError.
+    """
+    pair = re.fullmatch(r"\s*([0-9]{1,9})\s*,\s*([0-9]{1,9})\s*", word)
+    if pair:
+        return [Policy.of_levels(int(pair[1]), int(pair[2]))]
+    if word.endswith(".toml"):
+        return list(Scenario.read(word).policies)
+    data = reading.read_bytes(word)
+    try:
+        rows = csv.DictReader(io.StringIO(data.decode("utf-8-sig"), newline=""))
+        missing = [name for name in "sS" if name not in (rows.fieldnames or [])]
+        if missing:
+            raise Refused(f"{word}:1: there is no column {' and none '.join(missing)}; name the columns policy, s and S")
+        return [_policy_of_row(row, f"{word}:{rows.line_num}") for row in rows]
+    except (UnicodeDecodeError, csv.Error) as fault:
+        raise Refused(f"{word}: this is no table of policies: {fault}; save it as CSV in UTF-8") from fault
+
+
+def _policy_of_row(row: Mapping[str, str | None], place: str) -> Policy:
+    """Returns the policy of a row of a table."""
+    for name in "sS":
+        if not re.fullmatch("[0-9]{1,9}", row[name] or ""):
+            raise Refused(f"{place}: column {name}: {shown(row[name] or '')} is not a whole number; write the level in items")
+    return Policy.of_levels(int(row["s"] or 0), int(row["S"] or 0), row.get("policy") or "")

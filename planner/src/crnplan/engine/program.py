@@ -79,3 +79,9 @@ def run_all(program: Path, texts: Iterable[str], *words: str, jobs: int = JOBS) 
             return [it.result() for it in running]
         finally:
             pool.shutdown(wait=True, cancel_futures=True)
+
+
+def writes_known_report(program: Path) -> bool:
+    """Runs the program on a small scenario, and returns whether it writes the known report. Raises ProgramError if it fails."""
+    scenario, report = (Path(__file__).with_name(f"example.{end}").read_text("utf-8") for end in ("toml", "csv"))
+    return run_program(program, scenario) == report

@@ -142,6 +142,12 @@ class Report:
         return report_text(self.rows)
 
     @property
+    def records(self) -> list[dict[str, str | int | None]]:
+        """Returns the rows as plain data: fractions as texts, None if there is no figure."""
+        values = ([getattr(row, name) for name in HEADER] for row in self.rows)
+        return [{name: cell_text(it) if isinstance(it, Fraction) else it for name, it in zip(HEADER, row)} for row in values]
+
+    @property
     def frame(self) -> pd.DataFrame:
         """Returns the report with index `policy`: int, `fractions.Fraction`, or None if there is no figure."""
         import pandas as pd
