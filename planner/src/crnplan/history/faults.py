@@ -1,0 +1,77 @@
+"""Says what is wrong with the rows of a file: all of it in one pass, each fault with its place."""
+from __future__ import annotations
+
+import csv
+from collections.abc import Iterator, Sequence
+from dataclasses import dataclass
+from pathlib import Path
+from typing import NamedTuple
+
+from ..errors import Fault, Refused, RefusedFaults
+
+# So many faults are printed, and so many lines are named in a note. The rejects have all.
+MOST_PRINTED = 20
+MOST_NAMED = 8
+
+
+class Unreadable(ValueError):
+    """A text that is no number or no date. Its message says why, and what to do."""
+
+
+@dataclass(frozen=True)
+class Reject(Fault):
+    """A fault of a row, with the text of that row."""
+
+    row: str = ""
+
+
+class Place(NamedTuple):
+    """Where a number comes from: file, line, column, the name of the column, and how a message names the number."""
+
+    file: str
+    line: int
+    column: int
+    name: str
+    subject: str
+
+    def fault(self, reason: str) -> Fault:
+        """Returns the fault of the number."""
+        return Fault(f"column {self.name!r}: {self.subject} {reason}", self.file, self.line, self.column)
+
+
+def shown(text: str) -> str:
+    """Returns a text, cut if it is long."""
+    return text if len(text) <= 30 else f"{text[:30]}..."
+
+
+def named_lines(lines: Sequence[int]) -> str:
+    """Returns `line 3` or `lines 3, 5, 8`. Only the first lines are named."""
+    text = ", ".join(map(str, lines[:MOST_NAMED])) + (", .." if len(lines) > MOST_NAMED else "")
+    return f"line{'s' * (len(lines) > 1)} {text}"
+
+
+def printed(faults: Sequence[Fault]) -> Iterator[str]:
+    """Yields the first faults as lines, and one line that says how many more there are."""
+    yield from map(str, faults[:MOST_PRINTED])
+    if len(faults) > MOST_PRINTED:
+        yield f"and {len(faults) - MOST_PRINTED:,} more faults; --rejects FILE lists all"
+
+
+def refusal(faults: Sequence[Fault]) -> RefusedFaults:
+    """Returns the error of an input with these faults."""
+    lines = list(printed(faults))
+    if len(faults) > 1:
+        rows = len({(it.file, it.line) for it in faults})
+        lines.append(f"{len(faults):,} faults in {rows:,} rows; correct them, or say --leave-out to go on without bad rows")
+    return RefusedFaults(faults, "\n".join(lines))
+
+
+def write_rejects(path: Path, faults: Sequence[Fault]) -> None:
+    """Writes all faults as CSV: file, line and column (0 if there is none), what is wrong, and the text of the row."""
+    try:
+        with path.open("w", encoding="utf-8", newline="") as file:
+            out = csv.writer(file, lineterminator="\n")
+            out.writerow(["file", "line", "column", "what", "row"])
+            out.writerows([it.file, it.line, it.column, it.what, it.row if isinstance(it, Reject) else ""] for it in faults)
+    except OSError as fault:
+        raise Refused(f"{path}: {fault.strerror}; name another file after --rejects") from fault
