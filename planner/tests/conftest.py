@@ -1,0 +1,42 @@
+"""Fixtures of the tests of crnplan: its command in this process, and the scenarios of the repository."""
+from __future__ import annotations
+
+import io
+import sys
+from collections.abc import Callable
+from pathlib import Path
+from typing import NamedTuple
+
+import pytest
+
+from crnplan import commands
+
+
+class Answer(NamedTuple):
+    """What a command does: its status, and what it prints on standard output and standard error."""
+
+    status: int
+    output: str
+    errors: str
+
+
+Command = Callable[..., Answer]
+
+
+@pytest.fixture
+def crnplan(monkeypatch: pytest.MonkeyPatch, capfd: pytest.CaptureFixture[str]) -> Command:
+    """Returns a function that runs a command of crnplan by its words, with `data` as standard input."""
+    def run(*words: str | Path, data: bytes = b"") -> Answer:
+        """Runs a command."""
+        monkeypatch.setattr(sys, "argv", ["crnplan", *map(str, words)])
+        monkeypatch.setattr(sys, "stdin", io.TextIOWrapper(io.BytesIO(data)))
+        with pytest.raises(SystemExit) as ended:
+            commands.main()
+        return Answer(int(ended.value.code or 0), *capfd.readouterr())
+    return run
+
+
+@pytest.fixture(scope="session")
+def two_policies(top: Path) -> str:
+    """Returns the text of the base example."""
+    return (top / "examples/two_policies.toml").read_text("utf-8")
