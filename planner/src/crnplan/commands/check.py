@@ -39,9 +39,9 @@ class Keys(click.Command):
 @click.option("--level", type=float, default=0.95, show_default=True, help="The joint level of the intervals.")
 @click.option("--program", metavar="PATH", help="The program crnsim.")
 @click.option("--out", metavar="FOLDER", help="Keep the scenarios and reports here.")
-@click.option("--csv", "as_csv", is_flag=True, help="Print the table as CSV.")
-@click.option("--json", "as_json", is_flag=True, help="Print the check as JSON.")
-def command(scenario: str, best: str, keys: tuple[str, ...], count: int | None, as_csv: bool, as_json: bool,
+@click.option("--csv", "form", flag_value="csv", help="Print the table as CSV.")
+@click.option("--json", "form", flag_value="json", help="Print the check as JSON.")
+def command(scenario: str, best: str, keys: tuple[str, ...], count: int | None, form: str | None,
             **options: Any) -> int:
     """Check the best policy of a scenario on new histories, against all others. `-` is standard input.
 
@@ -58,10 +58,10 @@ def command(scenario: str, best: str, keys: tuple[str, ...], count: int | None, 
     of all replications. FOLDER is new or empty.
     """
     found = check_keys(Scenario.read(scenario), best, keys=[key.split() for key in keys], count=count, **options)
-    if as_csv:
+    if form == "csv":
         csv.writer(sys.stdout, lineterminator="\n").writerows(table_of(found.rows))
         print(found.sentence, end="", file=sys.stderr)
-    elif as_json:
+    elif form:
         head = {"best": best, "holds": found.holds, "keys": found.keys, "replications": found.replications, "level": found.level}
         print(json.dumps({**head, "policies": records_of(found.rows)}, indent=2))
     else:

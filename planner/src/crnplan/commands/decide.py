@@ -58,12 +58,12 @@ def replications_of(asked: int | None, scenario: Scenario | None, name: str | No
 @click.option("--replications", type=int, metavar="R", help="How many replications the report has.")
 @click.option("--level", type=float, default=0.95, show_default=True, help="The joint level of the intervals.")
 @click.option("--all", "every", is_flag=True, help="List all policies, not the first 20.")
-@click.option("--csv", "as_csv", is_flag=True, help="Print all policies as CSV.")
-@click.option("--json", "as_json", is_flag=True, help="Print all policies as JSON.")
+@click.option("--csv", "form", flag_value="csv", help="Print all policies as CSV.")
+@click.option("--json", "form", flag_value="json", help="Print all policies as JSON.")
 @click.option("--plot", metavar="FILE.png", help="Draw the intervals, as PNG or SVG.")
 @click.option("--map", "of_costs", metavar="FILE.png", help="Draw the cost over s and S, as PNG or SVG.")
 def command(report: str, scenario_path: str | None, sweep: bool, replications: int | None, level: float, every: bool,
-            as_csv: bool, as_json: bool, plot: str | None, of_costs: str | None) -> None:
+            form: str | None, plot: str | None, of_costs: str | None) -> None:
     """Turn a report of crnsim into decimals, confidence intervals and a decision. `-` is standard input.
 
     The first policy of the report is the base. Each other policy gets a paired-t interval for its diff_mean, from low to
@@ -89,10 +89,10 @@ def command(report: str, scenario_path: str | None, sweep: bool, replications: i
     if plot or of_costs:
         pictures(rows, given[0], (replications, len(rows) - 1, level), plot, of_costs)
     head = {"base": given[0].policy, "replications": replications, "level": level}
-    if as_csv:
+    if form == "csv":
         csv.writer(sys.stdout, lineterminator="\n").writerows(table_of(rows))
         print(warning, end="", file=sys.stderr)
-    elif as_json:
+    elif form:
         print(json.dumps({**head, "policies": records_of(rows), "warning": warning}, indent=2))
     else:
         print_text(rows, head, every, warning)

@@ -19,9 +19,9 @@ def spelt(value: str | int | float | None) -> str:
 @click.command(epilog="Example: crnplan sensitivity scenario.toml")
 @click.argument("scenario", metavar="SCENARIO.toml")
 @click.option("--program", metavar="PATH", help="The program crnsim.")
-@click.option("--csv", "as_csv", is_flag=True, help="Print the table as CSV.")
-@click.option("--json", "as_json", is_flag=True, help="Print the table as JSON.")
-def command(scenario: str, program: str | None, as_csv: bool, as_json: bool) -> None:
+@click.option("--csv", "form", flag_value="csv", help="Print the table as CSV.")
+@click.option("--json", "form", flag_value="json", help="Print the table as JSON.")
+def command(scenario: str, program: str | None, form: str | None) -> None:
     """Show how much each policy may cost too much if the scenario is not quite right. `-` is standard input.
 
     The cases are the scenario itself (base); demand 10% up and down; every lead time one period longer; the cost backlog
@@ -40,11 +40,11 @@ def command(scenario: str, program: str | None, as_csv: bool, as_json: bool) -> 
     """
     found = sensitivity(Scenario.read(scenario), program=program)
     records = list(found.records())
-    if as_csv:
+    if form == "csv":
         writer = csv.writer(sys.stdout, lineterminator="\n")
         writer.writerows([list(records[0]), *(map(spelt, record.values()) for record in records)])
         print("".join(f"crnplan: {note}\n" for note in found.notes), end="", file=sys.stderr)
-    elif as_json:
+    elif form:
         print(json.dumps({"policies": records, "notes": found.notes}, indent=2))
     else:
         print(found.text, end="")

@@ -2,11 +2,9 @@
 from __future__ import annotations
 
 import json
-from fractions import Fraction
 
 import click
 
-from ..engine.report import cell_text
 from ..scenario import Scenario
 from ..sweep import sweep
 from ..sweep.grid import numbers_of
@@ -20,9 +18,10 @@ from ..sweep.grid import numbers_of
 @click.option("--jobs", type=click.IntRange(min=1), metavar="N", help="Runs at a time; by default one for each core.")
 @click.option("--out", metavar="FOLDER", help="Keep each report here, and go on with what is here.")
 @click.option("--cluster", metavar="ADDRESS", help="A Dask scheduler, as tcp://host:8786.")
-@click.option("--json", "as_json", is_flag=True, help="Print the table as JSON: fractions are texts.")
+@click.option("--csv", "form", flag_value="csv", default=True, help="Print the table as a report (the default).")
+@click.option("--json", "form", flag_value="json", help="Print the table as JSON, with fractions as texts.")
 def command(base: str, points: tuple[int, int, int], levels: tuple[int, int, int], program: str | None, jobs: int | None,
-            out: str | None, cluster: str | None, as_json: bool) -> None:
+            out: str | None, cluster: str | None, form: str) -> None:
     """Compare a grid of (s,S) policies with a base by many runs of crnsim. `-` is standard input.
 
     The base is the first policy of BASE.toml. The pairs of the grid with s <= S are split into scenarios of the base and up
@@ -36,9 +35,4 @@ def command(base: str, points: tuple[int, int, int], levels: tuple[int, int, int
     """
     report = sweep(Scenario.read(base), numbers_of("s", *points), numbers_of("S", *levels), jobs=jobs, out=out,
                    cluster=cluster, program=program, progress=True)
-    if as_json:
-        rows = [{name: cell_text(cell) if isinstance(cell, Fraction) else cell for name, cell in vars(row).items()}
-                for row in report.rows]
-        print(json.dumps(rows, indent=2))
-    else:
-        print(report.text, end="")
+    print(report.text if form == "csv" else json.dumps(report.records, indent=2) + "\n", end="")

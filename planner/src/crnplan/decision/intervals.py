@@ -17,11 +17,9 @@ from dataclasses import dataclass, fields
 from fractions import Fraction
 
 from .. import formats
+from ..engine.keys import MOST_KEYS
 from ..engine.report import Row
 from ..errors import Refused
-
-# How many keys a check may pool into one report.
-MOST_KEYS = 64
 
 
 @dataclass(frozen=True)

@@ -15,12 +15,13 @@ from pathlib import Path
 from typing import TYPE_CHECKING
 
 from .. import formats
+from ..document.writing import plain_text
 from ..engine.keys import Key, keys_of
 from ..engine.pooling import pooled
-from ..engine.report import Report, report_text
+from ..engine.report import report_text
 from ..errors import Refused
 from ..scenario import Policy, Scenario
-from .intervals import MOST_KEYS, Compared, check_replications, checked_level, with_intervals, with_verdict
+from .intervals import Compared, check_replications, checked_level, with_intervals, with_verdict
 from .verdicts import decision_text, frame_of, table_text
 
 if TYPE_CHECKING:
@@ -111,24 +112,22 @@ def check_keys(scenario: Scenario, best: str, *, keys: Sequence[Sequence[str]] =
     each key, key_1.toml and key_1.csv for the first one, and pooled.csv if there are several: the report of all
     replications. Raises Refused, also for the scenario's own key, and ProgramError if a run fails.
     """
-    checked_replications(replications), checked_level(level)
+    checked_replications(replications)
+    checked_level(level)
     policies = policies_of(scenario, best)
     all_keys = keys_of(keys, count, scenario.key)
     folder = None if out is None else new_folder(out)
-    plain = dataclasses.replace(scenario, source=None, replications=replications).with_policies(policies)
+    asked = dataclasses.replace(scenario, replications=replications).with_policies(policies)
     reports = []
     for number, key in enumerate(all_keys, 1):
-        asked = dataclasses.replace(plain, key=key)
-        report = asked.run(program=program)
+        report = dataclasses.replace(asked, key=key).run(program=program)
         check_replications(report.rows, replications, "the report")
         reports.append(report.rows)
         if folder:
-            (folder / f"key_{number}.toml").write_text(asked.toml(), "utf-8", newline="")
-            (folder / f"key_{number}.csv").write_text(report.text, "utf-8", newline="")
-    rows = reports[0]
-    if len(reports) > 1:
-        rows = pooled(reports, replications, scenario.periods)
-        if folder:
-            (folder / "pooled.csv").write_text(report_text(rows), "utf-8", newline="")
+            (folder / f"key_{number}.toml").write_text(plain_text(report.scenario.tree), "utf-8")
+            (folder / f"key_{number}.csv").write_text(report.text, "utf-8")
+    rows = pooled(reports, replications, scenario.periods) if len(reports) > 1 else reports[0]
+    if folder and len(reports) > 1:
+        (folder / "pooled.csv").write_text(report_text(rows), "utf-8")
     total = replications * len(reports)
     return Check(best, tuple(all_keys), total, level, tuple(with_intervals(rows, total, level)))

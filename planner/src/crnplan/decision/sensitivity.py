@@ -172,9 +172,8 @@ def sensitivity(scenario: Scenario, *, program: str | Path | None = None) -> Sen
     numbers are out of range, a demand over 10,000 or a lead time over 32, is left out. Raises ProgramError if a run fails.
     """
     notes: list[str] = []
-    plain = dataclasses.replace(scenario, source=None)
-    cases = {"base": plain, **dict(demand_cases(plain, notes)), **dict(lead_cases(plain, notes))}
-    *totals, owed = all_totals(find_program(program), [*cases.values(), counting(plain, "backlog")])
+    cases = {"base": scenario, **dict(demand_cases(scenario, notes)), **dict(lead_cases(scenario, notes))}
+    *totals, owed = all_totals(find_program(program), [*cases.values(), counting(scenario, "backlog")])
     rate, periods = scenario.costs.backlog, scenario.periods * scenario.replications
     costs = {name: [Fraction(total) for total in its] for name, its in zip(cases, totals)}
     for name, change in (("backlog_half", Fraction(-rate, 2)), ("backlog_double", Fraction(rate))):

@@ -1,15 +1,15 @@
 """Splits a grid of (s,S) policies into scenarios, and keeps their reports in a folder."""
 from __future__ import annotations
 
-import dataclasses
 import os
 from collections.abc import Iterable, Sequence
 from dataclasses import dataclass
 from pathlib import Path
 
 from .. import formats
+from ..document.writing import plain_text
 from ..engine.report import Row, report_text, rows_of
-from ..errors import Refused
+from ..errors import ProgramError, Refused
 from ..scenario import Policy, Scenario
 
 # Each scenario of a sweep has the base, which leaves room for one policy less.
@@ -25,12 +25,6 @@ class Part:
     text: str
 
 
-def name_of(point: int, level: int) -> str:
-    """Returns the name of a pair of the grid, shortened if it is too long."""
-    name = f"s{point}_S{level}"
-    return name if len(name) <= formats.MOST_LETTERS else name.replace("_", "")
-
-
 def numbers_of(name: str, first: int, last: int, step: int) -> range:
     """Returns the numbers from `first` to `last` of one side of the grid, in items. `name` is s or S."""
     if not (0 <= first <= last <= formats.MOST_ITEMS and step >= 1):
@@ -42,7 +36,7 @@ def grid_of(base: Policy, points: Iterable[int], levels: Sequence[int]) -> list[
     """Returns the pairs of the grid with s <= S, without the base's own pair. Raises Refused if there is none."""
     pairs = [(point, level) for point in points for level in levels
              if point <= level and (point, level) != (base.s, base.S)]
-    grid = [Policy(name_of(*pair), *pair) for pair in pairs]
+    grid = [Policy.of_levels(*pair) for pair in pairs]
     if not grid:
         raise Refused("the grid has no pair with s <= S beside the base")
     if base.name in {policy.name for policy in grid}:
@@ -52,16 +46,15 @@ def grid_of(base: Policy, points: Iterable[int], levels: Sequence[int]) -> list[
 
 def parts_of(scenario: Scenario, grid: Sequence[Policy]) -> list[Part]:
     """Returns the scenarios of a sweep: each has the base and up to 15 pairs, and all else as the given one."""
-    plain = dataclasses.replace(scenario, source=None)
     parts = [(scenario.policies[0], *grid[first:first + GRID_POLICIES]) for first in range(0, len(grid), GRID_POLICIES)]
-    return [Part(number, part, plain.with_policies(part).toml()) for number, part in enumerate(parts)]
+    return [Part(number, part, plain_text(scenario.with_policies(part).tree)) for number, part in enumerate(parts)]
 
 
 def rows_of_part(part: Part, report: str) -> list[Row] | None:
     """Returns the rows of a scenario's report, or None if the text is no such report, byte for byte."""
     try:
         rows = rows_of(part.policies, report, "")
-    except Refused:
+    except ProgramError:
         return None
     return rows if report_text(rows) == report else None
 
