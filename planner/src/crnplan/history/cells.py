@@ -264,8 +264,8 @@ def read_sheet(path: str | Path, wanted: Sequence[str], rules: Rules, if_there: 
         delimiter = DELIMITERS[rules.delimiter] if rules.delimiter else delimiter_of(name, text, wanted)
         sheet = _sheet_of(name, text, delimiter, wanted, if_there)
     except RefusedFaults as refused:
-        # What is wrong may come from the encoding.
-        raise RefusedFaults([fault]) from refused if fault else refused
+        # What else is wrong may come from the encoding.
+        raise RefusedFaults([fault] if fault else refused.faults) from refused
     sheet.fault = fault
     return sheet
 

@@ -1,12 +1,14 @@
 """Reads a history of demand: a row for each period, or movements at dates, which are summed by day, ISO week or month."""
 from __future__ import annotations
 
+import contextlib
 import datetime
 from collections import defaultdict
-from collections.abc import Iterator, Sequence
+from collections.abc import Sequence
 from dataclasses import dataclass
+from itertools import compress
 from pathlib import Path
-from typing import Any
+from typing import Any, NoReturn
 
 from ..errors import Fault, Refused, RefusedFaults
 from ..formats import MOST_WEIGHT
@@ -44,7 +46,10 @@ def read_history(path: str | Path, *, demand: str, returns: str | None = None, d
     if first and last and first > last:
         raise Refused(f"--from {first} is after --to {last}; change one of them")
     movements = _movements(Reading(path, [*names, date], rule), names, date, every, net)
-    return _summed(movements, _spanned(movements, first, last, whole))
+    movements.cut(first, last)
+    periods = _spanned(movements, first, last, whole)
+    movements.suspect()
+    return _summed(movements, periods)
 
 
 def _day_of(day: Day | str | None, option: str) -> Day | None:
@@ -76,45 +81,56 @@ class _Movements:
     """The movements of a file: for each of its rows a day, and the amounts of each column."""
 
     reading: Reading
+    reader: DateReader
     date: str
     every: str
     rows: list[int]
-    days: list[Day]
+    # The day and the form of each date.
+    dates: list[tuple[Day, str]]
     amounts: dict[str, list[int]]
-    # The first and the last day of the file, also of other items.
-    ends: tuple[Day, Day]
+
+    def ends(self) -> tuple[Day, Day]:
+        """Returns the first and the last day of the record: of all items, if the rows are those of one."""
+        days = {day for day, _ in self.dates}
+        for text in self.reading.sheet.columns[self.date].index if self.reading.rules.item else ():
+            with contextlib.suppress(Unreadable):
+                days.add(self.reader.read(text)[0])
+        return min(days), max(days)
+
+    def cut(self, start: Day | None, end: Day | None) -> None:
+        """Takes movements before the start or after the end out, with notes."""
+        for option, bound, sign in (("before --from", start, 1), ("after --to", end, -1)):
+            if bound is None:
+                continue
+            inside = [sign * (day - bound).days >= 0 for day, _ in self.dates]
+            lines = [self.reading.sheet.lines[row] for row, is_in in zip(self.rows, inside) if not is_in]
+            if lines:
+                self.reading.note(f"rows {option} {bound} left out: {len(lines):,} ({named_lines(lines)})")
+            self.rows, self.dates = list(compress(self.rows, inside)), list(compress(self.dates, inside))
+            self.amounts = {name: list(compress(its, inside)) for name, its in self.amounts.items()}
+        if not self.rows:
+            name = self.reading.sheet.name
+            raise RefusedFaults([Fault(f"no row is from {start or 'the beginning'} to {end or 'the end'}; change --from or --to", name)])
+
+    def suspect(self) -> None:
+        """Notes what is suspicious in the movements."""
+        self.reading.note_forms(self.date, self.rows, self.dates, self.reader)
+        self.reading.notes += twice_notes(self.reading.sheet, self.rows, list(self.amounts))
+        for name, numbers in self.amounts.items():
+            self.reading.suspect(name, self.rows, numbers)
 
 
 def _movements(reading: Reading, names: Sequence[str], date: str, every: str, net: bool) -> _Movements:
-    """Reads the movements of a file."""
+    """Reads the movements of a file. Raises RefusedFaults."""
     reading.skip_blank()
-    column = reading.sheet.columns[date]
-    reader = DateReader(column.index, reading.rules.date_formats)
+    reader = DateReader(reading.sheet.columns[date].index, reading.rules.date_formats)
     below = (f"is negative; say --net to take it off its {every}, or write items that came back into a column of their own "
              "(--returns)")
     columns: dict[str, list[Any]] = {date: reading.read(date, reader.read, reading.rows)}
     columns |= {name: reading.amounts(name, below, None if net else 0) for name in names}
     _name_total(reading, date, columns[date], columns[names[0]])
     rows, kept = reading.kept(columns)
-    reading.note_forms(date, rows, kept[date], reader)
-    reading.notes += twice_notes(reading.sheet, rows, names)
-    for name in names:
-        reading.suspect(name, rows, kept[name])
-    days = [day for day, _ in kept[date]]
-    return _Movements(reading, date, every, rows, days, {name: kept[name] for name in names}, _ends(reading, reader, column.index, days))
-
-
-def _ends(reading: Reading, reader: DateReader, texts: Sequence[str], days: Sequence[Day]) -> tuple[Day, Day]:
-    """Returns the first and the last day of the record: of all items, if the rows are those of one."""
-    def all_days() -> Iterator[Day]:
-        yield from days
-        for text in texts if reading.rules.item else ():
-            try:
-                yield reader.read(text)[0]
-            except Unreadable:
-                continue
-    found = set(all_days())
-    return min(found), max(found)
+    return _Movements(reading, reader, date, every, rows, kept[date], {name: kept[name] for name in names})
 
 
 def _name_total(reading: Reading, date: str, days: Sequence[object], amounts: Sequence[int | None]) -> None:
@@ -129,27 +145,28 @@ def _name_total(reading: Reading, date: str, days: Sequence[object], amounts: Se
 
 
 def _spanned(movements: _Movements, start: Day | None, end: Day | None, whole: bool) -> range:
-    """Returns the numbers of the periods of the record, with a note. Movements outside of it are taken out, also noted."""
-    reading, every, sheet = movements.reading, movements.every, movements.reading.sheet
-    for option, day, outside in (("before --from", start, lambda it: it < start), ("after --to", end, lambda it: it > end)):
-        out = {row for row, it in zip(movements.rows, movements.days) if day and outside(it)}
-        if out:
-            lines = named_lines([sheet.lines[it] for it in sorted(out)])
-            reading.notes.append(f"{sheet.name}: rows {option} {day} left out: {len(out)} ({lines})")
-            inside = [row not in out for row in movements.rows]
-            movements.days = [it for it, kept in zip(movements.days, inside) if kept]
-            movements.amounts = {name: [it for it, kept in zip(its, inside) if kept] for name, its in movements.amounts.items()}
-            movements.rows = [row for row in movements.rows if row not in out]
-    first, last = period_of(start or movements.ends[0], every), period_of(end or movements.ends[1], every)
+    """Returns the numbers of the periods of the record, with a note. Raises RefusedFaults for none, or for too many."""
+    every, ends = movements.every, (None, None) if start and end else movements.ends()
+    first, last = (period_of(it, every) for it in (start or ends[0], end or ends[1]) if it)
     partial = [start is None or first_day(first, every) != start,
                end is None or first_day(last + 1, every) - datetime.timedelta(days=1) != end]
     periods = range(first + (whole and partial[0]), last + 1 - (whole and partial[1]))
-    _check_span(movements, periods)
-    numbers = {period_of(it, every) for it in set(movements.days)}
-    filled = len([it for it in periods if it not in numbers])
-    reading.notes.append(f"{sheet.name}: {every}s from {period_name(periods[0], every)} to {period_name(periods[-1], every)}: "
-                         f"{len(periods)}, filled with 0: {filled}; {_ends_text(partial, whole)}")
+    if not periods:
+        _refuse_span(movements, f"there is no {every} between the first and the last one; leave --whole out", None)
+    if len(periods) > MOST_WEIGHT:
+        _refuse_span(movements, f"{len(periods):,} {every}s are more than {MOST_WEIGHT:,}; correct the first or the last date, "
+                     "or take longer periods (--every)", ends[1])
+    numbers = {period_of(it, every) for it in {day for day, _ in movements.dates}}
+    movements.reading.note(f"{every}s from {period_name(periods[0], every)} to {period_name(periods[-1], every)}: "
+                           f"{len(periods)}, filled with 0: {len(set(periods) - numbers)}; {_ends_text(partial, whole)}")
     return periods
+
+
+def _refuse_span(movements: _Movements, reason: str, day: Day | None) -> NoReturn:
+    """Rejects the periods of the record, at the row of a day if there is one, else at the first row."""
+    sheet = movements.reading.sheet
+    row = next((row for row, (it, _) in zip(movements.rows, movements.dates) if day in (it, None)), None)
+    raise RefusedFaults([Fault(reason, sheet.name) if row is None else sheet.reject(row, movements.date, reason)])
 
 
 def _ends_text(partial: Sequence[bool], whole: bool) -> str:
@@ -161,26 +178,11 @@ def _ends_text(partial: Sequence[bool], whole: bool) -> str:
     return f"{named} one {verb} left out" if whole else f"{named} one may be partial (--whole leaves {pronoun} out)"
 
 
-def _check_span(movements: _Movements, periods: range) -> None:
-    """Rejects no period at all, or too many."""
-    every, rows = movements.every, movements.rows
-    if not periods:
-        reason, row = f"there is no {every} between the first and the last one; leave --whole out", rows[:1]
-    elif len(periods) > MOST_WEIGHT:
-        reason = (f"{len(periods):,} {every}s are more than {MOST_WEIGHT:,}; correct the first or the last date, or take longer "
-                  "periods (--every)")
-        row = [it for it, day in zip(rows, movements.days) if day == movements.ends[1]][:1]
-    else:
-        return
-    sheet = movements.reading.sheet
-    raise RefusedFaults([sheet.reject(row[0], movements.date, reason) if row else Fault(reason, sheet.name)])
-
-
 def _summed(movements: _Movements, periods: range) -> History:
     """Returns the history of movements: their sums by period, none of which may be negative."""
     reading, every = movements.reading, movements.every
     parts: defaultdict[int, list[int]] = defaultdict(list)
-    for place, day in enumerate(movements.days):
+    for place, (day, _) in enumerate(movements.dates):
         parts[period_of(day, every)].append(place)
     history, faults = None, []
     for name, amounts in reversed(movements.amounts.items()):

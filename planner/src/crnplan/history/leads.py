@@ -56,7 +56,7 @@ def _orders(reading: Reading, ordered: str, received: str, every: str) -> LeadTi
     reader = DateReader({**sheet.columns[ordered].index, **sheet.columns[received].index}, reading.rules.date_formats)
     dates = {name: reading.read(name, reader.read, reading.rows) for name in (ordered, received)}
     numbers: list[int | None] = []
-    for row, placed, there in zip(reading.rows, *dates.values()):
+    for row, placed, there in zip(reading.rows, dates[ordered], dates[received]):
         backwards = placed is not None and there is not None and there[0] < placed[0]
         if backwards:
             reading.reject(row, received, f"{sheet.columns[received].text(row)!r} is before the order of "
@@ -64,12 +64,10 @@ def _orders(reading: Reading, ordered: str, received: str, every: str) -> LeadTi
         known = placed is not None and there is not None and not backwards
         numbers.append(max(1, period_of(there[0], every) - period_of(placed[0], every)) if known else None)
     rows, kept = reading.kept({**dates, "number": numbers})
-    reading.note_forms(ordered, rows, kept[ordered], reader)
-    if received != ordered:
-        reading.note_forms(received, rows, kept[received], reader)
+    reading.note(f"lead times in {every}s: {len(rows)}, orders not yet received and left out: {len(all_rows) - len(reading.rows)}")
+    for name in dates:
+        reading.note_forms(name, rows, kept[name], reader)
     reading.notes += twice_notes(sheet, rows, ())
-    reading.notes.append(f"{sheet.name}: lead times in {every}s: {len(rows)}, orders not yet received and left out: "
-                         f"{len(all_rows) - len(reading.rows)}")
     places = (reading.place(row, received, f"the lead time of {number} {every}s since the order of "
                             f"{sheet.columns[ordered].text(row)}") for row, number in zip(rows, kept["number"]))
     return LeadTimes(tuple(kept["number"]), tuple(places), tuple(reading.notes), tuple(reading.faults), every)

@@ -44,15 +44,19 @@ class Reading:
         codes = [(sheet.columns[name].codes, sheet.columns[name].index[text]) for name, text in asked.items()]
         found = [row for row in rows if all(its[row] == code for its, code in codes)]
         named = " and ".join(f"{name} = {text}" for name, text in asked.items())
-        self.notes.append(f"{sheet.name}: rows with {named}: {len(found):,} of {len(rows):,}")
+        self.note(f"rows with {named}: {len(found):,} of {len(rows):,}")
         return found
+
+    def note(self, what: str) -> None:
+        """Adds a note on the file."""
+        self.notes.append(f"{self.sheet.name}: {what}")
 
     def skip_blank(self) -> None:
         """Passes over blank rows, with a note."""
         blank = [row for row in self.rows if row in self.sheet.blank]
         if blank:
             lines = named_lines([self.sheet.lines[it] for it in blank])
-            self.notes.append(f"{self.sheet.name}: blank rows passed over: {len(blank)} ({lines})")
+            self.note(f"blank rows passed over: {len(blank):,} ({lines})")
             self.rows = [row for row in self.rows if row not in self.sheet.blank]
 
     def read(self, name: str, read: Callable[[str], Value], rows: Sequence[int]) -> list[Value | None]:
@@ -87,8 +91,7 @@ class Reading:
             raise refusal([*of_file, *self.faults])
         if self.faults:
             lines = list(dict.fromkeys(self.sheet.lines[row] for row in sorted({*self.rows, *self.long} - set(rows))))
-            self.notes.append(f"{self.sheet.name}: rows left out: {len(lines):,} of {len(self.rows) + len(self.long):,} "
-                              f"({named_lines(lines)})")
+            self.note(f"rows left out: {len(lines):,} of {len(self.rows) + len(self.long):,} ({named_lines(lines)})")
         if not rows:
             raise refusal([*self.faults, Fault("no row is left; correct the file", self.sheet.name)])
         return rows, {name: [values[it] for it in places] for name, values in columns.items()}

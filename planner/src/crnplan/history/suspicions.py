@@ -14,7 +14,7 @@ TIMES_NEXT, MOST_FAR = 30, 3
 # A way of writing that at most one row in so many has is suspicious.
 RARE = 10
 # A sum of fewer rows may well come again below them.
-LEAST_SUMMED = 3
+LEAST_SUMMED = 6
 TOTAL = re.compile(r"\W*(?:grand |sub)?(?:totals?|totale|totaal|sum|summe|gesamt\w*|insgesamt|zwischensumme|somme|suma)\b", re.I)
 
 
