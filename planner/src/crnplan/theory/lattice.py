@@ -30,6 +30,15 @@ LEAST_CELLS = 8  # of the largest net demand or order
 COARSER = 1.2  # by how much a step may grow if more values then lie on the lattice
 
 
+class NoTheory(Refused):
+    """A scenario without a best policy, or with numbers that are too far apart. `path` leads to the key that says so."""
+
+    def __init__(self, what: str, *path: str) -> None:
+        """Keeps the path. It is empty if there is no single key."""
+        super().__init__(what)
+        self.path = path
+
+
 @dataclass(frozen=True)
 class Shape:
     """How large the numbers of a scenario are, in items and periods."""
@@ -87,18 +96,18 @@ def moments_of(table: Table | None) -> tuple[float, float]:
 
 
 def shape_of(scenario: Scenario) -> Shape:
-    """Returns the shape of a scenario. Raises Refused if it has no best policy."""
+    """Returns the shape of a scenario. Raises NoTheory if it has no best policy."""
     costs, values = scenario.costs, values_of(scenario)
     for name, cost in (("holding", costs.holding), ("backlog", costs.backlog)):
         if cost == 0:
-            raise Refused(f"the cost {name} is 0, so there is no best policy: stock, or being short, costs nothing; give it a "
-                          "cost above 0")
+            raise NoTheory(f"the cost {name} is 0, so there is no best policy: stock, or being short, costs nothing; give it "
+                           "a cost above 0", "costs", name)
     (demand, demand_square), (back, back_square) = moments_of(scenario.demand), moments_of(scenario.returns)
     mean, variance = demand - back, demand_square - demand**2 + back_square - back**2
     if mean <= 1e-9 * demand:
-        raise Refused(f"on average {back:g} items come back and {demand:g} are asked for in a period, so there is "
-                      "nothing to order in the long run; look at the tables demand and returns" if demand else
-                      "no item is ever asked for; give a demand above 0 a weight")
+        raise NoTheory(f"on average {back:g} items come back and {demand:g} are asked for in a period, so there is "
+                       "nothing to order in the long run; look at the tables demand and returns" if demand else
+                       "no item is ever asked for; give a demand above 0 a weight", "demand")
     rate = 2 * costs.setup * (costs.holding + costs.backlog) / (costs.holding * costs.backlog)
     order = math.sqrt(rate * mean) + (rate * variance)**(1 / 3)
     leads = [value for value, weight in zip(scenario.lead.values, scenario.lead.weights) if weight]
@@ -147,9 +156,9 @@ def lattice_of(scenario: Scenario, shape: Shape, widest: int) -> tuple[int, bool
     while not is_small(shape, base * times, widest):
         times = max(times + 1, int(times * 1.1))
         if base * times * LEAST_CELLS > max(shape.high, shape.order):
-            raise Refused("the numbers of this scenario are too far apart for the theory's tables: what comes back is "
-                          "nearly what is asked for, or one order lasts for far too long; compare policies of your own by "
-                          "runs")
+            raise NoTheory("the numbers of this scenario are too far apart for the theory's tables: what comes back is "
+                           "nearly what is asked for, or one order lasts for far too long; compare policies of your own by "
+                           "runs")
     if times == 1:
         return base, True
     steps = (base * it for it in range(times, int(COARSER * times) + 1))
@@ -181,8 +190,8 @@ def walk_of(scenario: Scenario, gap: int) -> Walk | None:
 def theories_of(scenario: Scenario, widest: int | None = None) -> tuple[LongRun, LongRun | None]:
     """Returns the theory of a scenario, and the one on a lattice twice as coarse, or None if the lattice is exact.
 
-    `widest` is the greatest S - s, in items, that is looked at beside the best; by default that of the first policy.
-    Raises Refused if the scenario has no best policy, or if its numbers are too far apart.
+    `widest` is the greatest S - s, in items, that is looked at beside the best: by default that of the first policy.
+    Raises NoTheory if the scenario has no best policy, or if its numbers are too far apart.
     """
     if widest is None:
         widest = scenario.policies[0].S - scenario.policies[0].s

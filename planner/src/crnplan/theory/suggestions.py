@@ -106,8 +106,14 @@ class Suggestions:
 
     @property
     def frame(self) -> pd.DataFrame:
-        """Returns the figures of all policies as a DataFrame."""
+        """Returns the figures of all policies: see `suggested`."""
         return _frame_of([(it.policy, it.figures) for it in self.rows])
+
+    @property
+    def records(self) -> list[dict[str, Any]]:
+        """Returns the row of each policy by column, with ten digits of each figure, and with its reasons."""
+        return [{**dict(zip(HEADING, (*dataclasses.astuple(it.policy), *(float(f"{number:.10g}") for number in it.figures)))),
+                 "reasons": "; ".join(it.reasons)} for it in self.rows]
 
     @property
     def cells(self) -> list[list[str]]:
@@ -177,7 +183,7 @@ def _ordered(tree: dict[str, Any], like: dict[str, Any]) -> dict[str, Any]:
 
 def _text_of(scenario: Scenario) -> str:
     """Returns a scenario without its policies, in the order of its source, with the comment at the top of that."""
-    source = (scenario.source or "").removeprefix("\ufeff").replace("\r\n", "\n")
+    source = scenario.toml() if scenario.source is None else scenario.source
     tree = _ordered(scenario.tree, read_document(source.encode())[0])
     head = itertools.takewhile(lambda line: line.startswith("#"), source.splitlines(keepends=True))
     return "".join(head) + plain_text({**tree, "policy": []})
@@ -191,7 +197,7 @@ def _policy_text(row: Suggestion) -> str:
 
 
 def suggestions_of(scenario: Scenario) -> Suggestions:
-    """Returns the suggested policies of a scenario, at most 16 with today's. Raises Refused if nothing can be suggested."""
+    """Returns the suggested policies of a scenario, at most 16 with today's. Raises NoTheory if nothing can be suggested."""
     theory, coarse = theories_of(scenario)
     best = theory.best()
     chosen = chosen_policies(theory, best, scenario.policies[0])
@@ -208,7 +214,7 @@ def suggested(scenario: Scenario) -> pd.DataFrame:
     """Returns suggested policies with figures of a period of the long run, today's first, no pair of s and S twice.
 
     Columns: policy, s, S, cost (without `unit`), fill (the share of demand met at once), short (the share of periods that
-    end with items owed), stock (the mean at the end of a period, in items), orders. Raises Refused as `suggestions_of`.
+    end with items owed), stock (the mean at the end of a period, in items), orders. Raises NoTheory as `suggestions_of`.
     """
     return suggestions_of(scenario).frame
 
@@ -219,6 +225,6 @@ def suggested_text(scenario: Scenario, *, initial: bool = False, unit_zero: bool
 
 
 def figures_of(scenario: Scenario, policies: Sequence[Policy]) -> pd.DataFrame:
-    """Returns the long-run figures of these policies, with the columns of `suggested`. Raises Refused as that does."""
+    """Returns the long-run figures of these policies, with the columns of `suggested`. Raises NoTheory as that does."""
     theory, _ = theories_of(scenario, max(it.S - it.s for it in policies))
     return _frame_of([(it, theory.figures(it.s, it.S)) for it in policies])

@@ -1,0 +1,100 @@
+"""Tests crnplan suggest: its options, the tables, what it refuses, and how much time and memory it takes."""
+from __future__ import annotations
+
+import csv
+import io
+import json
+import os
+import subprocess
+import sys
+import tomllib
+from pathlib import Path
+
+import pytest
+
+from planner.tests.decision.answers import Command, changed, priced
+from planner.tests.theory.scenarios import large
+
+DEMAND = "values = [0, 1, 2, 3, 4, 5, 6, 7, 8, 10, 12]\nweights = [4, 8, 13, 17, 18, 15, 10, 7, 4, 3, 1]"
+RETURNS = "values = [0, 1, 2, 3, 4, 6]\nweights = [28, 36, 21, 10, 4, 1]"
+# What is said of changes of examples/mail_order.toml that are refused, and pairs of an old and a new text.
+REFUSED = [(":14:1: the cost holding is 0, so there is no best policy", "holding = 5", "holding = 0"),
+           (":15:1: the cost backlog is 0, so there is no best policy", "backlog = 60", "backlog = 0"),
+           ("so there is nothing to order in the long run", RETURNS, DEMAND),
+           (":17:1: no item is ever asked for", DEMAND, "values = [0]\nweights = [1]"),
+           (" the numbers of this scenario are too far apart", DEMAND, "values = [0, 1]\nweights = [30000, 30001]",
+            RETURNS, "values = [0, 1]\nweights = [1, 1]"),
+           (":8:1: fault 6: the document, key initial: -1 is not from 0 to 1,000,000", "initial = 60", "initial = -1"),
+           (":2", "[returns]", "returns")]
+MOST_SECONDS, MOST_KILOBYTES = 20, 1_000_000
+# The scenarios that took longest of some seventy hostile ones.
+COSTLY = {"two lead times": large(range(1001), [10] * 1001, [1, 2], 10**8),
+          "32 lead times": large(range(11), [10] * 11, range(1, 33), 10**8)}
+
+
+def test_the_worked_case(crnplan: Command, top: Path) -> None:
+    told = crnplan("suggest", "examples/case/scenario.toml")
+    stored = [(top / "examples/case" / name).read_text("utf-8") for name in ("suggested.toml", "suggested.txt")]
+    assert told == (0, *stored)
+
+
+@pytest.mark.parametrize("words, initial, unit", [([], 700, 20), (["--initial"], 40, 20), (["--unit-zero"], 700, 0),
+                                                  (["--initial", "--unit-zero"], 40, 0)], ids=str)
+def test_the_start_and_the_price(crnplan: Command, room: Path, words: list[str], initial: int, unit: int) -> None:
+    """By a chain of all positions, solved by itself, the mean position is 39.7746."""
+    text = changed(priced(room / "examples/mail_order.toml", 20), "initial = 60", "initial = 700")
+    (room / "asked.toml").write_text(text, "utf-8")
+    status, output, errors = crnplan("suggest", "asked.toml", *words)
+    tree, wanted = tomllib.loads(output), tomllib.loads(text)
+    wanted["initial"], wanted["costs"]["unit"], wanted["policy"] = initial, unit, tree["policy"]
+    assert (status, tree) == (0, wanted)
+    assert "mean position at the beginning of a period is 39.8; today's initial = 700 is 660.2 above it" in errors
+    assert "\nunit: a run also pays it" in errors
+
+
+def test_no_line_on_a_price_of_0(crnplan: Command) -> None:
+    errors = crnplan("suggest", "examples/mail_order.toml").errors
+    assert "\nunit: " not in errors and "\ninitial: " in errors
+
+
+def test_the_table_in_other_forms(crnplan: Command, room: Path) -> None:
+    text = (room / "examples/spare_part.toml").read_text("utf-8")
+    shown = [line.split() for line in crnplan("suggest", "-", data=text).errors.split("\n\n")[0].splitlines()]
+    status, output, notes = crnplan("suggest", "--csv", "-", data=text)
+    rows = list(csv.DictReader(io.StringIO(output)))
+    assert (status, notes.startswith("cost: a period in the long run")) == (0, True)
+    assert [*rows[0]] == [*shown[0], "reasons"]
+    assert [[it["policy"], it["s"], it["S"], f"{float(it['cost']):.2f}", f"{float(it['fill']):.2%}", f"{float(it['short']):.2%}",
+             f"{float(it['stock']):.1f}", f"{float(it['orders']):.4f}"] for it in rows] == shown[1:]
+    status, output, errors = crnplan("suggest", "examples/spare_part.toml", "--json")
+    told = json.loads(output)
+    assert (status, errors, told["error"], told["step"]) == (0, "", None, 1)
+    assert [{name: str(value) for name, value in it.items()} for it in told["policies"]] == rows
+    assert told["initial"] == round(told["position"])
+
+
+@pytest.mark.parametrize("said, pairs", [(said, pairs) for said, *pairs in REFUSED], ids=[it[0] for it in REFUSED])
+def test_a_refused_scenario(crnplan: Command, room: Path, said: str, pairs: list[str]) -> None:
+    text = changed((room / "examples/mail_order.toml").read_text("utf-8"), *pairs)
+    (room / "asked.toml").write_text(text, "utf-8")
+    status, output, errors = crnplan("suggest", "asked.toml")
+    assert (status, output, errors.count("\n")) == (2, "", 1)
+    assert errors.startswith("crnplan: asked.toml:") and said in errors
+
+
+def test_a_missing_file(crnplan: Command) -> None:
+    assert crnplan("suggest", "missing.toml") == (2, "", "crnplan: missing.toml: No such file or directory\n")
+
+
+@pytest.mark.serial
+@pytest.mark.parametrize("name", COSTLY)
+def test_time_and_memory(tmp_path: Path, name: str) -> None:
+    path = tmp_path / "asked.toml"
+    path.write_text(COSTLY[name].toml(), "utf-8")
+    words = [sys.executable, "-m", "crnplan", "suggest", str(path)]
+    with subprocess.Popen(words, stdout=subprocess.DEVNULL, stderr=subprocess.DEVNULL) as process:
+        _, status, usage = os.wait4(process.pid, 0)
+        process.returncode = os.waitstatus_to_exitcode(status)
+    assert status == 0
+    assert usage.ru_utime + usage.ru_stime < MOST_SECONDS
+    assert usage.ru_maxrss < MOST_KILOBYTES

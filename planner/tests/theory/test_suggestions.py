@@ -1,0 +1,127 @@
+"""Tests which policies are suggested, their figures by a second theory, and the scenario that is written."""
+from __future__ import annotations
+
+import tomllib
+from pathlib import Path
+
+import pytest
+from hypothesis import given, settings
+from hypothesis import strategies as st
+
+from crnplan.engine.program import run_program
+from crnplan.scenario import Costs, Policy, Scenario
+from crnplan.theory.suggestions import Suggestions, suggested, suggested_text, suggestions_of
+
+from planner.tests.theory.long_run_costs import best_of_all, cost_of, shortfall_of
+from planner.tests.theory.scenarios import large, scenario_of
+
+EXAMPLES = ["two_policies", "spare_part", "mail_order", "case/scenario"]
+LARGE = {"10,001 demands, one lead time": large(range(10_001), [6] * 10_001, [32], 10**8),
+         "10,001 demands, 32 lead times": large(range(10_001), [6] * 10_001, range(1, 33), 10**6)}
+SHARES = [0.95, 0.98, 0.99, 0.995]
+
+
+@pytest.fixture(scope="module", params=[*EXAMPLES, *LARGE])
+def found(request: pytest.FixtureRequest, top: Path) -> Suggestions:
+    """Returns the suggestions of a scenario: an example, or a large one."""
+    name: str = request.param
+    return suggestions_of(LARGE[name] if name in LARGE else Scenario.read(top / "examples" / f"{name}.toml"))
+
+
+def test_the_policies(found: Suggestions) -> None:
+    levels, names = [(it.policy.s, it.policy.S) for it in found.rows], [it.policy.name for it in found.rows]
+    assert found.rows[0].policy == found.scenario.policies[0]
+    assert found.rows[0].reasons[0] == "today's policy"
+    assert len(set(levels)) == len(set(names)) == len(levels)
+    assert 2 <= len(levels) <= 16
+    assert names[1] in ("best", "best_")
+    assert all(0 <= point <= level <= 1_000_000 for point, level in levels)
+    assert all(it.reasons for it in found.rows)
+
+
+def test_the_figures(found: Suggestions) -> None:
+    """All is within its range, and each reason holds: but for rounding, or for what a lattice of several items may miss."""
+    close = found.error or 1e-9
+    costs, best = found.scenario.costs, next(it.figures.cost for it in found.rows if "the best" in it.reasons)
+    for row in found.rows:
+        it = row.figures
+        assert it.cost >= best * (1 - close)
+        assert it.cost >= (costs.setup * it.orders + costs.holding * it.stock) * (1 - close)
+        assert 0 <= it.fill <= 1 + close and -close <= it.short <= 1 and 0 < it.orders <= 1 + close and it.stock >= 0
+        for share in SHARES:
+            assert it.fill >= share - (5e-5 if found.error else 1e-9) or (
+                f"the cheapest with a fill rate of at least {100 * share:g}%" not in row.reasons)
+
+
+def test_the_text(found: Suggestions, program: Path) -> None:
+    text = found.text()
+    scenario = Scenario.parse(text)
+    assert scenario == found.scenario.with_policies(it.policy for it in found.rows)
+    assert text.count("\n# ") >= len(found.rows)
+    for it in found.rows:
+        comment = f"# {'; '.join(it.reasons)} (by theory {it.figures.cost:.2f} a period, fill {it.figures.fill:.2%})\n"
+        assert f'\n{comment}[[policy]]\nname = "{it.policy.name}"\ns = {it.policy.s}\nS = {it.policy.S}\n' in text
+    assert run_program(program, text).count("\n") == len(found.rows) + 1
+
+
+def test_the_error(found: Suggestions) -> None:
+    exact = found.scenario not in LARGE.values()
+    assert ("\nerror: exact but for rounding\n" in found.notes) == exact
+    assert ("counted in steps of" in found.notes) != exact
+    assert (found.error is None) == exact
+
+
+@pytest.mark.parametrize("name", EXAMPLES)
+def test_costs_are_those_of_a_second_theory(name: str, top: Path) -> None:
+    scenario = Scenario.read(top / "examples" / f"{name}.toml")
+    frame, best = suggested(scenario).set_index("policy"), best_of_all(scenario)
+    for point, level, cost in frame[["s", "S", "cost"]].itertuples(index=False):
+        assert cost == pytest.approx(cost_of(scenario, shortfall_of(scenario, level - point), level), rel=1e-6)
+    assert frame.cost.min() <= best.cost * (1 + 1e-9)
+
+
+@settings(max_examples=30)
+@given(weights=st.lists(st.integers(0, 9), min_size=2, max_size=9).filter(lambda it: any(it[1:])),
+       leads=st.sampled_from([[1], [4], [1, 3]]), point=st.integers(0, 30), gap=st.integers(0, 30),
+       costs=st.builds(Costs, st.integers(0, 900), st.integers(0, 9), st.integers(1, 99), st.integers(1, 999)),
+       name=st.sampled_from(["today", "best", "best_", "lower"]))
+def test_any_scenario(weights: list[int], leads: list[int], point: int, gap: int, costs: Costs, name: str) -> None:
+    demand = range(len(weights)), weights
+    scenario = scenario_of(demand, (leads, [1] * len(leads)), costs=costs).with_policies([Policy(name, point, point + gap)])
+    found = suggestions_of(scenario)
+    test_the_policies(found)
+    test_the_figures(found)
+    assert Scenario.parse(found.text()) == scenario.with_policies(it.policy for it in found.rows)
+    frame = found.frame
+    assert list(frame) == ["policy", "s", "S", "cost", "fill", "short", "stock", "orders"]
+    assert not frame.duplicated(["s", "S"]).any()
+    assert frame.values.tolist() == [[it.policy.name, it.policy.s, it.policy.S, *it.figures] for it in found.rows]
+
+
+def test_names_that_today_has() -> None:
+    scenario = scenario_of(([0, 1, 5], [5, 3, 2])).with_policies([Policy("best", 0, 20)])
+    names = suggested(scenario).policy.tolist()
+    assert names[:2] == ["best", "best_"] and len(set(names)) == len(names)
+
+
+def test_the_text_keeps_the_order_and_the_first_comment(top: Path) -> None:
+    text = (top / "examples" / "spare_part.toml").read_text("utf-8")
+    lines = text.splitlines(keepends=True)
+    head = "".join(lines[:next(place for place, line in enumerate(lines) if not line.startswith("#"))])
+    assert head and suggested_text(Scenario.parse(text)).startswith(head)
+    turned = ("# Another\r\n\r\n# no head\nring = 8\ninitial = 1\nreplications = 1\nversion = 1 # one\nperiods = 3\n"
+              f'key = {["0" * 16] * 4}\nlead = {{ weights = [1], values = [1] }}\n[demand]\nweights = [1, 1]\n'
+              "values = [0, 3]\n[costs]\nunit = 1\nsetup = 5\nbacklog = 9\nholding = 1\n"
+              "[[policy]]\nS = 9\ns = 2\nname = 'A'\n").replace("'", '"')
+    told = suggested_text(Scenario.parse(turned))
+    assert told.startswith("# Another\nring = 8\ninitial = 1\nreplications = 1\nversion = 1\nperiods = 3\nkey = [")
+    assert "\n\n[lead]\nweights = [1]\nvalues = [1]\n\n[demand]\nweights = [1, 1]\nvalues = [0, 3]\n\n[costs]\nunit = 1\n" in told
+    wanted, its = tomllib.loads(turned.replace("\r", "")), tomllib.loads(told)
+    assert its.pop("policy")[0] == wanted.pop("policy")[0] and its == wanted
+
+
+def test_a_scenario_without_a_source() -> None:
+    scenario = Scenario.of({0: 5, 1: 3, 5: 2}, [2, 2, 3], setup="20.5", holding=2, backlog=9, today=(3, 9))
+    text = suggested_text(scenario)
+    assert Scenario.parse(text).costs == scenario.costs
+    assert text.startswith(f"# Costs: {scenario.scale} for one unit of money\nversion = 1\n")
