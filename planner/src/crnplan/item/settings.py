@@ -6,6 +6,7 @@ from collections.abc import Callable, Iterator, Mapping
 from dataclasses import dataclass
 from decimal import Decimal
 from difflib import get_close_matches
+from fractions import Fraction
 from pathlib import Path
 from typing import Any
 
@@ -14,6 +15,7 @@ from ..document.lines import Place, places_of
 from ..document.reading import read_bytes, read_document, text_of_document
 from ..document.values import kind_of, shown
 from ..errors import Fault, Refused, RefusedFaults
+from ..money import scaled_costs
 
 NOWHERE = Place(0, 0)
 MOST_KEYS = 64
@@ -74,6 +76,16 @@ def text(value: Any) -> str:
     return "" if isinstance(value, str) and value else _wrong(value, "a text", 'write it in double quotes, as "demand"')
 
 
+def texts(value: Any) -> str:
+    """Checks a list of texts."""
+    return "" if isinstance(value, list) and not any(map(text, value)) else _wrong(value, "a list", 'write it as ["%d.%m.%Y"]')
+
+
+def cells(value: Any) -> str:
+    """Checks a table of columns and the texts that stand there."""
+    return "" if isinstance(value, dict) and not any(map(text, value.values())) else _wrong(value, "a table", 'write { COLUMN = "VALUE" }')
+
+
 def date(value: Any) -> str:
     """Checks a date, as TOML's or as a text."""
     return "" if type(value) is datetime.date else text(value)
@@ -90,6 +102,13 @@ def key(value: Any) -> str:
         are_words = len(value) == formats.WORDS_OF_KEY and all(isinstance(it, str) and formats.WORD.fullmatch(it) for it in value)
         return "" if are_words else f"{shown(value)} is no key; write four texts, each of 16 digits of 0-9a-f, or any one text"
     return text(value)
+
+
+def new_key(value: Any) -> str:
+    """Checks the key of a check: four words, or one that replaces the first word of the run's key."""
+    if isinstance(value, str) and not formats.WORD.fullmatch(value):
+        return f"{shown(value)} is no word of a key; write 16 digits of 0-9a-f, or four such texts, or remove it"
+    return key(value)
 
 
 def choice(*values: str) -> Check:
@@ -112,19 +131,20 @@ NEEDED_WHOLE = Rule(_limits("policy", "S"), True)
 TABLES: dict[str, dict[str, Rule]] = {
     "history": {"demand": Rule(text, True), "returns": Rule(text), "date": Rule(text), "every": Rule(choice("day", "week", "month")),
                 "decimal": Rule(choice(".", ",")), "delimiter": Rule(choice(",", ";", "tab")), "encoding": Rule(text),
-                "date_format": Rule(text), "net": Rule(flag, default=False), "whole": Rule(flag, default=False),
-                "box": Rule(whole(1, formats.MOST_ITEMS), default=1), "item": Rule(text), "from": Rule(date), "to": Rule(date)},
-    "lead": {"file": Rule(text), "column": Rule(text), "orders": Rule(text), "ordered": Rule(text), "received": Rule(text),
+                "date_formats": Rule(texts, default=[]), "net": Rule(flag, default=False), "whole": Rule(flag, default=False),
+                "leave_out": Rule(flag, default=False), "box": Rule(whole(1, formats.MOST_ITEMS), default=1),
+                "item": Rule(cells, default={}), "from": Rule(date), "to": Rule(date)},
+    "lead": {"file": Rule(text), "column": Rule(text), "orders": Rule(text), "ordered": Rule(text, default="ordered"), "received": Rule(text, default="received"),
              "times": Rule(whole_numbers(*formats.limits("lead", "values")))},
     "costs": {"setup": Rule(money, True), "holding": Rule(money, True), "backlog": Rule(money, True), "unit": Rule(money, default=0)},
     "today": {"s": NEEDED_WHOLE, "S": NEEDED_WHOLE, "stock": NEEDED_WHOLE},
     "run": {"horizon": Rule(_limits("", "periods"), default=104), "replications": Rule(whole(2, formats.MOST_REPLICATIONS), default=64),
             "key": Rule(key, default="crnplan"), "level": Rule(level, default=0.95)},
-    "check": {"policy": Rule(text, default="best"), "key": Rule(key), "keys": Rule(whole(1, MOST_KEYS), default=1),
+    "check": {"policy": Rule(text, default="best"), "key": Rule(new_key), "keys": Rule(whole(1, MOST_KEYS), default=1),
               "replications": Rule(whole(2, formats.MOST_REPLICATIONS), default=formats.MOST_REPLICATIONS)}}
 HOMES = {name: table for table, rules in reversed(TABLES.items()) for name in rules}
 NEED_DATE = ("net", "whole", "from", "to")
-# The ways to give lead times: the key that chooses it, and the keys that it needs and takes.
+# The ways to give lead times: the key that chooses it, and the keys that it takes beside. A file needs its column.
 LEADS = {"file": ("column",), "orders": ("ordered", "received"), "times": ()}
 
 
@@ -145,9 +165,9 @@ class Settings:
         return str(self["history"]["every"] or "period")
 
     @property
-    def scale(self) -> int:
-        """Returns by how much costs are multiplied, so that all are whole: a power of ten, by the decimals that are written."""
-        return 10**max(-int(it.as_tuple().exponent) for it in self["costs"].values())
+    def scaled(self) -> tuple[dict[str, int], Fraction]:
+        """Returns the costs as the program's whole numbers, and what one unit of money counts in them."""
+        return scaled_costs(self["costs"])
 
     @property
     def lead_path(self) -> Path | None:
@@ -157,9 +177,8 @@ class Settings:
 
 
 def _decimal(value: Any) -> Decimal:
-    """Returns an amount of money as it is spelt. A number with an exponent is written out."""
-    amount = Decimal(str(getattr(value, "spelt", value)).replace("_", ""))
-    return amount if amount.as_tuple().exponent <= 0 else Decimal(int(amount))  # type: ignore[operator]
+    """Returns an amount of money as it is spelt."""
+    return Decimal(str(getattr(value, "spelt", value)).replace("_", ""))
 
 
 def _unknown(table: str, name: str, known: Mapping[str, Any]) -> str:
@@ -207,22 +226,18 @@ def _lead_troubles(lead: Mapping[str, Any]) -> Iterator[Trouble]:
         told = f"{' and '.join(ways)} are there; keep one" if ways else "there are no lead times"
         yield ("lead",), f"{told}; write file and column, or orders, ordered and received, or times = [2, 3, 2]"
         return
-    for name in LEADS[ways[0]]:
-        if name not in lead:
-            yield ("lead", ways[0]), f"the key {name} is missing; write the name of a column of the file"
+    if ways == ["file"] and "column" not in lead:
+        yield ("lead", "file"), "the key column is missing; write the name of the column of lead times in the file"
     for name in lead.keys() & TABLES["lead"].keys() - {ways[0], *LEADS[ways[0]]}:
         yield ("lead", name), f"this key is not used with {ways[0]}; remove it"
 
 
 def _range_troubles(costs: Mapping[str, Any]) -> Iterator[Trouble]:
-    """Yields the costs that are out of the program's range once all are whole numbers."""
-    amounts = {name: _decimal(value) for name, value in costs.items()}
-    scale = 10**max(-int(it.as_tuple().exponent) for it in amounts.values())
-    for name, amount in amounts.items():
-        most = formats.limits("costs", name)[1]
-        if amount * scale > most:
-            yield ("costs", name), (f"{amount} is {int(amount * scale):,} in units of {Decimal(1) / scale}, above {most:,}; write "
-                                    "all costs with fewer decimals, or in a larger unit of money")
+    """Yields that the costs are out of the program's range if all are whole numbers."""
+    try:
+        scaled_costs({name: _decimal(value) for name, value in costs.items()})
+    except Refused as fault:
+        yield ("costs",), str(fault).removeprefix("costs: ")
 
 
 def _joint_troubles(tree: Mapping[str, Any], path: Path) -> Iterator[Trouble]:
@@ -239,6 +254,9 @@ def _joint_troubles(tree: Mapping[str, Any], path: Path) -> Iterator[Trouble]:
             yield ("lead", name), f"there is no file {path.parent / lead[name]}; name one, from the folder of this file"
     if today["s"] > today["S"]:
         yield ("today", "s"), f"s = {today['s']} is above S = {today['S']}; interchange them, or raise S"
+    own, new = tree["run"].get("key"), tree["check"].get("key")
+    if new is not None and new in (own, own[0] if isinstance(own, list) else None):
+        yield ("check", "key"), "this is the key of the run, with the same random numbers again; write another one, or remove it"
     yield from _range_troubles(tree["costs"])
 
 

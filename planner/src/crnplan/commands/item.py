@@ -1,0 +1,36 @@
+"""The command `crnplan item`."""
+from __future__ import annotations
+
+import sys
+
+import click
+
+
+@click.command(epilog="Example: crnplan item examples/case/history.csv examples/case/settings.toml --out plan")
+@click.argument("history", metavar="HISTORY.csv", type=click.Path())
+@click.argument("settings", metavar="SETTINGS.toml", type=click.Path())
+@click.option("--out", metavar="FOLDER", type=click.Path(), required=True, help="Keep every file here.")
+@click.option("--program", metavar="PATH", help="The program crnsim.")
+def command(history: str, settings: str, out: str, program: str | None) -> int:
+    """Plan one item: the whole way from a history and settings to a checked decision.
+
+    HISTORY.csv has a row for each period, or for each dated movement. SETTINGS.toml has costs, today's levels and stock, the
+    horizon, and where demand, dates and lead times stand. The steps: tables, scenario, suggestions, run, decision, check on
+    new random numbers, trajectory, summary. FOLDER keeps what each has made; summary.html is the page to read.
+
+    Run again with nothing changed, it does nothing and says so. If it was interrupted, it goes on after the last finished
+    step. If an input has changed, it runs what depends on that. The exit status is 1 if the chosen policy does not hold on
+    new random numbers.
+    """
+    from ..item import plan_item
+
+    def told(step: str) -> None:
+        """Names a step on a terminal."""
+        if sys.stderr.isatty():
+            print(f"{step} ..", file=sys.stderr)
+
+    plan = plan_item(history, settings, out, program=program, told=told)
+    did = f"done: {', '.join(plan.done)}" if plan.done else "nothing has changed since the last run; nothing was done"
+    print(f"{plan.folder}: {did}", file=sys.stderr)
+    print(plan.summary, end="")
+    return 0 if plan.holds else 1

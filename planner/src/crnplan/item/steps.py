@@ -1,0 +1,113 @@
+"""Runs steps that write files into a folder, and only those whose inputs have changed since they were last run.
+
+Each file is written whole: under a temporary name, which is then changed. After each step the state file says what the step
+was made from and what it wrote. So a run that is interrupted goes on after its last finished step, with the same bytes.
+"""
+from __future__ import annotations
+
+import hashlib
+import json
+import os
+from collections.abc import Callable, Iterable, Mapping, Sequence
+from dataclasses import dataclass
+from pathlib import Path
+from typing import Any, Generic, TypeVar
+
+from .. import __version__
+from ..errors import Refused
+
+STATE = "state.json"
+Context = TypeVar("Context")
+Texts = Mapping[str, str]
+
+
+@dataclass(frozen=True)
+class Step(Generic[Context]):
+    """A step: the files of the folder that it reads, what else it depends on, and how it makes the texts of its files."""
+
+    name: str
+    reads: tuple[str, ...]
+    facts: Callable[[Context], Any]
+    make: Callable[[Context], Texts]
+
+
+def digest_of(data: bytes) -> str:
+    """Returns the SHA-256 of bytes, in hexadecimal."""
+    return hashlib.sha256(data).hexdigest()
+
+
+def write_whole(path: Path, text: str) -> None:
+    """Writes a file that is there whole or not at all."""
+    part = path.with_name(f"{path.name}.part")
+    with open(part, "w", encoding="utf-8", newline="") as file:
+        file.write(text)
+        file.flush()
+        os.fsync(file.fileno())
+    os.replace(part, path)
+
+
+class Folder:
+    """A folder with a state file. Raises Refused if it has other files and no state, since they might be overwritten."""
+
+    def __init__(self, path: Path) -> None:
+        """Makes the folder if it is not there, and reads its state. A state that cannot be read counts as none."""
+        self.path = path
+        self.steps: dict[str, Any] = {}
+        try:
+            path.mkdir(parents=True, exist_ok=True)
+            if (path / STATE).is_file():
+                self._read()
+            elif any(path.iterdir()):
+                raise Refused(f"{path}: the folder is not empty, and no plan is in it; name a new folder")
+            else:
+                self._keep()
+        except OSError as fault:
+            raise Refused(f"{path}: {fault.strerror}; name a folder that can be written") from fault
+
+    def _read(self) -> None:
+        """Reads the state."""
+        try:
+            steps = json.loads((self.path / STATE).read_text("utf-8"))["steps"]
+            self.steps = {name: {"inputs": str(its["inputs"]), "files": dict(its["files"])} for name, its in steps.items()}
+        except (ValueError, LookupError, TypeError, AttributeError):
+            self.steps = {}
+
+    def _keep(self) -> None:
+        """Writes the state."""
+        write_whole(self.path / STATE, json.dumps({"steps": self.steps}, indent=1, sort_keys=True) + "\n")
+
+    def digest(self, name: str) -> str:
+        """Returns the digest of a file of the folder; the empty text if it is not there."""
+        path = self.path / name
+        return digest_of(path.read_bytes()) if path.is_file() else ""
+
+    def is_done(self, name: str, inputs: str) -> bool:
+        """Returns whether a step was done from these inputs, and its files are as it left them."""
+        kept = self.steps.get(name)
+        return bool(kept) and kept["inputs"] == inputs and all(self.digest(it) == its for it, its in kept["files"].items())
+
+    def keep(self, name: str, inputs: str, texts: Texts) -> None:
+        """Writes the files of a step, and then the state. Files that the step wrote before and does no more are removed."""
+        before = self.steps.pop(name, {"files": {}})["files"]
+        self._keep()
+        for file in before.keys() - texts.keys():
+            (self.path / file).unlink(missing_ok=True)
+        for file, text in texts.items():
+            write_whole(self.path / file, text)
+        self.steps[name] = {"inputs": inputs, "files": {file: digest_of(text.encode()) for file, text in texts.items()}}
+        self._keep()
+
+
+def run_steps(folder: Folder, steps: Iterable[Step[Context]], context: Context,
+              told: Callable[[str], None] = lambda name: None) -> Sequence[str]:
+    """Runs the steps whose inputs have changed, in order, and returns their names. `told` is called with each before it runs."""
+    done = []
+    for step in steps:
+        facts = [__version__, step.name, step.facts(context), [[name, folder.digest(name)] for name in step.reads]]
+        inputs = digest_of(json.dumps(facts, default=str).encode())
+        if folder.is_done(step.name, inputs):
+            continue
+        told(step.name)
+        folder.keep(step.name, inputs, step.make(context))
+        done.append(step.name)
+    return done

@@ -1,0 +1,177 @@
+"""Makes the files of each step of an item's plan, from the history to the check."""
+from __future__ import annotations
+
+import csv
+import io
+import tomllib
+from collections.abc import Iterable, Mapping, Sequence
+from dataclasses import dataclass
+from functools import cached_property
+from pathlib import Path
+from typing import TYPE_CHECKING, Any
+
+from ..errors import Refused
+from ..scenario import Scenario, Table
+from .settings import Settings, need_file
+from .steps import Folder, digest_of
+
+if TYPE_CHECKING:
+    from ..history import History, LeadTimes
+
+RULES = ("delimiter", "encoding", "decimal", "item", "leave_out")
+MOST_DRAWN = 104
+
+
+@dataclass
+class Item:
+    """An item that is planned: where its history, settings, files and program are."""
+
+    history: Path
+    settings: Settings
+    folder: Folder
+    program: Path
+
+    @cached_property
+    def digests(self) -> Mapping[str, str]:
+        """Returns the digests of the history, of the file of lead times (if there is one) and of the program."""
+        paths = {"history": self.history, "lead": self.settings.lead_path, "program": self.program}
+        return {name: digest_of(need_file(path)) if path else "" for name, path in paths.items()}
+
+    def text(self, name: str) -> str:
+        """Returns a file of the folder."""
+        return (self.folder.path / name).read_text("utf-8")
+
+    def scenario(self, name: str) -> Scenario:
+        """Returns a scenario of the folder."""
+        return Scenario.parse(self.text(name), name)
+
+    def named(self, line: str) -> str:
+        """Returns a line with the names of files in place of their paths, so that it is the same from each folder."""
+        for path in (self.history, self.settings.lead_path):
+            line = line.replace(str(path), path.name) if path else line
+        return line
+
+    @cached_property
+    def chosen(self) -> str:
+        """Returns the name of the policy that is checked: the settings', or today's if that is the best."""
+        names = [policy.name for policy in self.scenario("suggested.toml").policies]
+        asked = str(self.settings["check"]["policy"])
+        if asked in names:
+            return asked
+        if asked == "best":
+            return names[0]
+        raise Refused(f"{self.settings.path}: [check] policy: there is no policy {asked!r}; the policies are {', '.join(names)}")
+
+
+def csv_text(rows: Iterable[Sequence[Any]]) -> str:
+    """Returns rows as CSV."""
+    text = io.StringIO()
+    csv.writer(text, lineterminator="\n").writerows(rows)
+    return text.getvalue()
+
+
+def rows_of(text: str) -> list[dict[str, str]]:
+    """Returns the rows of a CSV table by column."""
+    return list(csv.DictReader(io.StringIO(text)))
+
+
+def _read_history(item: Item) -> History:
+    """Returns the history that the settings describe."""
+    from ..history import read_history
+    asked = item.settings["history"]
+    dates = {"every": asked["every"], "start": asked["from"], "end": asked["to"]} if asked["date"] else {}
+    return read_history(item.history, demand=asked["demand"], returns=asked["returns"], date=asked["date"], net=asked["net"],
+                        whole=asked["whole"], date_formats=tuple(asked["date_formats"]), **dates,
+                        **{name: asked[name] for name in RULES})
+
+
+def _read_leads(item: Item) -> LeadTimes | list[int]:
+    """Returns the lead times that the settings describe."""
+    from ..history import read_lead_times
+    asked, of_history = item.settings["lead"], item.settings["history"]
+    path = item.settings.lead_path
+    if path is None:
+        return list(asked["times"])
+    return read_lead_times(path, lead=asked["column"], every=of_history["every"], ordered=asked["ordered"], received=asked["received"],
+                           date_formats=tuple(of_history["date_formats"]), **{name: of_history[name] for name in RULES})
+
+
+def make_tables(item: Item) -> dict[str, str]:
+    """Reads the history and the lead times: the laws, the demand by period, and what is to be said of the files."""
+    from ..demand import fit_demand, fit_lead
+    history, leads, box = _read_history(item), _read_leads(item), item.settings["history"]["box"]
+    columns = {"demand": history, **({"returns": history.returns} if history.returns else {})}
+    laws = {name: fit_demand(its, box=box) for name, its in columns.items()} | {"lead": fit_lead(leads)}
+    rows = zip(history.periods, *(its.counts for its in columns.values()))
+    notes = [*history.notes, *(leads.notes if not isinstance(leads, list) else ())]
+    return {"tables.toml": "\n".join(law.toml(name) for name, law in laws.items()),
+            "demand.csv": csv_text([["period", *columns], *rows]),
+            "notes.txt": "".join(item.named(line) + "\n" for line in notes)}
+
+
+def make_scenario(item: Item) -> dict[str, str]:
+    """Joins the laws, costs, levels and the stock of today to a scenario."""
+    laws = {name: Table.of_tree(its) for name, its in tomllib.loads(item.text("tables.toml")).items()}
+    today, run, (costs, scale) = item.settings["today"], item.settings["run"], item.settings.scaled
+    scenario = Scenario.of(**laws, **costs, today=(today["s"], today["S"]), initial=today["stock"], periods=run["horizon"],
+                           replications=run["replications"], key=run["key"])
+    money = "" if scale == 1 else f" Costs count {scale} for one unit of money."
+    return {"scenario.toml": f"# Today's policy, from {item.history.name} and {item.settings.path.name}.{money}\n{scenario.toml()}"}
+
+
+def make_suggestions(item: Item) -> dict[str, str]:
+    """Finds policies worth comparing with today's, by theory."""
+    from ..report.tables import aligned
+    from ..theory.suggestions import suggestions_of
+    found = suggestions_of(item.scenario("scenario.toml"))
+    rows = [[it.policy.name, it.policy.s, it.policy.S, *it.figures] for it in found.rows]
+    return {"suggested.toml": found.text(), "suggested.txt": aligned(found.cells) + found.notes,
+            "suggested.csv": csv_text([found.cells[0], *rows])}
+
+
+def make_report(item: Item) -> dict[str, str]:
+    """Runs the policies."""
+    return {"report.csv": item.scenario("suggested.toml").run(program=item.program).text}
+
+
+def make_decision(item: Item) -> dict[str, str]:
+    """Says which policies are better than today's by more than chance."""
+    from ..decision.intervals import with_intervals
+    from ..decision.verdicts import decision_text, end_warning, table_of, table_text
+    from ..engine.report import read_rows
+    run, given = item.settings["run"], read_rows(item.text("report.csv"), "report.csv")
+    rows = with_intervals(given, run["replications"], run["level"])
+    warning = end_warning(item.scenario("suggested.toml"), given)
+    text = table_text(rows) + decision_text(rows, "today", run["replications"], run["level"], len(rows))
+    return {"decision.txt": text + (f"\n{warning}" if warning else ""), "decision.csv": csv_text(table_of(rows))}
+
+
+def keys_of(item: Item) -> list[list[str]]:
+    """Returns the keys of the check: the one that is given first, and others that follow from it or from the run's key."""
+    from ..engine.keys import key_of
+    run = item.scenario("suggested.toml").key
+    asked, count = item.settings["check"]["key"], item.settings["check"]["keys"]
+    given = [] if asked is None else [list(key_of([asked] if isinstance(asked, str) else asked, run))]
+    seed = " ".join(given[0] if given else run)
+    drawn = ([digest_of(f"{seed} {number}".encode())[place:place + 16] for place in range(0, 64, 16)]
+             for number in range(len(given), count))
+    return [*given, *drawn]
+
+
+def make_check(item: Item) -> dict[str, str]:
+    """Runs the chosen policy and all others on new random numbers."""
+    from ..decision.keys import check_keys
+    from ..decision.verdicts import table_of
+    found = check_keys(item.scenario("suggested.toml"), item.chosen, keys=keys_of(item), level=item.settings["run"]["level"],
+                       replications=item.settings["check"]["replications"], program=item.program)
+    return {"check.txt": found.text, "check.csv": csv_text(table_of(found.rows))}
+
+
+def make_trajectory(item: Item) -> dict[str, str]:
+    """Shows today's and the chosen policy period by period, in one replication."""
+    from ..engine.trajectory import Period, trajectories
+    scenario = item.scenario("suggested.toml")
+    shown = list(dict.fromkeys([scenario.policies[0], *(it for it in scenario.policies if it.name == item.chosen)]))
+    found = trajectories(scenario.with_policies(shown), min(scenario.periods, MOST_DRAWN), program=item.program)
+    rows = ([policy.name, number, *period] for policy, periods in zip(shown, found) for number, period in enumerate(periods))
+    return {"trajectory.csv": csv_text([["policy", "period", *Period._fields], *rows])}
