@@ -1,10 +1,18 @@
 """Writes a scenario's tree as TOML."""
 from __future__ import annotations
 
+import contextlib
+import itertools
 import json
+import re
+import tomllib
 from typing import Any
 
+from .newer import older_text
+
 Tree = dict[str, Any]
+# Comment lines behind an empty line at the end of a text. They are about the table that followed.
+COMMENT_AT_END = re.compile(r"\n\n(#[^\n]*\n)+\Z")
 
 
 def value_text(value: int | str | list[Any]) -> str:
@@ -19,17 +27,68 @@ def _lines(table: Tree) -> list[str]:
     return [f"{key} = {value_text(value)}" for key, value in table.items()]
 
 
+def _policies_text(tree: Tree) -> str:
+    """Returns the policies of a tree."""
+    return "".join("\n".join(["", "[[policy]]", *_lines(policy)]) + "\n" for policy in tree["policy"])
+
+
 def plain_text(tree: Tree) -> str:
     """Returns a tree without comments: the keys of the document, its tables, its policies."""
     tables = [key for key, value in tree.items() if isinstance(value, dict)]
     lines = _lines({key: value for key, value in tree.items() if key not in [*tables, "policy"]})
     for name in tables:
         lines += ["", f"[{name}]", *_lines(tree[name])]
-    for policy in tree["policy"]:
-        lines += ["", "[[policy]]", *_lines(policy)]
-    return "\n".join(lines) + "\n"
+    return "\n".join(lines) + "\n" + _policies_text(tree)
+
+
+def head_of(source: str) -> str:
+    """Returns the comment lines at the top of a text."""
+    return "".join(itertools.takewhile(lambda line: line.startswith("#"), source.splitlines(keepends=True)))
+
+
+def _merge(old: Any, tree: Tree) -> None:
+    """Changes the table of a document to what a tree has. What is equal keeps its spelling and its comments."""
+    for key in [it for it in old if it not in tree]:
+        del old[key]
+    for key, value in tree.items():
+        if key in old and old[key] == value:
+            continue
+        if isinstance(value, dict) and isinstance(old.get(key), dict):
+            _merge(old[key], value)
+        else:
+            old[key] = value
+
+
+def _merged_text(source: str, tree: Tree) -> str:
+    """Returns the text of a tree with the spelling and the comments of a source, as far as both agree.
+
+    Policies keep theirs only if all names and their order are the same.
+    """
+    import tomlkit
+    document: Any = tomlkit.parse(source)
+    others = {key: value for key, value in tree.items() if key != "policy"}
+    if [it["name"] for it in document["policy"]] == [it["name"] for it in tree["policy"]]:
+        for table, policy in zip(document["policy"], tree["policy"]):
+            _merge(table, policy)
+        _merge(document, {**others, "policy": document["policy"]})
+        return document.as_string()
+    _merge(document, others)
+    return COMMENT_AT_END.sub("\n", f"{document.as_string().rstrip()}\n") + _policies_text(tree)
 
 
 def toml_text(tree: Tree, source: str | None = None) -> str:
-    """Returns a tree as TOML. It has the comments of the source, if there is one."""
-    return plain_text(tree)
+    """Returns a tree as TOML, with the comments of the source, which is the text of a scenario, if there is one.
+
+    If the comments cannot be kept at their places, only those at the top are.
+    """
+    if source is None:
+        return plain_text(tree)
+    older = older_text(source)
+    if tomllib.loads(older) == tree:
+        return source
+    from tomlkit.exceptions import TOMLKitError
+    with contextlib.suppress(TOMLKitError, tomllib.TOMLDecodeError):
+        text = _merged_text(older, tree)
+        if tomllib.loads(text) == tree:
+            return text
+    return head_of(source) + plain_text(tree)
