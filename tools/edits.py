@@ -17,11 +17,13 @@ An edit of tested/ is proved, since no contract refuses it. It says which test m
     what: `leave` stores nothing, so the producer waits for ever for a reader that has left.
     seen by: tests_ring ring::rows::a_reader_that_leaves_gates_no_more
 
-That is a test of a crate of tests, by its name, or a command with PROGRAM for the built program. A command has a second
-line with a text that one of its lines `FAILED ..` must contain, so that it fails for the right reason:
+That is a test of a crate of tests, by its name, or tests by pytest. These have a second line with a text that one of the
+lines `FAILED ..` must contain, so that they fail for the right reason:
 
-    seen by: tests/hostile/run.py PROGRAM refusals
-    fails: leg of 2, no refusal
+    seen by: pytest tests/hostile/test_refusals.py -k leg
+    fails: no refusal
+
+It may also be a command of the repository with PROGRAM for the built program.
 
 Such an edit may also change files of proofs/, so that the crate is proved with it.
 """

@@ -9,6 +9,7 @@ The control runs each test once without an edit, where it must not fail.
 """
 import collections
 import os
+import shlex
 import shutil
 import signal
 import subprocess
@@ -19,6 +20,10 @@ import time
 from edits import TOP, BadEdit, crates, edits_of, texts_of
 
 PROGRAM = "crnsim"
+# How tests by pytest are run: by the Python that tools/setup has made.
+PYTEST = [f"{TOP}/.venv/bin/python", "-m", "pytest", "-q", "-p", "no:cacheprovider"]
+# What is said of an edit whose proof or build did not end in time.
+LATE = "its proof or its build has not ended"
 # What the last lines of a crate's tests say if all of those named pass.
 PASSED = "test result: ok"
 # After so many seconds the test of a crate counts as one that does not end: it fails.
@@ -31,17 +36,18 @@ Try = collections.namedtuple("Try", "edit test texts")
 
 
 def test_of(edit):
-    """Returns the test that an edit names: that of a crate of tests, or a command for the program with the text that a
-    failure of it must contain."""
-    words = edit.seen_by.split()
+    """Returns the test that an edit names: that of a crate of tests, a test by pytest, or a command for the program. The
+    last two have a text that a failure must contain."""
+    words = shlex.split(edit.seen_by)
     if not edit.what or not words:
         raise BadEdit("it lacks a head line, 'what:' or 'seen by:'")
     if words[0] in crates():
         if len(words) != 2:
             raise BadEdit(f"'{edit.seen_by}' names no test of {words[0]}")
         return Test(words[0], tuple(words[1:]), edit.fails)
-    if not os.path.isfile(f"{TOP}/{words[0]}") or "PROGRAM" not in words:
-        raise BadEdit(f"'{edit.seen_by}' is neither a test of a crate nor a command of the repository for PROGRAM")
+    is_test = words[0] == "pytest" and len(words) > 1 and os.path.exists(f"{TOP}/{words[1].partition('::')[0]}")
+    if not is_test and (not os.path.isfile(f"{TOP}/{words[0]}") or "PROGRAM" not in words):
+        raise BadEdit(f"'{edit.seen_by}' is neither a test of a crate nor a command of the repository for PROGRAM, nor tests by pytest")
     if not edit.fails:
         raise BadEdit("it lacks the head line 'fails:'")
     return Test("", tuple(words), edit.fails)
@@ -114,7 +120,7 @@ def fault_of(test, shown):
         return "" if is_good else f"it fails: {' | '.join(shown.lines[-3:])[:300]}"
     if so := [line for line in shown.lines if has_failed_so(test, line)]:
         return f"it fails: {so[0][:300]}"
-    return "" if shown.lines and " passed, " in shown.lines[-1] else f"it breaks off: {(shown.lines or [''])[-1][:300]}"
+    return "" if shown.lines and " passed" in shown.lines[-1] else f"it breaks off: {(shown.lines or [''])[-1][:300]}"
 
 
 def unseen(test, shown):
@@ -159,6 +165,8 @@ class Copy:
         shown = shown_of(words, f"{self.room}/crates/{name}", self.options.limit)
         if os.path.exists(made) and (test.crate or shown.status == 0):
             return ""
+        if shown.is_late:
+            return f"{LATE} after {self.options.limit} seconds"
         told = [line for line in shown.lines if "NOT" in line or "not proved" in line or "error" in line]
         return " | ".join((told or shown.lines)[:3])[:400] or "nothing was said"
 
@@ -172,9 +180,15 @@ class Copy:
         """Runs a test. With an edit, a command is stopped once it has failed as it must."""
         if test.crate:
             return shown_of([self.target(test), *test.words], self.room, min(self.options.limit, SECONDS_OF_A_TEST))
-        words = [self.target(test) if it == "PROGRAM" else it for it in test.words]
         ends_at = (lambda line: False) if is_control else lambda line: has_failed_so(test, line)
-        return shown_of([f"{self.room}/{words[0]}", *words[1:]], self.room, self.options.limit, ends_at)
+        return shown_of(self.words(test), self.room, self.options.limit, ends_at)
+
+    def words(self, test):
+        """Returns the command line of a test that is no crate's."""
+        if test.words[0] == "pytest":
+            return [*PYTEST, "--program", self.target(test), *test.words[1:]]
+        first, *others = (self.target(test) if it == "PROGRAM" else it for it in test.words)
+        return [f"{self.room}/{first}", *others]
 
 
 class Tested:
@@ -201,7 +215,9 @@ class Tested:
         self.copy.plant(each, 1)
         try:
             said = self.copy.built(each.test)
-            return f"it is not proved: {said}" if said else unseen(each.test, self.copy.run(each.test, False))
+            if said:
+                return said if said.startswith(LATE) else f"it is not proved: {said}"
+            return unseen(each.test, self.copy.run(each.test, False))
         finally:
             self.copy.plant(each, 0)
 
