@@ -22,7 +22,7 @@ import functools
 import itertools
 import sys
 import tomllib
-from collections.abc import Collection, Iterator
+from collections.abc import Iterator, Sequence
 from pathlib import Path
 from typing import Any
 
@@ -30,9 +30,8 @@ import pytest
 
 from crnplan import formats
 
-from tests.program import pieces
-from tests.program.makers import MAKERS
-from tests.runs import Shown, as_wanted, refused, run, written
+from tests.program import makers, pieces
+from tests.runs import Shown, Words, as_wanted, refused, run, written
 from tests.stored import stored
 
 Case = dict[str, Any]
@@ -104,7 +103,7 @@ def by_command() -> list[Any]:
 # ---- texts
 
 
-def changed(text: str, change: list[Any], case: Case) -> str:
+def changed(text: str, change: Sequence[Any], case: Case) -> str:
     """Returns a text of a case with a change."""
     old, new, *numbers = change
     if old not in text:
@@ -119,10 +118,10 @@ def text_of(case: Case, name: str) -> bytes | None:
     """Returns the bytes of a case's text, or None if it has none."""
     if not {name, f"{name}_from", f"{name}_made"} & case.keys():
         return None
-    text = case.get(name, "")
+    text: str = case.get(name, "")
     if f"{name}_made" in case:
         maker, *numbers = case[f"{name}_made"]
-        text = MAKERS[maker](*numbers)
+        text = getattr(makers, maker)(*numbers)
     if f"{name}_from" in case:
         text = stored(case[f"{name}_from"]).decode()
     first = [case[f"{name}_change"]] if f"{name}_change" in case else []
@@ -141,7 +140,7 @@ def input_of(case: Case) -> bytes:
     return text_of(case, "input") or b""
 
 
-def words_of(case: Case, room: Path) -> list[str] | list[bytes]:
+def words_of(case: Case, room: Path) -> Sequence[str | bytes]:
     """Returns the words of a case's command line, with the path of FILE in a folder."""
     words = case["args"].split() if isinstance(case["args"], str) else case["args"]
     words = [f"{room}/FILE" if word == "FILE" else word for word in words]
@@ -151,10 +150,10 @@ def words_of(case: Case, room: Path) -> list[str] | list[bytes]:
 # ---- runs
 
 
-def on_file(program: Path, room: Path, words: Collection[str], file: bytes, data: bytes | None = None) -> Shown:
+def on_file(program: Path, room: Path, words: Words, file: bytes, data: bytes | None = None) -> Shown:
     """Returns what a run shows if this text is in FILE."""
     (room / "FILE").write_bytes(file)
-    return run(program, list(words), data)
+    return run(program, words, data)
 
 
 def shown_of(program: Path, case: Case, room: Path) -> Shown:
@@ -167,7 +166,8 @@ def shown_of(program: Path, case: Case, room: Path) -> Shown:
         elif file is not None:
             path.write_bytes(file)
         given = stack.enter_context(pieces.piped(data, case["input_pieces"])) if "input_pieces" in case else data
-        return run(program, words_of(case, room), given, to=case.get("to"), kilobytes=case.get("kilobytes"))
+        shown = run(program, words_of(case, room), given, to=case.get("to"), kilobytes=case.get("kilobytes"))
+    return shown
 
 
 def wanted_by(case: Case, shown: Shown) -> bool | str:

@@ -67,9 +67,9 @@ def shown_of(case: Case, words: list[str], room: Path, before: tuple[str, ...] =
     Its input is a file, which is read in the same pieces each time.
     """
     (room / "INPUT").write_bytes(text_of(case, "input") or b"")
-    first, *others = [*before, CALLED, *words]
+    command = [*before, CALLED, *words]
     with open(room / "INPUT", "rb") as file:
-        return run(first, others, file, cwd=room, environment=environment, seconds=SECONDS)
+        return run(command[0], command[1:], file, cwd=room, environment=environment, seconds=SECONDS)
 
 
 def checked(case: Case, shown: Shown) -> None:

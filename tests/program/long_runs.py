@@ -12,11 +12,11 @@ from typing import Any
 import numpy as np
 import numpy.typing as npt
 
+from crnplan import formats
+
 from tests.program import oracle
 
 Whole = npt.NDArray[np.int64]
-# The longest lead time.
-MOST_LEAD = oracle.formats.limits("lead", "values")[1]
 
 
 def draws_of(scenario: oracle.Scenario, stream: str) -> Whole:
@@ -29,7 +29,8 @@ def draws_of(scenario: oracle.Scenario, stream: str) -> Whole:
     # The upper 64 of the 128 bits of a word times the sum of weights, which has at most 17 bits.
     count, low = np.uint64(len(spread)), np.uint64(32)
     places = ((words >> low) * count + ((words & np.uint64(2**32 - 1)) * count >> low)) >> low
-    return spread[places].reshape(scenario.replications, -1)[:, :scenario.periods]
+    drawn: Whole = spread[places].reshape(scenario.replications, -1)[:, :scenario.periods]
+    return drawn
 
 
 class LongRun(oracle.Run):
@@ -55,7 +56,7 @@ class LongRun(oracle.Run):
         costs, shape = scenario.costs, (len(scenario.policies), scenario.replications)
         low, high = (np.array([[it[level]] for it in scenario.policies]) for level in ("s", "S"))
         position = np.full(shape, scenario.tree["initial"])
-        stock, arriving = position.copy(), np.zeros((scenario.periods + MOST_LEAD, *shape), np.int64)
+        stock, arriving = position.copy(), np.zeros((scenario.periods + formats.MOST_LEAD, *shape), np.int64)
         orders, stocks, spent = [], [], []
         for period in range(scenario.periods):
             order = np.where(position < low, high - position, 0)

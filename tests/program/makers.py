@@ -59,6 +59,3 @@ def trace(size: int, readers: int, turns: int) -> str:
     lines.append(f"published {published} ended 0")
     lines += [f"reader {reader} taken 0 left 1 ended 0" for reader in range(readers)]
     return "".join(f"{line}\n" for line in lines)
-
-
-MAKERS = {"scenario": scenario, "checkpoint": checkpoint, "words": words, "trace": trace}

@@ -3,8 +3,8 @@
 The mean cost of each policy, and its mean difference from the first policy, are compared with what they are expected to
 be over the same periods from the same stock (expected.py). The deviation of a mean, over its standard error from the
 samples of all keys, is its z. No z may be 4 or more; the mean of all must be within 0.15 of 0, and their standard
-deviation from 0.85 to 1.15. With a wrong theory some z must be 4 or more: with a reorder point that is one higher, with a
-lead time that is one longer, and with demands and lead times drawn with the same words.
+deviation from 0.85 to 1.15. With a wrong theory some z must be 4 or more: with a reorder point that is one higher, with
+a lead time that is one longer, and with demands and lead times drawn with the same words.
 """
 from __future__ import annotations
 
@@ -40,7 +40,8 @@ def test_setting(program: Path, number: int, check_all: Any) -> None:
     """No mean of a setting deviates by 4 standard errors."""
     its = measured(program, number)
     zs = zs_of(its.samples, its.costs)
-    check_all((f"{kind}: z goes up to {max(map(abs, it)):.2f}", max(map(abs, it)) < MOST_Z) for kind, it in zip(KINDS, zs))
+    greatest = [max(map(abs, it)) for it in zs]
+    check_all((f"{kind}: z goes up to {it:.2f}", it < MOST_Z) for kind, it in zip(KINDS, greatest))
 
 
 def test_all_settings(program: Path, check_all: Any) -> None:
