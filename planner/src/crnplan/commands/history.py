@@ -13,7 +13,7 @@ from ..history import read_history, read_lead_times
 from ..history.amounts import DECIMALS
 from ..history.cells import Rules, column_names
 from ..history.dates import EVERY
-from ..history.faults import printed, refusal, write_rejects
+from ..history.faults import RefusedFiles, printed, write_rejects
 from ..history.observed import Observed
 
 VERSION = "# A scenario with the table [returns] has version = 2.\n"
@@ -52,12 +52,14 @@ def check_words(asked: dict[str, Any]) -> None:
 def tables(asked: dict[str, Any], rules: dict[str, Any], read: list[Observed]) -> str:
     """Returns all tables that are asked for. What is read is added to a list; faults of all files are raised together."""
     faults: list[Fault] = []
+    notes: list[str] = []
 
     def attempted(make: Callable[[], Any]) -> Any:
         try:
             its = make()
         except RefusedFaults as fault:
             faults.extend(fault.faults)
+            notes.extend(fault.notes if isinstance(fault, RefusedFiles) else ())
             return None
         read.extend([its] if isinstance(its, Observed) else [])
         return its
@@ -65,7 +67,7 @@ def tables(asked: dict[str, Any], rules: dict[str, Any], read: list[Observed]) -
     dated = {it: asked[it] for it in ("net", "whole", "start", "end")} | {"every": asked["every"] if asked["date"] else None}
     names = {it: asked[it] for it in ("demand", "returns", "date")}
     history = attempted(lambda: read_history(asked["file"], **names, **dated, **rules))
-    lead = None
+    lead: Any = None
     if asked["lead"]:
         lead = attempted(lambda: read_lead_times(asked["lead"][0], lead=asked["lead"][1].strip(), **rules))
     if asked["orders"]:
@@ -75,7 +77,7 @@ def tables(asked: dict[str, Any], rules: dict[str, Any], read: list[Observed]) -
             "lead": lead and attempted(lambda: fit_lead(lead)),
             "returns": history and history.returns and attempted(lambda: fit_demand(history.returns, box=asked["box"]))}
     if faults:
-        raise refusal(faults)
+        raise RefusedFiles(faults, notes)
     return "".join(f"\n{VERSION if name == 'returns' else ''}{law.toml(name)}" for name, law in laws.items() if law)
 
 

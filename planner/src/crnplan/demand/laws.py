@@ -10,7 +10,7 @@ from typing import Any, ClassVar
 
 from ..errors import Fault, Refused
 from ..formats import MOST_DEMAND, MOST_LEAD, MOST_WEIGHT
-from ..history.faults import Place, refusal
+from ..history.faults import Place, RefusedFiles
 from ..history.observed import Observed
 from ..scenario import Table
 
@@ -111,4 +111,4 @@ def _check(numbers: Iterable[int], places: Iterable[Place | None], reason_of: Ca
     reasons = [(place, reason_of(number)) for number, place in zip(numbers, places)]
     faults: list[Fault] = [place.fault(reason) for place, reason in reasons if place and reason]
     if faults:
-        raise refusal(faults)
+        raise RefusedFiles(faults)

@@ -57,13 +57,17 @@ def printed(faults: Sequence[Fault]) -> Iterator[str]:
         yield f"and {len(faults) - MOST_PRINTED:,} more faults; --rejects FILE lists all"
 
 
-def refusal(faults: Sequence[Fault]) -> RefusedFaults:
-    """Returns the error of an input with these faults."""
-    lines = list(printed(faults))
-    if len(faults) > 1:
-        rows = len({(it.file, it.line) for it in faults})
-        lines.append(f"{len(faults):,} faults in {rows:,} rows; correct them, or say --leave-out to go on without bad rows")
-    return RefusedFaults(faults, "\n".join(lines))
+class RefusedFiles(RefusedFaults):
+    """Files with faults, and the notes that were due before: so one pass says all."""
+
+    def __init__(self, faults: Sequence[Fault], notes: Sequence[str] = ()) -> None:
+        """Keeps all faults, and makes a text of the first ones."""
+        lines = list(printed(faults))
+        if len(faults) > 1:
+            rows = len({(it.file, it.line) for it in faults})
+            lines.append(f"{len(faults):,} faults in {rows:,} rows; correct them, or say --leave-out to go on without bad rows")
+        self.notes = tuple(notes)
+        super().__init__(faults, "\n".join([*lines, *notes]))
 
 
 def write_rejects(path: Path, faults: Sequence[Fault]) -> None:

@@ -14,7 +14,7 @@ from ..errors import Fault, Refused, RefusedFaults
 from ..formats import MOST_WEIGHT
 from .cells import Rules
 from .dates import EVERY, DateReader, first_day, period_name, period_of
-from .faults import Place, Unreadable, named_lines, refusal
+from .faults import Place, Unreadable, named_lines, RefusedFiles
 from .observed import History
 from .reading import Reading
 from .suspicions import total_reason, twice_notes
@@ -197,5 +197,5 @@ def _summed(movements: _Movements, periods: range) -> History:
                                "periods (--every)") for place, count in zip(places, counts) if place and count < 0]
         history = History(tuple(counts), tuple(places), tuple(reading.notes), tuple(reading.faults), every, periods[0], history)
     if faults or history is None:
-        raise refusal(faults)
+        raise RefusedFiles(faults)
     return history

@@ -55,14 +55,14 @@ def _orders(reading: Reading, ordered: str, received: str, every: str) -> LeadTi
         raise RefusedFaults([sheet.reject(reading.rows[MOST_WEIGHT], ordered, reason)])
     reader = DateReader({**sheet.columns[ordered].index, **sheet.columns[received].index}, reading.rules.date_formats)
     dates = {name: reading.read(name, reader.read, reading.rows) for name in (ordered, received)}
-    numbers: list[int | None] = []
-    for row, placed, there in zip(reading.rows, dates[ordered], dates[received]):
-        backwards = placed is not None and there is not None and there[0] < placed[0]
-        if backwards:
+    numbers: list[int | None] = [None] * len(reading.rows)
+    for place, (placed, there) in enumerate(zip(dates[ordered], dates[received])):
+        row = reading.rows[place]
+        if placed and there and there[0] < placed[0]:
             reading.reject(row, received, f"{sheet.columns[received].text(row)!r} is before the order of "
                            f"{sheet.columns[ordered].text(row)!r}; correct one of the dates, or leave the row out")
-        known = placed is not None and there is not None and not backwards
-        numbers.append(max(1, period_of(there[0], every) - period_of(placed[0], every)) if known else None)
+        elif placed and there:
+            numbers[place] = max(1, period_of(there[0], every) - period_of(placed[0], every))
     rows, kept = reading.kept({**dates, "number": numbers})
     reading.note(f"lead times in {every}s: {len(rows)}, orders not yet received and left out: {len(all_rows) - len(reading.rows)}")
     for name in dates:

@@ -12,7 +12,7 @@ from . import suspicions
 from .amounts import amount_of
 from .cells import Rules, read_sheet
 from .dates import DateReader
-from .faults import MOST_NAMED, Place, Unreadable, named_lines, refusal, shown
+from .faults import MOST_NAMED, Place, Unreadable, named_lines, RefusedFiles, shown
 
 Value = TypeVar("Value")
 
@@ -23,6 +23,7 @@ class Reading:
     def __init__(self, path: str | Path, wanted: Sequence[str], rules: Rules, own_item: bool = False) -> None:
         """Reads the cells. Only the history must have the columns of the item; other files may be of one item alone."""
         self.rules = rules
+        self.amount_names: list[str] = []
         self.sheet = read_sheet(path, [*wanted, *(() if own_item else rules.item)], rules, list(rules.item))
         self.notes = self.sheet.notes
         rows = self._item_rows()
@@ -88,12 +89,14 @@ class Reading:
         self.faults.sort(key=lambda it: (it.line, it.column))
         of_file = [self.sheet.fault] if self.sheet.fault else []
         if of_file or self.faults and not self.rules.leave_out:
-            raise refusal([*of_file, *self.faults])
+            signs = [] if self.rules.decimal else [note for name in self.amount_names for note in suspicions.sign_notes(
+                self.sheet, name, rows, [columns[name][it] or 0 for it in places], None)]
+            raise RefusedFiles([*of_file, *self.faults], [*self.notes, *signs])
         if self.faults:
             lines = list(dict.fromkeys(self.sheet.lines[row] for row in sorted({*self.rows, *self.long} - set(rows))))
             self.note(f"rows left out: {len(lines):,} of {len(self.rows) + len(self.long):,} ({named_lines(lines)})")
         if not rows:
-            raise refusal([*self.faults, Fault("no row is left; correct the file", self.sheet.name)])
+            raise RefusedFiles([*self.faults, Fault("no row is left; correct the file", self.sheet.name)])
         return rows, {name: [values[it] for it in places] for name, values in columns.items()}
 
     def suspect(self, name: str, rows: Sequence[int], numbers: Sequence[int]) -> None:
@@ -117,6 +120,8 @@ class Reading:
 
     def amounts(self, name: str, below: str, least: int | None, **words: str) -> list[int | None]:
         """Returns the amounts of a column. One that is below the least is a fault, with this reason."""
+        self.amount_names.append(name)
+
         def amount(text: str) -> int:
             number = amount_of(text, self.rules.decimal, **words)
             if least is not None and number < least:

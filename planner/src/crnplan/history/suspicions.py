@@ -56,25 +56,22 @@ def far_notes(sheet: Sheet, name: str, rows: Sequence[int], numbers: Sequence[in
 
 
 def sign_notes(sheet: Sheet, name: str, rows: Sequence[int], numbers: Sequence[int], decimal: str | None) -> Iterator[str]:
-    """Yields a note on the first number that another decimal sign would make a thousand times smaller or larger.
+    """Yields a note on the first number that another decimal sign would make a thousand times smaller, or larger.
 
-    If the decimal sign is stated, numbers of which many are written so are not suspicious.
+    If the decimal sign is stated, a way of writing is suspicious only if few numbers are written so.
     """
-    column = sheet.columns[name]
-    if decimal is None:
-        grouped = {code for text, code in column.index.items() if "," in text}
-    else:
-        grouped = {code for text, code in column.index.items() if ("," in text or "." in text) and other_reading(text, decimal)}
-    found = [place for place, row in enumerate(rows) if column.codes[row] in grouped] if grouped else []
-    if not found or decimal is not None and len(found) > max(1, len(rows) // RARE):
-        return
-    text = column.text(rows[found[0]])
-    if decimal is None:
-        what = f"{shown(text)!r} is read as {numbers[found[0]]} (if the comma is a decimal sign, say --decimal ,)"
-    else:
-        what = (f"{shown(text)!r} is read as {numbers[found[0]]}; with another decimal sign it would be "
-                f"{other_reading(text, decimal)} ({len(found)} of {len(rows)} rows are written so); if it is wrong, correct it")
-    yield _note(sheet, rows[found[0]], name, what)
+    column, group = sheet.columns[name], "." if decimal == "," else ","
+    texts = {text: code for text, code in column.index.items() if ("," in text or "." in text) and other_reading(text, decimal)}
+    for codes in ({code for text, code in texts.items() if group in text}, {code for text, code in texts.items() if group not in text}):
+        found = [place for place, row in enumerate(rows) if column.codes[row] in codes] if codes else []
+        if not found or decimal is not None and len(found) > max(1, len(rows) // RARE):
+            continue
+        text, number = column.text(rows[found[0]]), numbers[found[0]]
+        advice = "if the comma is a decimal sign, say --decimal ,"
+        if decimal is not None:
+            advice = f"{len(found)} of {len(rows)} rows are written so; with another decimal sign it would be " \
+                     f"{other_reading(text, decimal)}"
+        yield _note(sheet, rows[found[0]], name, f"{shown(text)!r} is read as {number} ({advice})")
 
 
 def twice_notes(sheet: Sheet, rows: Sequence[int], amounts: Sequence[str]) -> Iterator[str]:
