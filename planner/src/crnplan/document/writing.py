@@ -71,7 +71,7 @@ def _merged_text(source: str, tree: Tree) -> str:
         for table, policy in zip(document["policy"], tree["policy"]):
             _merge(table, policy)
         _merge(document, {**others, "policy": document["policy"]})
-        return document.as_string()
+        return str(document.as_string())
     _merge(document, others)
     return COMMENT_AT_END.sub("\n", f"{document.as_string().rstrip()}\n") + _policies_text(tree)
 
