@@ -1,0 +1,135 @@
+"""Tests of a first user's messy export: one refusal with all that is wrong, and the tables by the second command."""
+from __future__ import annotations
+
+import collections
+import csv
+import datetime
+import random
+from collections.abc import Callable
+from pathlib import Path
+from typing import Any, NamedTuple
+
+import pytest
+
+
+class Export(NamedTuple):
+    """An export: its lines, the movements that are right, and the line of each oddity."""
+
+    lines: list[str]
+    movements: list[tuple[datetime.date, int]]
+    odd: dict[str, int]
+
+
+def made_export() -> Export:
+    """Returns an export in German: title lines, two forms of dates, three decimals, faults and a total row."""
+    source, day = random.Random(5), datetime.date(2025, 1, 2)
+    export = Export(["Auswertung Materialbewegungen;;;", "Werk 1000;Stand 09.11.2026;;", "", "Datum;Beleg;Menge;Vermerk"], [], {})
+
+    def add(date: str, amount: str, name: str = "", remark: str = "") -> None:
+        export.lines.append(f"{date};{4900000 + len(export.lines)};{amount};{remark}")
+        export.odd.update({name: len(export.lines)} if name else {})
+
+    number = 0
+    while day != datetime.date(2026, 11, 8):
+        day = min(day + datetime.timedelta(days=source.randrange(1, 12)), datetime.date(2026, 11, 8)) if number else day
+        amount, number = source.choice([1, 1, 2, 2, 3, 5, 8, 27]), number + 1
+        add(day.strftime("%d.%m.%y" if day.year == 2025 else "%d.%m.%Y"), f"{amount},000", f"row {number}")
+        export.movements.append((day, amount))
+        if number == 20:
+            add("31.02.2026", "4,000", "no day")
+            add(day.strftime("%d.%m.%y"), "", "empty")
+            export.lines.append(export.lines[-3])
+            export.odd["twice"] = len(export.lines)
+            export.movements.append((day, amount))
+            export.lines.extend(["", ";;;"])
+            add(day.strftime("%d.%m.%y"), "n/a", "n/a")
+            add(day.strftime("%d.%m.%y"), "-1,000", "correction", "Rückgabe")
+            export.movements.append((day, -1))
+            add(day.strftime("%d.%m.%y"), "1.000,000", "thousand")
+            export.movements.append((day, 1000))
+    add("Summe", "1.345,000", "total")
+    export.lines.extend([";;;", ""])
+    return export
+
+
+@pytest.fixture(scope="module")
+def export() -> Export:
+    """Returns the export."""
+    return made_export()
+
+
+@pytest.fixture
+def path(export: Export, file: Callable[..., Path]) -> Path:
+    """Returns the path of the export."""
+    return file("\r\n".join(export.lines), "export.csv", "cp1252")
+
+
+WORDS = ["--demand", "Menge", "--date", "Datum", "--every", "week"]
+
+
+def weeks(movements: list[tuple[datetime.date, int]]) -> collections.Counter[int]:
+    """Returns how often each number comes in a week from the first to the last one."""
+    sums: dict[tuple[int, int], int] = {}
+    day = min(movements)[0]
+    while day <= max(movements)[0]:
+        sums[day.isocalendar()[:2]] = 0
+        day += datetime.timedelta(days=1)
+    for day, amount in movements:
+        sums[day.isocalendar()[:2]] += amount
+    return collections.Counter(sums.values())
+
+
+def test_first_command_says_all(export: Export, path: Path, answer: Callable[..., Any]) -> None:
+    """The first command is refused, with each fault of the file at its line, and with what to say."""
+    status, output, errors = answer([path, *WORDS])
+    assert (status, output) == (2, "")
+    odd, first = export.odd, export.movements[0][1]
+    for part in (f":{odd['correction']}:26: the byte 0xfc is not UTF-8; say --encoding latin-1", f":{odd['no day']}:1: column 'Datum': "
+                 "'31.02.2026' is no day of the calendar; correct it, or leave the row out", f":{odd['empty']}:18: column 'Menge': "
+                 "the cell is empty; write 0 where nothing was asked for", f":{odd['n/a']}:18: column 'Menge': 'n/a' is not a number",
+                 f":{odd['correction']}:18: column 'Menge': -1,000 is negative; say --net to take it off its week",
+                 f":{odd['thousand']}:18: column 'Menge': '1.000,000' is not a number; write digits, as 12, or say --decimal ,",
+                 f":{odd['total']}:1: column 'Datum': the row looks like a total of the rows above (it has 'Summe'); leave it out",
+                 f":5:18: column 'Menge': '{first},000' is read as {first}000 (if the comma is a decimal sign, say --decimal ,)",
+                 "crnplan: 7 faults in 6 rows; "):
+        assert part in errors
+    assert len(errors.splitlines()) == 7 + 1 + 3
+
+
+def test_second_command_gives_tables(export: Export, path: Path, answer: Callable[..., Any], tmp_path: Path) -> None:
+    """The second command gives the tables. It names each row that is left out, and what is suspicious."""
+    rejects, odd = tmp_path / "rejects.csv", export.odd
+    status, output, errors = answer([path, *WORDS, "--encoding", "cp1252", "--decimal", ",", "--net", "--leave-out", "--rejects", rejects])
+    expected = weeks(export.movements)
+    assert status == 0
+    assert output == f"\n[demand]\nvalues = {sorted(expected)}\nweights = {[expected[it] for it in sorted(expected)]}\n"
+    with rejects.open(encoding="utf-8", newline="") as file:
+        rows = list(csv.DictReader(file))
+    assert [int(row["line"]) for row in rows] == [odd[it] for it in ("no day", "empty", "n/a", "total")]
+    assert [row["row"] for row in rows] == [export.lines[int(row["line"]) - 1] for row in rows]
+    first_of_2026 = next(odd[f"row {number}"] for number in range(1, 200)
+                         if export.lines[odd[f"row {number}"] - 1].split(";")[0].endswith("2026"))
+    count = sum(bool(line.strip(";")) for line in export.lines) - 3
+    lines = ", ".join(str(odd[it]) for it in ("no day", "empty", "n/a", "total"))
+    next_largest = next(odd[f"row {number}"] for number in range(1, 200) if ";27,000;" in export.lines[odd[f"row {number}"] - 1])
+    for part in (f"export.csv: rows left out: 4 of {count} (lines {lines})",
+                 "lines 1, 2, 3 above the heading passed over: 'Auswertung Materialbewegungen', 'Werk 1000 Stand 09.11.2026', ''",
+                 f"blank rows passed over: 2 (lines {odd['twice'] + 1}, {odd['twice'] + 2})",
+                 f":{odd['twice']}: the row is the same as that of line {odd['row 20']}; ",
+                 f":{first_of_2026}:1: column 'Datum': the dates have 2 forms: '02.01.25' (line 5) is 2025-01-02, ",
+                 f":{odd['thousand']}:18: column 'Menge': 1000 is 37 times 27, the next largest (line {next_largest}); ",
+                 f":{odd['thousand']}:18: column 'Menge': '1.000,000' is read as 1000 (1 of {count - 4} rows are written so; "
+                 "with another decimal sign it would be 1)", "weeks from 2025-W01 to 2026-W45: 97, filled with 0: "):
+        assert part in errors
+
+
+def test_total_row_that_is_no_fault(file: Callable[..., Path], answer: Callable[..., Any]) -> None:
+    """A total in a file without dates, or with one, is read as a number and named."""
+    rows = "".join(f"{number};{number % 4 + 1}\n" for number in range(8))
+    status, output, errors = answer([file(f"week;n\n{rows}8;20\n"), "--demand", "n"])
+    assert status == 0 and "[1, 2, 3, 4, 20]" in output
+    assert ":10:3: column 'n': the last row looks like a total of the rows above (20 is the sum of all others); if it is, " in errors
+    assert answer([file(f"week;n\n{rows}8;21\n"), "--demand", "n"]).errors == ""
+    errors = answer([file("at;n\n2026-03-01;1\n2026-03-02 ;1\n2026-03-02;2\n2026-03-03;Total\n"), "--demand", "n", "--date", "at", "--every",
+                     "day"]).errors
+    assert ":5:12: column 'n': 'Total' is not a number" in errors
