@@ -12,6 +12,8 @@ import sysconfig
 
 TOP = os.path.dirname(os.path.dirname(os.path.abspath(__file__)))
 REQUIREMENT = re.compile(r"([\w.-]+)>=([\d.]+)")
+# The folder of an environment, in its script `activate` and in the scripts of its packages.
+HOME = re.compile(r"^VIRTUAL_ENV=[\"']?(/.*?)[\"']?$|(/.*?)/bin/python", re.MULTILINE)
 
 
 def requirements(texts):
@@ -42,6 +44,16 @@ def unmet(asked):
     return None
 
 
+def is_of_here(script):
+    """Returns whether a script of the environment is there and names its folder."""
+    path = f"{sys.prefix}/bin/{script}"
+    if not os.path.isfile(path):
+        return False
+    with open(path, encoding="utf-8") as file:
+        home = HOME.search(file.read())
+    return home is not None and os.path.realpath(home[1] or home[2]) == os.path.realpath(sys.prefix)
+
+
 def installed_otherwise(project, asked):
     """Returns why crnplan is not installed as its pyproject.toml says, or None."""
     found = next(iter(importlib.metadata.distributions(name="crnplan", path=[sysconfig.get_path("purelib")])), None)
@@ -53,11 +65,8 @@ def installed_otherwise(project, asked):
     scripts = {it.name: it.value for it in found.entry_points if it.group == "console_scripts"}
     if (found.version, scripts, requirements(found.requires or [])) != (project["version"], project["scripts"], asked):
         return "planner/pyproject.toml has changed"
-    for name in scripts:
-        path = f"{sys.prefix}/bin/{name}"
-        if not os.access(path, os.X_OK) or f"{sys.prefix}/bin/python" not in open(path, encoding="utf-8").read():
-            return f"{path} does not run"
-    return None
+    broken = [it for it in scripts if not is_of_here(it)]
+    return f".venv/bin/{broken[0]} is missing or of another place" if broken else None
 
 
 def wrong(prefix):
@@ -68,6 +77,8 @@ def wrong(prefix):
         return f"make its Python is {sys.version.split()[0]}, and crnplan requires 3.11"
     if prefix is not None and sys.base_prefix != prefix:
         return f"make it is made from the Python of {sys.base_prefix}"
+    if not is_of_here("activate"):
+        return "make it was made at another place"
     import tomllib
     with open(f"{TOP}/planner/pyproject.toml", "rb") as file:
         project = tomllib.load(file)["project"]
