@@ -5,6 +5,8 @@ A law is counted in cells of `step` items. Levels of stock are counted in items.
 from __future__ import annotations
 
 from dataclasses import dataclass
+from functools import cached_property
+from typing import TypeVar
 
 import numpy as np
 import numpy.typing as npt
@@ -13,6 +15,7 @@ from ..scenario import Table
 
 Floats = npt.NDArray[np.float64]
 Whole = npt.NDArray[np.int64]
+Places = TypeVar("Places", int, Whole)
 
 LEAST_CHANCE = 1e-17
 MOST_PRODUCTS = 50_000  # of a direct convolution; a transform is faster for more
@@ -35,7 +38,7 @@ class Law:
         """Returns all cells, in order."""
         return self.low + np.arange(len(self.chances))
 
-    @property
+    @cached_property
     def mean(self) -> float:
         """Returns the mean, in cells."""
         return float(self.chances @ self.cells)
@@ -113,18 +116,20 @@ class Surplus:
         self.below = np.concatenate([[0], np.cumsum(law.chances)])
         self.taken = np.concatenate([[0], np.cumsum(law.chances * law.cells)]) * step
 
-    def place(self, level: int | Whole) -> Whole:
+    def place(self, level: Places) -> Places:
         """Returns how many cells of the law are at most a level."""
-        cells: Whole = np.minimum(np.maximum(level // self.step - self.law.low + 1, 0), len(self.law.chances))
-        return cells
+        cells = level // self.step - self.law.low + 1
+        if isinstance(cells, int):
+            return min(max(cells, 0), len(self.law.chances))
+        return np.minimum(np.maximum(cells, 0), len(self.law.chances))
 
-    def left(self, level: int | Whole) -> Floats:
+    def left(self, level: Places) -> Floats:
         """Returns the expected surplus of a level over the amount, in items."""
         place = self.place(level)
         surplus: Floats = level * self.below[place] - self.taken[place]
         return surplus
 
-    def lacking(self, level: int | Whole) -> Floats:
+    def lacking(self, level: Places) -> Floats:
         """Returns the expected surplus of the amount over a level, in items."""
         return self.left(level) - level + self.mean
 

@@ -9,14 +9,12 @@ from __future__ import annotations
 import math
 from abc import ABC, abstractmethod
 from collections.abc import Callable
-from typing import NamedTuple, TypeVar
+from typing import NamedTuple
 
 from ..formats import MOST_ITEMS
 from ..scenario import Scenario
-from .laws import Law, Surplus, Whole
+from .laws import Law, Places, Surplus
 from .walk import Walk
-
-Gap = TypeVar("Gap", int, Whole)
 
 GRID_GROWTH = 1.15
 SMALL_GAP = 8
@@ -91,7 +89,7 @@ class LongRun(Walk, ABC):
             self.known[gap] = Surplus(after, self.step), Surplus(before, self.step)
         return self.known[gap]
 
-    def items(self, gap: Gap) -> Gap:
+    def items(self, gap: Places) -> Places:
         """Returns S - s of a gap; if the lattice is not exact, the middle of those that have this gap."""
         return gap * self.step + (0 if self.exact else (self.step - 1) // 2)
 

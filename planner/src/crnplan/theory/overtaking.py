@@ -72,7 +72,7 @@ def shortfall(positions: Law, gap: int, net: Law, chances: Mapping[int, float]) 
         state[-low] += (1 - late) * placed.sum(axis=0)
         state[-low] += late * np.bincount(joined, placed.ravel(), len(amounts))
     places = np.arange(len(state))[:, None] + amounts
-    return scaled(low, np.bincount(places.ravel(), state.ravel()))
+    return scaled(low, np.asarray(np.bincount(places.ravel(), state.ravel()), float))
 
 
 class SeveralLeads(LongRun):
