@@ -72,8 +72,10 @@ def _merged_text(source: str, tree: Tree) -> str:
             _merge(table, policy)
         _merge(document, {**others, "policy": document["policy"]})
         return str(document.as_string())
+    del document["policy"]
+    document = tomlkit.parse(COMMENT_AT_END.sub("\n", f"{document.as_string().rstrip()}\n"))
     _merge(document, others)
-    return COMMENT_AT_END.sub("\n", f"{document.as_string().rstrip()}\n") + _policies_text(tree)
+    return str(document.as_string()) + _policies_text(tree)
 
 
 def toml_text(tree: Tree, source: str | None = None) -> str:

@@ -1,0 +1,342 @@
+"""Tests scenarios as values: made from data, read, changed, written and run."""
+from __future__ import annotations
+
+import csv
+import dataclasses
+import re
+import subprocess
+import tomllib
+from collections.abc import Callable
+from decimal import Decimal
+from fractions import Fraction
+from pathlib import Path
+from typing import Any
+
+import numpy as np
+import pandas as pd
+import pytest
+from hypothesis import given
+from hypothesis import strategies as st
+
+from crnplan import formats
+from crnplan.document.faults import faults_of
+from crnplan.errors import ProgramError, Refused, ScenarioError
+from crnplan.scenario import Costs, Policy, Scenario, Table, policies_of, read_policies
+from planner.tests.conftest import Command
+
+TOP = Path(__file__).parents[2]
+EXAMPLES = [TOP / f"examples/{it}.toml" for it in ("two_policies", "mail_order", "spare_part")]
+LAW: dict[str, Any] = {"demand": [1, 2], "lead": [1], "setup": 32, "holding": 1, "backlog": 5, "today": (20, 40)}
+
+
+def made(**changes: Any) -> Scenario:
+    """Makes a scenario of two demands, with changes."""
+    its = {**LAW, **changes}
+    return Scenario.of(its.pop("demand"), its.pop("lead"), **its)
+
+
+@pytest.fixture
+def scenario(two_policies: str) -> Scenario:
+    """Returns the base example."""
+    return Scenario.parse(two_policies)
+
+
+@pytest.mark.parametrize("path", EXAMPLES, ids=lambda path: path.stem)
+def test_read_and_written(path: Path) -> None:
+    """Compares the tree of a file with tomllib's, and what is written with the file, or with its tree."""
+    text = path.read_text("utf-8")
+    read = Scenario.read(path)
+    assert read.tree == tomllib.loads(text) and read.toml() == text
+    assert tomllib.loads(dataclasses.replace(read, source=None).toml()) == read.tree
+    assert Scenario.parse(path.read_bytes()) == read == Scenario.of_tree(read.tree)
+
+
+def test_standard_input(two_policies: str, crnplan: Command) -> None:
+    """Reads a scenario from standard input."""
+    assert crnplan("why", "-", data=two_policies.encode()) == (0, "no fault\n", "")
+    faults = crnplan("run", "-", data=b"version = 3")
+    assert faults.status == 2 and faults.errors.startswith("crnplan: 1:1: fault 2: the document, key version: 3 is not 1 or 2")
+
+
+def test_faults_have_places(tmp_path: Path, two_policies: str) -> None:
+    """Checks file, line and column of all faults, and that there are no more than 20 in the text of the error."""
+    path = tmp_path / "asked.toml"
+    path.write_text(two_policies.replace("initial = 60", "initial = -1\n  colour = 1").replace("s = 20", "s = 2.5"))
+    with pytest.raises(ScenarioError) as refused:
+        Scenario.read(path)
+    assert [(it.file, it.line, it.column) for it in refused.value.faults] == [(str(path), 6, 3), (str(path), 25, 1), (str(path), 5, 1)]
+    assert str(refused.value).splitlines()[0] == (f"{path}:6:3: fault 3: the document, key colour: there should be no such key "
+                                                  "(remove it)")
+    with pytest.raises(ScenarioError, match=f"^{path}:1:1: fault 1: ") as refused:
+        Scenario.parse("= 1", str(path))
+    with pytest.raises(ScenarioError) as refused:
+        Scenario.parse("\n".join(f"a{it} = 1" for it in range(40)) + f"\n{two_policies}")
+    assert len(refused.value.faults) == 40
+    assert str(refused.value).splitlines()[20:] == ["and 20 more faults; crnplan why says all"]
+
+
+def test_files_that_are_not_read(tmp_path: Path) -> None:
+    """Refuses a file that is missing, and one that is too long."""
+    path = tmp_path / "asked.toml"
+    with pytest.raises(Refused, match=f"{path}: No such file or directory"):
+        Scenario.read(path)
+    path.write_bytes(b"#" * (formats.MOST_BYTES + 1))
+    with pytest.raises(Refused, match=f"{path}: crnsim reads no scenario of more than 1,048,576 bytes"):
+        Scenario.read(path)
+
+
+@dataclasses.dataclass
+class Law:
+    """A law that has a table."""
+
+    table: Table
+
+
+LAWS: dict[str, Any] = {
+    "table": Table((1, 2, 5), (1, 2, 1)), "law": Law(Table((1, 2, 5), (1, 2, 1))), "mapping": {5: 1, 2: 2, 1: 1, 9: 0},
+    "list": [5, 2, 1, 2], "array": np.array([5, 2, 1, 2], dtype=np.uint8), "floats": pd.Series([5.0, 2.0, 1.0, 2.0]),
+    "series": pd.Series([5, 2, 1, 2], index=list("abcd")), "numpy-mapping": {np.int64(5): np.int32(1), 2: 2.0, 1: Fraction(1)},
+    "iterator": (it for it in (5, 2, 1, 2))}
+
+
+@pytest.mark.parametrize("name", LAWS)
+def test_laws(name: str) -> None:
+    """Makes a table of each kind of law; its numbers are Python's."""
+    table = made(demand=LAWS[name]).demand
+    assert table == Table((1, 2, 5), (1, 2, 1)) and table.mean == Fraction(10, 4)
+    assert {type(it) for it in (*table.values, *table.weights)} == {int}
+
+
+def test_made() -> None:
+    """Checks all that a made scenario has. Its key is what `printf 'part 7' | sha256sum` writes."""
+    found = made(returns={0: 9, 1: 1}, initial=np.int64(7), key="part 7")
+    assert found.tree == {
+        "version": 2, "key": ["78236328fdc4d3ca", "6d37bf473843eca8", "8fed20763f2f4661", "8c7bd3e60d90ec09"], "periods": 104,
+        "replications": 64, "initial": 7, "ring": 1024, "costs": {"setup": 32, "unit": 0, "holding": 1, "backlog": 5},
+        "demand": {"values": [1, 2], "weights": [1, 1]}, "lead": {"values": [1], "weights": [1]},
+        "returns": {"values": [0, 1], "weights": [9, 1]}, "policy": [{"name": "today", "s": 20, "S": 40}]}
+    assert made().version == 1 and made().initial == 30 and made().scale == 1 and not faults_of(made().tree)
+    assert made(key=["0" * 16] * 4).key == ("0" * 16,) * 4
+
+
+MONEY: dict[str, tuple[dict[str, Any], tuple[int, int, int, int], Fraction]] = {
+    "whole": ({"setup": 4500, "holding": 60, "backlog": 900}, (4500, 0, 60, 900), Fraction(1)),
+    "texts": ({"setup": "45.5", "holding": "0.60", "backlog": " 9 "}, (455, 0, 6, 90), Fraction(10)),
+    "floats": ({"setup": 0.1, "holding": np.float64(0.07), "backlog": np.float32(1.1), "unit": 2}, (10, 200, 7, 110), Fraction(100)),
+    "decimals": ({"setup": Decimal("1e2"), "holding": Decimal("0.001"), "backlog": Fraction(1, 8)}, (100_000, 0, 1, 125), Fraction(1000)),
+    "large": ({"setup": 900_000, "holding": 6_000, "backlog": 90_000}, (90_000, 0, 600, 9_000), Fraction(1, 10)),
+    "numpy": ({"setup": np.int16(3), "holding": np.uint8(2), "backlog": np.int64(9)}, (3, 0, 2, 9), Fraction(1))}
+
+
+@pytest.mark.parametrize("name", MONEY)
+def test_money(name: str) -> None:
+    """Compares scaled costs and their scale. A scale that is not 1 is in the text as a comment."""
+    amounts, costs, scale = MONEY[name]
+    found = made(**amounts)
+    assert (found.costs, found.scale) == (Costs(*costs), scale)
+    assert found.toml().startswith("version" if scale == 1 else f"# Costs: {scale} for one unit of money\n\nversion")
+    assert Scenario.parse(found.toml()) == found.changed(initial=found.initial)
+
+
+WRONG: dict[str, tuple[dict[str, Any], type[Exception], str]] = {
+    "no-amount": ({"setup": "x"}, Refused, "costs: setup: 'x' is not an amount; write it as 12.50"),
+    "a-comma": ({"holding": "0,06"}, Refused, "costs: holding: '0,06' is not an amount; write it as 12.50"),
+    "true": ({"setup": True}, Refused, "costs: setup: true is not an amount"),
+    "nan": ({"backlog": float("nan")}, Refused, "costs: backlog: nan is not an amount"),
+    "a-third": ({"setup": 1 / 3}, Refused, "costs: setup: 0.3333333333333333 has more than 8 decimals; round it"),
+    "no-scale": ({"holding": "0.0601", "backlog": 9}, Refused, "costs: holding = 0.0601 is whole only if all costs count 10,000 "
+                 "times; then backlog is 90,000, above 10,000; round holding"),
+    "too-much": ({"backlog": 10_001}, ScenarioError, "fault 6: table costs, key backlog: 10001 is not from 0 to 10,000"),
+    "below-0": ({"setup": -1}, ScenarioError, "fault 6: table costs, key setup: -1 is not from 0 to 100,000,000"),
+    "levels": ({"today": (40, 20)}, ScenarioError, 'fault 10: policy 1 ("today"): the reorder point s = 40 is above'),
+    "a-part": ({"today": (1.5, 2)}, Refused, "today: s: 1.5 is not a whole number; round it, or count in a smaller unit"),
+    "no-number": ({"demand": [1, None]}, Refused, "demand: entry 2: none is not a whole number"),
+    "a-text": ({"demand": ["1"]}, Refused, "demand: entry 1: '1' is not a whole number"),
+    "a-bool": ({"demand": np.array([True])}, Refused, "demand: entry 1: true is not a whole number"),
+    "a-weight": ({"lead": {1: 0.5}}, Refused, "lead: weight of 1: 0.5 is not a whole number"),
+    "empty": ({"demand": []}, ScenarioError, "fault 6: table demand, key values: the list is empty"),
+    "periods": ({"periods": 2000}, ScenarioError, "fault 6: the document, key periods: 2000 is not from 1 to 1,024"),
+    "key": ({"key": ["1"]}, ScenarioError, "fault 6: the document, key key: there are 1 texts, not 4")}
+
+
+@pytest.mark.parametrize("name", WRONG)
+def test_wrong(name: str) -> None:
+    """Checks what is said of data that make no scenario."""
+    changes, kind, message = WRONG[name]
+    with pytest.raises(kind, match=f"^{re.escape(message)}"):
+        made(**changes)
+
+
+COMMENTED = """# A spare part.
+version = 1 # no returns
+key = ["0000000000000000", "0000000000000000", "0000000000000000", "0000000000000000"]
+periods = 4
+replications = 1
+initial = 6_0    # from the count of 2 May
+ring = 2
+
+# in cents
+[costs]
+setup = 32
+unit = 0
+holding = 1 # a week
+backlog = 5
+
+[demand]
+values = [1, 2, 3, 4] # a year
+weights = [1, 2, 2, 1]
+
+[lead]
+values = [1]
+weights = [1]
+
+# since 2019
+[[policy]]
+name = "A"
+s = 20 # low
+S = 40
+
+[[policy]]
+name = "B"
+s = 60
+S = 80
+"""
+
+
+def test_comments_are_kept() -> None:
+    """Changes numbers, laws and levels of a text with comments, which keeps all else."""
+    asked = Scenario.parse(COMMENTED)
+    changed = asked.changed(initial=61, costs={"holding": 2}, demand=[3, 3, 7], policies={"A": (21, 40), "B": (60, 81)})
+    wanted = (COMMENTED.replace("6_0 ", "61 ").replace("holding = 1", "holding = 2").replace("[1, 2, 3, 4]", "[3, 7]")
+              .replace("[1, 2, 2, 1]", "[2, 1]").replace("s = 20", "s = 21").replace("S = 80", "S = 81"))
+    assert changed.toml() == wanted and changed.source == asked.source
+    assert changed.changed(initial=60, costs=asked.costs, demand=asked.demand, policies=asked.policies).toml() == COMMENTED
+
+
+def test_comments_with_other_policies_and_tables() -> None:
+    """Changes policies and returns: comments of what is gone go too, the others stay, and the text has the scenario's tree."""
+    changed = Scenario.parse(COMMENTED).changed(policies=[(1, 2)], returns={0: 1, 1: 1})
+    assert changed.version == 2 and tomllib.loads(changed.toml()) == changed.tree
+    assert changed.toml().startswith("# A spare part.\nversion = 2 # no returns\n") and "2019" not in changed.toml()
+    back = changed.changed(returns=None)
+    assert back.version == 1 and back.returns is None and tomllib.loads(back.toml()) == back.tree
+    inline = COMMENTED.split("# since")[0].replace("version = 1 ", 'version = 1\npolicy = [{ name = "A", s = 1, S = 2, },] ')
+    for policies in ({"A": (3, 4)}, {"B": (3, 4), "C": (5, 6)}):
+        changed = Scenario.parse(inline).changed(policies=policies)
+        assert tomllib.loads(changed.toml()) == changed.tree and "# in cents\n" in changed.toml()
+
+
+@given(st.data())
+def test_changed_text_has_the_tree(data: st.DataObject) -> None:
+    """Changes random fields of a text with comments, and reads what is written."""
+    law = st.dictionaries(st.integers(1, 32), st.integers(1, 99), min_size=1, max_size=4)
+    pairs = st.tuples(st.integers(0, 9), st.integers(9, 20))
+    fields: dict[str, st.SearchStrategy[Any]] = {
+        "initial": st.integers(0, 10**6), "periods": st.integers(1, 1024), "demand": law, "lead": law, "returns": law | st.none(),
+        "key": st.text(), "policies": st.dictionaries(st.sampled_from("ABCD"), pairs, min_size=1),
+        "costs": st.dictionaries(st.sampled_from(formats.COSTS), st.integers(0, 10**4))}
+    changed = Scenario.parse(COMMENTED).changed(**{it: data.draw(fields[it]) for it in data.draw(st.sets(st.sampled_from([*fields])))})
+    again = Scenario.parse(changed.toml())
+    assert again == changed and again.toml() == changed.toml() and changed.toml().startswith("# A spare part.\n")
+
+
+def test_changed_is_checked(scenario: Scenario) -> None:
+    """Refuses unknown fields and costs, and numbers out of their ranges."""
+    with pytest.raises(Refused, match="a scenario has no field 'period'; it has version, key, periods, .*, returns, policies"):
+        scenario.changed(period=1)
+    with pytest.raises(ScenarioError, match="fault 3: table costs, key rent: there should be no such key"):
+        scenario.changed(costs={"rent": 1})
+    with pytest.raises(ScenarioError, match="fault 4: the document: the key returns is missing"):
+        scenario.changed(version=2)
+    assert scenario.changed(policies=[Policy("A", 1, 2)]).policies == (Policy("A", 1, 2),)
+
+
+TABLE = pd.DataFrame({"policy": ["low", "high"], "s": [1, 3], "S": np.array([2, 4], dtype=np.int8), "cost": [0.5, 0.7]})
+POLICIES: dict[str, tuple[Any, list[Policy]]] = {
+    "policies": ([Policy("low", 1, 2), Policy("high", 3, 4)], [Policy("low", 1, 2), Policy("high", 3, 4)]),
+    "pairs": ([(1, 2), (np.int64(3), 4.0)], [Policy("s1_S2", 1, 2), Policy("s3_S4", 3, 4)]),
+    "array": (np.array([[1, 2], [3, 4]]), [Policy("s1_S2", 1, 2), Policy("s3_S4", 3, 4)]),
+    "mapping": ({"low": (1, 2), "high": (3, 4)}, [Policy("low", 1, 2), Policy("high", 3, 4)]),
+    "table": (TABLE, [Policy("low", 1, 2), Policy("high", 3, 4)]),
+    "index": (TABLE.set_index("policy"), [Policy("low", 1, 2), Policy("high", 3, 4)]),
+    "no-names": (TABLE[["s", "S"]], [Policy("s1_S2", 1, 2), Policy("s3_S4", 3, 4)]),
+    "long-names": ([(999_999, 999_999), (10**6, 10**6)], [Policy("s999999_S999999", 999_999, 999_999), Policy("s1000000S1000000", 10**6, 10**6)])}
+
+
+@pytest.mark.parametrize("name", POLICIES)
+def test_policies(name: str) -> None:
+    """Reads policies in each form."""
+    given_ones, wanted = POLICIES[name]
+    assert policies_of(given_ones) == wanted
+
+
+def test_policies_of_words(tmp_path: Path) -> None:
+    """Reads policies from a pair, a table and a scenario, and refuses other words."""
+    path = tmp_path / "policies.csv"
+    path.write_text("\ufeffpolicy,cost,S,s\nlow,1,2,1\n,1,4,3\n")
+    assert read_policies(str(path)) == [Policy("low", 1, 2), Policy("s3_S4", 3, 4)]
+    assert read_policies(" 10, 30") == [Policy("s10_S30", 10, 30)]
+    assert read_policies(str(TOP / "examples/two_policies.toml")) == [Policy("A", 20, 40), Policy("B", 60, 80)]
+    path.write_text("policy,s\nlow,1\n")
+    with pytest.raises(Refused, match=f"{path}:1: there is no column S; name the columns policy, s and S"):
+        read_policies(str(path))
+    path.write_text("s,S\n1,2\n1.5,2\n")
+    with pytest.raises(Refused, match=f"{path}:3: column s: '1.5' is not a whole number; write the level in items"):
+        read_policies(str(path))
+    path.write_bytes(b"s,S\n\xff,2\n")
+    with pytest.raises(Refused, match=f"{path}: this is no table of policies: .*; save it as CSV in UTF-8"):
+        read_policies(str(path))
+
+
+def ran(program: Path, text: str) -> str:
+    """Returns what the program writes about a text."""
+    return subprocess.run([program], input=text, capture_output=True, text=True, check=True, timeout=60).stdout
+
+
+@pytest.mark.parametrize("path", EXAMPLES, ids=lambda path: path.stem)
+def test_report_is_the_programs_field_by_field(path: Path, program: Path) -> None:
+    """Compares the table of a run with each field of the report that is kept beside the scenario."""
+    report = Scenario.read(path).run(program=program)
+    text = path.with_suffix(".csv").read_text("utf-8")
+    assert report.text == text
+    frame = report.frame.reset_index()
+    for place, row in enumerate(csv.DictReader(text.splitlines())):
+        for column, cell in row.items():
+            kinds: dict[str, Callable[[str], Any]] = {"name": str, "whole": int, "fraction": Fraction}
+            assert frame[column][place] == (None if cell == "-" else kinds[formats.COLUMNS[column]](cell))
+
+
+def test_many_policies(program: Path, scenario: Scenario) -> None:
+    """Runs 40 pairs: the base is the scenario's first policy, and each row is as the program writes it beside the base."""
+    pairs = [(low, low + 7) for low in range(40)]
+    report = scenario.run([*pairs, (20, 40), *pairs[:3]], program=program)
+    assert [it.policy for it in report.rows] == ["A", *(f"s{low}_S{high}" for low, high in pairs)]
+    for row in report.rows[1:]:
+        alone = scenario.changed(policies=[scenario.policies[0], Policy(row.policy, row.s, row.S)])
+        assert ran(program, alone.toml()).splitlines()[1:] == [",".join(report.rows[0].cells), ",".join(row.cells)]
+    assert report.scenario.policies[0] == scenario.policies[0] and len(report.scenario.policies) == 41
+    assert report.decide().shape[0] == 41
+
+
+def test_policies_that_cannot_be_run(scenario: Scenario) -> None:
+    """Refuses names that are given twice or that cannot be, and levels out of order, before anything is run."""
+    for policies, message in (({"A": (1, 2)}, "fault 11: policy 2 (\"A\"), key name: 'A' is the name of policy 1 too"),
+                              ({"a b": (1, 2)}, "fault 11: policy 2 (\"a b\"), key name: 'a b' is not 1 to 16"),
+                              ([*((it, it) for it in range(30)), (2, 1)], "fault 10: policy 32 (\"s2_S1\")")):
+        with pytest.raises(ScenarioError, match=f"^{re.escape(message)}"):
+            scenario.run(policies, program="/bin/false")
+    with pytest.raises(ProgramError, match="/bin/true: what it writes is no report of the scenario; name crnsim with --program"):
+        scenario.run(program="/bin/true")
+
+
+def test_command_run(program: Path, crnplan: Command, tmp_path: Path) -> None:
+    """Runs the command with the scenario's own policies, with others, and as JSON."""
+    path = TOP / "examples/two_policies.toml"
+    assert crnplan("run", path, "--program", program) == (0, path.with_suffix(".csv").read_text("utf-8"), "")
+    table = tmp_path / "policies.csv"
+    table.write_text("policy,s,S\nlow,1,2\n")
+    report = crnplan("run", path, "--program", program, "--policies", "60,80", "--policies", table)
+    assert report.output.splitlines()[2].startswith("s60_S80,60,80,296,74/1,74,74/1,-,-")
+    assert report.output.splitlines()[3].startswith("low,1,2,")
+    answer = crnplan("run", path, "--program", program, "--json")
+    assert '"diff_total": 74,\n    "diff_mean": "74/1",\n    "diff_var": null' in answer.output
