@@ -12,7 +12,8 @@ from pathlib import Path
 
 import pytest
 
-from planner.tests.decision.answers import Command, changed, priced
+from planner.tests.conftest import Command
+from planner.tests.decision.answers import changed, priced
 from planner.tests.theory.scenarios import large
 
 DEMAND = "values = [0, 1, 2, 3, 4, 5, 6, 7, 8, 10, 12]\nweights = [4, 8, 13, 17, 18, 15, 10, 7, 4, 3, 1]"
@@ -32,19 +33,26 @@ COSTLY = {"two lead times": large(range(1001), [10] * 1001, [1, 2], 10**8),
           "32 lead times": large(range(11), [10] * 11, range(1, 33), 10**8)}
 
 
+@pytest.fixture
+def asked(tmp_path: Path, monkeypatch: pytest.MonkeyPatch) -> Path:
+    """Returns the path of a scenario, asked.toml in the working folder, which a test writes."""
+    monkeypatch.chdir(tmp_path)
+    return Path("asked.toml")
+
+
 def test_the_worked_case(crnplan: Command, top: Path) -> None:
-    told = crnplan("suggest", "examples/case/scenario.toml")
-    stored = [(top / "examples/case" / name).read_text("utf-8") for name in ("suggested.toml", "suggested.txt")]
-    assert told == (0, *stored)
+    case = top / "examples/case"
+    stored = [(case / name).read_text("utf-8") for name in ("suggested.toml", "suggested.txt")]
+    assert crnplan("suggest", case / "scenario.toml") == (0, *stored)
 
 
 @pytest.mark.parametrize("words, initial, unit", [([], 700, 20), (["--initial"], 40, 20), (["--unit-zero"], 700, 0),
                                                   (["--initial", "--unit-zero"], 40, 0)], ids=str)
-def test_the_start_and_the_price(crnplan: Command, room: Path, words: list[str], initial: int, unit: int) -> None:
+def test_the_start_and_the_price(crnplan: Command, top: Path, asked: Path, words: list[str], initial: int, unit: int) -> None:
     """By a chain of all positions, solved by itself, the mean position is 39.7746."""
-    text = changed(priced(room / "examples/mail_order.toml", 20), "initial = 60", "initial = 700")
-    (room / "asked.toml").write_text(text, "utf-8")
-    status, output, errors = crnplan("suggest", "asked.toml", *words)
+    text = changed(priced(top / "examples/mail_order.toml", 20), "initial = 60", "initial = 700")
+    asked.write_text(text, "utf-8")
+    status, output, errors = crnplan("suggest", asked, *words)
     tree, wanted = tomllib.loads(output), tomllib.loads(text)
     wanted["initial"], wanted["costs"]["unit"], wanted["policy"] = initial, unit, tree["policy"]
     assert (status, tree) == (0, wanted)
@@ -52,32 +60,38 @@ def test_the_start_and_the_price(crnplan: Command, room: Path, words: list[str],
     assert "\nunit: a run also pays it" in errors
 
 
-def test_no_line_on_a_price_of_0(crnplan: Command) -> None:
-    errors = crnplan("suggest", "examples/mail_order.toml").errors
+def test_no_line_on_a_price_of_0(crnplan: Command, top: Path) -> None:
+    errors = crnplan("suggest", top / "examples/mail_order.toml").errors
     assert "\nunit: " not in errors and "\ninitial: " in errors
 
 
-def test_the_table_in_other_forms(crnplan: Command, room: Path) -> None:
-    text = (room / "examples/spare_part.toml").read_text("utf-8")
-    shown = [line.split() for line in crnplan("suggest", "-", data=text).errors.split("\n\n")[0].splitlines()]
-    status, output, notes = crnplan("suggest", "--csv", "-", data=text)
+def test_the_table_in_other_forms(crnplan: Command, top: Path) -> None:
+    path = top / "examples/spare_part.toml"
+    shown = [line.split() for line in crnplan("suggest", path).errors.split("\n\n")[0].splitlines()]
+    status, output, notes = crnplan("suggest", "--csv", path)
     rows = list(csv.DictReader(io.StringIO(output)))
     assert (status, notes.startswith("cost: a period in the long run")) == (0, True)
     assert [*rows[0]] == [*shown[0], "reasons"]
     assert [[it["policy"], it["s"], it["S"], f"{float(it['cost']):.2f}", f"{float(it['fill']):.2%}", f"{float(it['short']):.2%}",
              f"{float(it['stock']):.1f}", f"{float(it['orders']):.4f}"] for it in rows] == shown[1:]
-    status, output, errors = crnplan("suggest", "examples/spare_part.toml", "--json")
+    status, output, errors = crnplan("suggest", path, "--json")
     told = json.loads(output)
     assert (status, errors, told["error"], told["step"]) == (0, "", None, 1)
     assert [{name: str(value) for name, value in it.items()} for it in told["policies"]] == rows
     assert told["initial"] == round(told["position"])
 
 
+def test_standard_input(crnplan: Command, top: Path) -> None:
+    path = top / "examples/spare_part.toml"
+    assert crnplan("suggest", "-", data=path.read_bytes()) == crnplan("suggest", path)
+    told = crnplan("suggest", "-", data=changed(path.read_text("utf-8"), "holding = 2", "holding = 0").encode())
+    assert told[:2] == (2, "") and told.errors.startswith("crnplan: 14:1: the cost holding is 0, ")
+
+
 @pytest.mark.parametrize("said, pairs", [(said, pairs) for said, *pairs in REFUSED], ids=[it[0] for it in REFUSED])
-def test_a_refused_scenario(crnplan: Command, room: Path, said: str, pairs: list[str]) -> None:
-    text = changed((room / "examples/mail_order.toml").read_text("utf-8"), *pairs)
-    (room / "asked.toml").write_text(text, "utf-8")
-    status, output, errors = crnplan("suggest", "asked.toml")
+def test_a_refused_scenario(crnplan: Command, top: Path, asked: Path, said: str, pairs: list[str]) -> None:
+    asked.write_text(changed((top / "examples/mail_order.toml").read_text("utf-8"), *pairs), "utf-8")
+    status, output, errors = crnplan("suggest", asked)
     assert (status, output, errors.count("\n")) == (2, "", 1)
     assert errors.startswith("crnplan: asked.toml:") and said in errors
 
@@ -88,10 +102,9 @@ def test_a_missing_file(crnplan: Command) -> None:
 
 @pytest.mark.serial
 @pytest.mark.parametrize("name", COSTLY)
-def test_time_and_memory(tmp_path: Path, name: str) -> None:
-    path = tmp_path / "asked.toml"
-    path.write_text(COSTLY[name].toml(), "utf-8")
-    words = [sys.executable, "-m", "crnplan", "suggest", str(path)]
+def test_time_and_memory(asked: Path, name: str) -> None:
+    asked.write_text(COSTLY[name].toml(), "utf-8")
+    words = [sys.executable, "-m", "crnplan", "suggest", str(asked)]
     with subprocess.Popen(words, stdout=subprocess.DEVNULL, stderr=subprocess.DEVNULL) as process:
         _, status, usage = os.wait4(process.pid, 0)
         process.returncode = os.waitstatus_to_exitcode(status)
