@@ -1,26 +1,11 @@
-"""Fixtures that run crnplan's commands in this process, in a folder with the examples."""
+"""Fixtures that run crnplan's commands in a folder with the examples, and changes of the examples."""
 from __future__ import annotations
 
-import io
-import sys
-from collections.abc import Callable
 from pathlib import Path
-from typing import NamedTuple
 
 import pytest
 
-from crnplan import commands
-
-
-class Answer(NamedTuple):
-    """What a command does: its status, and what it prints on standard output and standard error."""
-
-    status: int
-    output: str
-    errors: str
-
-
-Command = Callable[..., Answer]
+from planner.tests.conftest import Command
 
 
 @pytest.fixture
@@ -33,16 +18,9 @@ def room(tmp_path: Path, top: Path, program: Path, monkeypatch: pytest.MonkeyPat
 
 
 @pytest.fixture
-def crnplan(room: Path, monkeypatch: pytest.MonkeyPatch, capfd: pytest.CaptureFixture[str]) -> Command:
-    """Returns a function that runs a command of crnplan by its words, with `data` as standard input."""
-    def run(*words: str | Path, data: str = "") -> Answer:
-        """Runs a command."""
-        monkeypatch.setattr(sys, "argv", ["crnplan", *map(str, words)])
-        monkeypatch.setattr(sys, "stdin", io.TextIOWrapper(io.BytesIO(data.encode("latin-1"))))
-        with pytest.raises(SystemExit) as ended:
-            commands.main()
-        return Answer(int(ended.value.code or 0), *capfd.readouterr())
-    return run
+def crnplan(room: Path, crnplan: Command) -> Command:
+    """Returns a function that runs a command of crnplan in the folder."""
+    return crnplan
 
 
 def changed(text: str, *pairs: str) -> str:

@@ -15,7 +15,8 @@ import pytest
 
 import crnplan as crn
 from crnplan import formats
-from planner.tests.decision.answers import Command, changed, priced
+from planner.tests.conftest import Command
+from planner.tests.decision.answers import changed, priced
 from planner.tests.decision.costs import pairs_sum
 
 KEYS = ["00000000000000a1", "00000000000000a2"]
@@ -192,9 +193,9 @@ def test_the_function_is_the_command(part: Path, crnplan: Command) -> None:
     """Compares the function with the command: text, verdict and data; with the scenario from standard input."""
     found = crn.check_keys(crn.Scenario.read(part), "both", keys=[[KEYS[0]]], replications=16)
     words = ["check", "-", "both", "--key", KEYS[0], "--replications", "16"]
-    told = crnplan(*words, data=part.read_text("utf-8"))
+    told = crnplan(*words, data=part.read_bytes())
     assert (told.output, told.status) == (found.text, 0 if found.holds else 1)
-    data = json.loads(crnplan(*words, "--json", data=part.read_text("utf-8")).output)
+    data = json.loads(crnplan(*words, "--json", data=part.read_bytes()).output)
     assert data["keys"] == [[KEYS[0], *OWN.split()[1:]]] and data["replications"] == 16
     assert [it["policy"] for it in data["policies"]] == list(found.frame.index)
     assert [it["verdict"] for it in data["policies"]] == list(found.frame["verdict"])

@@ -13,7 +13,8 @@ import pytest
 
 from crnplan.scenario import Scenario
 from crnplan.theory.end_effect import end_effects
-from planner.tests.decision.answers import Command, changed, priced
+from planner.tests.conftest import Command
+from planner.tests.decision.answers import changed, priced
 
 HERE = Path(__file__).parent
 CASES = tomllib.loads((HERE / "decisions.toml").read_text("utf-8"))["decisions"]
@@ -61,16 +62,15 @@ def cases_room(room: Path, write_priced: Callable[[str, str], None]) -> Path:
 
 @pytest.mark.parametrize(("words", "status", "part"), CASES, ids=[f"{words}: {part[:40]}" for words, _, part in CASES])
 def test_prints_or_refuses(cases_room: Path, crnplan: Command, words: str, status: int, part: str) -> None:
-    """Checks the status and a part of what is printed; a refusal is one line on standard error alone."""
+    """Checks the status and a part of what is printed. A refusal is one line on standard error alone, but for many faults."""
     told = crnplan("decide", *words.replace("SPARE", "examples/spare_part").split())
     assert told.status == status and part in told.output + told.errors
-    assert status == 0 or (told.output, told.errors.count("\n")) == ("", 1)
+    assert status == 0 or told.output == "" and (told.errors.count("\n") == 1 or part.startswith("fault "))
 
 
 def test_standard_input_is_a_report(room: Path, crnplan: Command) -> None:
     """Checks that `-` reads the report from standard input."""
-    text = (room / "examples/spare_part.csv").read_text("utf-8")
-    given = crnplan("decide", "-", "--replications", "64", data=text)
+    given = crnplan("decide", "-", "--replications", "64", data=(room / "examples/spare_part.csv").read_bytes())
     assert given == crnplan("decide", "examples/spare_part.csv", "--replications", "64") and given.status == 0
     assert crnplan("decide", "-", "--replications", "64").errors.startswith("crnplan: standard input:1: this is no report")
 

@@ -13,7 +13,8 @@ from hypothesis import strategies as st
 
 from crnplan.decision.sensitivity import changed_demand
 from crnplan.scenario import Table
-from planner.tests.decision.answers import Command, changed
+from planner.tests.conftest import Command
+from planner.tests.decision.answers import changed
 
 # Demand of examples/two_policies.toml 10% up and down, by hand. For example 3 becomes 3.3: 3 with weight 2 * 7 and 4
 # with weight 2 * 3.
@@ -95,7 +96,7 @@ def test_an_example_by_hand(crnplan: Command) -> None:
 
 def test_json_has_the_figures_of_the_table(owing: str, crnplan: Command, shown: Rows) -> None:
     """Compares the data with the table, and reads the scenario from standard input."""
-    data = json.loads(crnplan("sensitivity", "-", "--json", data=owing).output)
+    data = json.loads(crnplan("sensitivity", "-", "--json", data=owing.encode()).output)
     for record, row in zip(data["policies"], shown.values(), strict=True):
         assert {name: f"{it:.6f}" if isinstance(it, float) else str(it) for name, it in record.items()} == row
     assert data["notes"] == []

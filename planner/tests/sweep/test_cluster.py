@@ -8,7 +8,8 @@ from typing import NamedTuple
 
 import pytest
 
-from planner.tests.decision.answers import Answer, Command, priced
+from planner.tests.conftest import Answer, Command
+from planner.tests.decision.answers import priced
 from planner.tests.sweep.clusters import LOOPBACK, SECONDS, WORKERS, Cluster
 
 # A sweep of eight scenarios, for two workers.

@@ -10,7 +10,7 @@ from pathlib import Path
 import pytest
 
 from crnplan.sweep.progress import lines, progress
-from planner.tests.decision.answers import Command
+from planner.tests.conftest import Command
 
 # Ten scenarios without the base: 150 pairs.
 WORDS = ["sweep", "examples/two_policies.toml", "--s", "1", "10", "1", "--S", "41", "55", "1", "--jobs", "1"]
