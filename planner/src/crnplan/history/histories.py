@@ -8,7 +8,7 @@ from collections.abc import Sequence
 from dataclasses import dataclass
 from itertools import compress
 from pathlib import Path
-from typing import Any, NoReturn
+from typing import Any
 
 from ..errors import Fault, Refused, RefusedFaults
 from ..formats import MOST_WEIGHT
@@ -109,8 +109,12 @@ class _Movements:
             self.rows, self.dates = list(compress(self.rows, inside)), list(compress(self.dates, inside))
             self.amounts = {name: list(compress(its, inside)) for name, its in self.amounts.items()}
         if not self.rows:
-            name = self.reading.sheet.name
-            raise RefusedFaults([Fault(f"no row is from {start or 'the beginning'} to {end or 'the end'}; change --from or --to", name)])
+            raise self.refused_span(f"no row is from {start or 'the beginning'} to {end or 'the end'}; change --from or --to")
+
+    def refused_span(self, reason: str, row: int | None = None) -> RefusedFaults:
+        """Returns the error of a record whose ends can't be meant, at the date of a row if there is one."""
+        sheet = self.reading.sheet
+        return RefusedFaults([Fault(reason, sheet.name) if row is None else sheet.reject(row, self.date, reason)])
 
     def suspect(self) -> None:
         """Notes what is suspicious in the movements."""
@@ -152,21 +156,16 @@ def _spanned(movements: _Movements, start: Day | None, end: Day | None, whole: b
                end is None or first_day(last + 1, every) - datetime.timedelta(days=1) != end]
     periods = range(first + (whole and partial[0]), last + 1 - (whole and partial[1]))
     if not periods:
-        _refuse_span(movements, f"there is no {every} between the first and the last one; leave --whole out", None)
+        raise movements.refused_span(f"there is no {every} between the first and the last one; leave --whole out", movements.rows[0])
     if len(periods) > MOST_WEIGHT:
-        _refuse_span(movements, f"{len(periods):,} {every}s are more than {MOST_WEIGHT:,}; correct the first or the last date, "
-                     "or take longer periods (--every)", ends[1])
+        last = next((row for row, (day, _) in zip(movements.rows, movements.dates) if day == ends[1]), None)
+        advice = "change --from or --to" if start or end else "correct the first or the last date"
+        raise movements.refused_span(f"{len(periods):,} {every}s are more than {MOST_WEIGHT:,}; {advice}, or take longer periods "
+                                     "(--every)", None if start or end else last)
     numbers = {period_of(it, every) for it in {day for day, _ in movements.dates}}
     movements.reading.note(f"{every}s from {period_name(periods[0], every)} to {period_name(periods[-1], every)}: "
                            f"{len(periods)}, filled with 0: {len(set(periods) - numbers)}; {_ends_text(partial, whole)}")
     return periods
-
-
-def _refuse_span(movements: _Movements, reason: str, day: Day | None) -> NoReturn:
-    """Rejects the periods of the record, at the row of a day if there is one, else at the first row."""
-    sheet = movements.reading.sheet
-    row = next((row for row, (it, _) in zip(movements.rows, movements.dates) if day in (it, None)), None)
-    raise RefusedFaults([Fault(reason, sheet.name) if row is None else sheet.reject(row, movements.date, reason)])
 
 
 def _ends_text(partial: Sequence[bool], whole: bool) -> str:
