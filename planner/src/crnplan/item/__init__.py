@@ -53,7 +53,8 @@ def plan_item(history: str | Path, settings: str | Path, out: str | Path, *, pro
     not run again. `told` is called with the name of each step before it runs. Raises RefusedFaults with all faults of the
     settings or of the history, Refused for a folder that has other files, and ProgramError.
     """
-    item = Item(Path(history), read_settings(settings), Folder(Path(out)), find_program(program))
+    read, path = read_settings(settings), find_program(program)
+    item = Item(Path(history), read, Folder(Path(out)), path)
     done = run_steps(item.folder, STEPS, item, told)
     holds = "better" not in {row["verdict"] for row in rows_of(item.text("check.csv"))}
     return Plan(item.folder.path, tuple(done), item.text("summary.txt"), holds)

@@ -24,7 +24,7 @@ def marks_of(names: Sequence[str]) -> list[tuple[float, str, str]]:
 def history_plot(figures: Figures) -> dict[str, Any]:
     """Returns the demand by period as bars."""
     counts, width = figures.demand["demand"], UNITS / len(figures.periods)
-    scale = Scale.of(counts, 4)
+    scale = Scale.of(counts, 4, integer=True)
     return {"scale": scale, "width": round(0.85 * width, 3), "marks": marks_of(figures.periods), "name": figures.item.settings.period,
             "label": "Demand by period", "bars": [(round(place * width, 3), scale.at(it)) for place, it in enumerate(counts) if it]}
 
@@ -40,7 +40,7 @@ def stock_plot(figures: Figures) -> dict[str, Any]:
     stocks: dict[str, list[int]] = {}
     for row in rows_of(figures.item.text("trajectory.csv")):
         stocks.setdefault(row["policy"], []).append(int(row["stock"]))
-    scale = Scale.of([it for its in stocks.values() for it in its], 5)
+    scale = Scale.of([it for its in stocks.values() for it in its], integer=True)
     periods = [str(it) for it in range(len(stocks[figures.today]))]
     lines = [{"name": name, "css": "of-today" if name == figures.today and len(stocks) > 1 else "of-chosen", "path": path_of(its, scale)}
              for name, its in stocks.items()]
@@ -60,7 +60,7 @@ def range_row(figures: Figures, row: Row) -> dict[str, Any]:
 def ranges_of(figures: Figures, rows: Sequence[Row], replications: int) -> dict[str, Any]:
     """Returns the differences of all policies from the base, and their scale."""
     drawn = [range_row(figures, row) for row in rows]
-    scale = Scale.of([row[name] for row in drawn for name in ("low", "mean", "high") if row[name] is not None], 5)
+    scale = Scale.of([row[name] for row in drawn for name in ("low", "mean", "high") if row[name] is not None])
     level = figures.item.settings["run"]["level"]
     note = (f"A mark is the mean difference in {replications:,} replications, a line its interval; all hold together at {100 * level:g}%. "
             "Left of 0 is cheaper.")

@@ -2,7 +2,7 @@
 from __future__ import annotations
 
 import datetime
-from collections.abc import Callable, Iterator, Mapping
+from collections.abc import Callable, Container, Iterator, Mapping
 from dataclasses import dataclass
 from decimal import Decimal
 from difflib import get_close_matches
@@ -181,11 +181,15 @@ def _decimal(value: Any) -> Decimal:
     return Decimal(str(getattr(value, "spelt", value)).replace("_", ""))
 
 
+def _meant(name: str, known: Mapping[str, Any]) -> str:
+    """Returns the known name that is spelt like this one; the empty text if none is."""
+    return next(iter(get_close_matches(name.lower(), known, 1)), "")
+
+
 def _unknown(table: str, name: str, known: Mapping[str, Any]) -> str:
     """Returns what is said of a key that should not be there."""
-    close = get_close_matches(name.lower(), known, 1)
-    if close:
-        return f"there is no such key; did you mean {close[0]}?"
+    if _meant(name, known):
+        return f"there is no such key; did you mean {_meant(name, known)}?"
     if HOMES.get(name, table) != table:
         return f"there is no such key here; move this line to [{HOMES[name]}]"
     return f"there is no such key; the keys of [{table}] are {', '.join(known)}"
@@ -195,8 +199,8 @@ def _table_troubles(tree: Mapping[str, Any]) -> Iterator[Trouble]:
     """Yields what is wrong with the tables of the document, apart from their keys."""
     for name, value in tree.items():
         if name not in TABLES:
-            close = get_close_matches(name.lower(), TABLES, 1)
-            advice = (f"did you mean [{close[0]}]?" if close else f"move this line to [{HOMES[name]}]" if name in HOMES else
+            meant = _meant(name, TABLES)
+            advice = (f"did you mean [{meant}]?" if meant else f"move this line to [{HOMES[name]}]" if name in HOMES else
                       f"the tables are {', '.join(f'[{it}]' for it in TABLES)}")
             yield (name,), f"there is no such {'table' if isinstance(value, dict) else 'key'}; {advice}"
         elif not isinstance(value, dict):
@@ -204,22 +208,34 @@ def _table_troubles(tree: Mapping[str, Any]) -> Iterator[Trouble]:
 
 
 def _key_troubles(tree: Mapping[str, Any]) -> Iterator[Trouble]:
-    """Yields what is wrong with the keys of each table, and with their values."""
+    """Yields what is wrong with the keys of each table, and with their values. A name that is misspelt is not missing too."""
+    tables_meant = {_meant(it, TABLES) for it in tree.keys() - TABLES.keys()}
     for table, rules in TABLES.items():
         given = tree.get(table, {})
         if not isinstance(given, dict):
             continue
-        for name in given.keys() - rules.keys():
+        unknown = given.keys() - rules.keys()
+        for name in unknown:
             yield (table, name), _unknown(table, name, rules)
+        meant = {_meant(name, rules) for name in unknown}
         for name, rule in rules.items():
             reason = rule.check(given[name]) if name in given else ""
             if reason:
                 yield (table, name), reason
-            elif rule.needed and name not in given:
+            elif rule.needed and name not in given and name not in meant and table not in tables_meant:
                 yield (table,), f"the key {name} is missing; write it below a line [{table}]"
 
 
-def _lead_troubles(lead: Mapping[str, Any]) -> Iterator[Trouble]:
+def _history_troubles(history: Mapping[str, Any], lead: Mapping[str, Any]) -> Iterator[Trouble]:
+    """Yields what is wrong with keys of the history beside each other."""
+    for name in NEED_DATE:
+        if history.get(name) and "date" not in history:
+            yield ("history", name), "this key needs the column of dates; write date and every too, or remove it"
+    if ("date" in history or "orders" in lead) and "every" not in history:
+        yield ("history",), 'the key every is missing; write every = "week", or day or month'
+
+
+def _lead_troubles(lead: Mapping[str, Any], folder: Path) -> Iterator[Trouble]:
     """Yields what is wrong with the way in which lead times are given."""
     ways = [it for it in LEADS if it in lead]
     if len(ways) != 1:
@@ -228,11 +244,13 @@ def _lead_troubles(lead: Mapping[str, Any]) -> Iterator[Trouble]:
         return
     if ways == ["file"] and "column" not in lead:
         yield ("lead", "file"), "the key column is missing; write the name of the column of lead times in the file"
-    for name in lead.keys() & TABLES["lead"].keys() - {ways[0], *LEADS[ways[0]]}:
+    for name in lead.keys() - {ways[0], *LEADS[ways[0]]}:
         yield ("lead", name), f"this key is not used with {ways[0]}; remove it"
+    if ways != ["times"] and not (folder / lead[ways[0]]).is_file():
+        yield ("lead", ways[0]), f"there is no file {folder / lead[ways[0]]}; name one, from the folder of this file"
 
 
-def _range_troubles(costs: Mapping[str, Any]) -> Iterator[Trouble]:
+def _cost_troubles(costs: Mapping[str, Any]) -> Iterator[Trouble]:
     """Yields that the costs are out of the program's range if all are whole numbers."""
     try:
         scaled_costs({name: _decimal(value) for name, value in costs.items()})
@@ -240,35 +258,29 @@ def _range_troubles(costs: Mapping[str, Any]) -> Iterator[Trouble]:
         yield ("costs",), str(fault).removeprefix("costs: ")
 
 
-def _joint_troubles(tree: Mapping[str, Any], path: Path) -> Iterator[Trouble]:
-    """Yields what is wrong with keys beside each other, which by themselves have no fault."""
-    history, lead, today = tree["history"], tree["lead"], tree["today"]
-    for name in NEED_DATE:
-        if history.get(name) and "date" not in history:
-            yield ("history", name), "this key needs the column of dates; write date and every too, or remove it"
-    if ("date" in history or "orders" in lead) and "every" not in history:
-        yield ("history",), 'the key every is missing; write every = "week", or day or month'
-    yield from _lead_troubles(lead)
-    for name in ("file", "orders"):
-        if name in lead and not (path.parent / lead[name]).is_file():
-            yield ("lead", name), f"there is no file {path.parent / lead[name]}; name one, from the folder of this file"
-    if today["s"] > today["S"]:
-        yield ("today", "s"), f"s = {today['s']} is above S = {today['S']}; interchange them, or raise S"
-    own, new = tree["run"].get("key"), tree["check"].get("key")
+def _joint_troubles(tree: Mapping[str, Any], good: Container[str], folder: Path) -> Iterator[Trouble]:
+    """Yields what is wrong with keys beside each other, in the tables whose keys have no fault by themselves."""
+    tables = {name: tree.get(name, {}) for name in TABLES if name in good}
+    if "history" in good:
+        yield from _history_troubles(tables["history"], tables.get("lead", {}))
+    if "lead" in good:
+        yield from _lead_troubles(tables["lead"], folder)
+    if "costs" in good:
+        yield from _cost_troubles(tables["costs"])
+    if "today" in good and tables["today"]["s"] > tables["today"]["S"]:
+        s, S = tables["today"]["s"], tables["today"]["S"]
+        yield ("today", "s"), f"s = {s} is above S = {S}; interchange them, or raise S"
+    own, new = (tables.get(name, {}).get("key") for name in ("run", "check"))
     if new is not None and new in (own, own[0] if isinstance(own, list) else None):
         yield ("check", "key"), "this is the key of the run, with the same random numbers again; write another one, or remove it"
-    yield from _range_troubles(tree["costs"])
 
 
 def _faults(tree: Mapping[str, Any], path: Path, places: Mapping[Any, Place]) -> list[Fault]:
     """Returns all faults of the settings, by line."""
     troubles = [*_table_troubles(tree), *_key_troubles(tree)]
-    spoilt = {it[0] for it, _ in troubles}
-    good = {name: tree.get(name, {}) if name not in spoilt else None for name in TABLES}
-    if not spoilt:
-        troubles += _joint_troubles({name: its or {} for name, its in good.items()}, path)
-    elif good["lead"] is not None:
-        troubles += _lead_troubles(good["lead"])
+    spoilt = {where[0] for where, _ in troubles}
+    spoilt |= {_meant(it, TABLES) for it in spoilt}
+    troubles += _joint_troubles(tree, TABLES.keys() - spoilt, path.parent)
     faults = []
     for where, what in troubles:
         home = f"[{where[0]}] {where[1]}" if len(where) > 1 else f"[{where[0]}]"

@@ -84,7 +84,7 @@ class Folder:
     def is_done(self, name: str, inputs: str) -> bool:
         """Returns whether a step was done from these inputs, and its files are as it left them."""
         kept = self.steps.get(name)
-        return bool(kept) and kept["inputs"] == inputs and all(self.digest(it) == its for it, its in kept["files"].items())
+        return kept is not None and kept["inputs"] == inputs and all(self.digest(it) == its for it, its in kept["files"].items())
 
     def keep(self, name: str, inputs: str, texts: Texts) -> None:
         """Writes the files of a step, and then the state. Files that the step wrote before and does no more are removed."""

@@ -82,13 +82,12 @@ def figures_of(item: Item) -> Figures:
 
 def headline(figures: Figures) -> str:
     """Returns the decision in a sentence."""
+    today, row = figures.scenario.policies[0], figures.decided_row(figures.chosen)
+    order = f"Below {int(row['s']):,}, order up to {int(row['S']):,}"
     if figures.chosen == figures.today:
-        policy = figures.scenario.policies[0]
-        return f"Keep today's policy: below {policy.s}, order up to {policy.S}"
-    row = figures.decided_row(figures.chosen)
-    verdict = {"better": "cheaper than today's policy", "worse": "dearer than today's policy",
-               "undecided": "not told apart from today's policy"}[row["verdict"]]
-    return f"{figures.chosen}: below {int(row['s']):,}, order up to {int(row['S']):,} - {verdict}"
+        return f"{order}: keep today's policy"
+    verdict = {"better": "cheaper than", "worse": "dearer than", "undecided": "not told apart from"}[row["verdict"]]
+    return f"{order}: {verdict} today's policy ({today.s:,}, {today.S:,})"
 
 
 def amount(value: float) -> str:
@@ -127,6 +126,12 @@ def table(figures: Figures, most: int) -> str:
         left.append(OPTIONAL[len(left)])
 
 
+def spoken(figures: Figures, row: Row, base: str) -> str:
+    """Returns what a policy costs more than the base, with its interval, and the verdict."""
+    mean, low, high = (f"{amount(abs(it))} {'less' if it < 0 else 'more'}" for it in figures.difference(row))
+    return f"costs {mean} a {figures.item.settings.period} than {base}, from {low} to {high}: {row['verdict']}."
+
+
 def comparison(figures: Figures) -> str:
     """Returns what the run says of the chosen policy, or of all others if it is today's."""
     settings, period = figures.item.settings, figures.item.settings.period
@@ -134,27 +139,19 @@ def comparison(figures: Figures) -> str:
     sample = f"The coming {run['horizon']:,} {period}s from a stock of {settings['today']['stock']:,}, {run['replications']} replications"
     if figures.chosen == figures.today:
         better = [row["policy"] for row in figures.decided if row["verdict"] == "better"]
-        return f"{sample}: {'; '.join(clause_of(better, 'is better', 'are better')) or 'no policy is better'} than today's."
-    row = figures.decided_row(figures.chosen)
-    mean, low, high = figures.difference(row)
-    word, ends = ("less", (-high, -low)) if mean < 0 else ("more", (low, high))
-    return (f"{sample}: {figures.chosen} costs {amount(abs(mean))} a {period} {word} than today's policy ({row['percent']}%), "
-            f"from {amount(ends[0])} to {amount(ends[1])} {word} at a joint level of {run['level']:g}: {row['verdict']}.")
+        return f"{sample}: {'; '.join(clause_of(better, 'is better', 'are better')) or 'no policy is better'} than {figures.today}."
+    return f"{sample}: {figures.chosen} {spoken(figures, figures.decided_row(figures.chosen), figures.today)}"
 
 
 def check(figures: Figures) -> str:
     """Returns what the check says."""
-    its, period = figures.item.settings["check"], figures.item.settings.period
+    its = figures.item.settings["check"]
     better = [row["policy"] for row in figures.checked if row["verdict"] == "better"]
     text = (f"On new random numbers ({its['keys'] * its['replications']:,} replications) {figures.chosen} "
             f"{'holds' if figures.holds else 'does not hold'}: {', '.join(better) or 'no policy'} {'are' if len(better) > 1 else 'is'} better.")
     if figures.chosen == figures.today:
         return text
-    row = figures.checked_row(figures.today)
-    mean, low, high = figures.difference(row)
-    word, ends = ("more", (low, high)) if mean >= 0 else ("less", (-high, -low))
-    return (f"{text} Today's policy costs {amount(abs(mean))} a {period} {word}, from {amount(ends[0])} to {amount(ends[1])}: "
-            f"{row['verdict']}.")
+    return f"{text} There {figures.today} {spoken(figures, figures.checked_row(figures.today), figures.chosen)}"
 
 
 def warning(figures: Figures) -> str:

@@ -21,12 +21,12 @@ class Scale:
     ticks: tuple[float, ...]
 
     @classmethod
-    def of(cls, values: Sequence[float], most: int = 5) -> Scale:
+    def of(cls, values: Sequence[float], most: int = 5, integer: bool = False) -> Scale:
         """Returns the scale that has these values and 0."""
         from matplotlib.ticker import MaxNLocator
         low, high = min(0.0, *values), max(0.0, *values)
         high = high if high > low else low + 1
-        ticks = [float(it) for it in MaxNLocator(most, steps=[1, 2, 2.5, 5, 10]).tick_values(low, high)]
+        ticks = [float(it) for it in MaxNLocator(most, steps=[1, 2, 2.5, 5, 10], integer=integer).tick_values(low, high)]
         return cls(low, high, tuple(it for it in ticks if low <= it <= high))
 
     def at(self, value: float) -> float:

@@ -1,0 +1,340 @@
+"""Tests `crnplan item` from nothing, again, interrupted and with changed inputs, and what it refuses."""
+from __future__ import annotations
+
+import json
+import os
+import shutil
+from collections.abc import Callable
+from html.parser import HTMLParser
+from pathlib import Path
+
+import pytest
+
+from crnplan import Scenario, item, plan_item
+from crnplan.engine.report import read_rows
+from crnplan.item import steps
+from planner.tests.item.commanded import Told, crnplan
+
+HERE = Path(__file__).parent
+STEPS = ["tables", "scenario", "suggestions", "run", "decision", "check", "trajectory", "summary"]
+FILES = {"tables.toml", "demand.csv", "notes.txt", "scenario.toml", "suggested.toml", "suggested.txt", "suggested.csv", "report.csv",
+         "decision.txt", "decision.csv", "check.txt", "check.csv", "trajectory.csv", "summary.txt", "summary.html", "state.json"}
+NOTHING = "nothing has changed since the last run; nothing was done"
+Change = Callable[[Path], None]
+
+
+@pytest.fixture
+def room(tmp_path: Path, top: Path) -> Path:
+    """Returns a folder with a history, lead times and small settings."""
+    shutil.copy(top / "examples/case/history.csv", tmp_path)
+    shutil.copy(top / "examples/case/lead_times.csv", tmp_path)
+    shutil.copy(HERE / "settings.toml", tmp_path)
+    return tmp_path
+
+
+def plan(room: Path, program: Path, out: str = "plan") -> Told:
+    """Plans the item of a folder."""
+    return crnplan("item", room / "history.csv", room / "settings.toml", "--out", room / out, "--program", program)
+
+
+def bytes_of(folder: Path) -> dict[str, bytes]:
+    """Returns the bytes of all files of a folder."""
+    return {it.name: it.read_bytes() for it in folder.iterdir()}
+
+
+def edit(path: Path, old: str, new: str) -> None:
+    """Changes a text that stands in a file once."""
+    text = path.read_text()
+    assert text.count(old) == 1
+    path.write_text(text.replace(old, new))
+
+
+def test_from_nothing(room: Path, program: Path) -> None:
+    """All files are there, and the summary is printed, of one screen."""
+    status, output, errors = plan(room, program)
+    assert status in (0, 1) and errors == f"{room / 'plan'}: done: {', '.join(STEPS)}\n"
+    assert set(bytes_of(room / "plan")) == FILES
+    assert output == (room / "plan/summary.txt").read_text()
+    assert len(output.splitlines()) <= 24 and max(map(len, output.splitlines())) <= 80
+
+
+def test_again_nothing_is_done(room: Path, program: Path) -> None:
+    """A second run touches no file, says so, and prints the same summary with the same status."""
+    first = plan(room, program)
+    before = {it.name: (it.stat().st_mtime_ns, it.stat().st_ino) for it in (room / "plan").iterdir()}
+    again = plan(room, program)
+    assert again == (first.status, first.output, f"{room / 'plan'}: {NOTHING}\n")
+    assert before == {it.name: (it.stat().st_mtime_ns, it.stat().st_ino) for it in (room / "plan").iterdir()}
+
+
+def test_same_bytes_elsewhere(room: Path, program: Path, monkeypatch: pytest.MonkeyPatch) -> None:
+    """Another folder, and another way to name the files, give the same bytes."""
+    plan(room, program)
+    monkeypatch.chdir(room)
+    crnplan("item", "history.csv", "./settings.toml", "--out", "other/plan", "--program", program)
+    assert bytes_of(room / "plan") == bytes_of(room / "other/plan")
+
+
+@pytest.mark.parametrize("name", STEPS)
+def test_interrupted_in_a_step(name: str, room: Path, program: Path, monkeypatch: pytest.MonkeyPatch) -> None:
+    """After an interruption it goes on with the step that was not finished, to the same bytes."""
+    plan(room, program, "whole")
+
+    def interrupted(*_: object) -> None:
+        raise KeyboardInterrupt
+
+    place = STEPS.index(name)
+    cut = (*item.STEPS[:place], steps.Step(name, item.STEPS[place].reads, item.STEPS[place].facts, interrupted))
+    with monkeypatch.context() as patched:
+        patched.setattr(item, "STEPS", cut)
+        assert plan(room, program) == (130, "", "crnplan: interrupted\n")
+    assert plan(room, program).errors == f"{room / 'plan'}: done: {', '.join(STEPS[place:])}\n"
+    assert bytes_of(room / "plan") == bytes_of(room / "whole")
+
+
+@pytest.mark.parametrize("writes", [0, 1, 2, 4, 6, 9, 13, 20, 28])
+def test_interrupted_at_a_write(writes: int, room: Path, program: Path, monkeypatch: pytest.MonkeyPatch) -> None:
+    """If it is interrupted between two files, no file is there in part, and the next run goes on to the same bytes."""
+    plan(room, program, "whole")
+    replace, left = os.replace, [writes]
+
+    def counted(*words: str) -> None:
+        if not left[0]:
+            raise KeyboardInterrupt
+        left[0] -= 1
+        replace(*words)
+
+    with monkeypatch.context() as patched:
+        patched.setattr(os, "replace", counted)
+        assert plan(room, program).status == 130
+    whole = bytes_of(room / "whole")
+    assert all(whole[name] == data for name, data in bytes_of(room / "plan").items() if name != "state.json" and ".part" not in name)
+    plan(room, program)
+    assert bytes_of(room / "plan") == whole
+
+
+CHANGES: dict[str, tuple[Change, list[str]]] = {
+    "a comment": (lambda room: edit(room / "settings.toml", "# A small item", "# An item"), []),
+    "the program": (lambda room: edit(room / "program", "exec", "\nexec"), ["run", "check", "trajectory"]),
+    "a later week": (lambda room: edit(room / "history.csv", "2023-W02,4", "2023-W02,5"), STEPS),
+    "the name of a week": (lambda room: edit(room / "history.csv", "2023-W02,4", "2023-W2,4"), ["tables"]),
+    "the lead times": (lambda room: edit(room / "settings.toml", "[2, 3, 2, 4]", "[2, 3, 2, 5]"), STEPS),
+    "a cost": (lambda room: edit(room / "settings.toml", "9.00", "10.00"), STEPS[1:]),
+    "the horizon": (lambda room: edit(room / "settings.toml", "horizon = 12", "horizon = 13"), STEPS[1:]),
+    "a cost that is spelt in another way": (lambda room: edit(room / "settings.toml", "9.00", "9.0"), ["scenario", "summary"]),
+    "the level": (lambda room: edit(room / "settings.toml", "key =", "level = 0.9\nkey ="), ["scenario", "decision", "check", "summary"]),
+    "the check": (lambda room: edit(room / "settings.toml", "replications = 8", "replications = 9"), ["check", "summary"]),
+    "a file that was removed": (lambda room: (room / "plan/decision.txt").unlink(), ["decision"]),
+    "a file that was edited": (lambda room: edit(room / "plan/report.csv", "best,", "first,"), ["run"]),
+    "a state that was lost": (lambda room: (room / "plan/state.json").write_text("{"), STEPS)}
+
+
+@pytest.mark.parametrize("name", CHANGES)
+def test_a_change_runs_what_depends_on_it(name: str, room: Path, program: Path) -> None:
+    """A changed input runs the steps that depend on it, to the same bytes as from nothing."""
+    own = room / "program"
+    own.write_text(f'#!/bin/sh\nexec {program} "$@"\n')
+    own.chmod(0o755)
+    plan(room, own)
+    change, wanted = CHANGES[name]
+    change(room)
+    done = f"done: {', '.join(wanted)}" if wanted else NOTHING
+    assert plan(room, own).errors == f"{room / 'plan'}: {done}\n"
+    plan(room, own, "anew")
+    assert bytes_of(room / "plan") == bytes_of(room / "anew")
+
+
+def test_worked_case(top: Path, tmp_path: Path, program: Path) -> None:
+    """The worked case's settings give its suggestions, its report and its check."""
+    case, out = top / "examples/case", tmp_path / "plan"
+    status, output, _ = crnplan("item", case / "history.csv", case / "settings.toml", "--out", out, "--program", program)
+    assert status == 0
+    for name in ("suggested.txt", "check.txt"):
+        assert (out / name).read_text() == (case / name).read_text()
+    wanted = Scenario.read(case / "suggested.toml")
+    assert Scenario.read(out / "suggested.toml") == wanted
+    assert (out / "report.csv").read_text() == wanted.run(program=program).text
+    told = crnplan("decide", out / "report.csv", "--scenario", out / "suggested.toml")
+    assert told.output == (out / "decision.txt").read_text()
+    assert output.startswith("Below 12, order up to 30: cheaper than today's policy (15, 30)\n") and "best holds" in output
+
+
+def test_decimals_are_scaled(room: Path, program: Path) -> None:
+    """Costs of 0.60 and 6 give the same decision, in tenths and in units of money."""
+    plan(room, program)
+    text = (room / "settings.toml").read_text()
+    (room / "settings.toml").write_text(text.replace("45.00", "450").replace("0.60", "6").replace("9.00", "90"))
+    plan(room, program, "whole")
+    for name in ("report.csv", "decision.csv", "check.csv"):
+        assert (room / "plan" / name).read_text() == (room / "whole" / name).read_text()
+    lines = [[line for line in (room / it / "summary.txt").read_text().splitlines() if line.startswith("today ")][0].split()
+             for it in ("plan", "whole")]
+    assert [round(10 * float(it.replace(",", ""))) for it in lines[0][3:8:4]] == [
+        round(float(it.replace(",", ""))) for it in lines[1][3:8:4]] or lines
+
+
+def test_today_is_the_best(room: Path, program: Path) -> None:
+    """If theory finds nothing better, today's policy is checked and kept."""
+    best = next(it for it in plan_item(room / "history.csv", room / "settings.toml", room / "plan", program=program).summary.splitlines()
+                if it.startswith("best ")).split()
+    edit(room / "settings.toml", "s = 15\nS = 30", f"s = {best[1]}\nS = {best[2]}")
+    output = plan(room, program, "kept").output
+    assert output.startswith(f"Below {best[1]}, order up to {best[2]}: keep today's policy\n") and "today holds" in output.replace("\n", " ")
+
+
+def test_policy_that_does_not_hold(room: Path, program: Path) -> None:
+    """The exit status is 1 if a policy is better than the chosen one on new random numbers."""
+    edit(room / "settings.toml", "[check]\nreplications = 8", '[check]\nreplications = 64\npolicy = "fewest_orders"')
+    status, output, _ = plan(room, program)
+    verdicts = (room / "plan/check.csv").read_text()
+    assert status == 1 and ",better\n" in verdicts and "fewest_orders does not hold" in output.replace("\n", " ")
+    assert plan(room, program).status == 1
+
+
+def test_several_keys(room: Path, program: Path) -> None:
+    """A check on several keys has a given one first, and others that follow from it."""
+    edit(room / "settings.toml", "replications = 8", 'replications = 8\nkeys = 3\nkey = "0000000000000001"')
+    plan(room, program)
+    keys = [line.split()[1:] for line in (room / "plan/check.txt").read_text().splitlines() if line.startswith("--key")]
+    assert len(keys) == 3 and keys[0][0] == "0000000000000001" and len({tuple(it) for it in keys}) == 3
+    assert "24 replications" in (room / "plan/summary.txt").read_text()
+
+
+def test_dates_returns_and_orders(room: Path, program: Path) -> None:
+    """Movements by date with returns, and the dates of orders, give a scenario with returns and notes without paths."""
+    (room / "history.csv").write_text("Datum;Menge;Retour\n02.03.2026;3,0;0\n05.03.2026;2,0;1\n24.03.2026;4,0;0\n")
+    (room / "orders.csv").write_text("ordered;received\n12.01.2026;20.01.2026\n09.02.2026;02.03.2026\n23.03.2026;\n")
+    edit(room / "settings.toml", 'demand = "demand"', 'demand = "Menge"\ndate = "Datum"\nreturns = "Retour"\ndecimal = ","\nto = 2026-03-31')
+    edit(room / "settings.toml", "times = [2, 3, 2, 4]", 'orders = "orders.csv"')
+    told = plan(room, program)
+    assert told.status in (0, 1), told.errors
+    scenario = Scenario.read(room / "plan/scenario.toml")
+    assert (scenario.demand.tree, scenario.lead.tree) == ({"values": [0, 4, 5], "weights": [3, 1, 1]}, {"values": [1, 3], "weights": [1, 1]})
+    assert scenario.returns and scenario.returns.tree == {"values": [0, 1], "weights": [4, 1]}
+    assert (room / "plan/demand.csv").read_text().splitlines()[:2] == ["period,demand,returns", "2026-W10,5,1"]
+    notes = (room / "plan/notes.txt").read_text()
+    assert "history.csv: weeks from 2026-W10 to 2026-W14" in notes and "orders.csv: lead times in weeks: 2" in notes
+    assert str(room) not in notes
+
+
+def test_boxes(room: Path, program: Path) -> None:
+    """Demand is counted in boxes."""
+    edit(room / "settings.toml", 'demand = "demand"', 'demand = "demand"\nbox = 5')
+    plan(room, program)
+    assert Scenario.read(room / "plan/scenario.toml").demand.values == (0, 1, 2)
+
+
+def test_largest_numbers_fit_one_screen(room: Path, program: Path) -> None:
+    """The summary keeps to a screen if numbers are large and lines are long."""
+    (room / "history.csv").write_text("demand\n" + "9000\n10000\n0\n" * 5)
+    text = (HERE / "settings.toml").read_text()
+    for old, new in (("45.00", "99999999.00"), ("0.60", "10000"), ("9.00", "10000.00"), ("s = 15", "s = 40000"), ("S = 30", "S = 900000"),
+                     ("stock = 20", "stock = 30000"), ("holding = 10000", "holding = 9999\nunit = 1")):
+        text = text.replace(old, new)
+    (room / "settings.toml").write_text(text)
+    status, output, errors = plan(room, program)
+    assert status in (0, 1), errors
+    assert "WARNING: unit = 1 " in output
+    assert len(output.splitlines()) <= 24 and max(map(len, output.splitlines())) <= 80
+
+
+class Page(HTMLParser):
+    """Reads a page: its texts, and whether each element is closed."""
+
+    VOID = {"meta", "br", "line", "rect", "path"}
+
+    def __init__(self, text: str) -> None:
+        """Reads the page."""
+        super().__init__()
+        self.open: list[str] = []
+        self.texts: list[str] = []
+        self.links: list[str] = []
+        self.feed(text)
+        self.close()
+
+    def handle_starttag(self, tag: str, attrs: list[tuple[str, str | None]]) -> None:
+        """Opens an element."""
+        self.links += [str(value) for name, value in attrs if name in ("src", "href", "xlink:href")]
+        if tag not in self.VOID:
+            self.open.append(tag)
+
+    def handle_startendtag(self, tag: str, attrs: list[tuple[str, str | None]]) -> None:
+        """Passes over an element without content."""
+
+    def handle_endtag(self, tag: str) -> None:
+        """Closes an element."""
+        assert self.open.pop() == tag
+
+    def handle_data(self, data: str) -> None:
+        """Keeps a text."""
+        self.texts.append(data)
+
+
+def test_page_stands_alone(room: Path, program: Path) -> None:
+    """The page is closed in itself, links to nothing, and has the summary's words and all policies."""
+    plan(room, program)
+    text = (room / "plan/summary.html").read_text()
+    page = Page(text)
+    assert not page.open and not page.links and "http" not in text and "url(" not in text and "<script" not in text
+    words = " ".join(" ".join(page.texts).split())
+    summary = (room / "plan/summary.txt").read_text()
+    for paragraph in summary.split("\n\n")[:2] + [summary.split("\n\n")[3].split("long run to orders")[0].split(". On new")[0]]:
+        assert " ".join(paragraph.split()).split(". On new")[0] in words
+    for row in read_rows((room / "plan/report.csv").read_text()):
+        assert words.count(f" {row.policy} ") >= 3
+    assert text.count('class="bar"') == sum(line.split(",")[1] != "0" for line in (room / "plan/demand.csv").read_text().splitlines()[1:])
+
+
+def test_page_escapes_texts(room: Path, program: Path) -> None:
+    """A file's name is no markup."""
+    shutil.copy(room / "history.csv", room / "a<b>&.csv")
+    crnplan("item", room / "a<b>&.csv", room / "settings.toml", "--out", room / "plan", "--program", program)
+    text = (room / "plan/summary.html").read_text()
+    assert "a&lt;b&gt;&amp;.csv" in text and "<b>&.csv" not in text and not Page(text).open
+
+
+REFUSED: dict[str, tuple[Change, str]] = {
+    "no history": (lambda room: (room / "history.csv").unlink(), "history.csv: No such file"),
+    "no settings": (lambda room: (room / "settings.toml").unlink(), "settings.toml: No such file"),
+    "no column": (lambda room: edit(room / "settings.toml", '"demand"', '"sales"'), "no column 'sales'"),
+    "a folder with other files": (lambda room: [(room / "plan").mkdir(), (room / "plan/mine.txt").touch()],
+                                  "the folder is not empty, and no plan is in it; name a new folder"),
+    "a file for a folder": (lambda room: (room / "plan").touch(), "plan: File exists; name a folder"),
+    "no such policy": (lambda room: edit(room / "settings.toml", "[check]", '[check]\npolicy = "bets"'), "there is no policy 'bets'"),
+    "no cost of backlog": (lambda room: edit(room / "settings.toml", "9.00", "0"), "backlog")}
+
+
+@pytest.mark.parametrize("name", REFUSED)
+def test_refused_in_one_line(name: str, room: Path, program: Path) -> None:
+    """What cannot be used is refused in one line that names it, with nothing on standard output."""
+    change, part = REFUSED[name]
+    change(room)
+    status, output, errors = plan(room, program)
+    assert (status, output, errors.count("\n")) == (2, "", 1) and part in errors
+
+
+def test_all_faults_of_a_history(room: Path, program: Path) -> None:
+    """The faults of a history are reported in one pass, with their lines."""
+    edit(room / "history.csv", "2023-W02,4", "2023-W02,many")
+    edit(room / "history.csv", "2023-W07,1", "2023-W07,-1")
+    status, output, errors = plan(room, program)
+    assert (status, output) == (2, "") and "history.csv:3:" in errors and "history.csv:8:" in errors
+
+
+def test_no_program(room: Path) -> None:
+    """Without the program nothing is done."""
+    status, output, errors = plan(room, room / "missing")
+    assert (status, output, errors.count("\n")) == (2, "", 1) and "there is no program" in errors
+    assert not (room / "plan").exists()
+
+
+@pytest.mark.parametrize("script, part", [("echo no report", "no report"), ("echo crnsim: memory >&2; exit 7", "crnsim: memory")])
+def test_program_that_fails(script: str, part: str, room: Path, program: Path) -> None:
+    """If the program fails, what was made before is kept, and a good program goes on from there."""
+    bad = room / "bad"
+    bad.write_text(f"#!/bin/sh\n{script}\n")
+    bad.chmod(0o755)
+    status, output, errors = plan(room, bad)
+    assert (status, output) == (2, "") and part in errors
+    assert list(json.loads((room / "plan/state.json").read_text())["steps"]) == sorted(STEPS[:3])
+    assert plan(room, program).errors == f"{room / 'plan'}: done: {', '.join(STEPS[3:])}\n"
