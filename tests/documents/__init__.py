@@ -1,0 +1,1 @@
+"""Tests of the pages: what they link to, quote, name, compute and run."""

@@ -1,0 +1,43 @@
+"""Each link of a page leads to a file and a heading, and no page grows beyond its words."""
+from __future__ import annotations
+
+import os
+import re
+
+import pytest
+
+from tests.documents.markdown import FENCE, PAGES, anchors_of, text_of
+from tests.runs import TOP
+
+# What people read to use and to change the program. DEFINITIONS.md is generated.
+READ = [it for it in PAGES if it.startswith("docs/") and it != "docs/DEFINITIONS.md"] + ["README.md", "CONTRIBUTING.md"]
+
+
+@pytest.mark.parametrize("page", PAGES)
+def test_links(page: str) -> None:
+    """A link to a file of the repository, or to a heading, leads there."""
+    def leads(link: str) -> bool:
+        path, _, anchor = link.partition("#")
+        name = os.path.normpath(os.path.join(os.path.dirname(page), path)) if path else page
+        return (TOP / name).exists() and (not anchor or anchor in anchors_of(name))
+
+    links = [it for it in re.findall(r"\]\(([^)\s]+)\)", text_of(page)) if not it.startswith("http")]
+    wrong = [it for it in links if not leads(it)]
+    assert not wrong
+
+
+@pytest.mark.parametrize("page", PAGES)
+def test_fences(page: str) -> None:
+    """Each fence is spelt as the others are."""
+    text = text_of(page)
+    assert len(re.findall(r"^ *(?:```|~~~)", text, re.MULTILINE)) == 2 * len(FENCE.findall(text))
+
+
+def test_words() -> None:
+    """All pages that are read have at most 27,000 words, code and tables included."""
+    assert sum(len(text_of(it).split()) for it in READ) <= 27_000
+
+
+def test_words_of_the_guide() -> None:
+    """The guide has at most 3,500 words."""
+    assert len(text_of("docs/GUIDE.md").split()) <= 3_500

@@ -1,0 +1,97 @@
+"""What the pages say of the crates is what the repository has: names, quotes, and wrong implementations."""
+from __future__ import annotations
+
+import re
+from collections import Counter
+
+import pytest
+
+from tests.documents.markdown import spans_of, text_of
+from tests.runs import TOP
+from tools.edits import FOLDERS, Edit, crates, edits_of
+
+LISTED = {name: below.split() for name, below in re.findall(r"^(\w+):(.*)$", text_of("crates.txt"), re.MULTILINE)}
+ROWS = dict(re.findall(r"^\| `((?:crn|tests_|uses)[a-z_]*)` \|[^|]*\|([^|]*)\|", text_of("docs/ARCHITECTURE.md"),
+                       re.MULTILINE))
+# What the program gives out. Each is defined in a crate below it, so main.rt compiles only if it is there.
+PROGRAM_NAMES = {"simulate", "leg", "resume", "migrate", "replay_run", "read_words", "Command", "Fault"}
+# Names in pages that stand for any of their kind.
+STANDING_FOR_ANY = {"crn_x", "tests_x", "tests_ring_tests", "what_it_does_wrong"}
+ENGINEERS = ["docs/CALLING.md", "docs/CHANGING.md", "docs/ARCHITECTURE.md", "docs/PROOFS.md", "docs/READING.md", "CONTRIBUTING.md"]
+EDITS = [it for crate in crates() for folder in FOLDERS for it in edits_of(crate, folder)]
+SENTENCES = Counter(it.what for it in EDITS)
+
+
+def test_map_has_each_crate() -> None:
+    """ARCHITECTURE lists the crates of crates.txt."""
+    assert sorted(ROWS) == sorted(LISTED)
+
+
+@pytest.mark.parametrize("name", ROWS)
+def test_map_of_crate(name: str) -> None:
+    """ARCHITECTURE says which crates a crate stands on."""
+    assert sorted(re.findall("`([a-z_]+)`", ROWS[name])) == sorted(LISTED[name])
+
+
+def test_program_gives_out_its_names() -> None:
+    """The program exports its engines, its command line and its faults. crates/tests_engines has the other names."""
+    given = re.findall(r"^pub use [\w:]+?(?:::(\w+)|::\{([^}]*)\});", text_of("crates/crnsim/src/main.rt"), re.MULTILINE)
+    names = {name.strip() for one, more in given for name in (more or one).split(",")}
+    assert names >= PROGRAM_NAMES
+
+
+def quotes() -> dict[str, tuple[str, list[str]]]:
+    """Returns the quoted lines of the pages by a name, each with the files that the paragraph before it names."""
+    reading = text_of("docs/READING.md")
+    chain = reading[reading.index("## The chain"):reading.index("## What must be believed")]
+    found = {}
+    for page, text in (("READING", chain), ("CALLING", text_of("docs/CALLING.md"))):
+        for before, block in re.findall(r"((?:^(?!```)[^\n]*\n)+)^```\n(.*?)^```$", text, re.MULTILINE | re.DOTALL):
+            files = re.findall(r"`(crates/[^`]*\.(?:rt|antt))`", before)
+            found |= {f"{page}: {line.strip()}": (line, files) for line in block.splitlines()}
+    return found
+
+
+def test_quotes(check_all) -> None:
+    """A quoted line stands in one of the files that the paragraph before it names, and each of these is there."""
+    def stands(line: str, files: list[str]) -> bool:
+        texts = [" ".join(text_of(it).split()) for it in files if (TOP / it).exists()]
+        return len(texts) == len(files) > 0 and any(" ".join(line.split()) in it for it in texts)
+
+    check_all((name, stands(*quote)) for name, quote in quotes().items())
+
+
+@pytest.fixture(scope="module")
+def words() -> set[str]:
+    """Returns the names of the code: words of sources, functions and classes of Python, and names of files and crates."""
+    patterns = ("crates/*/src/**/*.rt", "crates/*/specs/**/*.antt", "crates/*/proofs/**/*.antt", "crates/*/*/*.edit",
+                "tests/**/*.*", "tools/*", "examples/**/*.*", "planner/**/*.*")
+    paths = [it for pattern in patterns for it in TOP.glob(pattern) if it.is_file()]
+    code = [it for it in paths if it.suffix in (".rt", ".antt", ".edit")]
+    names = {word for it in code for word in re.findall(r"\w+", it.read_text("utf-8"))}
+    names |= {word for it in paths if it.suffix == ".py"
+              for word in re.findall(r"^ *(?:def|class) (\w+)", it.read_text("utf-8"), re.MULTILINE)}
+    return names | {it.stem for it in paths} | {it.relative_to(TOP).parts[1] for it in paths}
+
+
+@pytest.mark.parametrize("page", ENGINEERS)
+def test_names_of_the_code(page: str, words: set[str]) -> None:
+    """A name of the code that a page for engineers uses stands in a source."""
+    names = {it for span in re.findall(r"`([^`\n]+)`", text_of(page)) for it in re.findall(r"\b[a-z]+_[a-z0-9_]+\b", span)}
+    assert names
+    assert sorted(names - words - STANDING_FOR_ANY) == []
+
+
+@pytest.mark.parametrize("edit", EDITS, ids=lambda it: f"{it.crate}-{it.folder}-{it.name}")
+def test_wrong_implementation_says_what_it_is(edit: Edit) -> None:
+    """It says what goes wrong, in a sentence of its own, and which function or test must notice it."""
+    assert SENTENCES[edit.what] == 1 and edit.what.endswith(".")
+    assert edit.seen_by if edit.folder == "tested" else edit.refused_by
+
+
+@pytest.mark.parametrize("page", ["CONTRIBUTING.md", "docs/CHANGING.md"])
+def test_pages_name_wrong_implementations(page: str) -> None:
+    """A wrong implementation that a page names is there."""
+    rows = re.findall(r"`(?:wrong|must-fail|tested)/`[^|\n]*\|([^|\n]*)", text_of(page))
+    named = {name for row in rows for name in re.findall(r"`([a-z0-9]+_[a-z0-9_]+)`", row)}
+    assert sorted(named - {it.name for it in EDITS} - set(LISTED)) == []
