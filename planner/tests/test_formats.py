@@ -29,29 +29,32 @@ def test_ranges_of_counts() -> None:
     assert list(formats.VERSIONS) == sorted(set(numbers_of(versions)))
     policies = next(home for home, *_ in table_with("Table", "Key") if "`policy`" in home)
     assert [formats.POLICIES] == ranges_of(policies)
-    assert formats.WEIGHT_SUMS == next(ranges for table, name, ranges, _ in KEYS if (table, name) == ("demand", "weights"))[1]
+    assert all(formats.WEIGHT_SUMS == ranges[1] for _, name, ranges, _ in KEYS if name == "weights")
     assert formats.MOST_BYTES == max(numbers_of(words_with("Status", "Line", cell="crnsim: reading")))
     assert [formats.MOST_LEVELS] == numbers_of(re.search("more than ([0-9]+) lists", TEXT)[1])
 
 
 def test_key_words_and_names() -> None:
     """Compares the spelling of the stream's key and of a policy's name."""
-    key, name = (next(text for _, its, text in table_with("Table", "Key") if its == f"`{it}`") for it in ("key", "name"))
+    texts = {key.strip("`"): text for _, key, text in table_with("Table", "Key")}
+    key, name = texts["key"], texts["name"]
     words = re.fullmatch(r"(four) texts, each ([0-9]+) digits of `0-9a-f`: .*", key)
     assert (["", "one", "two", "three", "four"][formats.WORDS_OF_KEY], str(formats.DIGITS_OF_WORD)) == words.groups()
     inside = "".join(re.escape(it) if len(it) == 1 else it for it in spans_of(name)[0].split())
     assert formats.NAME.pattern == "[%s]{%d,%d}" % (inside, *ranges_of(name)[0])
 
 
-@pytest.mark.parametrize("place, rules", [(0, formats.RULES), (1, formats.CHECKPOINT_RULES)], ids=["scenario", "checkpoint"])
+@pytest.mark.parametrize("place, rules", [(0, formats.RULES), (1, formats.CHECKPOINT_RULES)], ids=["scenario", "cut"])
 def test_rules(place: int, rules: dict[str, int]) -> None:
     """Compares the names and numbers of the rules."""
-    assert [(spans_of(name)[0], int(number)) for number, name, *_ in tables_with("Number", "Name")[place]] == list(rules.items())
+    table = tables_with("Number", "Name")[place]
+    assert [(spans_of(name)[0], int(number)) for number, name, *_ in table] == list(rules.items())
 
 
 def test_columns_of_a_report() -> None:
     """Compares the columns, which of them are fractions, and the heading line."""
-    columns = [(name, "fraction" in text) for names, text in table_with("Field", "What it says") for name in spans_of(names)]
+    table = table_with("Field", "What it says")
+    columns = [(name, "fraction" in text) for names, text in table for name in spans_of(names)]
     assert [(name, kind == "fraction") for name, kind in formats.COLUMNS.items()] == columns
     assert f"```\n{formats.HEADER}\n```" in TEXT
     assert formats.WHOLE == tuple(it for it in formats.COLUMNS if it != "policy" and it not in formats.FRACTIONS)
@@ -64,15 +67,16 @@ def test_rows_of_a_checkpoint() -> None:
     assert [[kind, *fields] for kind, fields in formats.ROWS.items()] == spelt
     assert list(formats.CHECKPOINT_VERSIONS) == list(range(1, 1 + int(spelt[0][1])))
     assert formats.MOST_COST == max(numbers_of(words_with("Rows, in this order", "Fields", cell="`state`")))
-    assert formats.MOST_CHECKPOINT_BYTES == numbers_of(re.search("No checkpoint has more than ([0-9,]+)\nbytes", TEXT)[1])[0]
+    most = re.search("No checkpoint has more than ([0-9,]+)\nbytes", TEXT)[1]
+    assert [formats.MOST_CHECKPOINT_BYTES] == numbers_of(most)
 
 
 def test_commands_and_statuses() -> None:
     """Compares the words of each command and the status of each fault."""
     words = (spans_of(row[0]) for row in table_with("Input", "Output"))
     assert list(formats.COMMANDS) == [it for row in words for it in row if not it.startswith("-")]
-    faults = ((line.strip("`").removeprefix("crnsim: "), int(status)) for status, line, _ in table_with("Status", "Line") if line)
-    assert formats.STATUSES == {line.removesuffix(" k"): status for line, status in faults}
+    faults = ((line.strip("`").removeprefix("crnsim: "), status) for status, line, _ in table_with("Status", "Line"))
+    assert formats.STATUSES == {line.removesuffix(" k"): int(status) for line, status in faults if line}
     assert [formats.status_of(it) for it in ("", "scenario 6", "command line")] == [0, 3, 2]
 
 
@@ -80,6 +84,7 @@ def test_least_scenario_is_of_its_version() -> None:
     """Checks the keys of the least scenario, and the version that a document's keys need."""
     for version in formats.VERSIONS:
         tree = formats.least_scenario(version)
-        assert tree.keys() == formats.SHAPES[version].keys() and formats.version_with(tree) == tree["version"] == version
+        assert tree.keys() == formats.SHAPES[version].keys()
+        assert formats.version_with(tree) == tree["version"] == version
     with pytest.raises(LookupError, match="no key colour in table costs"):
         formats.key_of("costs", "colour")

@@ -1,7 +1,6 @@
 """Gives the formats of crnsim as typed constants: keys, ranges, rules, versions, columns, commands and statuses.
-
-They are read once from formats.toml. docs/FORMATS.md says what each key means. Which scenarios crnsim takes is proved; this
-module is not.
+ They are read once from formats.toml. docs/FORMATS.md says what each key means. Which scenarios crnsim takes is proved;
+this module is not.
 """
 from __future__ import annotations
 
@@ -12,7 +11,8 @@ from dataclasses import dataclass
 from pathlib import Path
 from typing import Any
 
-# What stands at each key of a table: a kind, then the limits of a number or of the numbers of a list, or the shape of a table.
+# What stands at each key of a table: a kind, then the limits of a number or of the numbers of a list, or the shape of a
+# table.
 Shape = dict[str, tuple[Any, ...]]
 
 # Keys that are judged by rules of their own, by which their kind is named.
@@ -93,7 +93,8 @@ def status_of(fault: str) -> int:
 
 def _key_from(its: dict[str, Any]) -> Key:
     """Returns a key from its table in formats.toml."""
-    return Key(its.get("table", ""), its["name"], tuple((low, high) for low, high in its.get("ranges", [])), its.get("since", 1))
+    ranges = tuple((low, high) for low, high in its.get("ranges", []))
+    return Key(its.get("table", ""), its["name"], ranges, its.get("since", 1))
 
 
 _FORMATS = tomllib.loads(Path(__file__).with_name("formats.toml").read_text("utf-8"))
@@ -106,7 +107,8 @@ DRAWS: tuple[str, ...] = tuple(it.table for it in KEYS if it.name == "values")
 COSTS: tuple[str, ...] = tuple(it.name for it in KEYS if it.table == "costs")
 SHAPES: dict[int, Shape] = {it: _shape(it) for it in VERSIONS}
 LIMITS: dict[str, dict[str, tuple[int, int]]] = {
-    table: {it.name: limits(table, it.name) for it in KEYS if it.table == table and it.ranges} for table in {it.table: 0 for it in KEYS}}
+    table: {it.name: limits(table, it.name) for it in KEYS if it.table == table and it.ranges}
+    for table in dict.fromkeys(it.table for it in KEYS)}
 POLICIES: tuple[int, int] = (_SCENARIO["policies"][0], _SCENARIO["policies"][1])
 WEIGHT_SUMS: tuple[int, int] = (int(key_of("demand", "weights").ranges[1][0]), key_of("demand", "weights").ranges[1][1])
 WORDS_OF_KEY: int = _SCENARIO["words_of_key"]
@@ -114,7 +116,8 @@ DIGITS_OF_WORD: int = _SCENARIO["digits_of_word"]
 WORD = re.compile(f"[0-9a-f]{{{DIGITS_OF_WORD}}}")
 NAME = re.compile("[{}]{{{},{}}}".format(
     "".join(re.escape(it) if len(it) == 1 else it for it in _SCENARIO["name_characters"]), *limits("policy", "name")))
-RING_SIZES: tuple[int, ...] = tuple(2**it for it in range(64) if limits("", "ring")[0] <= 2**it <= limits("", "ring")[1])
+_LEAST_RING, _MOST_RING = limits("", "ring")
+RING_SIZES: tuple[int, ...] = tuple(2**it for it in range(64) if _LEAST_RING <= 2**it <= _MOST_RING)
 MOST_LEVELS: int = _SCENARIO["most_levels"]
 MOST_BYTES: int = _SCENARIO["most_bytes"]
 MOST_PERIODS = limits("", "periods")[1]
@@ -134,7 +137,8 @@ HEADER = ",".join(COLUMNS)
 WHOLE: tuple[str, ...] = tuple(name for name, kind in COLUMNS.items() if kind == "whole")
 FRACTIONS: tuple[str, ...] = tuple(name for name, kind in COLUMNS.items() if kind == "fraction")
 
-# Checkpoints: the versions, rising; the fields of each row by its kind, and the kinds with a value and its weight, in order.
+# Checkpoints: the versions, rising; the fields of each row by its kind, and the kinds with a value and its weight, in
+# order.
 CHECKPOINT_VERSIONS: tuple[int, ...] = tuple(_CHECKPOINT["versions"])
 ROWS: dict[str, tuple[str, ...]] = {kind: tuple(fields) for kind, *fields in _CHECKPOINT["rows"]}
 DRAW_ROWS: tuple[str, ...] = tuple(kind for kind, fields in ROWS.items() if fields[:2] == ("value", "weight"))

@@ -1,4 +1,5 @@
-"""Makes whole numbers of what stands in tables and notebooks, and scales amounts of money to the program's whole numbers."""
+"""Makes whole numbers of what stands in tables and notebooks, and scales amounts of money to the program's whole
+numbers."""
 from __future__ import annotations
 
 from collections.abc import Mapping
@@ -45,16 +46,17 @@ def _amount(value: Any, name: str) -> Fraction:
 
 
 def _beyond(amounts: Mapping[str, Fraction], scale: Fraction) -> str:
-    """Returns the name of the first amount that is not whole, or above the program's range, with a scale; empty if none is."""
-    scaled = {name: amount * scale for name, amount in amounts.items()}
-    return next((name for name, it in scaled.items() if it.denominator > 1 or it > formats.limits("costs", name)[1]), "")
+    """Returns the name of the first amount that is not whole, or above the program's range, with a scale; empty if none
+    is."""
+    most = {name: formats.limits("costs", name)[1] for name in amounts}
+    return next((name for name, it in amounts.items() if (it * scale).denominator > 1 or it * scale > most[name]), "")
 
 
 def scaled_costs(costs: Mapping[str, Any]) -> tuple[dict[str, int], Fraction]:
     """Returns costs as the program's whole numbers, and what one unit of money counts in them: a power of ten.
 
-    Each cost is an int, float, Decimal, Fraction or text, such as "12.50". The scale is 1 if that can be, or if all are whole.
-    Raises Refused if no scale makes all costs whole and keeps them within their ranges.
+    Each cost is an int, float, Decimal, Fraction or text, such as "12.50". The scale is 1 if that can be, or if all are
+    whole. Raises Refused if no scale makes all costs whole and keeps them within their ranges.
     """
     amounts = {name: _amount(value, name) for name, value in costs.items()}
     scales = [Fraction(10)**power for power in sorted(range(-MOST_DECIMALS, MOST_DECIMALS + 1), key=abs)]
@@ -64,6 +66,7 @@ def scaled_costs(costs: Mapping[str, Any]) -> tuple[dict[str, int], Fraction]:
         scale = next(it for it in scales if it >= 1 and all((one * it).denominator == 1 for one in amounts.values()))
         name = _beyond(amounts, scale)
         if scale > 1:
-            raise Refused(f"costs: {finest} = {costs[finest]} is whole only if all costs count {int(scale):,} times; then {name} is "
-                          f"{int(amounts[name] * scale):,}, above {formats.limits('costs', name)[1]:,}; round {finest}")
+            most = formats.limits("costs", name)[1]
+            raise Refused(f"costs: {finest} = {costs[finest]} is whole only if all costs count {int(scale):,} times; "
+                          f"then {name} is {int(amounts[name] * scale):,}, above {most:,}; round {finest}")
     return {name: int(amount * scale) for name, amount in amounts.items()}, scale

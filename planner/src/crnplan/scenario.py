@@ -1,7 +1,6 @@
 """A scenario of crnsim as a value: made from data, read, changed and written.
-
-A `Scenario` is immutable. Its numbers are the program's whole numbers. Whether the program takes a scenario is proved of the
-program, not of this module.
+ A `Scenario` is immutable. Its numbers are the program's whole numbers. Whether the program takes a scenario is proved
+of the program, not of this module.
 """
 from __future__ import annotations
 
@@ -120,9 +119,10 @@ class Scenario:
     def tree(self) -> Tree:
         """Returns the tree that tomllib would read: a new dict of str, int and list."""
         returns = {"returns": self.returns.tree} if self.returns else {}
-        return {"version": self.version, "key": list(self.key), "periods": self.periods, "replications": self.replications,
-                "initial": self.initial, "ring": self.ring, "costs": dataclasses.asdict(self.costs), "demand": self.demand.tree,
-                "lead": self.lead.tree, **returns, "policy": [dataclasses.asdict(it) for it in self.policies]}
+        return {"version": self.version, "key": list(self.key), "periods": self.periods,
+                "replications": self.replications, "initial": self.initial, "ring": self.ring,
+                "costs": dataclasses.asdict(self.costs), "demand": self.demand.tree, "lead": self.lead.tree, **returns,
+                "policy": [dataclasses.asdict(it) for it in self.policies]}
 
     @classmethod
     def read(cls, path: str | Path) -> Scenario:
@@ -147,17 +147,19 @@ class Scenario:
            key: str | Sequence[str] = "crnsim") -> Scenario:
         """Makes a scenario from laws, tables, mappings or observed whole numbers.
 
-        `demand`, `lead` and `returns` are each a law with a `table`, a `Table`, a mapping of values to weights, or observed
-        whole numbers: items in a period, periods until an order arrives. Costs are amounts of money, as 12.5, "12.50" or a
-        Decimal; `scale` of the result says what one unit of money counts in its `costs`. `today` is the pair (s, S), the policy
-        of that name. `initial` is in items, by default halfway between s and S. `key` has four words of 16 digits of 0-9a-f, or
-        is any text from which they follow. Raises Refused, and ScenarioError with all faults.
+        `demand`, `lead` and `returns` are each a law with a `table`, a `Table`, a mapping of values to weights, or
+        observed whole numbers: items in a period, periods until an order arrives. Costs are amounts of money, as 12.5,
+        "12.50" or a Decimal; `scale` of the result says what one unit of money counts in its `costs`. `today` is the
+        pair (s, S), the policy of that name. `initial` is in items, by default halfway between s and S. `key` has four
+        words of 16 digits of 0-9a-f, or is any text from which they follow. Raises Refused, and ScenarioError with all
+        faults.
         """
         costs, scale = scaled_costs({"setup": setup, "unit": unit, "holding": holding, "backlog": backlog})
         low, high = (whole(it, f"today: {name}") for it, name in zip(today, "sS", strict=True))
         tree = {"version": 1 if returns is None else 2, "key": _key_words(key), "periods": whole(periods, "periods"),
                 "replications": whole(replications, "replications"),
-                "initial": (low + high) // 2 if initial is None else whole(initial, "initial"), "ring": formats.RING_SIZES[-1],
+                "initial": (low + high) // 2 if initial is None else whole(initial, "initial"),
+                "ring": formats.RING_SIZES[-1],
                 "costs": costs, "demand": _table(demand, "demand").tree, "lead": _table(lead, "lead").tree,
                 **({} if returns is None else {"returns": _table(returns, "returns").tree}),
                 "policy": [{"name": "today", "s": low, "S": high}]}
@@ -166,8 +168,8 @@ class Scenario:
     def changed(self, **changes: Any) -> Scenario:
         """Returns the scenario with changed fields, checked. Raises Refused, and ScenarioError with all faults.
 
-        `costs` may be a mapping of some costs, as the program counts them. Laws are given as to `of`, policies as to `run`. The
-        version follows from `returns`, unless it is given.
+        `costs` may be a mapping of some costs, as the program counts them. Laws are given as to `of`, policies as to
+        `run`. The version follows from `returns`, unless it is given.
         """
         tree = self.tree
         for name, value in changes.items():
@@ -214,9 +216,9 @@ class Scenario:
     def run(self, policies: Any = None, *, program: str | Path | None = None) -> Report:
         """Runs crnsim on any number of policies and returns the exact report. The base is the scenario's first policy.
 
-        `policies` are the others, by default the scenario's own: Policy objects, pairs (s, S), a mapping of names to pairs, or a
-        table with the columns s and S, and `policy` as a column or its index. More than 16 go in several runs with the base in
-        each. Raises Refused, ScenarioError with all faults, and ProgramError.
+        `policies` are the others, by default the scenario's own: Policy objects, pairs (s, S), a mapping of names to
+        pairs, or a table with the columns s and S, and `policy` as a column or its index. More than 16 go in several
+        runs with the base in each. Raises Refused, ScenarioError with all faults, and ProgramError.
         """
         from .engine.report import report_of
         return report_of(self if policies is None else self._with_base(policies), program)
@@ -273,7 +275,7 @@ def read_policies(word: str) -> list[Policy]:
         rows = csv.DictReader(io.StringIO(data.decode("utf-8-sig"), newline=""))
         missing = [name for name in "sS" if name not in (rows.fieldnames or [])]
         if missing:
-            raise Refused(f"{word}:1: there is no column {' and none '.join(missing)}; name the columns policy, s and S")
+            raise Refused(f"{word}:1: there is no column {' and no column '.join(missing)}; name them policy, s and S")
         return [_policy_of_row(row, f"{word}:{rows.line_num}") for row in rows]
     except (UnicodeDecodeError, csv.Error) as fault:
         raise Refused(f"{word}: this is no table of policies: {fault}; save it as CSV in UTF-8") from fault
@@ -283,5 +285,6 @@ def _policy_of_row(row: Mapping[str, str | None], place: str) -> Policy:
     """Returns the policy of a row of a table."""
     for name in "sS":
         if not re.fullmatch("[0-9]{1,9}", row[name] or ""):
-            raise Refused(f"{place}: column {name}: {shown(row[name] or '')} is not a whole number; write the level in items")
+            cell = shown(row[name] or "")
+            raise Refused(f"{place}: column {name}: {cell} is not a whole number; write the level in items")
     return Policy.of_levels(int(row["s"] or 0), int(row["S"] or 0), row.get("policy") or "")

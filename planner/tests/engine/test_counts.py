@@ -21,5 +21,5 @@ def test_counts_of_the_worked_periods(program: Path, two_policies: str) -> None:
 
 def test_no_report(two_policies: str) -> None:
     """Refuses a program that writes no report of the scenario."""
-    with pytest.raises(ProgramError, match="true: what it writes is no report of the scenario; name crnsim with --program"):
+    with pytest.raises(ProgramError, match="true: what it writes is no report of the scenario; name crnsim with"):
         all_totals(Path("/bin/true"), [Scenario.parse(two_policies)])

@@ -1,4 +1,5 @@
-"""Tests pooling against the sums by which docs/FORMATS.md defines a report. A case worked by hand is tested with `check`."""
+"""Tests pooling against the sums by which docs/FORMATS.md defines a report. A case worked by hand is tested with
+`check`."""
 from __future__ import annotations
 
 from fractions import Fraction

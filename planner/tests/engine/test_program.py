@@ -22,13 +22,14 @@ def script(path: Path, lines: str) -> Path:
 
 @pytest.fixture
 def places(tmp_path: Path, monkeypatch: pytest.MonkeyPatch) -> dict[str, Path]:
-    """Makes a program in each of the places where one is looked for, and returns their paths, the first to be taken first."""
+    """Makes a program in each of the places where one is looked for, and returns their paths, the first to be taken
+    first."""
     build = tmp_path / "top/crates/crnsim/out/crnsim"
     monkeypatch.setattr(module, "__file__", str(tmp_path / "top/planner/src/crnplan/engine/program.py"))
     monkeypatch.setenv("PATH", str(tmp_path / "path"))
     monkeypatch.setenv("CRNSIM", str(tmp_path / "variable"))
-    found = {"named": tmp_path / "named", "the variable CRNSIM": tmp_path / "variable", "the build of the repository": build,
-             "PATH": tmp_path / "path/crnsim"}
+    found = {"named": tmp_path / "named", "the variable CRNSIM": tmp_path / "variable",
+             "the build of the repository": build, "PATH": tmp_path / "path/crnsim"}
     return {reason: script(path, "cat") for reason, path in found.items()}
 
 
@@ -47,10 +48,11 @@ def test_order(places: dict[str, Path], monkeypatch: pytest.MonkeyPatch) -> None
 
 
 def test_named(places: dict[str, Path], tmp_path: Path, monkeypatch: pytest.MonkeyPatch) -> None:
-    """Finds a plain name on PATH and a path from the working folder, and no other program if the named one is missing."""
+    """Finds a plain name on PATH and a path from the working folder, and no other program if the named one is
+    missing."""
     monkeypatch.chdir(tmp_path)
     assert find_program("crnsim") == places["PATH"] and find_program("./named") == places["named"]
-    with pytest.raises(ProgramError, match="--program: there is no program ./missing; build crnsim, or name it with --program"):
+    with pytest.raises(ProgramError, match="--program: there is no program ./missing; build crnsim, or name it with"):
         find_program("./missing")
     places["named"].chmod(0o644)
     with pytest.raises(ProgramError, match="--program: ./named can't be run"):

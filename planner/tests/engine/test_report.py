@@ -38,11 +38,11 @@ def test_no_figures(two_policies: str) -> None:
 
 REFUSED = {
     "empty": ("", ":1: this is no report of crnsim, whose first line is policy,s,S,total"),
-    "another-heading": (TEXT.replace("total", "sum"), ":1: this is no report of crnsim, whose first line is policy,s,S,total"),
+    "another-heading": (TEXT.replace("total", "sum"), ":1: this is no report of crnsim, whose first line is policy"),
     "no-rows": (f"{HEADER}\n", ": the report has no policy"),
     "few-columns": (TEXT.replace(",5/3", ""), ":2: 8 columns, not 9"),
     "a-name": (TEXT.replace("B,", "b b,"), ":3: column policy: 'b b' is not 1 to 16 of A-Z a-z 0-9 _ -"),
-    "a-number": (TEXT.replace(",200,", ",2e2,"), ":3: column total: '2e2' is not a whole number; give crnsim's own report"),
+    "a-number": (TEXT.replace(",200,", ",2e2,"), ":3: column total: '2e2' is not a whole number; give crnsim's own"),
     "no-number": (TEXT.replace(",200,", ",-,"), ":3: column total: '-' is not a whole number"),
     "a-fraction": (TEXT.replace("50/1", "50"), ":3: column per_period: '50' is not a fraction such as 359/4"),
     "a-zero": (TEXT.replace("50/1", "50/0"), ":3: column per_period: '50/0' is not a fraction"),

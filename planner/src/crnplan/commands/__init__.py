@@ -46,7 +46,8 @@ class Group(click.Group):
         command: click.Command = importlib.import_module(f"{__name__}.{cmd_name}").command
         return command
 
-    def resolve_command(self, ctx: click.Context, args: list[str]) -> tuple[str | None, click.Command | None, list[str]]:
+    def resolve_command(
+            self, ctx: click.Context, args: list[str]) -> tuple[str | None, click.Command | None, list[str]]:
         """Finds the subcommand, or suggests those that are spelt like it."""
         if args and args[0] not in COMMANDS and not args[0].startswith("-"):
             close = difflib.get_close_matches(args[0], COMMANDS, 2)
@@ -71,13 +72,14 @@ def group() -> None:
 
 
 def main() -> None:
-    """Runs the command. Ends with status 0; 1 if the answer is no; 2 if an input or a word is refused; 130 if interrupted."""
+    """Runs the command. Ends with status 0; 1 if the answer is no; 2 if an input or a word is refused; 130 if
+    interrupted."""
     try:
         result: Any = group.main(standalone_mode=False)
         sys.exit(result if isinstance(result, int) else 0)
     except click.UsageError as fault:
-        hint = f" {fault.ctx.command_path} --help shows the words." if fault.ctx else ""
-        print(f"crnplan: {fault.format_message()}.{hint}" if hint else f"crnplan: {fault.format_message()}", file=sys.stderr)
+        hint = f". {fault.ctx.command_path} --help shows the words." if fault.ctx else ""
+        print(f"crnplan: {fault.format_message().removesuffix('.')}{hint}", file=sys.stderr)
         sys.exit(2)
     except click.ClickException as fault:
         print(f"crnplan: {fault.format_message()}", file=sys.stderr)

@@ -14,17 +14,18 @@ from ..document.reading import read_bytes, read_scenario
 def command(scenario: str, as_json: bool) -> int:
     """Say all that is wrong with a scenario, in plain words. `-` is standard input.
 
-    One line is printed for each fault: its number as in docs/FORMATS.md ("Refused scenarios"), the line of the file, the
-    table, key and entry, counted from 1, what is wrong, and what to do. The least number comes first: that is the one which
-    crnsim reports. Entries of one list with the same fault have one line, which says how many they are.
+    One line is printed for each fault: its number as in docs/FORMATS.md ("Refused scenarios"), the line of the file,
+    the table, key and entry, counted from 1, what is wrong, and what to do. The least number comes first: that is the
+    one which crnsim reports. Entries of one list with the same fault have one line, which says how many they are.
 
-    The exit status is 0 if there is no fault, with the line `no fault`; 1 if there are faults; 2 if the file cannot be read.
+    The exit status is 0 if there is no fault, with the line `no fault`; 1 if there are faults; 2 if the file cannot be
+    read.
 
     This command is not proved; which scenarios crnsim takes, and the number that it reports, are.
     """
     found = read_scenario(read_bytes(scenario))[1]
     if as_json:
-        print(json.dumps([{"rule": it.rule, **it.place._asdict(), "where": it.where, "reason": it.reason} for it in found], indent=2))
+        print(json.dumps([it.record for it in found], indent=2))
     else:
         print("\n".join(it.line for it in found) or "no fault")
     return 1 if found else 0

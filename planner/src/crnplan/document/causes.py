@@ -24,8 +24,9 @@ HABITS = [
 ]
 # How Python's reader begins a message, and what to do.
 ADVICE = [
-    ("Cannot declare ('policy',)", "write [[policy]] in place of [policy]"), ("Cannot declare", "this table stands twice: "
-     "join both"), ("Cannot overwrite", "this key stands twice in one table: remove one"),
+    ("Cannot declare ('policy',)", "write [[policy]] in place of [policy]"),
+    ("Cannot declare", "this table stands twice: join both"),
+    ("Cannot overwrite", "this key stands twice in one table: remove one"),
     ("Duplicate inline table key", "this key stands twice in one table: remove one"),
     ("Unclosed array", "write , between entries and ] at the end of the list"),
     ("Unclosed inline table", "write , between keys and } at the end of the table"),

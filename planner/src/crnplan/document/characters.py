@@ -4,12 +4,13 @@ from __future__ import annotations
 import unicodedata
 
 SPACE, NOTHING, DASH, QUOTE = "an ordinary space", "", "-", '"'
-WRITE = {**dict.fromkeys("\u00a0\u1680\u2000\u2001\u2002\u2003\u2004\u2005\u2006\u2007\u2008\u2009\u200a\u202f\u205f\u3000",
-                         SPACE),
+WRITE = {**dict.fromkeys("\u00a0\u1680\u2000\u2001\u2002\u2003\u2004\u2005\u2006\u2007\u2008\u2009\u200a\u202f\u205f"
+                         "\u3000", SPACE),
          **dict.fromkeys("\u00ad\u200b\u200c\u200d\u200e\u200f\u2060\ufeff", NOTHING),
          **dict.fromkeys("\u2010\u2011\u2012\u2013\u2014\u2015\u2212\ufe63", DASH),
          **dict.fromkeys("\u2018\u2019\u201a\u201b\u201c\u201d\u201e\u201f\u2032\u2033\u00ab\u00bb\u2039\u203a", QUOTE)}
-NAMES = {"\u2212": "Unicode minus", "\ufeff": "byte order mark", "\u00a0": "no-break space", "\u200b": "zero-width space"}
+NAMES = {"\u2212": "Unicode minus", "\ufeff": "byte order mark", "\u00a0": "no-break space",
+         "\u200b": "zero-width space"}
 FULL_WIDTH = range(0xff01, 0xff5f)
 
 

@@ -11,8 +11,8 @@ from typing import Any, TypeGuard
 from .. import formats
 from ..formats import Shape
 from .characters import odd_advice
-from .values import (Path, TreeFault, key_faults, name_faults, number_faults, numbers_faults, once_each, ring_faults, shown,
-                     wrong_kind)
+from .values import (
+    Path, TreeFault, key_faults, name_faults, number_faults, numbers_faults, once_each, ring_faults, shown, wrong_kind)
 
 NEWEST = formats.SHAPES[formats.VERSIONS[-1]]
 TABLES = [name for name, (kind, *_) in NEWEST.items() if kind in ("table", "draws", "policies")]
@@ -89,8 +89,8 @@ def _table_faults(path: Path, table: Any, keys: Shape) -> list[TreeFault]:
 
 def _order_faults(path: Path, values: list[int]) -> list[TreeFault]:
     """Returns fault 8 of values that do not rise, once."""
-    falls = [TreeFault(8, (*path, entry), f"{shown(high)} is not above the {shown(low)} before it (write each value once, "
-                       "rising, with its weight)")
+    falls = [TreeFault(8, (*path, entry), f"{shown(high)} is not above the {shown(low)} before it (write each value "
+                       "once, rising, with its weight)")
              for entry, (low, high) in enumerate(zip(values, values[1:]), 2) if low >= high]
     return once_each(falls, [8] * len(falls))
 
@@ -105,15 +105,15 @@ def _draws_faults(path: Path, table: Any, keys: Shape) -> list[TreeFault]:
     faults = _table_faults(path, table, keys)
     values, weights = (table.get(key) if isinstance(table, dict) else None for key in ("values", "weights"))
     if isinstance(values, list) and isinstance(weights, list) and len(values) != len(weights):
-        faults.append(TreeFault(7, path, f"there are {len(values)} values and {len(weights)} weights (write one weight for "
-                                "each value)"))
+        faults.append(TreeFault(7, path, f"there are {len(values)} values and {len(weights)} weights (write one weight "
+                                "for each value)"))
     if _are_whole(values):
         faults += _order_faults((*path, "values"), values)
     least, most = formats.WEIGHT_SUMS
     if _are_whole(weights) and not least <= sum(weights) <= most:
         advice = "divide all weights by the same number" if sum(weights) > 0 else "give some value a weight above 0"
-        faults.append(TreeFault(9, (*path, "weights"), f"they come to {shown(sum(weights))}, which is not from {least:,} to "
-                                f"{most:,} ({advice})"))
+        faults.append(TreeFault(9, (*path, "weights"), f"they come to {shown(sum(weights))}, which is not from "
+                                f"{least:,} to {most:,} ({advice})"))
     return faults
 
 
@@ -127,8 +127,8 @@ def _policy_faults(path: Path, policy: Any, keys: Shape, seen: dict[str, str | i
         faults.append(TreeFault(10, path, f"the reorder point s = {shown(point)} is above the order-up-to level S = "
                                 f"{shown(level)} (interchange them, or raise S)"))
     if isinstance(name, str) and seen.setdefault(name, path[-1]) != path[-1]:
-        faults.append(TreeFault(11, (*path, "name"), f"{shown(name)} is the name of policy {seen[name]} too (write another "
-                                "name)"))
+        faults.append(TreeFault(11, (*path, "name"), f"{shown(name)} is the name of policy {seen[name]} too (write "
+                                "another name)"))
     return faults
 
 
@@ -148,8 +148,9 @@ def _policies_faults(path: Path, policies: Any, keys: Shape) -> list[TreeFault]:
 
 
 RULES: dict[str, Callable[..., list[TreeFault]]] = {
-    "version": _version_faults, "number": number_faults, "numbers": numbers_faults, "key": key_faults, "ring": ring_faults,
-    "name": name_faults, "table": _table_faults, "draws": _draws_faults, "policies": _policies_faults}
+    "version": _version_faults, "number": number_faults, "numbers": numbers_faults, "key": key_faults,
+    "ring": ring_faults, "name": name_faults, "table": _table_faults, "draws": _draws_faults,
+    "policies": _policies_faults}
 
 
 def _advice_on_version() -> str:

@@ -1,7 +1,6 @@
 """Finds the places of tables, keys and entries in a scenario's text.
-
-The scan reads only documents that tomllib has read already, and it reads no values but texts in keys. If it finds other paths
-than the document's tree has, no place is returned: none is better than a wrong one.
+ The scan reads only documents that tomllib has read already, and it reads no values but texts in keys. If it finds
+other paths than the document's tree has, no place is returned: none is better than a wrong one.
 """
 from __future__ import annotations
 

@@ -1,8 +1,7 @@
 """Turns a text of TOML 1.1, which crnsim reads, into one of TOML 1.0, which Python's tomllib reads.
-
-TOML 1.1 has more inline tables (line ends, comments and a comma at their end), more escapes (backslash e, and backslash x with
-two digits) and times without seconds. All else stays at its place, but for what follows such an escape or time. Leap seconds
-and the year 0, which crnsim knows too, have no older spelling.
+ TOML 1.1 has more inline tables (line ends, comments and a comma at their end), more escapes (backslash e, and
+backslash x with two digits) and times without seconds. All else stays at its place, but for what follows such an escape
+or time. Leap seconds and the year 0, which crnsim knows too, have no older spelling.
 """
 from __future__ import annotations
 

@@ -1,7 +1,6 @@
 """Reads a TOML document and says what is wrong: fault 1, if it is no document, or else all faults of the scenario.
-
-Python's tomllib takes some documents that crnsim refuses, and the other way round; what is known of that is put right here.
-Which scenarios crnsim takes, and the number that it reports, is proved of the program; this module is not.
+ Python's tomllib takes some documents that crnsim refuses, and the other way round; what is known of that is put right
+here. Which scenarios crnsim takes, and the number that it reports, is proved of the program; this module is not.
 """
 from __future__ import annotations
 
@@ -32,8 +31,8 @@ Tree = dict[str, Any]
 
 @dataclass(frozen=True)
 class Found:
-    """A fault that was found: the number of its rule, its place (0 if it is not known), where that is in words, and what is
-    wrong, with advice."""
+    """A fault that was found: the number of its rule, its place (0 if it is not known), where that is in words, and
+    what is wrong, with advice."""
 
     rule: int
     place: Place
@@ -45,6 +44,11 @@ class Found:
         """Returns the line that `crnplan why` prints."""
         line = f"line {self.place.line}: " if self.place.line and self.rule > 1 else ""
         return f"fault {self.rule}: {line}{self.where}: {self.reason}"
+
+    @property
+    def record(self) -> dict[str, int | str]:
+        """Returns the fault as plain data."""
+        return {"rule": self.rule, **self.place._asdict(), "where": self.where, "reason": self.reason}
 
     def fault(self, file: str) -> Fault:
         """Returns the fault of a file."""
@@ -105,7 +109,8 @@ def _huge_faults(text: str, tree: Tree) -> list[Found]:
         spelt = re.search(rf"(?<![0-9]){'_?'.join(digits)}(?![0-9])", text)
         place = _place_of(text, spelt.start()) if spelt and digits != "0" else NOWHERE
         where = _spelt(place) if place.line else "the document"
-        faults.append(Found(1, place, where, f"the integer {shown(huge)} is beyond 64 bits (write a number within its range)"))
+        reason = f"the integer {shown(huge)} is beyond 64 bits (write a number within its range)"
+        faults.append(Found(1, place, where, reason))
     return faults
 
 
@@ -118,7 +123,8 @@ def _small_float(spelt: str) -> SpeltFloat:
 
 
 def read_bytes(path: str | FilePath) -> bytes:
-    """Returns the bytes of a file, or of standard input if the path is `-`. Raises Refused if crnsim would not read them."""
+    """Returns the bytes of a file, or of standard input if the path is `-`. Raises Refused if crnsim would not read
+    them."""
     try:
         if str(path) == "-":
             return check_size(sys.stdin.buffer.read(MOST_BYTES + 1), "")
@@ -131,7 +137,8 @@ def read_bytes(path: str | FilePath) -> bytes:
 def check_size(data: bytes, name: str) -> bytes:
     """Returns the bytes. Raises Refused if they are more than crnsim reads."""
     if len(data) > MOST_BYTES:
-        raise Refused(f"{name or 'the scenario'}: crnsim reads no scenario of more than {MOST_BYTES:,} bytes (leave out comments)")
+        raise Refused(f"{name or 'the scenario'}: crnsim reads no scenario of more than {MOST_BYTES:,} bytes (leave "
+                      "out comments)")
     return data
 
 

@@ -14,7 +14,8 @@ Path = tuple[str | int, ...]
 
 
 class TreeFault(NamedTuple):
-    """A fault in a scenario's tree: the number of its rule, as in docs/FORMATS.md, its place, and what is wrong, with advice."""
+    """A fault in a scenario's tree: the number of its rule, as in docs/FORMATS.md, its place, and what is wrong, with
+    advice."""
 
     rule: int
     path: Path
@@ -26,8 +27,9 @@ KINDS = {bool: "true or false", int: "a whole number", float: "a number with a p
 # What to do about a value of the wrong kind, by what should stand there.
 WRITE = {"a whole number": "write digits alone, as 60", "a text": 'write it in double quotes, as "A"',
          "a list of whole numbers": "write [ ] around it, as [1]", "a list of four texts": "write four texts in [ ]",
-         "a text of 16 digits of 0-9a-f": "write it in double quotes", "a table": "write the keys of this table below a "
-         "line with its name in [ ]", "a list of tables": "begin each policy with a line [[policy]]"}
+         "a text of 16 digits of 0-9a-f": "write it in double quotes",
+         "a table": "write the keys of this table below a line with its name in [ ]",
+         "a list of tables": "begin each policy with a line [[policy]]"}
 # What to do about a number above its range, by its key; other keys count items.
 LESS = {"replications": "make more runs, each with another key", "periods": "take longer periods, or more replications",
         "weights": "divide all weights by the same number",
@@ -147,8 +149,9 @@ def ring_faults(path: Path, value: Any) -> list[TreeFault]:
     if type(value) is not int:
         return wrong_kind(path, value, "a whole number")
     sizes = formats.RING_SIZES
-    return [] if value in sizes else [TreeFault(12, path, f"{shown(value)} is not one of {', '.join(map(str, sizes[:4]))}, "
-                                                f".., {sizes[-1]:,} (write ring = {sizes[-1]})")]
+    some = ", ".join(map(str, sizes[:4]))
+    reason = f"{shown(value)} is not one of {some}, .., {sizes[-1]:,} (write ring = {sizes[-1]})"
+    return [] if value in sizes else [TreeFault(12, path, reason)]
 
 
 def name_faults(path: Path, value: Any) -> list[TreeFault]:

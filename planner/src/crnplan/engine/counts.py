@@ -1,7 +1,6 @@
 """Runs crnsim on changes of a scenario, and counts what one cost is paid for.
-
-Costs do not steer orders. So a run with one cost at 1 and the others at 0 counts orders (`setup`), items ordered (`unit`),
-items in stock at the ends of periods (`holding`) or items owed (`backlog`).
+ Costs do not steer orders. So a run with one cost at 1 and the others at 0 counts orders (`setup`), items ordered
+(`unit`), items in stock at the ends of periods (`holding`) or items owed (`backlog`).
 
 This is not proved; crnsim's figures are.
 """

@@ -34,7 +34,8 @@ def drawn_key() -> Key:
 def keys_of(given: Sequence[Sequence[str]], count: int | None, own: Key) -> list[Key]:
     """Returns the keys of a check: those that are given, and drawn ones up to `count`, by default one.
 
-    All differ, also from the scenario's own. Raises Refused if they do not, or if `count` is not from the given ones to 64.
+    All differ, also from the scenario's own. Raises Refused if they do not, or if `count` is not from the given ones to
+    64.
     """
     keys = [key_of(words, own) for words in given]
     least = max(1, len(keys))
@@ -42,8 +43,8 @@ def keys_of(given: Sequence[Sequence[str]], count: int | None, own: Key) -> list
     if not least <= count <= MOST_KEYS:
         raise Refused(f"--keys {count}: there can be {least} to {MOST_KEYS} keys here")
     if own in keys:
-        raise Refused(f"--key {' '.join(own)} is the scenario's own key, with the same histories again; give another one, or "
-                      "none to draw one")
+        raise Refused(f"--key {' '.join(own)} is the scenario's own key, with the same histories again; give another "
+                      "one, or none to draw one")
     for place, key in enumerate(keys):
         if key in keys[:place]:
             raise Refused(f"--key {' '.join(key)} is given twice, with the same histories again; give another one")

@@ -1,13 +1,12 @@
 """Pools reports of one scenario under several keys into the report of all their replications.
-
-The replications of different keys are independent, and each report has the exact sums of its own R replications. With
-differences d = a - b, D the sum of d, V the variance of their mean, A and B the sums of a and b, and C their covariance:
+ The replications of different keys are independent, and each report has the exact sums of its own R replications. With
+differences d = a - b, D the sum of d, V the variance of their mean, A and B the sums of a and b, and C their
+covariance:
 
     sum of d^2 = V R (R - 1) + D^2 / R        sum of a b = C (R - 1) + A B / R
-
-These sums are added over all keys. With n replications in all, the pooled variance of the mean is
-(sum of d^2 - D^2 / n) / (n (n - 1)), and the pooled covariance (sum of a b - A B / n) / (n - 1). So an interval from it has
-n - 1 degrees of freedom. All is computed in fractions, without rounding.
+ These sums are added over all keys. With n replications in all, the pooled variance of the mean is (sum of d^2 - D^2 /
+n) / (n (n - 1)), and the pooled covariance (sum of a b - A B / n) / (n - 1). So an interval from it has n - 1 degrees
+of freedom. All is computed in fractions, without rounding.
 
 This is not proved; crnsim's figures are.
 """
@@ -21,8 +20,8 @@ from .report import Row
 
 
 class Sums(NamedTuple):
-    """The sums of a policy over replications: their number, its costs, those of the base, the squares of the differences, and
-    the products of both costs."""
+    """The sums of a policy over replications: their number, its costs, those of the base, the squares of the
+    differences, and the products of both costs."""
 
     replications: int
     total: int
@@ -54,7 +53,8 @@ def pooled_row(row: Row, sums: Sums, periods: int) -> Row:
 
 
 def pooled(reports: Sequence[Sequence[Row]], replications: int, periods: int) -> list[Row]:
-    """Returns the rows of all replications. Each of the reports has the same policies and so many replications, at least 2."""
+    """Returns the rows of all replications. Each of the reports has the same policies and so many replications, at
+    least 2."""
     rows = []
     for its in zip(*reports, strict=True):
         first, *others = (sums_of(row, report[0].total, replications) for row, report in zip(its, reports))

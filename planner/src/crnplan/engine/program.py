@@ -12,6 +12,7 @@ from concurrent.futures import ThreadPoolExecutor
 from pathlib import Path
 
 from ..errors import ProgramError
+from ..formats import status_of
 
 VARIABLE = "CRNSIM"
 # Runs at a time. A run itself uses several processors.
@@ -29,15 +30,16 @@ def _named(path: str | Path, how: str) -> Path:
 
 def _build() -> Path | None:
     """Returns the build of the repository in which the package stands; None if it stands in none."""
-    builds = (it / "crates/crnsim/out/crnsim" for it in Path(__file__).resolve().parents if (it / "crates/crnsim").is_dir())
+    builds = (it / "crates/crnsim/out/crnsim" for it in Path(__file__).resolve().parents)
     return next((it for it in builds if os.access(it, os.X_OK)), None)
 
 
 def program_and_reason(named: str | Path | None = None) -> tuple[Path, str]:
     """Returns the absolute path of the program, and how it was found.
 
-    It is the first of these that there is: the named one; that of the variable CRNSIM; the repository's build, if the package
-    stands in the repository; crnsim on PATH. Raises ProgramError if there is none, or if the named one is missing.
+    It is the first of these that there is: the named one; that of the variable CRNSIM; the repository's build, if the
+    package stands in the repository; crnsim on PATH. Raises ProgramError if there is none, or if the named one is
+    missing.
     """
     if named is not None:
         return _named(named, "--program"), "named"
@@ -48,7 +50,8 @@ def program_and_reason(named: str | Path | None = None) -> tuple[Path, str]:
         return build, "the build of the repository"
     if shutil.which("crnsim"):
         return _named("crnsim", "PATH"), "PATH"
-    raise ProgramError(f"crnsim was not found; build it, put it on PATH, or name it with --program or the variable {VARIABLE}")
+    raise ProgramError(f"crnsim was not found; build it, put it on PATH, or name it with --program or the variable "
+                       f"{VARIABLE}")
 
 
 def find_program(named: str | Path | None = None) -> Path:
@@ -67,8 +70,8 @@ def run_program(program: Path, text: str, *words: str) -> str:
         raise ProgramError(f"{program}: {fault.strerror}; build crnsim, or name it with --program") from fault
     if ran.returncode == 0:
         return ran.stdout.decode()
-    line = "; ".join(ran.stderr.decode(errors="replace").split("\n")).strip("; ") or f"no output, status {ran.returncode}"
-    raise ProgramError(f"{program}: {line}" + "; crnplan why says why" * (ran.returncode == 3))
+    line = "; ".join(ran.stderr.decode(errors="replace").splitlines()) or f"no output, status {ran.returncode}"
+    raise ProgramError(f"{program}: {line}" + "; crnplan why says why" * (ran.returncode == status_of("scenario")))
 
 
 def run_all(program: Path, texts: Iterable[str], *words: str, jobs: int = JOBS) -> list[str]:
@@ -82,6 +85,7 @@ def run_all(program: Path, texts: Iterable[str], *words: str, jobs: int = JOBS) 
 
 
 def writes_known_report(program: Path) -> bool:
-    """Runs the program on a small scenario, and returns whether it writes the known report. Raises ProgramError if it fails."""
+    """Runs the program on a small scenario, and returns whether it writes the known report. Raises ProgramError if it
+    fails."""
     scenario, report = (Path(__file__).with_name(f"example.{end}").read_text("utf-8") for end in ("toml", "csv"))
     return run_program(program, scenario) == report

@@ -36,9 +36,9 @@ MAY_LACK = ("diff_var", "cov")
 class Row:
     """A row of a report: a policy (s and S in items), and its exact costs in the scenario's money.
 
-    `per_period` is its mean cost per period. `diff_total` and `diff_mean` are its cost less that of the first policy, in all
-    and by replication. `diff_var` is the variance of that mean, `cov` the covariance of both costs; with one replication, and
-    if they are not known, they are None. docs/FORMATS.md defines all of them.
+    `per_period` is its mean cost per period. `diff_total` and `diff_mean` are its cost less that of the first policy,
+    in all and by replication. `diff_var` is the variance of that mean, `cov` the covariance of both costs; with one
+    replication, and if they are not known, they are None. docs/FORMATS.md defines all of them.
     """
 
     policy: str
@@ -108,8 +108,8 @@ def _value(name: str, cell: str, place: str, line: int) -> Any:
 def read_rows(text: str, place: str = "") -> list[Row]:
     """Returns the rows of a report, in its order. `place` names the report in an error.
 
-    Raises Refused if a line is none of a report, or if the first policy is not the base. Whether the figures are of so many
-    replications is not checked here.
+    Raises Refused if a line is none of a report, or if the first policy is not the base. Whether the figures are of so
+    many replications is not checked here.
     """
     rows = [Row(**{name: _value(name, cell, place, line) for name, cell in zip(HEADER, cells)})
             for line, cells in enumerate(_lines(text, place), 2)]
@@ -119,7 +119,8 @@ def read_rows(text: str, place: str = "") -> list[Row]:
 
 
 def rows_of(policies: Sequence[Policy], text: str, program: str) -> list[Row]:
-    """Returns the rows of the report on these policies. Raises ProgramError if the program's output is no such report."""
+    """Returns the rows of the report on these policies. Raises ProgramError if the program's output is no such
+    report."""
     try:
         rows = read_rows(text, program)
     except Refused:
@@ -144,15 +145,17 @@ class Report:
     @property
     def records(self) -> list[dict[str, str | int | None]]:
         """Returns the rows as plain data: fractions as texts, None if there is no figure."""
-        values = ([getattr(row, name) for name in HEADER] for row in self.rows)
-        return [{name: cell_text(it) if isinstance(it, Fraction) else it for name, it in zip(HEADER, row)} for row in values]
+        def plain(value: Any) -> Any:
+            """Returns a value, or the text of a fraction."""
+            return cell_text(value) if isinstance(value, Fraction) else value
+        return [{name: plain(getattr(row, name)) for name in HEADER} for row in self.rows]
 
     @property
     def frame(self) -> pd.DataFrame:
         """Returns the report with index `policy`: int, `fractions.Fraction`, or None if there is no figure."""
         import pandas as pd
-        columns = {name: pd.Series([getattr(row, name) for row in self.rows], dtype=object if name in formats.FRACTIONS else None)
-                   for name in HEADER}
+        columns = {name: [getattr(row, name) for row in self.rows] for name in HEADER}
+        columns |= {name: pd.Series(columns[name], dtype=object) for name in formats.FRACTIONS}
         return pd.DataFrame(columns).set_index("policy")
 
     def floats(self) -> pd.DataFrame:
@@ -160,7 +163,8 @@ class Report:
         return self.frame.astype({name: float for name in formats.FRACTIONS})
 
     def decide(self, level: float = 0.95) -> pd.DataFrame:
-        """Returns all policies by rank, the cheapest first, with paired-t intervals and verdicts. `level` is above 0, below 1."""
+        """Returns all policies by rank, the cheapest first, with paired-t intervals and verdicts. `level` is above 0,
+        below 1."""
         from ..decision.verdicts import decided
         return decided(self.rows, self.scenario.replications, level)
 
@@ -170,14 +174,16 @@ class Report:
 
 
 def report_of(scenario: Scenario, program: str | Path | None = None) -> Report:
-    """Runs a scenario, whose first policy is the base, on any number of policies: at most 16 in a run, with the base in each.
+    """Runs a scenario, whose first policy is the base, on any number of policies: at most 16 in a run, with the base in
+    each.
 
     Raises ScenarioError with all faults, and ProgramError.
     """
     checked_tree(scenario.tree, any_number=True)
     base, *others = scenario.policies
     most = formats.POLICIES[1] - 1
-    parts = [scenario.with_policies([base, *others[first:first + most]]) for first in range(0, max(1, len(others)), most)]
+    starts = range(0, max(1, len(others)), most)
+    parts = [scenario.with_policies([base, *others[start:start + most]]) for start in starts]
     found = find_program(program)
     texts = run_all(found, [plain_text(it.tree) for it in parts])
     reports = [rows_of(part.policies, text, str(found)) for part, text in zip(parts, texts)]
