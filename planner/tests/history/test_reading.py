@@ -62,6 +62,7 @@ def test_faults_of_a_law_are_never_left_out(file: Files, answer: Answers) -> Non
     assert status == 2
     for line, number in ((2, 10001), (4, 20001)):
         assert f":{line}:1: column 'n': {number} is above 10,000; count in larger boxes: --box 3 or more" in errors
+    assert errors.endswith("crnplan: 2 faults in 2 rows\n")
 
 
 def test_rejects_that_cannot_be_written(file: Files, answer: Answers, tmp_path: Path) -> None:

@@ -65,7 +65,8 @@ class RefusedFiles(RefusedFaults):
         lines = list(printed(faults))
         if len(faults) > 1:
             rows = len({(it.file, it.line) for it in faults})
-            lines.append(f"{len(faults):,} faults in {rows:,} rows; correct them, or say --leave-out to go on without bad rows")
+            advice = "; correct them, or say --leave-out to go on without bad rows" * any(isinstance(it, Reject) for it in faults)
+            lines.append(f"{len(faults):,} faults in {rows:,} rows{advice}")
         self.notes = tuple(notes)
         super().__init__(faults, "\n".join([*lines, *notes]))
 

@@ -158,10 +158,10 @@ def _spanned(movements: _Movements, start: Day | None, end: Day | None, whole: b
     if not periods:
         raise movements.refused_span(f"there is no {every} between the first and the last one; leave --whole out", movements.rows[0])
     if len(periods) > MOST_WEIGHT:
-        last = next((row for row, (day, _) in zip(movements.rows, movements.dates) if day == ends[1]), None)
+        last_row = next((row for row, (day, _) in zip(movements.rows, movements.dates) if day == ends[1]), None)
         advice = "change --from or --to" if start or end else "correct the first or the last date"
         raise movements.refused_span(f"{len(periods):,} {every}s are more than {MOST_WEIGHT:,}; {advice}, or take longer periods "
-                                     "(--every)", None if start or end else last)
+                                     "(--every)", None if start or end else last_row)
     numbers = {period_of(it, every) for it in {day for day, _ in movements.dates}}
     movements.reading.note(f"{every}s from {period_name(periods[0], every)} to {period_name(periods[-1], every)}: "
                            f"{len(periods)}, filled with 0: {len(set(periods) - numbers)}; {_ends_text(partial, whole)}")
