@@ -1,10 +1,10 @@
 """Computes long-run costs of (s,S) policies a second time: it shares no code with the theory of crnplan.
 
-The depth is S less the position after a review. For one gap S - s it is a Markov chain on 0 .. S - s, and below 0 if returns
-have lifted the position above S. All starts from its law in the long run. After the longest lead time m all orders from
-before have arrived. So m steps are taken with the joint law of the depth and of what was ordered in these steps and is then
-still under way. The stock at the end is S less the depth, what is under way and the net demand of that period. The law of
-this shortfall is the same for every S, so the best S for a gap is a quantile of it.
+The depth is S less the position after a review. For one gap S - s it is a Markov chain on 0 .. S - s, and below 0 if
+returns have lifted the position above S. All starts from its law in the long run. After the longest lead time m all
+orders from before have arrived. So m steps are taken with the joint law of the depth and of what was ordered in these
+steps and is then still under way. The stock at the end is S less the depth, what is under way and the net demand of
+that period. The law of this shortfall is the same for every S, so the best S for a gap is a quantile of it.
 """
 from __future__ import annotations
 
@@ -48,7 +48,7 @@ def net_demand(scenario: Scenario) -> tuple[int, np.ndarray]:
 
 
 def moves_of(least: int, net: np.ndarray, gap: int) -> tuple[int, np.ndarray]:
-    """Returns how far the depth can be below 0, and the matrix from each depth to each of the next review before an order.
+    """Returns how far the depth can be below 0, and the matrix from each depth to those before the next order.
 
     A depth that returns would lift further stays at the end, where the law has next to nothing.
     """
@@ -83,7 +83,7 @@ def drawn(law: np.ndarray, least: int, net: np.ndarray) -> np.ndarray:
 
 
 def stepped(law: np.ndarray, least: int, net: np.ndarray, above: int, late: float) -> np.ndarray:
-    """Returns the joint law of the depth and of what is under way after one more review, whose order is late with a chance."""
+    """Returns the joint law of the depth and of what is under way after one more review, whose order may be late."""
     after = drawn(law, least, net)
     kept, ordered = after[:len(law)], after[len(law):]
     wide = np.zeros((len(kept), law.shape[1] + len(after) - above))
@@ -129,8 +129,8 @@ def best_of_gap(scenario: Scenario, gap: int) -> Best:
 def best_of_all(scenario: Scenario) -> Best:
     """Returns the best policy that a search finds.
 
-    It goes from the best of three gaps about the economic order quantity to a neighbour while one is cheaper, in steps that
-    halve.
+    It goes from the best of three gaps about the economic order quantity to a neighbour while one is cheaper, in steps
+    that halve.
     """
     least, net = net_demand(scenario)
     costs, mean = scenario.costs, float(net @ (least + np.arange(len(net))))

@@ -1,4 +1,4 @@
-"""Tests what `unit` adds by final stock with a chain of the position, for large numbers, and in steps of several items."""
+"""Tests what `unit` adds by final stock: with a chain of the position, for large numbers, and on a coarse lattice."""
 from __future__ import annotations
 
 from collections.abc import Sequence

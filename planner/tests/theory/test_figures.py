@@ -25,7 +25,7 @@ CHAINS = [(([0, 1, 3], [3, 2, 1]), ([1], [1]), None, (2, 5)), (([0, 2], [1, 1]),
           (([0, 3], [2, 1]), ([1, 2, 4], [1, 1, 1]), None, (2, 5)),
           (([1, 3], [1, 1]), ([1, 2], [1, 1]), ([0, 1], [2, 1]), (3, 5)),
           (([0, 3], [1, 1]), ([2], [1]), ([0, 1, 2], [4, 2, 1]), (3, 5))]
-# Zheng and Federgruen (1991), table I; they order at s too, so their s is one below crnsim's, and orders arrive at once.
+# Zheng and Federgruen (1991), table I: they order at s too, so s is one below crnsim's. Orders arrive at once.
 PUBLISHED = [(10, 6, 40, "35.022"), (15, 10, 49, "42.698"), (20, 14, 62, "49.173"), (25, 19, 56, "54.262")]
 # A grid of gaps finds a first policy whose S costs more than that policy does.
 STEEP = [scenario_of(([6, 7], [5, 9]), costs=Costs(500, 0, 3, 10000)),
@@ -92,7 +92,8 @@ def test_the_best_of_all_pairs(lead: Pair) -> None:
     theory = theory_of(scenario)
     best, fill = theory.best(), theory.best_with_fill(0.98)
     shorts = [shortfall_of(scenario, gap) for gap in range(31)]
-    costs = {(level - gap, level): cost_of(scenario, shorts[gap], level) for level in range(31) for gap in range(level + 1)}
+    costs = {(level - gap, level): cost_of(scenario, shorts[gap], level)
+             for level in range(31) for gap in range(level + 1)}
     assert (best.point, best.level) == min(costs, key=costs.__getitem__)
     filled = {pair: cost for pair, cost in costs.items() if theory.figures(*pair).fill >= 0.98}
     assert (fill.point, fill.level) == min(filled, key=filled.__getitem__)
@@ -107,7 +108,8 @@ def test_the_best_if_the_first_found_has_a_high_level(scenario: Scenario) -> Non
     assert theory.stock_costs(np.array([first.level]))[0] > first.cost
     gap = best.level - best.point
     shorts = {it: shortfall_of(scenario, it) for it in range(gap - 20, gap + 20)}
-    least = min(cost_of(scenario, it, level) for it in shorts.values() for level in range(best.level - 20, best.level + 20))
+    levels = range(best.level - 20, best.level + 20)
+    least = min(cost_of(scenario, it, level) for it in shorts.values() for level in levels)
     assert best.cost == pytest.approx(least, abs=1e-6)
     assert cost_of(scenario, shorts[gap], best.level) == pytest.approx(least, abs=1e-6)
 
@@ -135,5 +137,5 @@ def test_the_best_of_one_lead_time_costs_least(demand: Pair, lead: Pair, costs: 
     best = theory_of(scenario).best()
     shorts = [shortfall_of(scenario, gap) for gap in range(80)]
     least = min(cost_of(scenario, short, level) for gap, short in enumerate(shorts) for level in range(gap, 120))
-    assert best.cost <= least + 1e-6
-    assert best.cost == pytest.approx(cost_of(scenario, shortfall_of(scenario, best.level - best.point), best.level), abs=1e-6)
+    its = cost_of(scenario, shortfall_of(scenario, best.level - best.point), best.level)
+    assert best.cost == pytest.approx(its, abs=1e-6) and best.cost <= least + 1e-6

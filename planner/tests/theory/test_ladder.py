@@ -35,8 +35,8 @@ def error_of(net: Law) -> float:
     """Returns how far the ladder is from the walk."""
     visits, falls = walked(net)
     told, its_falls = ladder(net)
-    rest = visits[len(told):]
-    return max(abs(told[:MOST_HEIGHT] - visits[:len(told)]).max(), abs(its_falls - falls).max(), rest.max() if len(rest) else 0)
+    rest = visits[len(told):].max(initial=0.0)
+    return max(abs(told[:MOST_HEIGHT] - visits[:len(told)]).max(), abs(its_falls - falls).max(), rest)
 
 
 def test_the_walk_with_returns() -> None:

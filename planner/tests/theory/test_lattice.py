@@ -7,9 +7,8 @@ import pytest
 from hypothesis import given, settings
 from hypothesis import strategies as st
 
-from crnplan.errors import Refused
 from crnplan.scenario import Costs, Scenario
-from crnplan.theory.lattice import shape_of, theories_of, theory_on
+from crnplan.theory.lattice import NoTheory, shape_of, theories_of, theory_on
 
 from planner.tests.theory.scenarios import Pair, scenario_of
 
@@ -18,8 +17,9 @@ DEMAND = list(range(61)), [1 + value % 7 for value in range(61)]
 POLICIES = [(90, 92), (100, 260), (131, 294), (160, 223), (140, 249), (150, 301)]
 
 
-@pytest.mark.parametrize("lead, back", [(([3], [1]), None), (([1, 4], [1, 1]), None), (([2], [1]), ([0, 5, 13], [3, 2, 1]))],
-                         ids=["one lead time", "two lead times", "returns"])
+@pytest.mark.parametrize("lead, back", [
+    (([3], [1]), None), (([1, 4], [1, 1]), None), (([2], [1]), ([0, 5, 13], [3, 2, 1]))],
+    ids=["one lead time", "two lead times", "returns"])
 def test_a_coarse_lattice(lead: Pair, back: Pair | None) -> None:
     """Steps of 4 items are no further from exact costs than steps of 8 move them at most."""
     scenario = scenario_of(DEMAND, lead, back, Costs(900, 0, 1, 12), (100, 260))
@@ -49,26 +49,24 @@ def test_a_common_factor_changes_the_unit_alone(factor: int, weights: list[int],
     assert theory(factor) == pytest.approx(theory(1), rel=1e-9)
 
 
-MANY = list(range(11)), [10] * 11
 SAME = [0, 1, 2], [1, 2, 1]
+NEAR = scenario_of(([0, 1], [30000, 30001]), back=([0, 1], [1, 1]))
+FREE = "is 0, so there is no best policy: stock, or being short, costs nothing; give it a cost above 0"
 
 
-@pytest.mark.parametrize("scenario, said", [
-    (scenario_of(SAME, costs=Costs(1, 1, 0, 1)), "the cost holding is 0, so there is no best policy: stock, or being short, "
-     "costs nothing; give it a cost above 0"),
-    (scenario_of(SAME, costs=Costs(1, 1, 1, 0)), "the cost backlog is 0, so there is no best policy: stock, or being short, "
-     "costs nothing; give it a cost above 0"),
-    (scenario_of(SAME, back=SAME), "on average 1 items come back and 1 are asked for in a period, so there is nothing to order "
-     "in the long run; look at the tables demand and returns"),
-    (scenario_of(([0], [1])), "no item is ever asked for; give a demand above 0 a weight"),
-    (scenario_of(([0, 1], [30000, 30001]), back=([0, 1], [1, 1])), "the numbers of this scenario are too far apart for the "
-     "theory's tables: what comes back is nearly what is asked for, or one order lasts for far too long; compare policies of "
-     "your own by runs"),
+@pytest.mark.parametrize("scenario, path, said", [
+    (scenario_of(SAME, costs=Costs(1, 1, 0, 1)), ("costs", "holding"), f"the cost holding {FREE}"),
+    (scenario_of(SAME, costs=Costs(1, 1, 1, 0)), ("costs", "backlog"), f"the cost backlog {FREE}"),
+    (scenario_of(SAME, back=SAME), ("demand",), "on average 1 items come back and 1 are asked for in a period, so there "
+     "is nothing to order in the long run; look at the tables demand and returns"),
+    (scenario_of(([0], [1])), ("demand",), "no item is ever asked for; give a demand above 0 a weight"),
+    (NEAR, (), "the numbers of this scenario are too far apart for the theory's tables: what comes back is nearly what "
+     "is asked for, or one order lasts for far too long; compare policies of your own by runs"),
 ], ids=["no holding", "no backlog", "all comes back", "no demand", "too far apart"])
-def test_a_scenario_without_a_theory(scenario: Scenario, said: str) -> None:
-    with pytest.raises(Refused) as refused:
+def test_a_scenario_without_a_theory(scenario: Scenario, path: tuple[str, ...], said: str) -> None:
+    with pytest.raises(NoTheory) as refused:
         theories_of(scenario)
-    assert str(refused.value) == said
+    assert (str(refused.value), refused.value.path) == (said, path)
 
 
 def test_large_numbers_are_counted_in_steps() -> None:

@@ -7,7 +7,8 @@ from hypothesis import given
 from hypothesis import strategies as st
 
 from crnplan.scenario import Table
-from crnplan.theory.laws import MOST_PRODUCTS, NOTHING, Law, Surplus, convolved, law_of, power_of, reflected, room_for, sum_of
+from crnplan.theory.laws import (MOST_PRODUCTS, NOTHING, Law, Surplus, convolved, law_of, power_of, reflected, room_for,
+                                 sum_of)
 
 chances = st.lists(st.integers(1, 1000), min_size=1, max_size=12)
 laws = st.builds(lambda low, weights: Law(low, np.array(weights) / sum(weights)), st.integers(-20, 20), chances)

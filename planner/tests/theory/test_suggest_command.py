@@ -48,7 +48,8 @@ def test_the_worked_case(crnplan: Command, top: Path) -> None:
 
 @pytest.mark.parametrize("words, initial, unit", [([], 700, 20), (["--initial"], 40, 20), (["--unit-zero"], 700, 0),
                                                   (["--initial", "--unit-zero"], 40, 0)], ids=str)
-def test_the_start_and_the_price(crnplan: Command, top: Path, asked: Path, words: list[str], initial: int, unit: int) -> None:
+def test_the_start_and_the_price(crnplan: Command, top: Path, asked: Path, words: list[str], initial: int,
+                                 unit: int) -> None:
     """By a chain of all positions, solved by itself, the mean position is 39.7746."""
     text = changed(priced(top / "examples/mail_order.toml", 20), "initial = 60", "initial = 700")
     asked.write_text(text, "utf-8")
@@ -72,8 +73,9 @@ def test_the_table_in_other_forms(crnplan: Command, top: Path) -> None:
     rows = list(csv.DictReader(io.StringIO(output)))
     assert (status, notes.startswith("cost: a period in the long run")) == (0, True)
     assert [*rows[0]] == [*shown[0], "reasons"]
-    assert [[it["policy"], it["s"], it["S"], f"{float(it['cost']):.2f}", f"{float(it['fill']):.2%}", f"{float(it['short']):.2%}",
-             f"{float(it['stock']):.1f}", f"{float(it['orders']):.4f}"] for it in rows] == shown[1:]
+    forms = {"cost": ".2f", "fill": ".2%", "short": ".2%", "stock": ".1f", "orders": ".4f"}
+    assert [[it["policy"], it["s"], it["S"], *(format(float(it[name]), form) for name, form in forms.items())]
+            for it in rows] == shown[1:]
     status, output, errors = crnplan("suggest", path, "--json")
     told = json.loads(output)
     assert (status, errors, told["error"], told["step"]) == (0, "", None, 1)

@@ -40,7 +40,7 @@ def test_the_policies(found: Suggestions) -> None:
 
 
 def test_the_figures(found: Suggestions) -> None:
-    """All is within its range, and each reason holds: but for rounding, or for what a lattice of several items may miss."""
+    """All is within its range, and each reason holds: but for rounding, or for the error of a coarse lattice."""
     close = found.error or 1e-9
     costs, best = found.scenario.costs, next(it.figures.cost for it in found.rows if "the best" in it.reasons)
     for row in found.rows:
@@ -87,7 +87,8 @@ def test_costs_are_those_of_a_second_theory(name: str, top: Path) -> None:
        name=st.sampled_from(["today", "best", "best_", "lower"]))
 def test_any_scenario(weights: list[int], leads: list[int], point: int, gap: int, costs: Costs, name: str) -> None:
     demand = range(len(weights)), weights
-    scenario = scenario_of(demand, (leads, [1] * len(leads)), costs=costs).with_policies([Policy(name, point, point + gap)])
+    scenario = scenario_of(demand, (leads, [1] * len(leads)), costs=costs)
+    scenario = scenario.with_policies([Policy(name, point, point + gap)])
     found = suggestions_of(scenario)
     test_the_policies(found)
     test_the_figures(found)
@@ -115,7 +116,7 @@ def test_the_text_keeps_the_order_and_the_first_comment(top: Path) -> None:
               "[[policy]]\nS = 9\ns = 2\nname = 'A'\n").replace("'", '"')
     told = suggested_text(Scenario.parse(turned))
     assert told.startswith("# Another\nring = 8\ninitial = 1\nreplications = 1\nversion = 1\nperiods = 3\nkey = [")
-    assert "\n\n[lead]\nweights = [1]\nvalues = [1]\n\n[demand]\nweights = [1, 1]\nvalues = [0, 3]\n\n[costs]\nunit = 1\n" in told
+    assert "\n\n[lead]\nweights = [1]\nvalues = [1]\n\n[demand]\nweights = [1, 1]\nvalues = [0, 3]\n\n[costs]\n" in told
     wanted, its = tomllib.loads(turned.replace("\r", "")), tomllib.loads(told)
     assert its.pop("policy")[0] == wanted.pop("policy")[0] and its == wanted
 

@@ -23,25 +23,26 @@ def command(scenario: str, initial: bool, unit_zero: bool, as_csv: bool, as_json
     """Suggest policies for a scenario: the best (s,S) by theory, and good alternatives, beside today's. `-` is standard
     input.
 
-    The first policy of SCENARIO.toml is today's. The same scenario goes to standard output with today's policy and up to 15
-    others, each with its reason as a comment: the best; today's s with its best S, and today's S with its best s; the
-    cheapest that meet at least 95, 98, 99 and 99.5% of demand at once; fewer and more orders; neighbours of the best. A
-    table goes to standard error: of each policy the cost a period, the share of demand that is met at once (fill), the share
-    of periods that end with items owed (short), the mean stock at the end of a period, and the orders a period.
+    The first policy of SCENARIO.toml is today's. The same scenario goes to standard output with today's policy and up
+    to 15 others, each with its reason as a comment: the best; today's s with its best S, and today's S with its best s;
+    the cheapest that meet at least 95, 98, 99 and 99.5% of demand at once; fewer and more orders; neighbours of the
+    best. A table goes to standard error: of each policy the cost a period, the share of demand that is met at once
+    (fill), the share of periods that end with items owed (short), the mean stock at the end of a period, and the orders
+    a period.
 
     The figures are those of the long run: all demand is met in the end, and the demands, returns and lead times of the
-    periods are independent and each of one law, as in crnsim. They are exact but for rounding, also if orders overtake one
-    another. If numbers are so large that they are counted in steps of some items, the table says by how much that may
-    matter. With one lead time the best is the best of all pairs with s >= 0. With several, and for the other policies, it is
-    what a search over S - s finds, which gets finer around the best gap of a grid. The cost unit is left out: in the long
-    run it adds unit times the mean net demand to every policy. What crnsim computes from the stock initial over some periods
-    is a sample that begins elsewhere: so run the suggested scenario.
+    periods are independent and each of one law, as in crnsim. They are exact but for rounding, also if orders overtake
+    one another. If numbers are so large that they are counted in steps of some items, the table says by how much that
+    may matter. With one lead time the best is the best of all pairs with s >= 0. With several, and for the other
+    policies, it is what a search over S - s finds, which gets finer around the best gap of a grid. The cost unit is
+    left out: in the long run it adds unit times the mean net demand to every policy. What crnsim computes from the
+    stock initial over some periods is a sample that begins elsewhere: so run the suggested scenario.
 
-    Two lines on standard error are about the run. A start far from the long run biases costs by an amount that falls only as
-    1 over periods: the mean inventory position of the best policy at the beginning of a period is proposed as initial, since
-    nothing is on order then. And unit charges the items that are left at the end too, which favours policies that end with
-    little stock. With --initial and --unit-zero the scenario is written with this initial, and with unit = 0; else both stay
-    as they are.
+    Two lines on standard error are about the run. A start far from the long run biases costs by an amount that falls
+    only as 1 over periods: the mean inventory position of the best policy at the beginning of a period is proposed as
+    initial, since nothing is on order then. And unit charges the items that are left at the end too, which favours
+    policies that end with little stock. With --initial and --unit-zero the scenario is written with this initial, and
+    with unit = 0; else both stay as they are.
 
     Nothing of this is proved; crnsim's figures are.
     """
@@ -54,7 +55,8 @@ def command(scenario: str, initial: bool, unit_zero: bool, as_csv: bool, as_json
         place = places_of(asked.source or "", asked.tree).get(fault.path, (0, 0))
         raise RefusedFaults([Fault(str(fault), scenario.removeprefix("-"), *place)]) from None
     if as_csv:
-        csv.writer(sys.stdout, lineterminator="\n").writerows([found.records[0], *(it.values() for it in found.records)])
+        rows = found.records
+        csv.writer(sys.stdout, lineterminator="\n").writerows([rows[0], *(it.values() for it in rows)])
         print(found.notes.lstrip(), end="", file=sys.stderr)
     elif as_json:
         print(json.dumps({"initial": found.initial, "position": round(found.position, 6), "error": found.error,

@@ -1,9 +1,9 @@
 """Estimates how much the cost `unit` favours policies that end a replication with little stock.
 
-`unit` is paid for each item ordered, also for those that are left when a replication ends. The items ordered are the net
-demand (demand less returns) and what the inventory position has risen by since the start. So the unit costs of two policies
-differ by `unit` times the difference of their final positions. Here, final positions are replaced by means over the long
-run. Between the end of a period and the beginning of the next, the position stays.
+`unit` is paid for each item ordered, also for those that are left when a replication ends. The items ordered are the
+net demand (demand less returns) and what the inventory position has risen by since the start. So the unit costs of two
+policies differ by `unit` times the difference of their final positions. Here, final positions are replaced by means
+over the long run. Between the end of a period and the beginning of the next, the position stays.
 """
 from __future__ import annotations
 
@@ -22,12 +22,12 @@ class Levels(Protocol):
         """Returns the reorder point."""
 
     @property
-    def S(self) -> int:  # noqa: N802
+    def S(self) -> int:
         """Returns the order-up-to level."""
 
 
 def end_effects(scenario: Scenario, policies: Sequence[Levels]) -> list[float] | None:
-    """Returns what `unit` adds per replication to each policy's difference from the first one by the final stock, in money.
+    """Returns what `unit` adds per replication to each policy's cost by its final stock, less that of the first one.
 
     None if there is no long-run mean, or if its tables are too large.
     """

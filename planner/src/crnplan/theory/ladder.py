@@ -2,9 +2,9 @@
 
 Counted down from S, the position after a review is a random walk that starts anew with each order. Without returns, how
 often it visits each place is a renewal sequence (Veinott and Wagner, Computing optimal (s,S) inventory policies, 1965).
-With returns, it is the renewal sequence of the walk's lows, spread over the heights that the walk visits before its next
-low: the Wiener-Hopf factors of a random walk (Feller, An Introduction to Probability Theory and Its Applications, volume
-II, chapters XII and XVIII).
+With returns, it is the renewal sequence of the walk's lows, spread over the heights that the walk visits before its
+next low: the Wiener-Hopf factors of a random walk (Feller, An Introduction to Probability Theory and Its Applications,
+volume II, chapters XII and XVIII).
 """
 from __future__ import annotations
 
@@ -44,8 +44,8 @@ def cells_of_ladder(net: Law, decay: float) -> tuple[float, int]:
 def ladder(net: Law) -> tuple[Floats, Floats]:
     """Returns how often each height above a low is visited before the next low, and the law of the fall to that low.
 
-    Without returns, the only height is 0. With returns, these are the Wiener-Hopf factors of 1 less the transform of the
-    net demand. The logarithm of that is split on a circle within which it has no zero.
+    Without returns, the only height is 0. With returns, these are the Wiener-Hopf factors of 1 less the transform of
+    the net demand. The logarithm of that is split on a circle within which it has no zero.
     """
     if net.low >= 0:
         stay = net.chances[0] if net.low == 0 else 0.0

@@ -1,8 +1,8 @@
 """Chooses the lattice on which a scenario is counted: as fine as its time allows.
 
-If all demands and returns are multiples of a step, and the tables of that step are small enough, the lattice is exact. Else
-values are shared between the two cells beside them, such that means stay. The same scenario on a lattice twice as coarse
-then shows how much that matters.
+If all demands and returns are multiples of a step, and the tables of that step are small enough, the lattice is exact.
+Else values are shared between the two cells beside them, such that means stay. The same scenario on a lattice twice as
+coarse then shows how much that matters.
 """
 from __future__ import annotations
 
@@ -31,7 +31,7 @@ COARSER = 1.2  # by how much a step may grow if more values then lie on the latt
 
 
 class NoTheory(Refused):
-    """A scenario without a best policy, or with numbers that are too far apart. `path` leads to the key that says so."""
+    """A scenario without a best policy, or with numbers too far apart. `path` leads to the key that says so."""
 
     def __init__(self, what: str, *path: str) -> None:
         """Keeps the path. It is empty if there is no single key."""
@@ -100,8 +100,8 @@ def shape_of(scenario: Scenario) -> Shape:
     costs, values = scenario.costs, values_of(scenario)
     for name, cost in (("holding", costs.holding), ("backlog", costs.backlog)):
         if cost == 0:
-            raise NoTheory(f"the cost {name} is 0, so there is no best policy: stock, or being short, costs nothing; give it "
-                           "a cost above 0", "costs", name)
+            raise NoTheory(f"the cost {name} is 0, so there is no best policy: stock, or being short, costs nothing; "
+                           "give it a cost above 0", "costs", name)
     (demand, demand_square), (back, back_square) = moments_of(scenario.demand), moments_of(scenario.returns)
     mean, variance = demand - back, demand_square - demand**2 + back_square - back**2
     if mean <= 1e-9 * demand:
@@ -157,8 +157,8 @@ def lattice_of(scenario: Scenario, shape: Shape, widest: int) -> tuple[int, bool
         times = max(times + 1, int(times * 1.1))
         if base * times * LEAST_CELLS > max(shape.high, shape.order):
             raise NoTheory("the numbers of this scenario are too far apart for the theory's tables: what comes back is "
-                           "nearly what is asked for, or one order lasts for far too long; compare policies of your own by "
-                           "runs")
+                           "nearly what is asked for, or one order lasts for far too long; compare policies of your "
+                           "own by runs")
     if times == 1:
         return base, True
     steps = (base * it for it in range(times, int(COARSER * times) + 1))

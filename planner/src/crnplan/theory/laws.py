@@ -78,7 +78,7 @@ def reflected(law: Law) -> Law:
 def room_for(size: int) -> int:
     """Returns the least power of two, or 3 or 5 times one, that is at least `size`: a transform of it is fast.
 
-    `scipy.fft.next_fast_len` allows more sizes, but they round otherwise, and equal costs would then be ranked otherwise.
+    `scipy.fft.next_fast_len` allows more sizes, but these round differently, which can change the order of equal costs.
     """
     return min(odd << max(0, (-(-size // odd) - 1).bit_length()) for odd in (1, 3, 5))
 

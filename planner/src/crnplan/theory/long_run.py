@@ -1,8 +1,8 @@
 """Computes what each (s,S) policy of a scenario costs in the long run, and searches for the cheapest.
 
-Let m be the longest lead time. All orders of the reviews up to period t have arrived in period t + m. So the stock at the
-end of that period follows from the position after the review of period t (`Walk`) and from what happens in the m periods
-after it: see `one_lead.py` and `overtaking.py`.
+Let m be the longest lead time. All orders of the reviews up to period t have arrived in period t + m. So the stock at
+the end of that period follows from the position after the review of period t (`Walk`) and from what happens in the m
+periods after it: see `one_lead.py` and `overtaking.py`.
 """
 from __future__ import annotations
 
@@ -94,7 +94,7 @@ class LongRun(Walk, ABC):
         return gap * self.step + (0 if self.exact else (self.step - 1) // 2)
 
     def figures(self, point: int, level: int) -> Figures:
-        """Returns the figures of a policy; if the lattice is not exact, between those of the two gaps beside its own."""
+        """Returns the figures of a policy; if the lattice is not exact, between those of the gaps beside its own."""
         parts = [(share, self.figures_of_gap(gap, level)) for gap, share in self.gaps_of(point, level)]
         return Figures(*(sum(share * it[place] for share, it in parts) for place in range(len(Figures._fields))))
 
@@ -118,7 +118,7 @@ class LongRun(Walk, ABC):
         return Candidate(self.figures_of_gap(gap, level).cost, point, level)
 
     def best_of_gap(self, gap: int) -> Candidate:
-        """Returns the cheapest policy of a gap: its level is a newsvendor's, or as low as a reorder point of 0 allows."""
+        """Returns the cheapest policy of a gap: its level is a newsvendor's, or the least with a reorder point of 0."""
         level = self.surpluses(gap)[0].quantile(self.backlog / (self.backlog + self.holding))
         return self.policy(gap, max(level, self.items(gap)))
 

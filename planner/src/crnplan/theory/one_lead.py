@@ -1,7 +1,7 @@
 """Computes the long run of a scenario with one lead time, and finds the best of all policies.
 
-With one lead time L, the stock at the end of period t + L is the position after the review of period t less the net demand
-of L + 1 periods (Zipkin, Foundations of Inventory Management, 2000, chapter 9).
+With one lead time L, the stock at the end of period t + L is the position after the review of period t less the net
+demand of L + 1 periods (Zipkin, Foundations of Inventory Management, 2000, chapter 9).
 """
 from __future__ import annotations
 
@@ -59,9 +59,10 @@ class OneLead(LongRun):
     def best(self) -> Candidate:
         """Returns the cheapest policy of all.
 
-        From S down to s no place of the best policy costs more than that policy itself, so each gap is at most the width
-        of the levels that cost no more than some policy (Zheng and Federgruen, Finding optimal (s,S) policies is about as
-        simple as evaluating a single policy, 1991). If s would be below 0, it is the best on that range of levels.
+        From S down to s no place of the best policy costs more than that policy itself, so each gap is at most the
+        width of the levels that cost no more than some policy (Zheng and Federgruen, Finding optimal (s,S) policies is
+        about as simple as evaluating a single policy, 1991). If s would be below 0, it is the best on that range of
+        levels.
         """
         first = search(self.best_of_gap, self.most)
         stock_costs = self.stock_costs_beside(first)

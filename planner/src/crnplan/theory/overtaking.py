@@ -2,10 +2,10 @@
 
 Let m be the longest lead time. All that was ordered up to period t is there in period t + m. So the stock after the
 arrivals of period t + m is S less two numbers: how far the position after that period's review is below S, and what was
-ordered in the last m reviews and is still under way. Both start from the position after the review of period t, whose law
-is known, and both together follow a Markov chain over m periods. An order of one of these reviews is late with the chance
-that its lead time exceeds its age. None of that depends on S, so one pass suffices for all policies with one gap (compare
-Zipkin, Foundations of Inventory Management, 2000, sections 7.4 and 9.6).
+ordered in the last m reviews and is still under way. Both start from the position after the review of period t, whose
+law is known, and both together follow a Markov chain over m periods. An order of one of these reviews is late with the
+chance that its lead time exceeds its age. None of that depends on S, so one pass suffices for all policies with one gap
+(compare Zipkin, Foundations of Inventory Management, 2000, sections 7.4 and 9.6).
 """
 from __future__ import annotations
 
@@ -55,7 +55,7 @@ def from_zero(net: Law) -> Law:
 def shortfall(positions: Law, gap: int, net: Law, chances: Mapping[int, float]) -> Law:
     """Returns the law of how far the stock after arrivals is below S.
 
-    `positions` is the law of how far the position after a review is below S, `chances` has the chance of each lead time.
+    `positions` is the law of how far the position after a review is below S, `chances` is by lead time.
     """
     net, last, low = from_zero(net), max(chances), positions.low
     amounts = late_amounts(gap, net, last)
