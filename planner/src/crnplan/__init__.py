@@ -5,6 +5,8 @@ The names below are the public interface. Each is imported when it is first used
 from __future__ import annotations
 
 import importlib
+import sys
+from types import ModuleType
 from typing import TYPE_CHECKING, Any
 
 __version__ = "0.1.0"
@@ -62,3 +64,15 @@ def __getattr__(name: str) -> Any:
 def __dir__() -> list[str]:
     """Returns the public names, for completion in a shell."""
     return sorted(__all__)
+
+
+class _Package(ModuleType):
+    """The package. A public function keeps its name if a module of the package has the same: `sweep`."""
+
+    def __setattr__(self, name: str, value: Any) -> None:
+        """Sets an attribute, but for an imported module with a public name."""
+        if name not in _HOMES or not isinstance(value, ModuleType):
+            super().__setattr__(name, value)
+
+
+sys.modules[__name__].__class__ = _Package
