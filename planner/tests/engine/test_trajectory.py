@@ -20,7 +20,7 @@ from hypothesis import strategies as st
 from crnplan.engine import trajectory
 from crnplan.engine.trajectory import trajectories
 from crnplan.scenario import Scenario
-from planner.tests.item.commanded import crnplan
+from planner.tests.conftest import Command
 
 # The example of docs/FORMATS.md, "What happens in a period": orders, net demands, stocks and positions.
 ON_PAGE = {"A": [(0, 1, 59, 59), (0, 2, 57, 57), (0, 2, 55, 55), (0, 4, 51, 51)],
@@ -90,14 +90,14 @@ def states_of(program: Path, text: str, block: int) -> dict[str, tuple[int, int]
     return states
 
 
-def test_example_of_the_page(program: Path, top: Path) -> None:
+def test_example_of_the_page(crnplan: Command, program: Path, top: Path) -> None:
     """Compares both policies with the example, in the order asked for."""
     told = crnplan("trajectory", top / "examples/two_policies.toml", "B", "A", "--csv", "--program", program)
     assert (told.status, told.errors) == (0, "")
     assert list(rows_of(told.output).items()) == [("B", ON_PAGE["B"]), ("A", ON_PAGE["A"])]
 
 
-def test_table(program: Path, top: Path) -> None:
+def test_table(crnplan: Command, program: Path, top: Path) -> None:
     """The table has its columns in line."""
     told = crnplan("trajectory", top / "examples/two_policies.toml", "B", "--periods", "2", "--program", program)
     assert told == (0, "policy  period  ordered  net_demand  stock  position\n"
@@ -105,17 +105,17 @@ def test_table(program: Path, top: Path) -> None:
                        "B            1       21           2     57        78\n", "")
 
 
-def test_json(program: Path, top: Path) -> None:
+def test_json(crnplan: Command, program: Path, top: Path) -> None:
     """The JSON has a record for each period."""
     told = crnplan("trajectory", top / "examples/two_policies.toml", "B", "--json", "--program", program)
     assert [tuple(it.values())[2:] for it in json.loads(told.output)] == ON_PAGE["B"]
 
 
 @pytest.mark.parametrize("name", POLICIES)
-def test_every_fourth_period_is_that_of_the_checkpoint(name: str, program: Path, top: Path) -> None:
+def test_every_fourth_period_is_that_of_the_checkpoint(crnplan: Command, name: str, program: Path, top: Path) -> None:
     """Compares stock and position with the checkpoints at all blocks."""
     path = top / f"examples/{name}.toml"
-    told = crnplan("trajectory", path, *POLICIES[name], "--csv", "--periods", PERIODS, "--program", program)
+    told = crnplan("trajectory", path, *POLICIES[name], "--csv", "--periods", str(PERIODS), "--program", program)
     found = rows_of(told.output)
     assert list(found) == POLICIES[name]
     for block in range(1, PERIODS // 4 + 1):
@@ -169,7 +169,7 @@ def test_random_scenarios_are_as_simulated(program: Path, tree: dict[str, Any]) 
 def test_packed_up_to_the_greatest_cost(level: int, runs: int, program: Path, top: Path, monkeypatch: pytest.MonkeyPatch) -> None:
     """A period takes one run up to the greatest holding cost, and three beyond, with the same figures."""
     tree = tomllib.loads((top / "examples/two_policies.toml").read_text())
-    tree |= {"initial": 0, "policy": [{"name": "far", "s": 0, "S": level}, {"name": "near", "s": 1, "S": level + 3}]}
+    tree |= {"initial": 0, "policy": [{"name": "far", "s": 0, "S": level}, {"name": "near", "s": 1, "S": level + 1}]}
     counted: list[int] = []
     run_all = trajectory.run_all
 
@@ -198,7 +198,7 @@ def test_longest_run(program: Path, top: Path) -> None:
 
 
 @pytest.mark.parametrize("words, part", REFUSED, ids=[words for words, _ in REFUSED])
-def test_refused_in_one_line(words: str, part: str, program: Path, top: Path, monkeypatch: pytest.MonkeyPatch) -> None:
+def test_refused_in_one_line(crnplan: Command, words: str, part: str, program: Path, top: Path, monkeypatch: pytest.MonkeyPatch) -> None:
     """A word that cannot be used is refused in one line, with nothing on standard output."""
     monkeypatch.chdir(top / "examples")
     monkeypatch.setenv("CRNSIM", str(program))
@@ -207,7 +207,7 @@ def test_refused_in_one_line(words: str, part: str, program: Path, top: Path, mo
     assert errors.startswith("crnplan: ") and (errors.count("\n") == 1 or "broken" in words)
 
 
-def test_no_matplotlib(top: Path, tmp_path: Path, monkeypatch: pytest.MonkeyPatch) -> None:
+def test_no_matplotlib(crnplan: Command, top: Path, tmp_path: Path, monkeypatch: pytest.MonkeyPatch) -> None:
     """Without matplotlib a picture is refused in one line that says how to get it."""
     monkeypatch.setitem(sys.modules, "matplotlib", None)
     status, output, errors = crnplan("trajectory", top / "examples/two_policies.toml", "A", "--out", tmp_path / "none.svg")
@@ -215,7 +215,7 @@ def test_no_matplotlib(top: Path, tmp_path: Path, monkeypatch: pytest.MonkeyPatc
     assert not (tmp_path / "none.svg").exists()
 
 
-def test_pictures(program: Path, top: Path, tmp_path: Path) -> None:
+def test_pictures(crnplan: Command, program: Path, top: Path, tmp_path: Path) -> None:
     """A picture is a PNG, or an SVG with its texts; drawn again it has the same bytes."""
     words = ["trajectory", top / "examples/spare_part.toml", "today", "both", "--periods", "40", "--program", program, "--out"]
     for name in ("stock.png", "stock.svg", "again.svg"):
@@ -226,7 +226,7 @@ def test_pictures(program: Path, top: Path, tmp_path: Path) -> None:
     assert TEXTS <= {it.text for it in svg.iter("{http://www.w3.org/2000/svg}text")}
 
 
-def test_picture_and_table(program: Path, top: Path, tmp_path: Path) -> None:
+def test_picture_and_table(crnplan: Command, program: Path, top: Path, tmp_path: Path) -> None:
     """--out and --csv make both."""
     words = ["trajectory", top / "examples/two_policies.toml", "A", "--csv", "--out", tmp_path / "a.svg", "--program", program]
     assert rows_of(crnplan(*words).output) == {"A": ON_PAGE["A"]} and (tmp_path / "a.svg").exists()

@@ -10,17 +10,18 @@ from pathlib import Path
 
 import pytest
 
-from crnplan import Scenario, item, plan_item
+from crnplan import Scenario, item
 from crnplan.engine.report import read_rows
 from crnplan.item import steps
-from planner.tests.item.commanded import Told, crnplan
+from planner.tests.conftest import Answer, Command
 
 HERE = Path(__file__).parent
 STEPS = ["tables", "scenario", "suggestions", "run", "decision", "check", "trajectory", "summary"]
 FILES = {"tables.toml", "demand.csv", "notes.txt", "scenario.toml", "suggested.toml", "suggested.txt", "suggested.csv", "report.csv",
          "decision.txt", "decision.csv", "check.txt", "check.csv", "trajectory.csv", "summary.txt", "summary.html", "state.json"}
 NOTHING = "nothing has changed since the last run; nothing was done"
-Change = Callable[[Path], None]
+Change = Callable[[Path], object]
+Plan = Callable[..., Answer]
 
 
 @pytest.fixture
@@ -32,9 +33,13 @@ def room(tmp_path: Path, top: Path) -> Path:
     return tmp_path
 
 
-def plan(room: Path, program: Path, out: str = "plan") -> Told:
-    """Plans the item of a folder."""
-    return crnplan("item", room / "history.csv", room / "settings.toml", "--out", room / out, "--program", program)
+@pytest.fixture
+def plan(room: Path, crnplan: Command, program: Path) -> Plan:
+    """Returns a function that plans the item of the folder."""
+    def run(out: str = "plan", used: Path = program) -> Answer:
+        """Plans it into a folder of the folder."""
+        return crnplan("item", room / "history.csv", room / "settings.toml", "--out", room / out, "--program", used)
+    return run
 
 
 def bytes_of(folder: Path) -> dict[str, bytes]:
@@ -49,36 +54,36 @@ def edit(path: Path, old: str, new: str) -> None:
     path.write_text(text.replace(old, new))
 
 
-def test_from_nothing(room: Path, program: Path) -> None:
+def test_from_nothing(room: Path, plan: Plan) -> None:
     """All files are there, and the summary is printed, of one screen."""
-    status, output, errors = plan(room, program)
+    status, output, errors = plan()
     assert status in (0, 1) and errors == f"{room / 'plan'}: done: {', '.join(STEPS)}\n"
     assert set(bytes_of(room / "plan")) == FILES
     assert output == (room / "plan/summary.txt").read_text()
     assert len(output.splitlines()) <= 24 and max(map(len, output.splitlines())) <= 80
 
 
-def test_again_nothing_is_done(room: Path, program: Path) -> None:
+def test_again_nothing_is_done(room: Path, plan: Plan) -> None:
     """A second run touches no file, says so, and prints the same summary with the same status."""
-    first = plan(room, program)
+    first = plan()
     before = {it.name: (it.stat().st_mtime_ns, it.stat().st_ino) for it in (room / "plan").iterdir()}
-    again = plan(room, program)
+    again = plan()
     assert again == (first.status, first.output, f"{room / 'plan'}: {NOTHING}\n")
     assert before == {it.name: (it.stat().st_mtime_ns, it.stat().st_ino) for it in (room / "plan").iterdir()}
 
 
-def test_same_bytes_elsewhere(room: Path, program: Path, monkeypatch: pytest.MonkeyPatch) -> None:
+def test_same_bytes_elsewhere(room: Path, plan: Plan, crnplan: Command, program: Path, monkeypatch: pytest.MonkeyPatch) -> None:
     """Another folder, and another way to name the files, give the same bytes."""
-    plan(room, program)
+    plan()
     monkeypatch.chdir(room)
     crnplan("item", "history.csv", "./settings.toml", "--out", "other/plan", "--program", program)
     assert bytes_of(room / "plan") == bytes_of(room / "other/plan")
 
 
 @pytest.mark.parametrize("name", STEPS)
-def test_interrupted_in_a_step(name: str, room: Path, program: Path, monkeypatch: pytest.MonkeyPatch) -> None:
+def test_interrupted_in_a_step(name: str, room: Path, plan: Plan, monkeypatch: pytest.MonkeyPatch) -> None:
     """After an interruption it goes on with the step that was not finished, to the same bytes."""
-    plan(room, program, "whole")
+    plan("whole")
 
     def interrupted(*_: object) -> None:
         raise KeyboardInterrupt
@@ -87,15 +92,15 @@ def test_interrupted_in_a_step(name: str, room: Path, program: Path, monkeypatch
     cut = (*item.STEPS[:place], steps.Step(name, item.STEPS[place].reads, item.STEPS[place].facts, interrupted))
     with monkeypatch.context() as patched:
         patched.setattr(item, "STEPS", cut)
-        assert plan(room, program) == (130, "", "crnplan: interrupted\n")
-    assert plan(room, program).errors == f"{room / 'plan'}: done: {', '.join(STEPS[place:])}\n"
+        assert plan() == (130, "", "\ncrnplan: interrupted\n")
+    assert plan().errors == f"{room / 'plan'}: done: {', '.join(STEPS[place:])}\n"
     assert bytes_of(room / "plan") == bytes_of(room / "whole")
 
 
 @pytest.mark.parametrize("writes", [0, 1, 2, 4, 6, 9, 13, 20, 28])
-def test_interrupted_at_a_write(writes: int, room: Path, program: Path, monkeypatch: pytest.MonkeyPatch) -> None:
+def test_interrupted_at_a_write(writes: int, room: Path, plan: Plan, monkeypatch: pytest.MonkeyPatch) -> None:
     """If it is interrupted between two files, no file is there in part, and the next run goes on to the same bytes."""
-    plan(room, program, "whole")
+    plan("whole")
     replace, left = os.replace, [writes]
 
     def counted(*words: str) -> None:
@@ -106,10 +111,10 @@ def test_interrupted_at_a_write(writes: int, room: Path, program: Path, monkeypa
 
     with monkeypatch.context() as patched:
         patched.setattr(os, "replace", counted)
-        assert plan(room, program).status == 130
+        assert plan().status == 130
     whole = bytes_of(room / "whole")
     assert all(whole[name] == data for name, data in bytes_of(room / "plan").items() if name != "state.json" and ".part" not in name)
-    plan(room, program)
+    plan()
     assert bytes_of(room / "plan") == whole
 
 
@@ -130,21 +135,21 @@ CHANGES: dict[str, tuple[Change, list[str]]] = {
 
 
 @pytest.mark.parametrize("name", CHANGES)
-def test_a_change_runs_what_depends_on_it(name: str, room: Path, program: Path) -> None:
+def test_a_change_runs_what_depends_on_it(name: str, room: Path, plan: Plan, program: Path) -> None:
     """A changed input runs the steps that depend on it, to the same bytes as from nothing."""
     own = room / "program"
     own.write_text(f'#!/bin/sh\nexec {program} "$@"\n')
     own.chmod(0o755)
-    plan(room, own)
+    plan(used=own)
     change, wanted = CHANGES[name]
     change(room)
     done = f"done: {', '.join(wanted)}" if wanted else NOTHING
-    assert plan(room, own).errors == f"{room / 'plan'}: {done}\n"
-    plan(room, own, "anew")
+    assert plan(used=own).errors == f"{room / 'plan'}: {done}\n"
+    plan("anew", own)
     assert bytes_of(room / "plan") == bytes_of(room / "anew")
 
 
-def test_worked_case(top: Path, tmp_path: Path, program: Path) -> None:
+def test_worked_case(top: Path, tmp_path: Path, crnplan: Command, program: Path) -> None:
     """The worked case's settings give its suggestions, its report and its check."""
     case, out = top / "examples/case", tmp_path / "plan"
     status, output, _ = crnplan("item", case / "history.csv", case / "settings.toml", "--out", out, "--program", program)
@@ -159,12 +164,12 @@ def test_worked_case(top: Path, tmp_path: Path, program: Path) -> None:
     assert output.startswith("Below 12, order up to 30: cheaper than today's policy (15, 30)\n") and "best holds" in output
 
 
-def test_decimals_are_scaled(room: Path, program: Path) -> None:
+def test_decimals_are_scaled(room: Path, plan: Plan) -> None:
     """Costs of 0.60 and 6 give the same decision, in tenths and in units of money."""
-    plan(room, program)
+    plan()
     text = (room / "settings.toml").read_text()
     (room / "settings.toml").write_text(text.replace("45.00", "450").replace("0.60", "6").replace("9.00", "90"))
-    plan(room, program, "whole")
+    plan("whole")
     for name in ("report.csv", "decision.csv", "check.csv"):
         assert (room / "plan" / name).read_text() == (room / "whole" / name).read_text()
     lines = [[line for line in (room / it / "summary.txt").read_text().splitlines() if line.startswith("today ")][0].split()
@@ -173,40 +178,39 @@ def test_decimals_are_scaled(room: Path, program: Path) -> None:
         round(float(it.replace(",", ""))) for it in lines[1][3:8:4]] or lines
 
 
-def test_today_is_the_best(room: Path, program: Path) -> None:
+def test_today_is_the_best(room: Path, plan: Plan) -> None:
     """If theory finds nothing better, today's policy is checked and kept."""
-    best = next(it for it in plan_item(room / "history.csv", room / "settings.toml", room / "plan", program=program).summary.splitlines()
-                if it.startswith("best ")).split()
+    best = next(line for line in plan().output.splitlines() if line.startswith("best ")).split()
     edit(room / "settings.toml", "s = 15\nS = 30", f"s = {best[1]}\nS = {best[2]}")
-    output = plan(room, program, "kept").output
+    output = plan("kept").output
     assert output.startswith(f"Below {best[1]}, order up to {best[2]}: keep today's policy\n") and "today holds" in output.replace("\n", " ")
 
 
-def test_policy_that_does_not_hold(room: Path, program: Path) -> None:
+def test_policy_that_does_not_hold(room: Path, plan: Plan) -> None:
     """The exit status is 1 if a policy is better than the chosen one on new random numbers."""
     edit(room / "settings.toml", "[check]\nreplications = 8", '[check]\nreplications = 64\npolicy = "fewest_orders"')
-    status, output, _ = plan(room, program)
+    status, output, _ = plan()
     verdicts = (room / "plan/check.csv").read_text()
     assert status == 1 and ",better\n" in verdicts and "fewest_orders does not hold" in output.replace("\n", " ")
-    assert plan(room, program).status == 1
+    assert plan().status == 1
 
 
-def test_several_keys(room: Path, program: Path) -> None:
+def test_several_keys(room: Path, plan: Plan) -> None:
     """A check on several keys has a given one first, and others that follow from it."""
     edit(room / "settings.toml", "replications = 8", 'replications = 8\nkeys = 3\nkey = "0000000000000001"')
-    plan(room, program)
+    plan()
     keys = [line.split()[1:] for line in (room / "plan/check.txt").read_text().splitlines() if line.startswith("--key")]
     assert len(keys) == 3 and keys[0][0] == "0000000000000001" and len({tuple(it) for it in keys}) == 3
     assert "24 replications" in (room / "plan/summary.txt").read_text()
 
 
-def test_dates_returns_and_orders(room: Path, program: Path) -> None:
+def test_dates_returns_and_orders(room: Path, plan: Plan) -> None:
     """Movements by date with returns, and the dates of orders, give a scenario with returns and notes without paths."""
     (room / "history.csv").write_text("Datum;Menge;Retour\n02.03.2026;3,0;0\n05.03.2026;2,0;1\n24.03.2026;4,0;0\n")
     (room / "orders.csv").write_text("ordered;received\n12.01.2026;20.01.2026\n09.02.2026;02.03.2026\n23.03.2026;\n")
     edit(room / "settings.toml", 'demand = "demand"', 'demand = "Menge"\ndate = "Datum"\nreturns = "Retour"\ndecimal = ","\nto = 2026-03-31')
     edit(room / "settings.toml", "times = [2, 3, 2, 4]", 'orders = "orders.csv"')
-    told = plan(room, program)
+    told = plan()
     assert told.status in (0, 1), told.errors
     scenario = Scenario.read(room / "plan/scenario.toml")
     assert (scenario.demand.tree, scenario.lead.tree) == ({"values": [0, 4, 5], "weights": [3, 1, 1]}, {"values": [1, 3], "weights": [1, 1]})
@@ -217,22 +221,22 @@ def test_dates_returns_and_orders(room: Path, program: Path) -> None:
     assert str(room) not in notes
 
 
-def test_boxes(room: Path, program: Path) -> None:
+def test_boxes(room: Path, plan: Plan) -> None:
     """Demand is counted in boxes."""
     edit(room / "settings.toml", 'demand = "demand"', 'demand = "demand"\nbox = 5')
-    plan(room, program)
+    plan()
     assert Scenario.read(room / "plan/scenario.toml").demand.values == (0, 1, 2)
 
 
-def test_largest_numbers_fit_one_screen(room: Path, program: Path) -> None:
+def test_largest_numbers_fit_one_screen(room: Path, plan: Plan) -> None:
     """The summary keeps to a screen if numbers are large and lines are long."""
     (room / "history.csv").write_text("demand\n" + "9000\n10000\n0\n" * 5)
     text = (HERE / "settings.toml").read_text()
-    for old, new in (("45.00", "99999999.00"), ("0.60", "10000"), ("9.00", "10000.00"), ("s = 15", "s = 40000"), ("S = 30", "S = 900000"),
-                     ("stock = 20", "stock = 30000"), ("holding = 10000", "holding = 9999\nunit = 1")):
+    for old, new in (("setup = 45.00", "setup = 99999999.00\nunit = 1"), ("0.60", "9999.00"), (" 9.00", " 10000.00"), ("s = 15", "s = 40000"),
+                     ("S = 30", "S = 900000"), ("stock = 20", "stock = 30000")):
         text = text.replace(old, new)
     (room / "settings.toml").write_text(text)
-    status, output, errors = plan(room, program)
+    status, output, errors = plan()
     assert status in (0, 1), errors
     assert "WARNING: unit = 1 " in output
     assert len(output.splitlines()) <= 24 and max(map(len, output.splitlines())) <= 80
@@ -270,9 +274,9 @@ class Page(HTMLParser):
         self.texts.append(data)
 
 
-def test_page_stands_alone(room: Path, program: Path) -> None:
+def test_page_stands_alone(room: Path, plan: Plan) -> None:
     """The page is closed in itself, links to nothing, and has the summary's words and all policies."""
-    plan(room, program)
+    plan()
     text = (room / "plan/summary.html").read_text()
     page = Page(text)
     assert not page.open and not page.links and "http" not in text and "url(" not in text and "<script" not in text
@@ -285,7 +289,7 @@ def test_page_stands_alone(room: Path, program: Path) -> None:
     assert text.count('class="bar"') == sum(line.split(",")[1] != "0" for line in (room / "plan/demand.csv").read_text().splitlines()[1:])
 
 
-def test_page_escapes_texts(room: Path, program: Path) -> None:
+def test_page_escapes_texts(room: Path, crnplan: Command, program: Path) -> None:
     """A file's name is no markup."""
     shutil.copy(room / "history.csv", room / "a<b>&.csv")
     crnplan("item", room / "a<b>&.csv", room / "settings.toml", "--out", room / "plan", "--program", program)
@@ -305,36 +309,36 @@ REFUSED: dict[str, tuple[Change, str]] = {
 
 
 @pytest.mark.parametrize("name", REFUSED)
-def test_refused_in_one_line(name: str, room: Path, program: Path) -> None:
+def test_refused_in_one_line(name: str, room: Path, plan: Plan) -> None:
     """What cannot be used is refused in one line that names it, with nothing on standard output."""
     change, part = REFUSED[name]
     change(room)
-    status, output, errors = plan(room, program)
+    status, output, errors = plan()
     assert (status, output, errors.count("\n")) == (2, "", 1) and part in errors
 
 
-def test_all_faults_of_a_history(room: Path, program: Path) -> None:
+def test_all_faults_of_a_history(room: Path, plan: Plan) -> None:
     """The faults of a history are reported in one pass, with their lines."""
     edit(room / "history.csv", "2023-W02,4", "2023-W02,many")
     edit(room / "history.csv", "2023-W07,1", "2023-W07,-1")
-    status, output, errors = plan(room, program)
+    status, output, errors = plan()
     assert (status, output) == (2, "") and "history.csv:3:" in errors and "history.csv:8:" in errors
 
 
-def test_no_program(room: Path) -> None:
+def test_no_program(room: Path, plan: Plan) -> None:
     """Without the program nothing is done."""
-    status, output, errors = plan(room, room / "missing")
+    status, output, errors = plan(used=room / "missing")
     assert (status, output, errors.count("\n")) == (2, "", 1) and "there is no program" in errors
     assert not (room / "plan").exists()
 
 
 @pytest.mark.parametrize("script, part", [("echo no report", "no report"), ("echo crnsim: memory >&2; exit 7", "crnsim: memory")])
-def test_program_that_fails(script: str, part: str, room: Path, program: Path) -> None:
+def test_program_that_fails(script: str, part: str, room: Path, plan: Plan) -> None:
     """If the program fails, what was made before is kept, and a good program goes on from there."""
     bad = room / "bad"
     bad.write_text(f"#!/bin/sh\n{script}\n")
     bad.chmod(0o755)
-    status, output, errors = plan(room, bad)
+    status, output, errors = plan(used=bad)
     assert (status, output) == (2, "") and part in errors
     assert list(json.loads((room / "plan/state.json").read_text())["steps"]) == sorted(STEPS[:3])
-    assert plan(room, program).errors == f"{room / 'plan'}: done: {', '.join(STEPS[3:])}\n"
+    assert plan().errors == f"{room / 'plan'}: done: {', '.join(STEPS[3:])}\n"

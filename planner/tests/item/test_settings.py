@@ -11,7 +11,7 @@ from hypothesis import strategies as st
 
 from crnplan.errors import Fault, RefusedFaults
 from crnplan.item.settings import TABLES, read_settings
-from planner.tests.item.commanded import crnplan
+from planner.tests.conftest import Command
 
 GOOD = (Path(__file__).parent / "settings.toml").read_text()
 # Each case: a text of the good settings and what takes its place, the text at which the fault is reported, and what is said.
@@ -89,7 +89,7 @@ def test_same_key_again(tmp_path: Path) -> None:
                                               "one, or remove it"]
 
 
-def test_all_at_once_by_line(tmp_path: Path) -> None:
+def test_all_at_once_by_line(crnplan: Command, tmp_path: Path) -> None:
     """All faults are reported, in the order of their lines, each once."""
     text = GOOD
     for name in ("a key that is misspelt", "a text for a cost", "s above S", "no horizon", "a check on no key", "no period of that name",

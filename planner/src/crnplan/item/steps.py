@@ -36,9 +36,14 @@ def digest_of(data: bytes) -> str:
     return hashlib.sha256(data).hexdigest()
 
 
+def _part_of(path: Path) -> Path:
+    """Returns the temporary name of a file."""
+    return path.with_name(f"{path.name}.part")
+
+
 def write_whole(path: Path, text: str) -> None:
     """Writes a file that is there whole or not at all."""
-    part = path.with_name(f"{path.name}.part")
+    part = _part_of(path)
     with open(part, "w", encoding="utf-8", newline="") as file:
         file.write(text)
         file.flush()
@@ -57,7 +62,7 @@ class Folder:
             path.mkdir(parents=True, exist_ok=True)
             if (path / STATE).is_file():
                 self._read()
-            elif any(path.iterdir()):
+            elif any(it.name != _part_of(path / STATE).name for it in path.iterdir()):
                 raise Refused(f"{path}: the folder is not empty, and no plan is in it; name a new folder")
             else:
                 self._keep()

@@ -15,8 +15,9 @@ from ..scenario import Scenario
 from .work import Item, rows_of
 
 WIDTH, LINES = 80, 24
-# The columns of the table from right to left, in the order in which they are left out if a line is too long.
-OPTIONAL = ("orders", "stock", "short", "fill")
+LARGE = 100_000
+# The columns of the table that are left out if a line is too long, in this order.
+OPTIONAL = ("orders", "stock", "short", "fill", "percent")
 Row = dict[str, str]
 
 
@@ -91,8 +92,8 @@ def headline(figures: Figures) -> str:
 
 
 def amount(value: float) -> str:
-    """Returns an amount of money."""
-    return f"{value:,.2f}"
+    """Returns an amount of money; one that is large, without decimals."""
+    return f"{value:,.{2 if abs(value) < LARGE else 0}f}"
 
 
 def facts(figures: Figures) -> str:
@@ -105,25 +106,31 @@ def facts(figures: Figures) -> str:
             f"without demand. Lead times: {sum(lead['weights']):,}, of {times} {period}s.")
 
 
-def table(figures: Figures, most: int) -> str:
-    """Returns the cheapest policies, today's and the chosen one, in lines that fit the screen."""
+def shown_rows(figures: Figures, most: int) -> list[Row]:
+    """Returns the cheapest policies, today's and the chosen one, by rank."""
     must = {figures.today, figures.chosen}
     others = [row["policy"] for row in figures.decided if row["policy"] not in must][:most - len(must)]
-    shown = [row for row in figures.decided if row["policy"] in must.union(others)]
-    left: list[str] = []
-    while True:
-        names = [name for name in ("fill", "short", "stock", "orders") if name not in left]
-        rows = [["policy", "s", "S", "long run", *names, "this run", "percent", "verdict"]]
-        for row in shown:
-            its = figures.theory[row["policy"]]
-            cells = {"fill": f"{float(its['fill']):.1%}", "short": f"{float(its['short']):.1%}", "stock": f"{float(its['stock']):,.1f}",
-                     "orders": f"{float(its['orders']):.3f}"}
-            rows.append([row["policy"], row["s"], row["S"], amount(figures.money(its["cost"])), *(cells[name] for name in names),
-                         amount(figures.money(row["cost_a_period"])), row["percent"], row["verdict"]])
-        text = aligned(rows, (0, len(rows[0]) - 1))
-        if max(map(len, text.splitlines())) <= WIDTH or len(left) == len(OPTIONAL):
-            return text
-        left.append(OPTIONAL[len(left)])
+    return [row for row in figures.decided if row["policy"] in must.union(others)]
+
+
+def cells_of(figures: Figures, row: Row) -> dict[str, str]:
+    """Returns the cells of a policy by column."""
+    its = figures.theory[row["policy"]]
+    return {"policy": row["policy"], "s": row["s"], "S": row["S"], "long run": amount(figures.money(its["cost"])),
+            "fill": f"{float(its['fill']):.1%}", "short": f"{float(its['short']):.1%}", "stock": f"{float(its['stock']):,.1f}",
+            "orders": f"{float(its['orders']):.3f}", "this run": amount(figures.money(row["cost_a_period"])),
+            "percent": row["percent"], "verdict": row["verdict"]}
+
+
+def table(figures: Figures, most: int) -> str:
+    """Returns the table, with as many columns as fit the screen."""
+    rows = [cells_of(figures, row) for row in shown_rows(figures, most)]
+    for left_out in range(len(OPTIONAL) + 1):
+        names = [name for name in rows[0] if name not in OPTIONAL[:left_out]]
+        text = aligned([names, *([row[name] for name in names] for row in rows)], (0, len(names) - 1))
+        if max(map(len, text.splitlines())) <= WIDTH:
+            break
+    return text
 
 
 def spoken(figures: Figures, row: Row, base: str) -> str:
@@ -169,9 +176,10 @@ def summary_text(figures: Figures) -> str:
     """Returns the summary, of at most 24 lines of 80 characters."""
     notes = len(figures.item.text("notes.txt").splitlines())
     above = [*paragraph(headline(figures)), "", *paragraph(facts(figures)), ""]
+    kept = f"See notes.txt ({notes} on the history), " if notes else "See "
     told = [comparison(figures), check(figures), warning(figures),
-            f"long run to orders are theory's, rounded and unproved; this run is crnsim's, proved for its stream. {notes} "
-            f"note{'s' * (notes != 1)} in notes.txt, all policies in decision.txt and check.txt, pictures in summary.html."]
+            "The columns from long run to orders are theory's, rounded and unproved; this run is crnsim's, proved for its stream.",
+            f"{kept}decision.txt and check.txt (all policies) and summary.html (pictures)."]
     below = ["", *(line for text in told for line in paragraph(text))]
     lines = [*above, *table(figures, LINES - len(above) - len(below) - 1).splitlines(), *below]
     return "".join(f"{line}\n" for line in lines)
