@@ -227,7 +227,7 @@ def rule_changed(chance: Random, tree: Tree) -> Tree:
             draws["values"] = draws["values"] + [draws["values"][-1] + more]
             draws["weights"] = draws["weights"] + [most - sum(draws["weights"])]
         case 2:
-            policy["s"] = policy["S"] + more
+            policy["s"] = policy["S"] + chance.choice([1, 1, 0])
         case 3:
             policy["name"] = chance.choice(policies)["name"] + "x" * chance.choice([0, 10, 14, 15])
         case 4:

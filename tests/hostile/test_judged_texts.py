@@ -11,7 +11,7 @@ from hypothesis import assume, given, note, settings
 from hypothesis import strategies as st
 
 from tests.hostile import changed, document_edges, range_ends
-from tests.hostile.judge import CUTS, SCENARIOS, Case, Cut, cut_of, file_case, file_cases, rules_of, scenario_case, schedule_case
+from tests.hostile.judged import CUTS, SCENARIOS, Case, Cut, cut_of, file_case, file_cases, rules_of, scenario_case, schedule_case
 from tests.hostile.second_reader import is_for_both
 from tests.hostile.test_refusals import CheckAll
 from tests.stored import stored
