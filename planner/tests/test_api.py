@@ -1,4 +1,4 @@
-"""Tests the public interface: its names, that they are imported when they are used, and the usage that the pages show."""
+"""Tests the public interface: its names, that they are imported when they are used, and a whole way by them."""
 from __future__ import annotations
 
 import importlib
@@ -37,8 +37,9 @@ def test_no_other_name() -> None:
         getattr(crn, "simulate")
 
 
-@pytest.mark.parametrize("code", ["import crnplan", "import crnplan.commands", "from crnplan import Scenario, find_program",
-                                  "import crnplan.commands.why", "import crnplan.commands.run", "import crnplan.formats"])
+@pytest.mark.parametrize("code", [
+    "import crnplan", "import crnplan.commands", "import crnplan.formats", "from crnplan import Scenario, find_program",
+    "import crnplan.commands.why", "import crnplan.commands.run", "import crnplan.commands.where"])
 def test_imports_no_heavy_library(code: str) -> None:
     """Checks that the light parts import none of the libraries that take long."""
     loaded = python(f"{code}; import sys; print(*sys.modules)").split()

@@ -54,10 +54,10 @@ def test_rules(place: int, rules: dict[str, int]) -> None:
 def test_columns_of_a_report() -> None:
     """Compares the columns, which of them are fractions, and the heading line."""
     table = table_with("Field", "What it says")
-    columns = [(name, "fraction" in text) for names, text in table for name in spans_of(names)]
-    assert [(name, kind == "fraction") for name, kind in formats.COLUMNS.items()] == columns
+    columns = {name: "fraction" if "fraction" in text else "whole" for names, text in table for name in spans_of(names)}
+    assert [*formats.COLUMNS.items()] == [*{**columns, "policy": "name"}.items()]
     assert f"```\n{formats.HEADER}\n```" in TEXT
-    assert formats.WHOLE == tuple(it for it in formats.COLUMNS if it != "policy" and it not in formats.FRACTIONS)
+    assert {*formats.WHOLE, *formats.FRACTIONS, "policy"} == columns.keys() and "policy" not in formats.WHOLE
 
 
 def test_rows_of_a_checkpoint() -> None:
