@@ -108,7 +108,7 @@ def lines_of(kind, said):
 def page(name, about, text, others, day):
     """Returns the manual page of a program or command, with a line on it, its help text and the names of other pages."""
     sections = {it: [] for it in FIRST}
-    sections["NAME"] = [f"{escaped(name)} \\- {escaped(about.rstrip('.'))}"]
+    sections["NAME"] = wrapped(f"{name} - {about.rstrip('.')}")
     for section, kind, said in blocks_of(text):
         sections.setdefault(section, []).extend(lines_of(kind, said))
     if others:
@@ -120,10 +120,9 @@ def page(name, about, text, others, day):
     return "\n".join(lines) + "\n"
 
 
-def pages_of(program, day=None):
-    """Returns the manual pages of a program, by the names of their files."""
-    name, text = os.path.basename(program), help_of(program)
-    day = day or datetime.date.today().isoformat()
+def pages_of(program, name):
+    """Returns the manual pages of a program with a name, by the names of their files."""
+    text, day = help_of(program), datetime.date.today().isoformat()
     about = next(said for section, kind, said in blocks_of(text) if (section, kind) == ("DESCRIPTION", "text"))
     commands = commands_of(text)
     pages = {f"{name}.1": page(name, re.split(r"[.:] ", about)[0], text, [f"{name}-{it}" for it in commands], day)}
@@ -139,7 +138,7 @@ def main():
     words.add_argument("folder", metavar="FOLDER")
     asked = words.parse_args()
     try:
-        pages = pages_of(asked.program)
+        pages = pages_of(asked.program, os.path.basename(asked.program))
     except (NoHelp, OSError) as fault:
         print(f"tools/manual.py: {fault}", file=sys.stderr)
         return 1

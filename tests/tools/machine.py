@@ -7,7 +7,7 @@ import subprocess
 from dataclasses import dataclass
 from pathlib import Path
 
-SECONDS = 60
+SECONDS = 100
 Ran = subprocess.CompletedProcess[str]
 # The folders of the path behind that of the fakes.
 PATH = "/usr/local/bin:/usr/bin:/bin:/usr/sbin:/sbin"
