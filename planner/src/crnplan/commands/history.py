@@ -33,22 +33,6 @@ def item_of(context: click.Context, option: click.Parameter, words: tuple[str, .
     return {name.strip(): text.strip() for name, _, text in pairs}
 
 
-def check_words(asked: dict[str, Any]) -> None:
-    """Rejects options that say nothing without others."""
-    if asked["lead"] and asked["orders"]:
-        raise Refused("say --lead or --orders, not both")
-    if asked["every"] is None and (asked["date"] or asked["orders"]):
-        raise Refused("--date and --orders need the period: say --every day, --every week or --every month")
-    if asked["every"] and not (asked["date"] or asked["orders"]):
-        raise Refused("--every needs dates: say --date with the name of their column")
-    if (asked["net"] or asked["whole"]) and not asked["date"]:
-        raise Refused("--net and --whole need dates: say --date with the name of their column, and --every")
-    if (asked["start"] or asked["end"]) and not asked["date"]:
-        raise Refused("--from and --to need dates: say --date with the name of their column, and --every")
-    if [asked["file"], asked["orders"], asked["lead"] and asked["lead"][0]].count("-") > 1:
-        raise Refused("standard input (-) can be one file only; name the others")
-
-
 def tables(asked: dict[str, Any], rules: dict[str, Any], read: list[Observed]) -> str:
     """Returns all tables that are asked for. What is read is added to a list; faults of all files are raised together."""
     faults: list[Fault] = []
@@ -64,9 +48,9 @@ def tables(asked: dict[str, Any], rules: dict[str, Any], read: list[Observed]) -
         read.extend([its] if isinstance(its, Observed) else [])
         return its
 
-    dated = {it: asked[it] for it in ("net", "whole", "start", "end")} | {"every": asked["every"] if asked["date"] else None}
-    names = {it: asked[it] for it in ("demand", "returns", "date")}
-    history = attempted(lambda: read_history(asked["file"], **names, **dated, **rules))
+    words = {it: asked[it] for it in ("demand", "returns", "date", "net", "whole", "start", "end")}
+    every = asked["every"] if asked["date"] or not asked["orders"] else None
+    history = attempted(lambda: read_history(asked["file"], every=every, **words, **rules))
     lead: Any = None
     if asked["lead"]:
         lead = attempted(lambda: read_lead_times(asked["lead"][0], lead=asked["lead"][1].strip(), **rules))
@@ -122,7 +106,10 @@ def command(**asked: Any) -> int:
     12 decides whether the day or the month comes first. These options hold for all files.
     """
     rules = {it: asked[it] for it in ("delimiter", "encoding", "decimal", "date_formats", "item", "leave_out")}
-    check_words(asked)
+    if asked["lead"] and asked["orders"]:
+        raise Refused("say --lead or --orders, not both")
+    if [asked["file"], asked["orders"], asked["lead"] and asked["lead"][0]].count("-") > 1:
+        raise Refused("standard input (-) can be one file only; name the others")
     if asked["demand"] is None:
         names = ", ".join(column_names(asked["file"], Rules(**rules))) or "none"
         raise Refused(f"{asked['file']}: say --demand with the name of a column; the columns are: {names}")

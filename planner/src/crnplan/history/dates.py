@@ -12,6 +12,7 @@ from ..errors import Refused
 from .faults import Unreadable, shown
 
 EVERY = ("day", "week", "month")
+NEED_PERIOD = "--date and --orders need the period: say --every day, --every week or --every month"
 FIRST_YEAR, LAST_YEAR = 1980, 2199
 # The forms, each as a date of its kind is written. A year of two digits is from 1969 to 2068, as in POSIX.
 YEAR = "(?P<year>[0-9]{4}|[0-9]{2})"

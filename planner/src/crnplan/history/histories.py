@@ -13,8 +13,8 @@ from typing import Any
 from ..errors import Fault, Refused, RefusedFaults
 from ..formats import MOST_WEIGHT
 from .cells import Rules
-from .dates import EVERY, DateReader, first_day, period_name, period_of
-from .faults import Place, Unreadable, named_lines, RefusedFiles
+from .dates import EVERY, NEED_PERIOD, DateReader, first_day, period_name, period_of
+from .faults import Place, RefusedFiles, Unreadable, named_lines
 from .observed import History
 from .reading import Reading
 from .suspicions import total_reason, twice_notes
@@ -37,11 +37,14 @@ def read_history(path: str | Path, *, demand: str, returns: str | None = None, d
     """
     rule, names = Rules(**rules), [demand] if returns is None else [demand, returns]
     if date is None:
-        if every or net or whole or start or end:
-            raise Refused("--every, --net, --whole, --from and --to need dates: say --date with the name of their column")
+        column = "dates: say --date with the name of their column"
+        for option, given, more in (("--every needs", every, ""), ("--net and --whole need", net or whole, ", and --every"),
+                                    ("--from and --to need", start or end, ", and --every")):
+            if given:
+                raise Refused(f"{option} {column}{more}")
         return _undated(Reading(path, names, rule), names)
     if every not in EVERY:
-        raise Refused("--date and --orders need the period: say --every day, --every week or --every month")
+        raise Refused(NEED_PERIOD)
     first, last = _day_of(start, "--from"), _day_of(end, "--to")
     if first and last and first > last:
         raise Refused(f"--from {first} is after --to {last}; change one of them")
@@ -67,9 +70,10 @@ def _undated(reading: Reading, names: Sequence[str]) -> History:
     columns = {name: reading.amounts(name, below, 0) for name in names}
     rows, numbers = reading.kept(columns)
     reading.notes += twice_notes(reading.sheet, rows, names)
+    for name in names:
+        reading.suspect(name, rows, numbers[name])
     history = None
     for name in reversed(names):
-        reading.suspect(name, rows, numbers[name])
         places = tuple(reading.place(row, name, reading.sheet.columns[name].text(row)) for row in rows)
         history = History(tuple(numbers[name]), places, tuple(reading.notes), tuple(reading.faults), None, 1, history)
     assert history is not None

@@ -7,7 +7,7 @@ from typing import Any
 from ..errors import Refused, RefusedFaults
 from ..formats import MOST_WEIGHT
 from .cells import Rules
-from .dates import EVERY, DateReader, period_of
+from .dates import EVERY, NEED_PERIOD, DateReader, period_of
 from .observed import LeadTimes
 from .reading import Reading
 from .suspicions import twice_notes
@@ -26,7 +26,7 @@ def read_lead_times(path: str | Path, *, lead: str | None = None, every: str | N
     if lead is not None:
         return _periods(Reading(path, [lead], rule, own_item=True), lead)
     if every not in EVERY:
-        raise Refused("--date and --orders need the period: say --every day, --every week or --every month")
+        raise Refused(NEED_PERIOD)
     return _orders(Reading(path, [ordered, received], rule, own_item=True), ordered, received, every)
 
 

@@ -12,7 +12,7 @@ from . import suspicions
 from .amounts import amount_of
 from .cells import Rules, read_sheet
 from .dates import DateReader
-from .faults import MOST_NAMED, Place, Unreadable, named_lines, RefusedFiles, shown
+from .faults import MOST_NAMED, Place, RefusedFiles, Unreadable, named_lines, shown
 
 Value = TypeVar("Value")
 
