@@ -1,4 +1,5 @@
-"""Compares trajectories with FORMATS.md's example, with checkpoints, and with a simulation from the program's random words."""
+"""Compares trajectories with FORMATS.md's example, with checkpoints, and with a simulation from the program's random
+words."""
 from __future__ import annotations
 
 import json
@@ -51,7 +52,8 @@ def rows_of(output: str) -> dict[str, list[tuple[int, ...]]]:
 
 
 def draws_of(program: Path, tree: dict[str, Any], periods: int) -> list[tuple[int, int, int]]:
-    """Returns the demand, the lead time and the returns of each period of replication 0, from the program's random words."""
+    """Returns the demand, the lead time and the returns of each period of replication 0, from the program's random
+    words."""
     drawn: dict[str, list[int]] = {"demand": [], "lead": [], "returns": []}
     for block in range(math.ceil(periods / 4)):
         words = subprocess.run([program, "words", *tree["key"], str(block)], capture_output=True, text=True, check=True).stdout
@@ -234,7 +236,8 @@ def test_picture_and_table(crnplan: Command, program: Path, top: Path, tmp_path:
 
 @pytest.mark.serial
 def test_half_a_second(program: Path, top: Path) -> None:
-    """104 periods of two policies take half a second, the start of Python left out, on a machine that does nothing else."""
+    """104 periods of two policies take half a second, the start of Python left out, on a machine that does nothing
+    else."""
     words = [sys.executable, "-m", "crnplan", "trajectory", "examples/spare_part.toml", "today", "both", "--program", program]
     times = []
     for _ in range(3):

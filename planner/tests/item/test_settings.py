@@ -14,7 +14,8 @@ from crnplan.item.settings import TABLES, read_settings
 from planner.tests.conftest import Command
 
 GOOD = (Path(__file__).parent / "settings.toml").read_text()
-# Each case: a text of the good settings and what takes its place, the text at which the fault is reported, and what is said.
+# Each case: a text of the good settings and what takes its place, the text at which the fault is reported, and what is
+# said.
 FAULTS = {
     "a table that is misspelt": ("[costs]", "[cost]", "[cost]", "there is no such table; did you mean [costs]?"),
     "a table that nobody knows": ("[check]", "[zebra]", "[zebra]", "the tables are [history], [lead], [costs], [today], [run], [check]"),
@@ -37,18 +38,18 @@ FAULTS = {
     "s above S": ("s = 15", "s = 31", "s = 31", "s = 31 is above S = 30; interchange them, or raise S"),
     "no horizon": ("horizon = 12", "horizon = 0", "horizon", "0 is not from 1 to 1,024"),
     "one replication": ("replications = 4", "replications = 1", "replications = 1", "1 is not from 2 to 256"),
-    "a key of three words": ('key = "a text"', 'key = ["0000000000000000", "1", "2"]', "key", "write four texts, each of 16 digits"),
+    "a key of three words": ('key = "a text"', 'key = ["0000000000000000", "1", "2"]', "key", "write four texts of 16 digits"),
     "a level in percent": ('key = "a text"', "level = 95", "level", "95 is not between 0 and 1; write 0.95"),
     "no period of that name": ('every = "week"', 'every = "weekly"', "every", 'did you mean "week"?'),
     "no decimal sign": ('every = "week"', 'decimal = ";"', "decimal", 'write "." or ","'),
     "net without dates": ('every = "week"', 'net = true', "net", "this key needs the column of dates; write date and every too"),
     "a text for yes": ('every = "week"', 'net = "yes"', "net", "'yes' is a text; write true or false, without quotes"),
     "dates without a period": ('every = "week"', 'date = "day"', "[history]", 'the key every is missing; write every = "week"'),
-    "an empty text": ('demand = "demand"', 'demand = ""', "demand =", "write it in double quotes"),
-    "formats that are no list": ('every = "week"', 'date_formats = "%d"', "date_formats", 'write it as ["%d.%m.%Y"]'),
-    "an item that is no table": ('every = "week"', 'item = "4711"', "item =", 'write { COLUMN = "VALUE" }'),
+    "an empty text": ('demand = "demand"', 'demand = ""', "demand =", "'' is empty; write a text in double quotes"),
+    "formats that are no list": ('every = "week"', 'date_formats = "%d"', "date_formats", 'write texts in a list, as ["%d.%m.%Y"]'),
+    "an item that is no table": ('every = "week"', 'item = "4711"', "item =", 'write it as { COLUMN = "VALUE" }'),
     "no lead times": ("times = [2, 3, 2, 4]", "", "[lead]", "there are no lead times; write file and column, or orders"),
-    "an empty list of lead times": ("[2, 3, 2, 4]", "[]", "times", "[] is an empty list; write a list, as [2, 3, 2]"),
+    "an empty list of lead times": ("[2, 3, 2, 4]", "[]", "times", "[] is empty; write a list, as [2, 3, 2]"),
     "a lead time out of range": ("[2, 3, 2, 4]", "[2, 33]", "times", "33 is not from 1 to 32"),
     "two ways of lead times": ("times =", 'file = "settings.toml"\ntimes =', "[lead]", "file and times are there; keep one"),
     "lead times without a column": ("times = [2, 3, 2, 4]", 'file = "settings.toml"', "file", "the key column is missing"),

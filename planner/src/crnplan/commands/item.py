@@ -14,13 +14,18 @@ import click
 def command(history: str, settings: str, out: str, program: str | None) -> int:
     """Plan one item: the whole way from a history and settings to a checked decision.
 
-    HISTORY.csv has a row for each period, or for each dated movement. SETTINGS.toml has costs, today's levels and stock, the
-    horizon, and where demand, dates and lead times stand. The steps: tables, scenario, suggestions, run, decision, check on
-    new random numbers, trajectory, summary. FOLDER keeps what each has made; summary.html is the page to read.
+    HISTORY.csv has a row for each period, or for each dated movement. The steps are tables, scenario, suggestions, run,
+    decision, check on new random numbers, trajectory and summary. FOLDER keeps what each has made; summary.html is the
+    page to read.
 
-    Run again with nothing changed, it does nothing and says so. If it was interrupted, it goes on after the last finished
-    step. If an input has changed, it runs what depends on that. The exit status is 1 if the chosen policy does not hold on
-    new random numbers.
+    SETTINGS.toml has the tables [history] (demand, and perhaps date, every, decimal), [lead] (file and column, or
+    orders, or times), [costs] (setup, holding, backlog), [today] (s, S, stock), [run] (horizon, replications, key,
+    level) and [check] (policy, keys, replications). Costs may have decimals. A key that is misspelt is reported with
+    the keys that there are.
+
+    Run again with nothing changed, it does nothing and says so. If it was interrupted, it goes on after the last
+    finished step. If an input has changed, it runs what depends on that. The exit status is 1 if the chosen policy does
+    not hold on new random numbers.
     """
     from ..item import plan_item
 

@@ -30,13 +30,13 @@ def rows_of(policies: list[Policy], found: list[list[Period]]) -> list[tuple[str
 @click.option("--out", type=picture_path, metavar="FILE", help="Draw a picture, as .png or .svg.")
 @click.option("--csv", "is_csv", is_flag=True, help="Print the table as CSV.")
 @click.option("--json", "is_json", is_flag=True, help="Print the table as JSON.")
-def command(scenario: str, names: tuple[str, ...], periods: int | None, program: str | None, out: Path | None, is_csv: bool,
-            is_json: bool) -> None:
+def command(scenario: str, names: tuple[str, ...], periods: int | None, program: str | None, out: Path | None,
+            is_csv: bool, is_json: bool) -> None:
     """Show stock, inventory position and orders of one replication, period by period.
 
     It shows replication 0 and up to eight policies. Periods are numbered from 0. "ordered" is the order of a period's
-    review, "net_demand" its demand less what customers return, "stock" and "position" (stock and all that is on order) are
-    those at its end. All figures are exact and come from the program. SCENARIO.toml may be -, for standard input.
+    review, "net_demand" its demand less what customers return, "stock" and "position" (stock and all that is on order)
+    are those at its end. All figures are exact and come from the program. SCENARIO.toml may be -, for standard input.
     """
     read = Scenario.read(scenario)
     policies, count = chosen(read, names), shown_periods(read, periods, out is not None)

@@ -1,14 +1,16 @@
 """Counts stock, inventory position and orders of replication 0, period by period.
 
-The figures are exact and come from the program; this module is not proved. Costs do not steer orders, so a run with chosen
-costs counts what they are paid for, and the difference of the totals of t + 1 and t periods is what period t has counted.
+The figures are exact and come from the program; this module is not proved. Costs do not steer orders, so a run with
+chosen costs counts what they are paid for, and the difference of the totals of t + 1 and t periods is what period t has
+counted.
 
-- **Packed.** With `unit` = 1 and `holding` = c, one run counts c times the stock plus the items ordered. Both can be told
-  apart if fewer than c items are ordered and the stock is at least 0. So all levels and the initial stock are raised by so
-  many items that none is ever owed. That changes no order, since orders depend on the levels less the position alone.
+- **Packed.** With `unit` = 1 and `holding` = c, one run counts c times the stock plus the items ordered. Both can be
+  told apart if fewer than c items are ordered and the stock is at least 0. So all levels and the initial stock are
+  raised by so many items that none is ever owed. That changes no order, since orders depend on the levels less the
+  position alone.
 - **Apart.** If the levels have no room for that, three runs count items ordered, in stock and owed.
-- **Net demand.** A replication of 1 to 4 periods takes one block of the stream, so the last checkpoint of four runs, with as
-  many replications as there are blocks, lists what a policy that never orders has in stock in each period.
+- **Net demand.** A replication of 1 to 4 periods takes one block of the stream, so the last checkpoint of four runs,
+  with as many replications as there are blocks, lists what a policy that never orders has in stock in each period.
 """
 from __future__ import annotations
 
@@ -24,6 +26,8 @@ from ..scenario import Costs, Policy, Scenario
 from .program import find_program, run_all
 from .report import read_rows
 
+# Runs at a time: each is short, so that starting it takes most of its time.
+JOBS = 8
 MOST_DRAWN = 208
 MOST_POLICIES = 8
 PERIODS_OF_BLOCK = 4
@@ -41,7 +45,7 @@ class Period(NamedTuple):
 
 
 def chosen(scenario: Scenario, names: Sequence[str]) -> list[Policy]:
-    """Returns the policies with these names, in this order. Raises Refused if one is missing, or if there are too many."""
+    """Returns the policies with these names, in this order. Raises Refused if one is missing, or for too many."""
     known = {policy.name: policy for policy in scenario.policies}
     for name in names:
         if name not in known:
@@ -75,7 +79,7 @@ def _text_of(scenario: Scenario, costs: Costs, periods: int, replications: int =
 def _totals(program: Path, scenario: Scenario, costs: Sequence[Costs], periods: int) -> Iterator[list[list[int]]]:
     """Yields, for each of the costs, the totals of 1, 2, .. periods of each policy."""
     texts = (_text_of(scenario, its, last) for its in costs for last in range(1, periods + 1))
-    totals = [[row.total for row in read_rows(report, str(program))] for report in run_all(program, texts)]
+    totals = [[row.total for row in read_rows(report, str(program))] for report in run_all(program, texts, jobs=JOBS)]
     for first in range(0, len(totals), periods):
         yield [list(it) for it in zip(*totals[first:first + periods])]
 
@@ -83,20 +87,20 @@ def _totals(program: Path, scenario: Scenario, costs: Sequence[Costs], periods: 
 def raised_by(scenario: Scenario) -> int:
     """Returns by how much stock and levels must be raised so that no item is ever owed.
 
-    The position after a review is at least s, and all that was on order then has arrived after the longest lead time. Before
-    that, the initial stock alone meets the demand.
+    The position after a review is at least s, and all that was on order then has arrived after the longest lead time.
+    Before that, the initial stock alone meets the demand.
     """
     lowest = min(scenario.initial, *(policy.s for policy in scenario.policies))
     return max(0, (scenario.lead.values[-1] + 1) * scenario.demand.values[-1] - lowest)
 
 
 def most_ordered(scenario: Scenario) -> int:
-    """Returns a bound of the items ordered in a period: a position is at most one demand below s, or it is the initial one."""
+    """Returns a bound of the items ordered in a period. A position is the initial one, or at most a demand below s."""
     return max(policy.S - min(policy.s - scenario.demand.values[-1], scenario.initial) for policy in scenario.policies)
 
 
 def _packed(program: Path, scenario: Scenario, periods: int) -> list[tuple[list[int], list[int]]] | None:
-    """Returns what each policy orders and has in stock in each period, by one run for each period. None if it has no room."""
+    """Returns what each policy orders and has in stock in each period, from packed counts. None if there is no room."""
     more, scale = raised_by(scenario), most_ordered(scenario) + 1
     raised = replace(scenario, initial=scenario.initial + more, policies=tuple(
         Policy(policy.name, policy.s + more, policy.S + more) for policy in scenario.policies))
@@ -108,7 +112,7 @@ def _packed(program: Path, scenario: Scenario, periods: int) -> list[tuple[list[
 
 
 def _apart(program: Path, scenario: Scenario, periods: int) -> list[tuple[list[int], list[int]]]:
-    """Returns what each policy orders and has in stock in each period, by three runs for each period."""
+    """Returns what each policy orders and has in stock in each period, from counts apart."""
     ordered, held, owed = ([steps_of(it) for it in totals] for totals in _totals(program, scenario, APART, periods))
     return [(orders, [more - less for more, less in zip(surplus, lacking)])
             for orders, surplus, lacking in zip(ordered, held, owed)]

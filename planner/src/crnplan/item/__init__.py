@@ -7,7 +7,7 @@ from pathlib import Path
 
 from ..engine.program import find_program
 from . import work
-from .settings import read_settings
+from .settings import TABLES, read_settings
 from .steps import Folder, Step, run_steps
 from .work import Item, rows_of
 
@@ -25,33 +25,41 @@ class Plan:
 def _make_summary(item: Item) -> dict[str, str]:
     """Says what comes of all, as a text of one screen and as a page."""
     from .page import page_text
-    from .summary import figures_of, summary_text
-    figures = figures_of(item)
+    from .summary import Figures, summary_text
+    figures = Figures(item)
     return {"summary.txt": summary_text(figures), "summary.html": page_text(figures)}
 
 
 SUGGESTED = ("suggested.toml",)
+SHOWN = ("tables.toml", "demand.csv", "notes.txt", *SUGGESTED, "suggested.csv", "decision.csv", "check.csv",
+         "trajectory.csv")
+
+
+def _facts_of(*tables: str, files: tuple[str, ...] = ()) -> Callable[[Item], object]:
+    """Returns the function that says what a step depends on: tables of the settings, and files outside the folder."""
+    return lambda item: [item.history.name, item.settings.path.name, [item.settings[name] for name in tables],
+                         [item.digests[name] for name in files]]
+
+
+PROGRAM = ("program",)
 STEPS: tuple[Step[Item], ...] = (
-    Step("tables", (), lambda it: [it.history.name, it.settings["history"], it.settings["lead"], it.digests["history"],
-                                   it.digests["lead"]], work.make_tables),
-    Step("scenario", ("tables.toml",), lambda it: [it.history.name, it.settings.path.name, it.settings["costs"], it.settings["today"],
-                                                   it.settings["run"]], work.make_scenario),
-    Step("suggestions", ("scenario.toml",), lambda it: None, work.make_suggestions),
-    Step("run", SUGGESTED, lambda it: it.digests["program"], work.make_report),
-    Step("decision", (*SUGGESTED, "report.csv"), lambda it: it.settings["run"], work.make_decision),
-    Step("check", SUGGESTED, lambda it: [it.settings["check"], it.settings["run"], it.digests["program"]], work.make_check),
-    Step("trajectory", SUGGESTED, lambda it: [it.chosen, it.digests["program"]], work.make_trajectory),
-    Step("summary", ("tables.toml", "demand.csv", "notes.txt", *SUGGESTED, "suggested.csv", "decision.csv", "check.csv", "trajectory.csv"),
-         lambda it: [it.history.name, dict(it.settings.tables)], _make_summary))
+    Step("tables", (), _facts_of("history", "lead", files=("history", "lead")), work.make_tables),
+    Step("scenario", ("tables.toml",), _facts_of("costs", "today", "run"), work.make_scenario),
+    Step("suggestions", ("scenario.toml",), _facts_of(), work.make_suggestions),
+    Step("run", SUGGESTED, _facts_of(files=PROGRAM), work.make_report),
+    Step("decision", (*SUGGESTED, "report.csv"), _facts_of("run"), work.make_decision),
+    Step("check", SUGGESTED, _facts_of("run", "check", files=PROGRAM), work.make_check),
+    Step("trajectory", SUGGESTED, lambda item: [item.chosen, item.digests["program"]], work.make_trajectory),
+    Step("summary", SHOWN, _facts_of(*TABLES), _make_summary))
 
 
 def plan_item(history: str | Path, settings: str | Path, out: str | Path, *, program: str | Path | None = None,
               told: Callable[[str], None] = lambda name: None) -> Plan:
     """Plans an item into a folder, and returns the plan.
 
-    `history` is a CSV file, `settings` a TOML file. Steps whose inputs have not changed since they were run into this folder are
-    not run again. `told` is called with the name of each step before it runs. Raises RefusedFaults with all faults of the
-    settings or of the history, Refused for a folder that has other files, and ProgramError.
+    `history` is a CSV file, `settings` a TOML file. Steps whose inputs have not changed since they were run into this
+    folder are not run again. `told` is called with the name of each step before it runs. Raises RefusedFaults with all
+    faults of the settings or of the history, Refused for a folder that has other files, and ProgramError.
     """
     read, path = read_settings(settings), find_program(program)
     item = Item(Path(history), read, Folder(Path(out)), path)

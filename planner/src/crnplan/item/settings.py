@@ -14,11 +14,12 @@ from .. import formats
 from ..document.lines import Place, places_of
 from ..document.reading import read_bytes, read_document, text_of_document
 from ..document.values import kind_of, shown
+from ..engine.keys import MOST_KEYS
 from ..errors import Fault, Refused, RefusedFaults
 from ..money import scaled_costs
 
 NOWHERE = Place(0, 0)
-MOST_KEYS = 64
+WORD = formats.WORD.fullmatch
 # A check: it returns what is wrong with a value and what to do, or the empty text.
 Check = Callable[[Any], str]
 Trouble = tuple[tuple[str, ...], str]
@@ -33,17 +34,22 @@ class Rule:
     default: Any = None
 
 
-def _wrong(value: Any, wanted: str, advice: str) -> str:
+def _wrong(value: Any, advice: str) -> str:
     """Returns what is said of a value of the wrong kind."""
-    return f"{shown(value)} is {kind_of(value)}; {advice}" if wanted not in kind_of(value) else f"{shown(value)}: {advice}"
+    return f"{shown(value)} is {'empty' if value in ('', [], {}) else kind_of(value)}; {advice}"
+
+
+def _range(least: int, most: int) -> str:
+    """Returns a range in words."""
+    return f"from {least:,} to {most:,}"
 
 
 def whole(least: int, most: int) -> Check:
     """Returns the check of a whole number in a range."""
     def check(value: Any) -> str:
         if type(value) is not int:
-            return _wrong(value, "a whole number", "write a whole number, as 60")
-        return "" if least <= value <= most else f"{shown(value)} is not from {least:,} to {most:,}; write a number in this range"
+            return _wrong(value, "write a whole number, as 60")
+        return "" if least <= value <= most else f"{shown(value)} is not {_range(least, most)}; write one that is"
     return check
 
 
@@ -53,7 +59,7 @@ def whole_numbers(least: int, most: int) -> Check:
 
     def check(value: Any) -> str:
         if not isinstance(value, list) or not value:
-            return f"{shown(value)} is {'an empty list' if value == [] else kind_of(value)}; write a list, as [2, 3, 2]"
+            return _wrong(value, "write a list, as [2, 3, 2]")
         return next(filter(None, map(one, value)), "")
     return check
 
@@ -61,29 +67,31 @@ def whole_numbers(least: int, most: int) -> Check:
 def money(value: Any) -> str:
     """Checks an amount of money: a number that is not below 0."""
     if type(value) is not int and not isinstance(value, float):
-        return _wrong(value, "a number", "write a number with a point and without quotes, as 12.50")
+        return _wrong(value, "write a number with a point and without quotes, as 12.50")
     return "" if 0 <= value < float("inf") else f"{shown(value)} is no cost; write 0 or more"
 
 
 def level(value: Any) -> str:
     """Checks the level of intervals."""
     is_level = isinstance(value, float) and 0 < value < 1
-    return "" if is_level else f"{shown(value)} is not between 0 and 1; write 0.95 for intervals that hold in 95 of 100 samples"
+    return "" if is_level else f"{shown(value)} is not between 0 and 1; write 0.95 for 95 of 100 samples"
 
 
 def text(value: Any) -> str:
     """Checks a text."""
-    return "" if isinstance(value, str) and value else _wrong(value, "a text", 'write it in double quotes, as "demand"')
+    return "" if isinstance(value, str) and value else _wrong(value, 'write a text in double quotes, as "demand"')
 
 
 def texts(value: Any) -> str:
     """Checks a list of texts."""
-    return "" if isinstance(value, list) and not any(map(text, value)) else _wrong(value, "a list", 'write it as ["%d.%m.%Y"]')
+    are_texts = isinstance(value, list) and not any(map(text, value))
+    return "" if are_texts else _wrong(value, 'write texts in a list, as ["%d.%m.%Y"]')
 
 
 def cells(value: Any) -> str:
     """Checks a table of columns and the texts that stand there."""
-    return "" if isinstance(value, dict) and not any(map(text, value.values())) else _wrong(value, "a table", 'write { COLUMN = "VALUE" }')
+    are_texts = isinstance(value, dict) and not any(map(text, value.values()))
+    return "" if are_texts else _wrong(value, 'write it as { COLUMN = "VALUE" }')
 
 
 def date(value: Any) -> str:
@@ -93,20 +101,20 @@ def date(value: Any) -> str:
 
 def flag(value: Any) -> str:
     """Checks a yes or no."""
-    return "" if isinstance(value, bool) else _wrong(value, "true or false", "write true or false, without quotes")
+    return "" if isinstance(value, bool) else _wrong(value, "write true or false, without quotes")
 
 
 def key(value: Any) -> str:
     """Checks a key: a text, or four words."""
-    if isinstance(value, list):
-        are_words = len(value) == formats.WORDS_OF_KEY and all(isinstance(it, str) and formats.WORD.fullmatch(it) for it in value)
-        return "" if are_words else f"{shown(value)} is no key; write four texts, each of 16 digits of 0-9a-f, or any one text"
-    return text(value)
+    if not isinstance(value, list):
+        return text(value)
+    are_words = len(value) == formats.WORDS_OF_KEY and all(isinstance(it, str) and WORD(it) for it in value)
+    return "" if are_words else f"{shown(value)} is no key; write four texts of 16 digits of 0-9a-f, or any one text"
 
 
 def new_key(value: Any) -> str:
     """Checks the key of a check: four words, or one that replaces the first word of the run's key."""
-    if isinstance(value, str) and not formats.WORD.fullmatch(value):
+    if isinstance(value, str) and not WORD(value):
         return f"{shown(value)} is no word of a key; write 16 digits of 0-9a-f, or four such texts, or remove it"
     return key(value)
 
@@ -127,21 +135,23 @@ def _limits(table: str, name: str) -> Check:
     return whole(*formats.limits(table, name))
 
 
-NEEDED_WHOLE = Rule(_limits("policy", "S"), True)
+TEXT, NO, MONEY = Rule(text), Rule(flag, default=False), Rule(money, True)
+ITEMS, REPLICATIONS = Rule(_limits("policy", "S"), True), whole(2, formats.MOST_REPLICATIONS)
 TABLES: dict[str, dict[str, Rule]] = {
-    "history": {"demand": Rule(text, True), "returns": Rule(text), "date": Rule(text), "every": Rule(choice("day", "week", "month")),
-                "decimal": Rule(choice(".", ",")), "delimiter": Rule(choice(",", ";", "tab")), "encoding": Rule(text),
-                "date_formats": Rule(texts, default=[]), "net": Rule(flag, default=False), "whole": Rule(flag, default=False),
-                "leave_out": Rule(flag, default=False), "box": Rule(whole(1, formats.MOST_ITEMS), default=1),
-                "item": Rule(cells, default={}), "from": Rule(date), "to": Rule(date)},
-    "lead": {"file": Rule(text), "column": Rule(text), "orders": Rule(text), "ordered": Rule(text, default="ordered"), "received": Rule(text, default="received"),
+    "history": {"demand": Rule(text, True), "returns": TEXT, "date": TEXT,
+                "every": Rule(choice("day", "week", "month")), "decimal": Rule(choice(".", ",")), "delimiter": Rule(choice(",", ";", "tab")), "encoding": TEXT,
+                "date_formats": Rule(texts, default=[]), "net": NO, "whole": NO, "leave_out": NO,
+                "box": Rule(whole(1, formats.MOST_ITEMS), default=1), "item": Rule(cells, default={}),
+                "from": Rule(date), "to": Rule(date)},
+    "lead": {"file": TEXT, "column": TEXT, "orders": TEXT, "ordered": Rule(text, default="ordered"),
+             "received": Rule(text, default="received"),
              "times": Rule(whole_numbers(*formats.limits("lead", "values")))},
-    "costs": {"setup": Rule(money, True), "holding": Rule(money, True), "backlog": Rule(money, True), "unit": Rule(money, default=0)},
-    "today": {"s": NEEDED_WHOLE, "S": NEEDED_WHOLE, "stock": NEEDED_WHOLE},
-    "run": {"horizon": Rule(_limits("", "periods"), default=104), "replications": Rule(whole(2, formats.MOST_REPLICATIONS), default=64),
+    "costs": {"setup": MONEY, "holding": MONEY, "backlog": MONEY, "unit": Rule(money, default=0)},
+    "today": {"s": ITEMS, "S": ITEMS, "stock": ITEMS},
+    "run": {"horizon": Rule(_limits("", "periods"), default=104), "replications": Rule(REPLICATIONS, default=64),
             "key": Rule(key, default="crnplan"), "level": Rule(level, default=0.95)},
     "check": {"policy": Rule(text, default="best"), "key": Rule(new_key), "keys": Rule(whole(1, MOST_KEYS), default=1),
-              "replications": Rule(whole(2, formats.MOST_REPLICATIONS), default=formats.MOST_REPLICATIONS)}}
+              "replications": Rule(REPLICATIONS, default=formats.MOST_REPLICATIONS)}}
 HOMES = {name: table for table, rules in reversed(TABLES.items()) for name in rules}
 NEED_DATE = ("net", "whole", "from", "to")
 # The ways to give lead times: the key that chooses it, and the keys that it takes beside. A file needs its column.
@@ -200,15 +210,17 @@ def _table_troubles(tree: Mapping[str, Any]) -> Iterator[Trouble]:
     for name, value in tree.items():
         if name not in TABLES:
             meant = _meant(name, TABLES)
-            advice = (f"did you mean [{meant}]?" if meant else f"move this line to [{HOMES[name]}]" if name in HOMES else
-                      f"the tables are {', '.join(f'[{it}]' for it in TABLES)}")
+            advice = f"the tables are {', '.join(f'[{it}]' for it in TABLES)}"
+            if meant or name in HOMES:
+                advice = f"did you mean [{meant}]?" if meant else f"move this line to [{HOMES[name]}]"
             yield (name,), f"there is no such {'table' if isinstance(value, dict) else 'key'}; {advice}"
         elif not isinstance(value, dict):
             yield (name,), f"{shown(value)} is {kind_of(value)}; write the keys of {name} below a line [{name}]"
 
 
 def _key_troubles(tree: Mapping[str, Any]) -> Iterator[Trouble]:
-    """Yields what is wrong with the keys of each table, and with their values. A name that is misspelt is not missing too."""
+    """Yields what is wrong with the keys of each table, and with their values. A name that is misspelt is not
+    missing too."""
     tables_meant = {_meant(it, TABLES) for it in tree.keys() - TABLES.keys()}
     for table, rules in TABLES.items():
         given = tree.get(table, {})
@@ -272,7 +284,8 @@ def _joint_troubles(tree: Mapping[str, Any], good: Container[str], folder: Path)
         yield ("today", "s"), f"s = {s} is above S = {S}; interchange them, or raise S"
     own, new = (tables.get(name, {}).get("key") for name in ("run", "check"))
     if new is not None and new in (own, own[0] if isinstance(own, list) else None):
-        yield ("check", "key"), "this is the key of the run, with the same random numbers again; write another one, or remove it"
+        yield ("check", "key"), ("this is the key of the run, with the same random numbers again; write another one, "
+                                 "or remove it")
 
 
 def _faults(tree: Mapping[str, Any], path: Path, places: Mapping[Any, Place]) -> list[Fault]:

@@ -1,7 +1,8 @@
 """Runs steps that write files into a folder, and only those whose inputs have changed since they were last run.
 
-Each file is written whole: under a temporary name, which is then changed. After each step the state file says what the step
-was made from and what it wrote. So a run that is interrupted goes on after its last finished step, with the same bytes.
+Each file is written whole: under a temporary name, which is then changed. After each step the state file says what the
+step was made from and what it wrote. So a run that is interrupted goes on after its last finished step, with the same
+bytes.
 """
 from __future__ import annotations
 
@@ -23,7 +24,7 @@ Texts = Mapping[str, str]
 
 @dataclass(frozen=True)
 class Step(Generic[Context]):
-    """A step: the files of the folder that it reads, what else it depends on, and how it makes the texts of its files."""
+    """A step: the files that it reads, what else it depends on, and how it makes the texts of its files."""
 
     name: str
     reads: tuple[str, ...]
@@ -52,7 +53,7 @@ def write_whole(path: Path, text: str) -> None:
 
 
 class Folder:
-    """A folder with a state file. Raises Refused if it has other files and no state, since they might be overwritten."""
+    """A folder with a state file. One with other files and no state is refused: they might be overwritten."""
 
     def __init__(self, path: Path) -> None:
         """Makes the folder if it is not there, and reads its state. A state that cannot be read counts as none."""
@@ -73,7 +74,8 @@ class Folder:
         """Reads the state."""
         try:
             steps = json.loads((self.path / STATE).read_text("utf-8"))["steps"]
-            self.steps = {name: {"inputs": str(its["inputs"]), "files": dict(its["files"])} for name, its in steps.items()}
+            self.steps = {name: {"inputs": str(its["inputs"]), "files": dict(its["files"])}
+                          for name, its in steps.items()}
         except (ValueError, LookupError, TypeError, AttributeError):
             self.steps = {}
 
@@ -89,10 +91,11 @@ class Folder:
     def is_done(self, name: str, inputs: str) -> bool:
         """Returns whether a step was done from these inputs, and its files are as it left them."""
         kept = self.steps.get(name)
-        return kept is not None and kept["inputs"] == inputs and all(self.digest(it) == its for it, its in kept["files"].items())
+        return kept is not None and kept["inputs"] == inputs and all(
+            self.digest(file) == digest for file, digest in kept["files"].items())
 
     def keep(self, name: str, inputs: str, texts: Texts) -> None:
-        """Writes the files of a step, and then the state. Files that the step wrote before and does no more are removed."""
+        """Writes the files of a step, and then the state. Files of the step that are no more made are removed."""
         before = self.steps.pop(name, {"files": {}})["files"]
         self._keep()
         for file in before.keys() - texts.keys():
@@ -105,7 +108,7 @@ class Folder:
 
 def run_steps(folder: Folder, steps: Iterable[Step[Context]], context: Context,
               told: Callable[[str], None] = lambda name: None) -> Sequence[str]:
-    """Runs the steps whose inputs have changed, in order, and returns their names. `told` is called with each before it runs."""
+    """Runs the steps whose inputs have changed, and returns their names. `told` is called with each before it runs."""
     done = []
     for step in steps:
         facts = [__version__, step.name, step.facts(context), [[name, folder.digest(name)] for name in step.reads]]

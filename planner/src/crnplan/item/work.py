@@ -46,7 +46,7 @@ class Item:
         return Scenario.parse(self.text(name), name)
 
     def named(self, line: str) -> str:
-        """Returns a line with the names of files in place of their paths, so that it is the same from each folder."""
+        """Returns a line with the names of files in place of their paths, so that it is the same from any folder."""
         for path in (self.history, self.settings.lead_path):
             line = line.replace(str(path), path.name) if path else line
         return line
@@ -60,7 +60,8 @@ class Item:
             return asked
         if asked == "best":
             return names[0]
-        raise Refused(f"{self.settings.path}: [check] policy: there is no policy {asked!r}; the policies are {', '.join(names)}")
+        raise Refused(f"{self.settings.path}: [check] policy: there is no policy {asked!r}; the policies are "
+                      f"{', '.join(names)}")
 
 
 def csv_text(rows: Iterable[Sequence[Any]]) -> str:
@@ -80,9 +81,8 @@ def _read_history(item: Item) -> History:
     from ..history import read_history
     asked = item.settings["history"]
     dates = {"every": asked["every"], "start": asked["from"], "end": asked["to"]} if asked["date"] else {}
-    return read_history(item.history, demand=asked["demand"], returns=asked["returns"], date=asked["date"], net=asked["net"],
-                        whole=asked["whole"], date_formats=tuple(asked["date_formats"]), **dates,
-                        **{name: asked[name] for name in RULES})
+    asis = {name: asked[name] for name in ("demand", "returns", "date", "net", "whole", *RULES)}
+    return read_history(item.history, date_formats=tuple(asked["date_formats"]), **dates, **asis)
 
 
 def _read_leads(item: Item) -> LeadTimes | list[int]:
@@ -92,8 +92,9 @@ def _read_leads(item: Item) -> LeadTimes | list[int]:
     path = item.settings.lead_path
     if path is None:
         return list(asked["times"])
-    return read_lead_times(path, lead=asked["column"], every=of_history["every"], ordered=asked["ordered"], received=asked["received"],
-                           date_formats=tuple(of_history["date_formats"]), **{name: of_history[name] for name in RULES})
+    return read_lead_times(path, lead=asked["column"], every=of_history["every"], ordered=asked["ordered"],
+                           received=asked["received"], date_formats=tuple(of_history["date_formats"]),
+                           **{name: of_history[name] for name in RULES})
 
 
 def make_tables(item: Item) -> dict[str, str]:
@@ -113,10 +114,11 @@ def make_scenario(item: Item) -> dict[str, str]:
     """Joins the laws, costs, levels and the stock of today to a scenario."""
     laws = {name: Table.of_tree(its) for name, its in tomllib.loads(item.text("tables.toml")).items()}
     today, run, (costs, scale) = item.settings["today"], item.settings["run"], item.settings.scaled
-    scenario = Scenario.of(**laws, **costs, today=(today["s"], today["S"]), initial=today["stock"], periods=run["horizon"],
-                           replications=run["replications"], key=run["key"])
+    scenario = Scenario.of(**laws, **costs, today=(today["s"], today["S"]), initial=today["stock"],
+                           periods=run["horizon"], replications=run["replications"], key=run["key"])
     money = "" if scale == 1 else f" Costs count {scale} for one unit of money."
-    return {"scenario.toml": f"# Today's policy, from {item.history.name} and {item.settings.path.name}.{money}\n{scenario.toml()}"}
+    head = f"# Today's policy, from {item.history.name} and {item.settings.path.name}.{money}\n"
+    return {"scenario.toml": head + scenario.toml()}
 
 
 def make_suggestions(item: Item) -> dict[str, str]:
@@ -147,7 +149,8 @@ def make_decision(item: Item) -> dict[str, str]:
 
 
 def keys_of(item: Item) -> list[list[str]]:
-    """Returns the keys of the check: the one that is given first, and others that follow from it or from the run's key."""
+    """Returns the keys of the check: the one that is given first, and others that follow from it or from the run's
+    key."""
     from ..engine.keys import key_of
     run = item.scenario("suggested.toml").key
     asked, count = item.settings["check"]["key"], item.settings["check"]["keys"]
@@ -162,8 +165,8 @@ def make_check(item: Item) -> dict[str, str]:
     """Runs the chosen policy and all others on new random numbers."""
     from ..decision.keys import check_keys
     from ..decision.verdicts import table_of
-    found = check_keys(item.scenario("suggested.toml"), item.chosen, keys=keys_of(item), level=item.settings["run"]["level"],
-                       replications=item.settings["check"]["replications"], program=item.program)
+    found = check_keys(item.scenario("suggested.toml"), item.chosen, keys=keys_of(item), program=item.program,
+                       replications=item.settings["check"]["replications"], level=item.settings["run"]["level"])
     return {"check.txt": found.text, "check.csv": csv_text(table_of(found.rows))}
 
 
@@ -173,5 +176,6 @@ def make_trajectory(item: Item) -> dict[str, str]:
     scenario = item.scenario("suggested.toml")
     shown = list(dict.fromkeys([scenario.policies[0], *(it for it in scenario.policies if it.name == item.chosen)]))
     found = trajectories(scenario.with_policies(shown), min(scenario.periods, MOST_DRAWN), program=item.program)
-    rows = ([policy.name, number, *period] for policy, periods in zip(shown, found) for number, period in enumerate(periods))
+    rows = ([policy.name, number, *period] for policy, periods in zip(shown, found)
+            for number, period in enumerate(periods))
     return {"trajectory.csv": csv_text([["policy", "period", *Period._fields], *rows])}

@@ -1,15 +1,16 @@
 """Renders pages by jinja2. A page needs no other file: style and pictures stand in it.
 
-Shapes of a picture are SVG in units of a thousandth of its width and height. Words and numbers beside them are HTML, so that they
-stay readable if the picture is narrow.
+Shapes of a picture are SVG, in thousandths of its width and height. Words and numbers beside them are HTML, so that
+they stay readable if the picture is narrow.
 """
 from __future__ import annotations
 
-from collections.abc import Callable, Sequence
+from collections.abc import Mapping, Sequence
 from dataclasses import dataclass
 from typing import Any
 
 UNITS = 1000
+MOST_TICKS = 5
 
 
 @dataclass(frozen=True)
@@ -21,13 +22,13 @@ class Scale:
     ticks: tuple[float, ...]
 
     @classmethod
-    def of(cls, values: Sequence[float], most: int = 5, integer: bool = False) -> Scale:
-        """Returns the scale that has these values and 0."""
+    def of(cls, values: Sequence[float], is_whole: bool = False) -> Scale:
+        """Returns the scale of these values and 0. `is_whole` keeps its round numbers whole."""
         from matplotlib.ticker import MaxNLocator
         low, high = min(0.0, *values), max(0.0, *values)
         high = high if high > low else low + 1
-        ticks = [float(it) for it in MaxNLocator(most, steps=[1, 2, 2.5, 5, 10], integer=integer).tick_values(low, high)]
-        return cls(low, high, tuple(it for it in ticks if low <= it <= high))
+        locator = MaxNLocator(MOST_TICKS, steps=[1, 2, 2.5, 5, 10], integer=is_whole)
+        return cls(low, high, tuple(float(it) for it in locator.tick_values(low, high) if low <= it <= high))
 
     def at(self, value: float) -> float:
         """Returns the place of a value, from 0 to 1,000."""
@@ -35,19 +36,19 @@ class Scale:
 
 
 def number(value: float, digits: int = 0) -> str:
-    """Returns a number for a reader."""
-    return "-" if value != value else f"{value:,.{digits}f}".replace("-", "\u2212")
+    """Returns a number with separators of thousands and a minus sign; - if there is none."""
+    return "-" if value != value else f"{round(value, digits) + 0.0:,.{digits}f}".replace("-", "\u2212")
 
 
 def tick(value: float) -> str:
-    """Returns a number at an axis."""
+    """Returns a round number at an axis."""
     return f"{value:,.10g}".replace("-", "\u2212")
 
 
-def rendered(template: str, context: dict[str, Any], filters: dict[str, Callable[..., str]] | None = None) -> str:
+def rendered(template: str, context: Mapping[str, Any]) -> str:
     """Returns a page from a template of the package."""
     import jinja2
-    places = jinja2.Environment(loader=jinja2.PackageLoader("crnplan.report"), autoescape=True, undefined=jinja2.StrictUndefined,
-                                trim_blocks=True, lstrip_blocks=True, keep_trailing_newline=True)
-    places.filters |= {"number": number, "tick": tick, **(filters or {})}
-    return places.get_template(template).render(context)
+    pages = jinja2.Environment(loader=jinja2.PackageLoader("crnplan.report"), autoescape=True, trim_blocks=True,
+                               lstrip_blocks=True, keep_trailing_newline=True, undefined=jinja2.StrictUndefined)
+    pages.filters |= {"number": number, "tick": tick}
+    return pages.get_template(template).render(context)

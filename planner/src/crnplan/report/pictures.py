@@ -14,7 +14,7 @@ SETTINGS = {"svg.fonttype": "none", "svg.hashsalt": "crnsim", "axes.spines.top":
 
 
 def picture_path(text: str) -> Path:
-    """Returns the path of a picture's file, whose ending says the kind of picture. Raises Refused for another ending."""
+    """Returns the path of a picture, whose ending says its kind. Raises Refused for another ending."""
     if not text.lower().endswith(KINDS):
         raise Refused(f"{text!r} does not end with {' or '.join(KINDS)}")
     return Path(text)

@@ -1,4 +1,4 @@
-"""Draws trajectories: a part for each policy, one below another, with a common axis of periods. It can be read in grey."""
+"""Draws trajectories: a part for each policy, one below another. The picture can be read in grey."""
 from __future__ import annotations
 
 from collections.abc import Sequence
