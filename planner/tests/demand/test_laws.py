@@ -46,9 +46,9 @@ def test_whole_numbers_of_any_kind(numbers: Any) -> None:
 
 
 @pytest.mark.parametrize("numbers, part", [
-    ([1, 2.5], "demand 2 is 2.5, which is no whole number; count in a smaller unit"), ([float("nan")], "demand 1 is nan"),
-    (["3"], "demand 1 is '3'"), ([], "there are 0 numbers of demand; give 1 to 65,536"), ([1] * 65_537, "there are 65,537 numbers"),
-    ([None], "demand 1 is None")])
+    ([1, 2.5], "demand: entry 2: 2.5 is not a whole number; round it, or count in a smaller unit"),
+    ([float("nan")], "demand: entry 1: nan is not"), (["3"], "demand: entry 1: '3' is not"), ([True], "demand: entry 1: "), ([], "there are 0 numbers of demand; give 1 to 65,536"), ([1] * 65_537, "there are 65,537 numbers"),
+    ([None], "demand: entry 1: ")])
 def test_refused_numbers(numbers: Sequence[Any], part: str) -> None:
     """What is no whole number is refused, with its place."""
     with pytest.raises(Refused, match=part):
@@ -60,9 +60,9 @@ def test_range_of_demand(tmp_path: Path) -> None:
     with pytest.raises(RefusedFaults) as refused:
         fit_demand([10_001, 3, 70_001, -1], box=1)
     assert [str(it) for it in refused.value.faults] == [
-        "column 'demand': number 1, 10001, is above 10,000; count in larger boxes: --box 8 or more",
-        "column 'demand': number 3, 70001, is above 10,000; count in larger boxes: --box 8 or more",
-        "column 'demand': number 4, -1, is below 0"]
+        "column 'demand': entry 1, 10001, is above 10,000; count in larger boxes: --box 8 or more",
+        "column 'demand': entry 3, 70001, is above 10,000; count in larger boxes: --box 8 or more",
+        "column 'demand': entry 4, -1, is below 0; correct it"]
     assert fit_demand([10_001, 3, 70_001], box=8).values == (1, 1251, 8751)
     (tmp_path / "file.csv").write_text("at,n\n2026-03-02,9000\n2026-03-03,9000\n")
     with pytest.raises(RefusedFaults, match=":2:12: column 'n': week 2026-W10, which comes to 18000 in 2 rows, is above 10,000; "):
@@ -74,7 +74,7 @@ def test_range_of_lead_times(tmp_path: Path) -> None:
     with pytest.raises(RefusedFaults) as refused:
         fit_lead([0, 32, 33])
     assert [str(it).split("; ")[0] for it in refused.value.faults] == [
-        "column 'lead time': number 1, 0, is below 1", "column 'lead time': number 3, 33, is above 32"]
+        "column 'lead time': entry 1, 0, is below 1", "column 'lead time': entry 3, 33, is above 32"]
     (tmp_path / "file.csv").write_text("weeks\n2\n40\n")
     with pytest.raises(RefusedFaults, match="file.csv:3:1: column 'weeks': 40 is above 32; take longer periods"):
         fit_lead(read_lead_times(tmp_path / "file.csv", lead="weeks"))

@@ -1,17 +1,17 @@
 """Fits laws of demand and of lead times: whole values with whole weights, as a scenario has them."""
 from __future__ import annotations
 
-import operator
 from collections import Counter
 from collections.abc import Callable, Iterable, Mapping
 from dataclasses import dataclass, field
 from fractions import Fraction
-from typing import Any, ClassVar
+from typing import Any
 
 from ..errors import Fault, Refused
 from ..formats import MOST_DEMAND, MOST_LEAD, MOST_WEIGHT
 from ..history.faults import Place, RefusedFiles
 from ..history.observed import Observed
+from ..money import whole
 from ..scenario import Table
 
 
@@ -75,7 +75,7 @@ def fit_demand(observed: Observed | Iterable[Any], *, method: str = "empirical",
     boxes = [-(-it // box) for it in numbers]
     larger = f"count in larger boxes: --box {-(-max(numbers) // MOST_DEMAND)} or more"
     reason = f"is above {MOST_DEMAND:,}{f' in boxes of {box}' if box > 1 else ''}; {larger}"
-    _check(boxes, places, lambda it: reason if it > MOST_DEMAND else "is below 0" if it < 0 else None)
+    _check(boxes, places, lambda it: reason if it > MOST_DEMAND else "is below 0; correct it" if it < 0 else None)
     return DemandLaw(**METHODS[method](boxes), family=method, box=box)
 
 
@@ -92,18 +92,10 @@ def _numbers(observed: Observed | Iterable[Any], what: str) -> tuple[list[int], 
     """Returns numbers and their places. Whole numbers of any kind are taken, and floats that are whole."""
     if isinstance(observed, Observed):
         return list(observed.counts), list(observed.places)
-    numbers = [_whole(it, f"{what} {number}") for number, it in enumerate(observed, 1)]
+    numbers = [whole(it, f"{what}: entry {place}") for place, it in enumerate(observed, 1)]
     if not 1 <= len(numbers) <= MOST_WEIGHT:
         raise Refused(f"there are {len(numbers):,} numbers of {what}; give 1 to {MOST_WEIGHT:,}")
-    return numbers, [Place("", 0, 0, what, f"number {place}, {it},") for place, it in enumerate(numbers, 1)]
-
-
-def _whole(value: Any, what: str) -> int:
-    """Returns a value as a whole number."""
-    try:
-        return int(value) if getattr(value, "is_integer", bool)() else operator.index(value)
-    except (TypeError, ValueError) as fault:
-        raise Refused(f"{what} is {value!r}, which is no whole number; count in a smaller unit") from fault
+    return numbers, [Place("", 0, 0, what, f"entry {place}, {it},") for place, it in enumerate(numbers, 1)]
 
 
 def _check(numbers: Iterable[int], places: Iterable[Place | None], reason_of: Callable[[int], str | None]) -> None:
