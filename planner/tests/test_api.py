@@ -1,11 +1,10 @@
-"""Tests the public interface: its names, that they are imported when they are used, and a whole way by them."""
+"""Tests the public interface: its names, that they are imported when they are used, and the types."""
 from __future__ import annotations
 
 import importlib
 import subprocess
 import sys
 import time
-from fractions import Fraction
 from pathlib import Path
 from types import ModuleType
 
@@ -29,6 +28,8 @@ def test_public_name(name: str) -> None:
     found = getattr(crn, name)
     assert getattr(crn, name) is found and name in dir(crn) and not isinstance(found, ModuleType)
     assert name == "__version__" or found.__doc__
+    # A module without a public name keeps its own.
+    assert importlib.import_module("crnplan.formats") is crn.formats
 
 
 def test_no_other_name() -> None:
@@ -68,19 +69,3 @@ def test_types() -> None:
     """Runs mypy on the package, with the settings of its project."""
     ran = subprocess.run([sys.executable, "-m", "mypy"], cwd=PLANNER, capture_output=True, text=True, timeout=300)
     assert ran.returncode == 0, ran.stdout
-
-
-def test_usage(program: Path, monkeypatch: pytest.MonkeyPatch, top: Path) -> None:
-    """Goes from a history to a decision by the public names alone."""
-    monkeypatch.setenv("CRNSIM", str(program))
-    history = crn.read_history(top / "examples/case/history.csv", demand="demand")
-    law = crn.fit_demand(history)
-    lead = crn.fit_lead([2, 3, 2, 4])
-    part = crn.Scenario.of(law, lead, setup=4500, holding=60, backlog=900, today=(15, 30))
-    theory = part.suggest()
-    report = part.run(theory)
-    assert list(report.frame.index)[0] == "today" and set(theory["policy"]) <= {*report.frame.index}
-    assert all(isinstance(it, Fraction) for it in report.frame["per_period"])
-    assert report.decide().loc["today", "verdict"] == "base"
-    read = crn.Scenario.read(top / "examples/two_policies.toml").run()
-    assert read.text == (top / "examples/two_policies.csv").read_text("utf-8")
