@@ -1,0 +1,133 @@
+"""Tests how .ci/run adds up its parts, on a copy whose parts are fakes."""
+from __future__ import annotations
+
+import re
+from pathlib import Path
+
+import pytest
+
+from .machine import Machine, Ran, write_script
+
+# The fake Python of .venv knows its part by its words, and says what the file of that part has: a status and a text.
+PYTHON = r"""
+case "$*" in
+*mypy*) part=types ;;
+*"-m not serial"*) part=suites ;;
+*"-m serial"*) part=serial ;;
+*" tests/sources") part=sources ;;
+esac
+echo "$part: $*" >>"$LOG"
+"""
+SAYS = r"""
+read -r status <"$HOME/$part"
+tail -n +2 "$HOME/$part"
+exit "$status"
+"""
+PART = 'part={}; echo "$part: $*" >>"$LOG"' + SAYS
+# What each part says if all is well, and how it counts.
+WELL = {"setup": "tools/setup: all is there", "types": "Success: no issues found in 40 source files",
+        "sources": "........\n8 passed in 1.20s", "proofs": "proved\n20 passed, 0 failed", "rounds": "4 passed, 0 failed",
+        "suites": "....\ntests/program: 300 cases\n100 passed, 3 deselected, 1 warning in 61.20s (0:01:01)",
+        "serial": "3 passed, 100 deselected in 2.10s"}
+PASSED = 1 + 1 + 8 + 20 + 4 + 100 + 3
+PARTS = list(WELL)
+
+
+@pytest.fixture
+def machine(machine: Machine, top: Path) -> Machine:
+    """Returns a machine on which each part of the gate is a fake."""
+    machine.copy(top, ".ci/run")
+    (machine.top / "planner").mkdir()
+    write_script(machine.top / "tools" / "setup", PART.format("setup"))
+    write_script(machine.top / "tools" / "rounds.py", PART.format("rounds"))
+    write_script(machine.top / ".venv" / "bin" / "python", PYTHON + SAYS)
+    machine.fake("rt", PART.format("proofs"))
+    return machine
+
+
+def gate(machine: Machine, **parts: tuple[int, str]) -> Ran:
+    """Runs the gate. `parts` has the statuses and texts of those that are not well."""
+    for name, text in WELL.items():
+        status, said = parts.get(name, (0, text))
+        (machine.folder / name).write_text(f"{status}\n{said}\n", encoding="utf-8")
+    return machine.run(".ci/run")
+
+
+def last(ran: Ran) -> tuple[int, str]:
+    """Returns the status and the last line of a run."""
+    return ran.returncode, ran.stdout.splitlines()[-1]
+
+
+def test_counts_of_all_parts_are_summed(machine: Machine) -> None:
+    ran = gate(machine)
+    assert (last(ran), ran.stderr) == ((0, f"{PASSED} passed, 0 failed"), "")
+    assert [it.split(":")[0] for it in machine.logged() if not it.startswith("rounds")] == [it for it in PARTS if it != "rounds"]
+
+
+def test_output_and_times_of_each_part_are_shown(machine: Machine) -> None:
+    shown = gate(machine).stdout
+    assert [it for it in WELL.values() if it not in shown] == []
+    assert re.findall(r"^(\w+) +[\d.]+ +[\d.]+$", shown, re.MULTILINE) == PARTS
+
+
+def test_suites_run_beside_the_rounds_and_the_rest_after_them(machine: Machine) -> None:
+    write_script(machine.top / "tools" / "rounds.py", "sleep 0.5\n" + PART.format("rounds"))
+    gate(machine)
+    assert [it.split(":")[0] for it in machine.logged()][-3:] == ["suites", "rounds", "serial"]
+
+
+def test_tests_run_once_each(machine: Machine) -> None:
+    gate(machine)
+    words = dict(it.split(": ", 1) for it in machine.logged())
+    assert words["suites"].endswith(" -m not serial --ignore tests/sources")
+    assert words["serial"].endswith(" -m serial --ignore tests/sources")
+    assert " -n " in words["suites"] and " -n " not in words["serial"]
+
+
+@pytest.mark.parametrize("part, status, text, counts", [
+    pytest.param("types", 1, "x.py:1: error: no\nFound 1 error in 1 file", (PASSED - 1, 1), id="types are wrong"),
+    pytest.param("proofs", 1, "18 passed, 2 failed", (PASSED - 2, 2), id="a proof fails"),
+    pytest.param("rounds", 1, "3 passed, 1 failed", (PASSED - 1, 1), id="a round fails"),
+    pytest.param("sources", 1, "1 failed, 7 passed in 1.20s", (PASSED - 1, 1), id="a test fails"),
+    pytest.param("suites", 1, "98 passed, 2 errors in 1.20s", (PASSED - 2, 2), id="tests have errors"),
+    pytest.param("suites", 1, "2 failed, 97 passed, 1 error in 61.20s (0:01:01)", (PASSED - 3, 3), id="failures and an error"),
+    pytest.param("suites", 0, "99 passed, 1 xfailed in 1.20s", (PASSED - 1, 1), id="a test is expected to fail"),
+    pytest.param("suites", 0, "99 passed, 1 xpassed in 1.20s", (PASSED - 1, 1), id="a test passes against expectation"),
+    pytest.param("rounds", 139, "4 passed, 0 failed", (PASSED, 1), id="counts are right and the status is not"),
+    pytest.param("serial", 137, "..", (PASSED - 3, 1), id="tests are killed"),
+    pytest.param("serial", 5, "no tests ran in 0.01s", (PASSED - 3, 1), id="no test runs"),
+    pytest.param("serial", 0, "0 passed in 0.01s", (PASSED - 3, 1), id="nothing is counted"),
+    pytest.param("proofs", 0, "20 passed, 0 failed\nand more", (PASSED - 20, 1), id="the last line is another"),
+    pytest.param("suites", 0, "100 passed in 3.00s\nException ignored in: x", (PASSED, 0), id="something is said at the end")])
+def test_faults_are_counted(machine: Machine, part: str, status: int, text: str, counts: tuple[int, int]) -> None:
+    ran = gate(machine, **{part: (status, text)})
+    assert last(ran) == (int(counts[1] > 0), f"{counts[0]} passed, {counts[1]} failed")
+    assert text in ran.stdout
+
+
+@pytest.mark.parametrize("part, text", [("suites", "SKIPPED [1] test_a.py:3: no R\n99 passed, 1 skipped in 1.20s"),
+                                        ("proofs", "19 passed, 0 failed, 1 skipped")])
+def test_skipped_test_is_counted_and_fails(machine: Machine, part: str, text: str) -> None:
+    ran = gate(machine, **{part: (0, text)})
+    assert last(ran) == (1, f"{PASSED - 1} passed, 1 failed, 1 skipped")
+    assert text in ran.stdout
+
+
+def test_set_up_that_fails_ends_the_gate(machine: Machine) -> None:
+    assert last(gate(machine, setup=(1, "tools/setup: no network"))) == (1, "0 passed, 1 failed")
+    assert len(machine.logged()) == 1
+
+
+def test_missing_command_is_a_failure(machine: Machine) -> None:
+    (machine.top / "tools" / "rounds.py").unlink()
+    ran = gate(machine)
+    assert last(ran) == (1, f"{PASSED - 4} passed, 1 failed")
+    assert "rounds.py: No such file" in ran.stdout
+
+
+def test_variables_that_change_tests_are_taken_away(machine: Machine) -> None:
+    write_script(machine.top / "tools" / "setup", 'part=setup; env >"$LOG.env"' + SAYS)
+    gate(machine)
+    machine.run(".ci/run", CRNSIM="/other", PYTEST_ADDOPTS="-k none", PYTHONPATH="/other")
+    names = {it.split("=")[0] for it in Path(f"{machine.folder}/log.env").read_text(encoding="utf-8").splitlines()}
+    assert not names & {"CRNSIM", "PYTEST_ADDOPTS", "PYTHONPATH"}
