@@ -159,6 +159,8 @@ WRONG: dict[str, tuple[dict[str, Any], type[Exception], str]] = {
     "no-number": ({"demand": [1, None]}, Refused, "demand: entry 2: none is not a whole number"),
     "a-text": ({"demand": ["1"]}, Refused, "demand: entry 1: '1' is not a whole number"),
     "a-bool": ({"demand": np.array([True])}, Refused, "demand: entry 1: true is not a whole number"),
+    "no-law": ({"demand": 5}, Refused, "demand: int is not a law; fit one, or give observed whole numbers"),
+    "no-pair": ({"today": 20}, Refused, "today: 20 is not a pair (s, S); give two levels in items"),
     "a-weight": ({"lead": {1: 0.5}}, Refused, "lead: weight of 1: 0.5 is not a whole number"),
     "empty": ({"demand": []}, ScenarioError, "fault 6: table demand, key values: the list is empty"),
     "periods": ({"periods": 2000}, ScenarioError, "fault 6: the document, key periods: 2000 is not from 1 to 1,024"),
@@ -280,6 +282,18 @@ def test_policies(name: str) -> None:
     """Reads policies in each form."""
     given_ones, wanted = POLICIES[name]
     assert policies_of(given_ones) == wanted
+
+
+@pytest.mark.parametrize("given_ones, message", [
+    ([1, 2], "policies: 1 is not a pair (s, S); give two levels in items"),
+    ({"low": (1, 2, 3)}, "policies: low: (1, 2, 3) is not a pair"),
+    ([(1, 2.5)], "policies: S: 2.5 is not a whole number"),
+    (TABLE[["s"]], "policies: the table lacks the column s or S; name them policy, s and S")],
+    ids=["numbers", "triple", "part", "table"])
+def test_no_policies(given_ones: Any, message: str) -> None:
+    """Refuses what are no policies."""
+    with pytest.raises(Refused, match=f"^{re.escape(message)}"):
+        policies_of(given_ones)
 
 
 def test_policies_of_words(tmp_path: Path) -> None:

@@ -155,7 +155,7 @@ class Scenario:
         faults.
         """
         costs, scale = scaled_costs({"setup": setup, "unit": unit, "holding": holding, "backlog": backlog})
-        low, high = (whole(it, f"today: {name}") for it, name in zip(today, "sS", strict=True))
+        low, high = _levels(today, "today")
         tree = {"version": 1 if returns is None else 2, "key": _key_words(key), "periods": whole(periods, "periods"),
                 "replications": whole(replications, "replications"),
                 "initial": (low + high) // 2 if initial is None else whole(initial, "initial"),
@@ -240,24 +240,33 @@ def _table(law: Any, name: str) -> Table:
     if not isinstance(law, Mapping):
         # An array or a Series, as Python's numbers; or any iterable.
         numbers = law.tolist() if hasattr(law, "tolist") else law
+        if not isinstance(numbers, Iterable):
+            raise Refused(f"{name}: {type(law).__name__} is not a law; fit one, or give observed whole numbers")
         law = Counter(whole(it, f"{name}: entry {place}") for place, it in enumerate(numbers, 1))
     return Table.of({whole(it, f"{name}: value"): whole(law[it], f"{name}: weight of {it}") for it in law})
+
+
+def _levels(pair: Any, name: str) -> tuple[int, int]:
+    """Returns the levels of a pair (s, S). Raises Refused if it is none; `name` says what it is."""
+    try:
+        low, high = pair
+    except (TypeError, ValueError):
+        raise Refused(f"{name}: {shown(pair)} is not a pair (s, S); give two levels in items") from None
+    return whole(low, f"{name}: s"), whole(high, f"{name}: S")
 
 
 def policies_of(policies: Any) -> list[Policy]:
     """Returns policies, from those, pairs (s, S), a mapping of names to pairs, or a table with the columns s and S."""
     if hasattr(policies, "columns"):
-        if "policy" in policies:
-            policies = policies.set_index("policy")
-        named = "policy" == policies.index.name or policies.index.dtype == object
-        names = map(str, policies.index) if named else [""] * len(policies)
-        given = list(zip(names, policies["s"], policies["S"]))
-    elif isinstance(policies, Mapping):
-        given = [(name, low, high) for name, (low, high) in policies.items()]
-    else:
-        pairs = (("", it) if not isinstance(it, Policy) else (it.name, (it.s, it.S)) for it in policies)
-        given = [(name, low, high) for name, (low, high) in pairs]
-    return [Policy.of_levels(whole(low, "s"), whole(high, "S"), name) for name, low, high in given]
+        if not {"s", "S"} <= {*policies.columns}:
+            raise Refused("policies: the table lacks the column s or S; name them policy, s and S")
+        table = policies.set_index("policy") if "policy" in policies else policies
+        has_names = table.index.name == "policy" or table.index.dtype == object
+        given = zip(map(str, table.index) if has_names else [""] * len(table), zip(table["s"], table["S"]))
+        return [Policy.of_levels(*_levels(pair, "policies"), name) for name, pair in given]
+    if isinstance(policies, Mapping):
+        return [Policy.of_levels(*_levels(pair, f"policies: {name}"), name) for name, pair in policies.items()]
+    return [it if isinstance(it, Policy) else Policy.of_levels(*_levels(it, "policies")) for it in policies]
 
 
 def read_policies(word: str) -> list[Policy]:
