@@ -56,8 +56,8 @@ def draws_of(program: Path, tree: dict[str, Any], periods: int) -> list[tuple[in
     words."""
     drawn: dict[str, list[int]] = {"demand": [], "lead": [], "returns": []}
     for block in range(math.ceil(periods / 4)):
-        words = subprocess.run([program, "words", *tree["key"], str(block)], capture_output=True, text=True, check=True).stdout
-        for name, *numbers in map(str.split, words.splitlines()):
+        words = subprocess.run([program, "words", *tree["key"], str(block)], capture_output=True, text=True, check=True)
+        for name, *numbers in map(str.split, words.stdout.splitlines()):
             law = tree.get(name, {"values": [0], "weights": [1]})
             spread = [value for value, weight in zip(law["values"], law["weights"]) for _ in range(weight)]
             drawn[name] += [spread[int(number, 16) * len(spread) >> 64] for number in numbers]
@@ -74,7 +74,8 @@ def simulated(tree: dict[str, Any], policy: dict[str, int], draws: list[tuple[in
         placed.append((policy["S"] - position if position < policy["s"] else 0, period + lead))
         arrived = sum(amount for amount, due in placed if due <= period)
         net += demand - returned
-        found.append((placed[-1][0], demand - returned, tree["initial"] - net + arrived, position + placed[-1][0] - demand + returned))
+        found.append((placed[-1][0], demand - returned, tree["initial"] - net + arrived,
+                      position + placed[-1][0] - demand + returned))
     return found
 
 
@@ -168,17 +169,18 @@ def test_random_scenarios_are_as_simulated(program: Path, tree: dict[str, Any]) 
 
 
 @pytest.mark.parametrize("level, runs", [(9_999 - 4, 1), (9_999 - 3, 3)])
-def test_packed_up_to_the_greatest_cost(level: int, runs: int, program: Path, top: Path, monkeypatch: pytest.MonkeyPatch) -> None:
+def test_packed_up_to_the_greatest_cost(level: int, runs: int, program: Path, top: Path,
+                                        monkeypatch: pytest.MonkeyPatch) -> None:
     """A period takes one run up to the greatest holding cost, and three beyond, with the same figures."""
     tree = tomllib.loads((top / "examples/two_policies.toml").read_text())
     tree |= {"initial": 0, "policy": [{"name": "far", "s": 0, "S": level}, {"name": "near", "s": 1, "S": level + 1}]}
     counted: list[int] = []
     run_all = trajectory.run_all
 
-    def counting(path: Path, texts: Any, *words: str) -> list[str]:
+    def counting(path: Path, texts: Any, *words: str, **options: int) -> list[str]:
         kept = list(texts)
         counted.append(len(kept))
-        return run_all(path, kept, *words)
+        return run_all(path, kept, *words, **options)
 
     monkeypatch.setattr(trajectory, "run_all", counting)
     check(program, tree)
@@ -200,7 +202,8 @@ def test_longest_run(program: Path, top: Path) -> None:
 
 
 @pytest.mark.parametrize("words, part", REFUSED, ids=[words for words, _ in REFUSED])
-def test_refused_in_one_line(crnplan: Command, words: str, part: str, program: Path, top: Path, monkeypatch: pytest.MonkeyPatch) -> None:
+def test_refused_in_one_line(crnplan: Command, words: str, part: str, program: Path, top: Path,
+                             monkeypatch: pytest.MonkeyPatch) -> None:
     """A word that cannot be used is refused in one line, with nothing on standard output."""
     monkeypatch.chdir(top / "examples")
     monkeypatch.setenv("CRNSIM", str(program))
@@ -212,14 +215,16 @@ def test_refused_in_one_line(crnplan: Command, words: str, part: str, program: P
 def test_no_matplotlib(crnplan: Command, top: Path, tmp_path: Path, monkeypatch: pytest.MonkeyPatch) -> None:
     """Without matplotlib a picture is refused in one line that says how to get it."""
     monkeypatch.setitem(sys.modules, "matplotlib", None)
-    status, output, errors = crnplan("trajectory", top / "examples/two_policies.toml", "A", "--out", tmp_path / "none.svg")
+    words = ["trajectory", top / "examples/two_policies.toml", "A", "--out", tmp_path / "none.svg"]
+    status, output, errors = crnplan(*words)
     assert (status, output, errors.count("\n")) == (2, "", 1) and "apt-get install python3-matplotlib" in errors
     assert not (tmp_path / "none.svg").exists()
 
 
 def test_pictures(crnplan: Command, program: Path, top: Path, tmp_path: Path) -> None:
     """A picture is a PNG, or an SVG with its texts; drawn again it has the same bytes."""
-    words = ["trajectory", top / "examples/spare_part.toml", "today", "both", "--periods", "40", "--program", program, "--out"]
+    words = ["trajectory", top / "examples/spare_part.toml", "today", "both", "--periods", "40", "--program", program,
+             "--out"]
     for name in ("stock.png", "stock.svg", "again.svg"):
         assert crnplan(*words, tmp_path / name) == (0, "", "")
     assert (tmp_path / "stock.png").read_bytes().startswith(b"\x89PNG\r\n\x1a\n")
@@ -230,15 +235,17 @@ def test_pictures(crnplan: Command, program: Path, top: Path, tmp_path: Path) ->
 
 def test_picture_and_table(crnplan: Command, program: Path, top: Path, tmp_path: Path) -> None:
     """--out and --csv make both."""
-    words = ["trajectory", top / "examples/two_policies.toml", "A", "--csv", "--out", tmp_path / "a.svg", "--program", program]
-    assert rows_of(crnplan(*words).output) == {"A": ON_PAGE["A"]} and (tmp_path / "a.svg").exists()
+    words = ["trajectory", top / "examples/two_policies.toml", "A", "--csv", "--program", program]
+    told = crnplan(*words, "--out", tmp_path / "a.svg")
+    assert rows_of(told.output) == {"A": ON_PAGE["A"]} and (tmp_path / "a.svg").exists()
 
 
 @pytest.mark.serial
 def test_half_a_second(program: Path, top: Path) -> None:
     """104 periods of two policies take half a second, the start of Python left out, on a machine that does nothing
     else."""
-    words = [sys.executable, "-m", "crnplan", "trajectory", "examples/spare_part.toml", "today", "both", "--program", program]
+    command = [sys.executable, "-m", "crnplan", "trajectory"]
+    words = [*command, "examples/spare_part.toml", "today", "both", "--program", program]
     times = []
     for _ in range(3):
         begun = time.perf_counter()

@@ -16,7 +16,8 @@ def test_columns_stand_in_line() -> None:
     assert aligned([["a", "bb"], ["aa", "b"]], (0, 1)) == "a   bb\naa  b\n"
 
 
-@given(st.integers(1, 4).flatmap(lambda width: st.lists(st.lists(CELLS, min_size=width, max_size=width), min_size=1, max_size=4)))
+@given(st.integers(1, 4).flatmap(lambda width: st.lists(st.lists(CELLS, min_size=width, max_size=width), min_size=1,
+                                                        max_size=4)))
 def test_cells_end_at_the_same_place(rows: list[list[str]]) -> None:
     """Each cell of a column to the right ends where the column ends."""
     lines = aligned(rows, ()).split("\n")
