@@ -8,7 +8,7 @@ from typing import NamedTuple
 import pytest
 from crnplan import document, formats
 
-from tests.documents.shell import Folder
+from tests.documents.page_folder import Folder
 from tests.hostile import second_reader
 from tests.runs import run
 

@@ -1,33 +1,40 @@
 """Takes the commands of a block apart and runs them, in a folder with a copy of what they name."""
-from __future__ import annotations
-
 import os
 import re
 import shutil
 import subprocess
-import sys
-from pathlib import Path
 
-from tests.runs import TOP
+from pages import TOP
 
-# A command that takes longer fails.
-SECONDS = 120
-RUNNERS = {"sh": ["bash", "-e", "-o", "pipefail", "-c"], "python": [sys.executable, "-c"], "r": ["Rscript", "-e"]}
+SECONDS = 60
+SHELL = ["bash", "-e", "-o", "pipefail", "-c"]
+RUNNERS = {"sh": SHELL, "python": ["python3", "-c"], "r": ["Rscript", "-e"]}
+# What a machine may lack: a name, what in a command wants it, and how it is looked for beside what then runs it.
+TOOLS = [("GNU parallel", r"^parallel ", [(["parallel", "--version"], SHELL)]),
+         ("pandas", r"^import pandas$", [([it, "-c", "import pandas"], [it, "-c"])
+                                         for it in ("python3", "/usr/bin/python3")]),
+         ("R", r"\bread\.csv\(", [(["Rscript", "--version"], RUNNERS["r"])]),
+         ("matplotlib (Debian's python3-matplotlib)", r" --(plot|map|out) \S+\.(png|svg)\b",
+          [(["/usr/bin/python3", "-c", "import matplotlib"], SHELL)]),
+         ("numpy (Debian's python3-numpy)", r"suggest|\bwith_unit\.csv --scenario",
+          [(["/usr/bin/python3", "-c", "import numpy"], SHELL)])]
 # A script for a scheduler's array is run as this task of it.
 TASK = {"SLURM_ARRAY_TASK_ID": "3"}
-# What a sweep reports of its progress.
+# What a sweep tells of its progress.
 PROGRESS = re.compile(r"(\r?[0-9]+ of [0-9]+ scenarios \([0-9]+ kept\))+\n")
 
 
-def is_whole(text: str) -> bool:
-    """Returns whether a text ends where a command of the shell ends."""
-    if text.endswith("\\"):
-        return False
-    return subprocess.run(["bash", "-n", "-c", text], capture_output=True, check=False).returncode == 0
+class Missing(Exception):
+    """A tool is missing on this machine; its text is the tool's name."""
 
 
-def commands_of(kind: str, text: str) -> list[str]:
-    """Returns the commands of a block: each by itself for the shell, but for comments."""
+def is_whole(text):
+    """Whether a text ends where a command of the shell ends."""
+    return not text.endswith("\\") and subprocess.run(["bash", "-n", "-c", text], capture_output=True).returncode == 0
+
+
+def commands_of(kind, text):
+    """The commands of a block: each by itself for the shell, but for comments."""
     if kind != "sh":
         return [text]
     commands, lines = [], []
@@ -39,34 +46,65 @@ def commands_of(kind: str, text: str) -> list[str]:
     return [it for it in [*commands, "\n".join(lines)] if it.strip() and not it.startswith("#")]
 
 
-class Folder:
-    """A folder with a copy of the examples and the pages, in which programs are reached as the pages say."""
+def works(words):
+    """Whether a command can be run and ends well."""
+    try:
+        return subprocess.run(words, capture_output=True, timeout=SECONDS).returncode == 0
+    except OSError:
+        return False
 
-    def __init__(self, path: Path, program: Path) -> None:
-        """Makes the folder. `crnsim` is the program, and `crnplan` and `python3` are those by which this test runs."""
-        self.path = path
-        for name in ("examples", "docs"):
-            shutil.copytree(TOP / name, path / name, ignore=shutil.ignore_patterns("__pycache__"))
-        for link in (path / "crates/crnsim/out/crnsim", path / "tools/crnsim", path.parent / "bin/crnsim"):
-            link.parent.mkdir(parents=True, exist_ok=True)
-            link.symlink_to(program)
-        search = f"{path.parent / 'bin'}:{Path(sys.executable).parent}:{os.environ['PATH']}"
-        self.environment = {**os.environ, **TASK, "PATH": search, "CRNSIM": str(program), "LC_ALL": "C.UTF-8",
-                            "PYTHONDONTWRITEBYTECODE": "1"}
 
-    def fetch(self, command: str) -> None:
+def runner_of(kind, command):
+    """What runs a command."""
+    for name, wants, ways in TOOLS:
+        if re.search(wants, command, re.MULTILINE):
+            for probe, runner in ways:
+                if works(probe):
+                    return runner
+            raise Missing(name)
+    return RUNNERS[kind]
+
+
+class Room:
+    """Keeps a folder with a copy of the examples and the pages, in which the program is reached as the pages say."""
+
+    def __init__(self, folder, program):
+        """Makes the room in a folder that is empty."""
+        self.folder = f"{folder}/top"
+        shutil.copytree(f"{TOP}/examples", f"{self.folder}/examples", ignore=shutil.ignore_patterns("__pycache__"))
+        shutil.copytree(f"{TOP}/docs", f"{self.folder}/docs")
+        for link in (f"{self.folder}/crates/crnsim/out/crnsim", f"{folder}/bin/crnsim"):
+            os.makedirs(os.path.dirname(link))
+            os.symlink(program, link)
+        path = {"PATH": f"{folder}/bin:{os.environ['PATH']}"}
+        self.environment = {**os.environ, **TASK, **path, "LC_ALL": "C.UTF-8", "PYTHONDONTWRITEBYTECODE": "1"}
+
+    def fetch(self, command):
         """Copies the files of the repository's tests that a command names."""
         for name in re.findall(r"\btests/[\w./-]+", command):
-            if (TOP / name).is_file():
-                (self.path / name).parent.mkdir(parents=True, exist_ok=True)
-                shutil.copy(TOP / name, self.path / name)
+            if os.path.isfile(f"{TOP}/{name}"):
+                os.makedirs(os.path.dirname(f"{self.folder}/{name}"), exist_ok=True)
+                shutil.copy(f"{TOP}/{name}", f"{self.folder}/{name}")
 
-    def run(self, kind: str, command: str) -> tuple[int | None, str]:
-        """Runs a command. Returns its status, and what it prints, faults too, as a terminal shows it but for progress."""
+    def write(self, name, text):
+        """Writes a file."""
+        with open(f"{self.folder}/{name}", "w", encoding="utf-8") as it:
+            it.write(text)
+
+    def read(self, name):
+        """The text of a file; the empty text where it is missing."""
+        if not os.path.exists(f"{self.folder}/{name}"):
+            return ""
+        with open(f"{self.folder}/{name}", encoding="utf-8") as it:
+            return it.read()
+
+    def run(self, kind, command):
+        """Runs a command: its status, and what it prints, faults too, as a terminal shows it but for progress."""
         self.fetch(command)
         try:
-            ran = subprocess.run([*RUNNERS[kind], command], cwd=self.path, env=self.environment, stdin=subprocess.DEVNULL,
-                                 stdout=subprocess.PIPE, stderr=subprocess.STDOUT, timeout=SECONDS, check=False)
+            ran = subprocess.run([*runner_of(kind, command), command], cwd=self.folder, env=self.environment,
+                                 stdin=subprocess.DEVNULL, stdout=subprocess.PIPE, stderr=subprocess.STDOUT,
+                                 timeout=SECONDS)
         except subprocess.TimeoutExpired:
             return None, f"it does not end in {SECONDS} seconds"
         return ran.returncode, PROGRESS.sub("", ran.stdout.decode("utf-8", "replace"))

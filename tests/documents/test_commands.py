@@ -18,7 +18,7 @@ from typing import Any
 import pytest
 
 from tests.documents.markdown import blocks_of, pieces_of, prose_of, spans_of, text_of
-from tests.documents.shell import RUNNERS, Folder, commands_of
+from tests.documents.page_folder import RUNNERS, Folder, commands_of
 from tests.runs import TOP
 
 Case = tuple[str, object]

@@ -8,7 +8,7 @@ from crnplan import formats
 
 from tests.documents.conftest import Ask
 from tests.documents.markdown import blocks_of, text_of
-from tests.documents.shell import Folder
+from tests.documents.page_folder import Folder
 from tests.documents.test_formats import FORMATS, limits_in
 
 # A file that is there for an example, as kept from an older crnsim.
