@@ -70,15 +70,18 @@ def steps_of(totals: Iterable[int]) -> list[int]:
     return [after - before for before, after in itertools.pairwise([0, *totals])]
 
 
-def _text_of(scenario: Scenario, costs: Costs, periods: int, replications: int = 1) -> str:
-    """Returns the text of a run that counts."""
-    return replace(scenario, costs=costs, periods=periods, replications=replications, ring=formats.RING_SIZES[-1],
+def _texts(scenario: Scenario, costs: Costs, periods: Iterable[int], replications: int = 1) -> Iterator[str]:
+    """Yields the texts of runs that count, over so many periods."""
+    text = replace(scenario, costs=costs, periods=1, replications=replications, ring=formats.RING_SIZES[-1],
                    source=None).toml()
+    # Only one line differs, and writing it takes less time than writing all.
+    for last in periods:
+        yield text.replace("\nperiods = 1\n", f"\nperiods = {last}\n")
 
 
 def _totals(program: Path, scenario: Scenario, costs: Sequence[Costs], periods: int) -> Iterator[list[list[int]]]:
     """Yields, for each of the costs, the totals of 1, 2, .. periods of each policy."""
-    texts = (_text_of(scenario, its, last) for its in costs for last in range(1, periods + 1))
+    texts = (text for its in costs for text in _texts(scenario, its, range(1, periods + 1)))
     totals = [[row.total for row in read_rows(report, str(program))] for report in run_all(program, texts, jobs=JOBS)]
     for first in range(0, len(totals), periods):
         yield [list(it) for it in zip(*totals[first:first + periods])]
@@ -122,7 +125,7 @@ def net_demands(scenario: Scenario, periods: int, program: Path) -> list[int]:
     """Returns the net demand of each of the first periods of replication 0."""
     blocks = -(-periods // PERIODS_OF_BLOCK)
     ample = replace(scenario, initial=formats.MOST_ITEMS, policies=(AMPLE,))
-    texts = (_text_of(ample, APART[1], last, blocks) for last in range(1, PERIODS_OF_BLOCK + 1))
+    texts = _texts(ample, APART[1], range(1, PERIODS_OF_BLOCK + 1), blocks)
     listed = [[int(line.split(",")[2]) for line in checkpoint.splitlines() if line.startswith("cost,")]
               for checkpoint in run_all(program, texts, "leg", str(blocks))]
     stocks = [[formats.MOST_ITEMS, *steps_of(totals)] for totals in zip(*listed)]
