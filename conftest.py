@@ -110,11 +110,15 @@ def program(request: pytest.FixtureRequest) -> Path:
 def check_all(record_property: Callable[[str, object], None]) -> Callable[[Cases], None]:
     """Returns a function that checks the cases of a test: pairs of a name and a verdict.
 
-    True is a case that holds. Anything else is one that does not; a text says why. Those that fail are named, and the
-    summary counts each case.
+    True is a case that holds. Anything else is one that does not; a text says why. Those that fail are named, also if the
+    test runs out of time, and the summary counts each case.
     """
     def check(cases: Cases) -> None:
-        verdicts = list(cases)
+        verdicts: list[tuple[str, object]] = []
+        try:
+            verdicts.extend(cases)
+        except pytest.fail.Exception as fault:
+            verdicts.append((f"after {verdicts[-1][0]}" if verdicts else "at once", str(fault)))
         record_property(CASES, len(verdicts))
         assert verdicts, "there are no cases"
         failed = [f"{name}: {its}" if isinstance(its, str) else name for name, its in verdicts if its is not True]
