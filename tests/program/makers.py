@@ -10,6 +10,8 @@ import itertools
 import tomllib
 from collections.abc import Iterator
 
+import numpy as np
+
 from tests.program import oracle
 
 
@@ -39,11 +41,13 @@ def words(number: int | str) -> str:
     return oracle.words_text((0, 0, 0, 0), int(number))
 
 
-def producer_steps(size: int, readers: int) -> Iterator[str]:
-    """Yields the producer's steps, block after block, on a ring whose readers have all left."""
-    for block in itertools.count():
+def producer_steps(size: int, readers: int, blocks: int) -> Iterator[str]:
+    """Yields the producer's steps for so many blocks, one after the other, on a ring whose readers have all left."""
+    numbers = np.arange(blocks, dtype=np.uint64)
+    words = np.stack([word for it in range(len(oracle.STREAMS))
+                      for word in oracle.threefry((0, 0, 0, 0), [numbers, it, 0, 0])], axis=1)
+    for block, stored in enumerate(words.tolist()):
         yield from (f"p P1 {1 + reader} 8000000000000000" for reader in range(readers))
-        stored = [word for it in oracle.STREAMS for word in oracle.stream_words((0, 0, 0, 0), block, it)]
         first = 1 + readers + len(stored) * (block % size)
         yield from (f"p P2 {place} {word:016x}" for place, word in enumerate(stored, first))
         yield f"p P3 0 {2 * (block + 1):016x}"
@@ -55,7 +59,7 @@ def trace(size: int, readers: int, turns: int) -> str:
     words_of_block = 4 * len(oracle.STREAMS)
     published = turns // (readers + words_of_block + 1)
     lines = [f"l{reader} R3 {1 + reader} 8000000000000000" for reader in range(readers)]
-    lines += itertools.islice(producer_steps(size, readers), turns)
+    lines += itertools.islice(producer_steps(size, readers, published + 1), turns)
     lines.append(f"published {published} ended 0")
     lines += [f"reader {reader} taken 0 left 1 ended 0" for reader in range(readers)]
     return "".join(f"{line}\n" for line in lines)
