@@ -1,11 +1,12 @@
 """Fixtures of the tests of the program: folders and small C libraries."""
 from __future__ import annotations
 
-import subprocess
 from collections.abc import Callable
 from pathlib import Path
 
 import pytest
+
+from tests.runs import library
 
 HERE = Path(__file__).resolve().parent
 Compiler = Callable[[Path], Path]
@@ -20,12 +21,12 @@ def room(tmp_path: Path) -> Path:
 @pytest.fixture(scope="session")
 def compiled(tmp_path_factory: pytest.TempPathFactory) -> Compiler:
     """Returns a function that builds the library of a C file, to be loaded before a program, once in a session."""
-    folder, built = tmp_path_factory.mktemp("libraries"), {}
+    folder = tmp_path_factory.mktemp("libraries")
+    built: dict[Path, Path] = {}
 
     def build(source: Path) -> Path:
         if source not in built:
-            built[source] = folder / f"{source.stem}.so"
-            subprocess.run(["cc", "-O1", "-shared", "-fPIC", "-o", built[source], source, "-ldl"], check=True)
+            built[source] = library(source, folder)
         return built[source]
 
     return build

@@ -63,6 +63,13 @@ def silent() -> Iterator[int]:
         os.close(write_end)
 
 
+def library(source: Path, folder: Path) -> Path:
+    """Builds the library of a C file in a folder, to be loaded before a program, and returns its path."""
+    made = folder / f"{source.stem}.so"
+    subprocess.run(["cc", "-O1", "-shared", "-fPIC", "-o", made, source, "-ldl"], check=True)
+    return made
+
+
 def prepared(closed: bool, kilobytes: int | None) -> Callable[[], None] | None:
     """Returns what a new process does before it becomes the program: it closes its output, or limits its address space.
 

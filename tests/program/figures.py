@@ -22,7 +22,7 @@ from pathlib import Path
 
 from tests import preload
 from tests.program.cases import HERE, Case, text_of, words_of
-from tests.runs import Shown, difference, refused, run
+from tests.runs import Shown, difference, library, refused, run
 
 # How the program is called, by a link in the folder where it runs: it reads its path, whose length must not count.
 CALLED = "./crnsim"
@@ -105,13 +105,13 @@ def instructions_in(file: Path, program: Path) -> int:
     return count
 
 
-def figures_of(program: Path, case: Case, library: Path, room: Path) -> dict[str, int | str]:
+def figures_of(program: Path, case: Case, built: Path, room: Path) -> dict[str, int | str]:
     """Returns the figures of a run by their columns. Raises Unfit if it does not end as it should."""
     if not (room / CALLED).exists():
         (room / CALLED).symlink_to(program.resolve())
     put_file(case, room)
     is_held, words = case.get("held", False), [str(it) for it in words_of(case, Path("."))]
-    environment = preload.environment(str(library), str(room / "counts"), **({"hold_threads": 1} if is_held else {}))
+    environment = preload.environment(str(built), str(room / "counts"), **({"hold_threads": 1} if is_held else {}))
     checked(case, shown_of(case, words, room, environment=environment))
     counts = preload.counts_of(room / "counts")
     if counts is None:
@@ -136,10 +136,10 @@ def main() -> None:
     words.add_argument("program", metavar="PROGRAM", type=lambda it: Path(os.path.abspath(it)))
     program, rows = words.parse_args().program, []
     with tempfile.TemporaryDirectory(prefix="crnsim-") as room:
-        library = Path(preload.library(room) or words.error("a C compiler (cc) is needed"))
+        built = library(HERE.parent / "preload.c", Path(room))
         for name, case in cases():
             try:
-                figures = figures_of(program, case, library, Path(room))
+                figures = figures_of(program, case, built, Path(room))
             except Unfit as why:
                 words.error(f"{name}: {why}")
             rows.append(";".join([name, *(str(figures[it]) for it in COLUMNS)]))
