@@ -8,7 +8,6 @@ import subprocess
 import sys
 from collections.abc import Callable
 from pathlib import Path
-from types import SimpleNamespace
 from typing import Any
 
 import pandas as pd
@@ -133,13 +132,11 @@ def test_blank_rows(file: Files, answer: Answers) -> None:
         [file("n\n1\n", "WEEK"), "--demand", "n", "--every", "week", "--orders", orders]).errors
 
 
-def test_standard_input(file: Files, answer: Answers, monkeypatch: pytest.MonkeyPatch) -> None:
+def test_standard_input(file: Files, answer: Answers) -> None:
     """`-` is standard input, for one of the files."""
-    monkeypatch.setattr(sys, "stdin", SimpleNamespace(buffer=io.BytesIO(b"n\n5\nx\n")))
-    assert answer(["-", "--demand", "n"]) == (
-        2, "", "crnplan: standard input:3:1: column 'n': 'x' is not a number; write digits, as 12\n")
-    monkeypatch.setattr(sys, "stdin", SimpleNamespace(buffer=io.BytesIO(b"weeks\n3\n")))
-    assert "[lead]\nvalues = [3]" in answer([file("n\n1\n"), "--demand", "n", "--lead", "-", "weeks"]).output
+    fault = "crnplan: standard input:3:1: column 'n': 'x' is not a number; write digits, as 12\n"
+    assert answer(["-", "--demand", "n"], data=b"n\n5\nx\n") == (2, "", fault)
+    assert "[lead]\nvalues = [3]" in answer([file("n\n1\n"), "--demand", "n", "--lead", "-", "weeks"], data=b"weeks\n3\n").output
     status, _, errors = answer(["-", "--demand", "n", "--lead", "-", "weeks"])
     assert (status, errors) == (2, "crnplan: standard input (-) can be one file only; name the others\n")
 
@@ -184,6 +181,8 @@ def test_item_of_other_files(file: Files, answer: Answers) -> None:
     ("--every week --from 2026-02-16 --to 2026-03-22", [4, 1], ["weeks from 2026-W08 to 2026-W12: 5, filled with 0: 4; all are whole"]),
     ("--every week --from 2026-02-17 --to 2026-03-22 --whole", [3, 1], ["weeks from 2026-W09 to 2026-W12: 4, filled with 0: 3; the first "
                                                                         "one is left out"]),
+    ("--from 2026-03-03 --to 2026-03-06", [2, 2], ["days from 2026-03-03 to 2026-03-06: 4, filled with 0: 2; all are whole"]),
+    ("--every week --from 2026-02-16 --to 2026-03-21", [4, 1], ["the last one may be partial (--whole leaves it out)"]),
     ("--every month --from 2026-01-01 --to 2026-03-31", [2, 1], ["months from 2026-01 to 2026-03: 3, filled with 0: 2; all are whole"]),
 ])
 def test_span(words: str, weights: list[int], notes: list[str], file: Files, answer: Answers) -> None:
@@ -232,6 +231,8 @@ def test_span_needs_dates(file: Files, answer: Answers) -> None:
     # The last row has the sum of the others.
     ("1 0 2 1 0 3 7", "", [":8:3: column 'n': the last row looks like a total of the rows above (7 is the sum of all others); if it is"]),
     ("0 0 0 0 0 0 7 7", "", []),
+    # A total is not far above the others as well.
+    ("1 " * 31 + "31", "", [":33:4: column 'n': the last row looks like a total"]),
 ])
 def test_suspicions(rows: str, words: str, notes: list[str], file: Files, answer: Answers) -> None:
     """What is suspicious is noted with its exact place, and read all the same. What is not has no note."""
