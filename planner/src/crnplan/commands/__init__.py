@@ -78,8 +78,10 @@ def main() -> None:
         result: Any = group.main(standalone_mode=False)
         sys.exit(result if isinstance(result, int) else 0)
     except click.UsageError as fault:
-        hint = f". {fault.ctx.command_path} --help shows the words." if fault.ctx else ""
-        print(f"crnplan: {fault.format_message().removesuffix('.')}{hint}", file=sys.stderr)
+        message = fault.format_message()
+        end = "" if message.endswith(("?", ".")) else "."
+        hint = f"{end} {fault.ctx.command_path} --help shows the words." if fault.ctx else ""
+        print(f"crnplan: {message}{hint}", file=sys.stderr)
         sys.exit(2)
     except click.ClickException as fault:
         print(f"crnplan: {fault.format_message()}", file=sys.stderr)
