@@ -75,7 +75,7 @@ def main() -> None:
     """Runs the command. Ends with status 0; 1 if the answer is no; 2 if an input or a word is refused; 130 if
     interrupted."""
     try:
-        result: Any = group.main(standalone_mode=False)
+        result: Any = group.main(prog_name="crnplan", standalone_mode=False)
         sys.exit(result if isinstance(result, int) else 0)
     except click.UsageError as fault:
         message = fault.format_message()
