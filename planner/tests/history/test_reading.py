@@ -1,4 +1,5 @@
-"""Tests of reading: all faults in one pass, rejects, title lines, standard input, one item, the record's span, suspicions."""
+"""Tests of reading: all faults in one pass, rejects, title lines, standard input, one item, the record's span,
+suspicions."""
 from __future__ import annotations
 
 import csv
@@ -21,7 +22,8 @@ DATED = ["--demand", "n", "--date", "at", "--every", "day"]
 
 
 def test_all_faults_in_one_pass(file: Files, answer: Answers, tmp_path: Path) -> None:
-    """The first 20 faults are printed, and how many there are. All are in the rejects, of all files, with their rows."""
+    """The first 20 faults are printed, and how many there are. All are in the rejects, of all files, with their
+    rows."""
     path = file("at;n\n" + "2026-03-01;x\n" * 30 + "2026-02-30;y\n2026-03-02;1\n")
     orders = file("ordered,received\n2026-03-02,2026-03-01\n", "orders.csv")
     status, output, errors = answer([path, *DATED, "--orders", orders, "--rejects", tmp_path / "rejects.csv"])
@@ -122,7 +124,8 @@ def test_ambiguous_patterns(file: Files, answer: Answers) -> None:
 
 
 def test_blank_rows(file: Files, answer: Answers) -> None:
-    """Blank rows between movements are passed over and counted. Without dates a blank row may be a period, so it is a fault."""
+    """Blank rows between movements are passed over and counted. Without dates a blank row may be a period, so it is a
+    fault."""
     path = file("at,n\n2026-03-01,1\n,\n \n2026-03-02,2\n,\n\n")
     assert f"crnplan: {path}: blank rows passed over: 2 (lines 3, 4)\n" in answer([path, *DATED]).errors
     status, _, errors = answer([path, "--demand", "n"])
@@ -145,7 +148,8 @@ ITEMS = "part,site,at,n\nA,1,2026-03-05,3\nB,1,2026-03-02,x\nA,2,2026-03-06,9\nB
 
 
 def test_one_item(file: Files, answer: Answers) -> None:
-    """Only rows of the item are read. The record is that of the whole file, so days without demand at both ends count."""
+    """Only rows of the item are read. The record is that of the whole file, so days without demand at both ends
+    count."""
     path = file(ITEMS)
     status, output, errors = answer([path, *DATED, "--item", "part=A", "--item", " site = 1 "])
     assert (status, output) == (0, "\n[demand]\nvalues = [0, 2, 3]\nweights = [6, 1, 1]\n")

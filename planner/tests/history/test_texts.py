@@ -1,4 +1,5 @@
-"""Tests with random numbers, dates and files: what is written in an accepted form is read as itself, and nothing is lost."""
+"""Tests with random numbers, dates and files: what is written in an accepted form is read as itself, and nothing is
+lost."""
 from __future__ import annotations
 
 import csv
@@ -38,7 +39,8 @@ def test_number_in_any_form(number: int, decimal: str | None, data: st.DataObjec
 
 @given(text=st.text("0123456789.,-+ '\u00a0x", max_size=12), decimal=st.sampled_from([None, ".", ","]))
 def test_any_text(text: str, decimal: str | None) -> None:
-    """Any text is read as a number or rejected with a reason. Two readings of a text differ only where a note is due."""
+    """Any text is read as a number or rejected with a reason. Two readings of a text differ only where a note is
+    due."""
     readings = set()
     for sign in (decimal, "." if decimal == "," else ","):
         try:
