@@ -2,7 +2,7 @@
 
     .venv/bin/python -m pytest -n 4                   all suites
     .venv/bin/python -m pytest tests/program -k resume
-    .venv/bin/python -m pytest --program PATH         the tests of another program
+    .venv/bin/python -m pytest --program=PATH         the tests of another program
     .venv/bin/python -m pytest --free                 new random texts on each run
 """
 from __future__ import annotations
@@ -101,7 +101,7 @@ def program(request: pytest.FixtureRequest) -> Path:
     """Returns the absolute path of the program that is tested. Without one the run ends."""
     path = Path(os.path.abspath(request.config.getoption("--program") or PROGRAM))
     if not os.access(path, os.X_OK):
-        request.session.shouldfail = f"there is no program {path}: run tools/build, or give --program PATH"
+        request.session.shouldfail = f"there is no program {path}: run tools/build, or give --program=PATH"
         pytest.fail(request.session.shouldfail, pytrace=False)
     return path
 
