@@ -160,7 +160,7 @@ def test_json_has_the_fields_of_the_report(base: Path, crnplan: Command) -> None
     assert [["-" if it is None else str(it) for it in record.values()] for record in data] == rows
 
 
-# A program whose third run waits, and a minute long unless it is interrupted.
+# A program whose third run waits for a minute, unless it is interrupted or the file go_on is there.
 WAITING = """#!/bin/sh
 echo >> "{room}/runs"
 if [ "$(wc -l < "{room}/runs")" -eq 3 ] && [ ! -e "{room}/go_on" ]; then touch "{room}/third"; exec sleep 60; fi
@@ -175,7 +175,7 @@ def test_goes_on_after_an_interrupt(base: Path, room: Path, program: Path, crnpl
     with subprocess.Popen([sys.executable, "-m", "crnplan", *words], stdout=subprocess.PIPE, stderr=subprocess.PIPE, text=True,
                           start_new_session=True) as process:
         for _ in range(600):
-            if (room / "third").exists():
+            if (room / "third").exists() and len(list((room / "kept").glob("*.toml"))) == 2:
                 break
             time.sleep(0.05)
         os.killpg(process.pid, signal.SIGINT)
