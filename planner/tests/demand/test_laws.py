@@ -50,7 +50,8 @@ def test_whole_numbers_of_any_kind(numbers: Any) -> None:
 @pytest.mark.parametrize("numbers, part", [
     ([1, 2.5], "demand: entry 2: 2.5 is not a whole number; round it, or count in a smaller unit"),
     ([float("nan")], "demand: entry 1: nan is not"), (["3"], "demand: entry 1: '3' is not"),
-    ([True], "demand: entry 1: "), ([], "there are 0 numbers of demand; give 1 to 65,536"), ([1] * 65_537, "there are 65,537 numbers"),
+    ([True], "demand: entry 1: "), ([], "there are 0 numbers of demand; give 1 to 65,536"),
+    ([1] * 65_537, "there are 65,537 numbers"),
     ([None], "demand: entry 1: ")])
 def test_refused_numbers(numbers: Sequence[Any], part: str) -> None:
     """What is no whole number is refused, with its place."""

@@ -27,6 +27,7 @@ def made_export() -> Export:
     export = Export([*titles, "Datum;Beleg;Menge;Vermerk"], [], {})
 
     def add(date: str, amount: str, name: str = "", remark: str = "") -> None:
+        """Adds a row, and keeps its line under a name."""
         export.lines.append(f"{date};{4900000 + len(export.lines)};{amount};{remark}")
         export.odd.update({name: len(export.lines)} if name else {})
 

@@ -39,6 +39,7 @@ def test_messy_history(case: Case, crnplan: Any, program: Path, tmp_path: Path) 
     scenario = Scenario.parse(suggested_text(Scenario.parse(case.head + tables)))
 
     def check(name: str, count: int = 1) -> Check:
+        """Checks a policy on new histories."""
         return check_keys(scenario, name, keys=[KEY], count=count, program=program)
 
     checked = check(scenario.run(program=program).decide().index[0])

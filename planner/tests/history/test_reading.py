@@ -49,6 +49,8 @@ def test_leave_out_names_and_counts(file: Files, answer: Answers, tmp_path: Path
     assert f"crnplan: {path}: rows left out: 2 of 4 (lines 3, 4)\n" in errors
     assert (tmp_path / "rejects.csv").read_text("utf-8").count("\n") == 3
     assert answer([path, *DATED]).status == 2
+    answer([path, *DATED, "--leave-out", "--rejects", tmp_path / "rejects.csv", "--lead", path, "none"])
+    assert (tmp_path / "rejects.csv").read_text("utf-8").count("\n") == 4
 
 
 def test_leave_out_leaves_no_row(file: Files, answer: Answers) -> None:
@@ -182,7 +184,7 @@ def test_item_of_other_files(file: Files, answer: Answers) -> None:
     ("--from 2026-03-01", [4, 2],
      "days from 2026-03-01 to 2026-03-06: 6, filled with 0: 4; the last one may be partial (--whole leaves it out)"),
     ("--from 28.02.2026 --to 2026-03-08", [7, 2], "from 2026-02-28 to 2026-03-08: 9, filled with 0: 7; all are whole"),
-    ("--to 2026-03-08 --whole", [4, 1], "from 2026-03-04 to 2026-03-08: 5, filled with 0: 4; the first one is left out"),
+    ("--to 2026-03-08 --whole", [4, 1], "from 2026-03-04 to 2026-03-08: 5, filled with 0: 4; the first one is left"),
     ("--from 2026-03-04", [2, 1], "rows before --from 2026-03-04 left out: 1 (line 2)"),
     ("--to 2026-03-05", [2, 1], "rows after --to 2026-03-05 left out: 1 (line 3)"),
     ("--from 2026-03-03 --to 2026-03-06", [2, 2], "from 2026-03-03 to 2026-03-06: 4, filled with 0: 2; all are whole"),
@@ -229,11 +231,11 @@ def test_span_needs_dates(file: Files, answer: Answers) -> None:
     ("0 0 5", "", []),
     # A number that another decimal sign would make a thousand times smaller or larger, if few are written so.
     ("5 1,000 70 400", "--decimal .", [
-        ":3:3: column 'n': '1,000' is read as 1000 (1 of 4 rows are written so; with another decimal sign it would be 1)"
-    ]),
+        ":3:3: column 'n': '1,000' is read as 1000 (1 of 4 rows are written so; with another decimal sign it would be "
+        "1)"]),
     ("5 7 1.000 9", "--decimal .", [
-        ":4:3: column 'n': '1.000' is read as 1 (1 of 4 rows are written so; with another decimal sign it would be 1000)"
-    ]),
+        ":4:3: column 'n': '1.000' is read as 1 (1 of 4 rows are written so; with another decimal sign it would be "
+        "1000)"]),
     ("5.000 7.000 1.000 9.000", "--decimal .", []),
     ("1,111 2,222 3,333 500", "--decimal .", []),
     ("1,111 2,222 3,333 500", "", [":2:3: column 'n': '1,111' is read as 1111 (if the comma is a decimal sign, say "]),
@@ -273,7 +275,8 @@ def test_total_words(file: Files, answer: Answers) -> None:
     """A last row with a word for a total is a fault if it has no date, and a note if it has one."""
     rows = "at,what,n\n2026-03-01,sale,1\n2026-03-02,sale,2\n"
     status, _, errors = answer([file(f"{rows},Grand total,17\n"), *DATED])
-    assert status == 2 and ":4:1: column 'at': the row looks like a total of the rows above (it has 'Grand total" in errors
+    assert status == 2
+    assert ":4:1: column 'at': the row looks like a total of the rows above (it has 'Grand total'); leave it" in errors
     status, _, errors = answer([file(f"{rows}2026-03-02,Gesamtsumme:,3\n"), *DATED])
     assert status == 0
     assert ":4:25: column 'n': the last row looks like a total of the rows above (it has 'Gesamtsumme:'" in errors

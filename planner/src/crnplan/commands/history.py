@@ -1,7 +1,7 @@
 """Turns a history of demand into the tables [demand], [lead] and [returns] of a scenario."""
 from __future__ import annotations
 
-from collections.abc import Callable
+from collections.abc import Callable, Iterable
 from pathlib import Path
 from typing import Any
 
@@ -33,6 +33,11 @@ def item_of(context: click.Context, option: click.Parameter, words: tuple[str, .
     return {name.strip(): text.strip() for name, _, text in pairs}
 
 
+def left_out(read: Iterable[Observed]) -> list[Fault]:
+    """Returns the faults of all rows that were left out."""
+    return [it for its in read for it in its.faults]
+
+
 def tables(asked: dict[str, Any], rules: dict[str, Any], read: list[Observed]) -> str:
     """Returns all tables that are asked for. What is read is added to a list; faults of all files are raised
     together."""
@@ -40,6 +45,7 @@ def tables(asked: dict[str, Any], rules: dict[str, Any], read: list[Observed]) -
     notes: list[str] = []
 
     def attempted(make: Callable[[], Any]) -> Any:
+        """Returns what a function makes, or None if it finds faults."""
         try:
             its = make()
         except RefusedFaults as fault:
@@ -125,9 +131,9 @@ def command(**asked: Any) -> int:
         text = tables(asked, rules, read)
     except RefusedFaults as fault:
         if asked["rejects"]:
-            write_rejects(asked["rejects"], fault.faults)
+            write_rejects(asked["rejects"], [*left_out(read), *fault.faults])
         raise
-    faults = [it for its in read for it in its.faults]
+    faults = left_out(read)
     if asked["rejects"]:
         write_rejects(asked["rejects"], faults)
     for line in [*printed(faults), *(note for its in read for note in its.notes)]:

@@ -1,5 +1,4 @@
-"""Reads a history of demand: a row for each period, or movements at dates, which are summed by day, ISO week or
-month."""
+"""Reads a history of demand: a row for each period, or movements at dates, summed by day, ISO week or month."""
 from __future__ import annotations
 
 import contextlib

@@ -125,6 +125,7 @@ class Reading:
         self.amount_names.append(name)
 
         def amount(text: str) -> int:
+            """Reads one."""
             number = amount_of(text, self.rules.decimal, **words)
             if least is not None and number < least:
                 raise Unreadable(f"{shown(text)} {below}")
