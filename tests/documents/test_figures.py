@@ -87,11 +87,12 @@ def test_periods_of_the_example() -> None:
     run = oracle.run_of(text_of("examples/two_policies.toml"))
     placed, stocks, spent = run.histories[1][0]
     demands = run.scenario.draws(0, "demand")
-    rows = rows_of("docs/FORMATS.md", "Period", "Arrives", "Position at the review", "Ordered", "Demand", "Stock at the end",
-                   "Cost")
-    assert [[int(re.findall("[0-9]+", row[it])[-1]) for it in (0, 1, 3, 4, 5, 6)] for row in rows] == [
-        [period, sum(amount for amount, due in placed if due == period), placed[period][0], demands[period], stocks[period],
-         spent[period]] for period in range(len(stocks))]
+    rows = rows_of("docs/FORMATS.md", "Period", "Arrives", "Position at the review", "Ordered", "Demand",
+                   "Stock at the end", "Cost")
+    arrived = [sum(amount for amount, due in placed if due == period) for period in range(len(stocks))]
+    wanted = zip(range(len(stocks)), arrived, (amount for amount, _ in placed), demands, stocks, spent)
+    shown = [[int(re.findall("[0-9]+", row[it])[-1]) for it in (0, 1, 3, 4, 5, 6)] for row in rows]
+    assert shown == [list(it) for it in wanted]
 
 
 # ---- README
