@@ -1,4 +1,4 @@
-"""Tests of paired-t intervals: quantiles as tables print them, and intervals of random costs computed from these costs."""
+"""Tests of paired-t intervals: quantiles as tables print them, and intervals computed from random costs themselves."""
 from __future__ import annotations
 
 import math
@@ -60,7 +60,9 @@ def test_intervals_are_those_of_the_costs_themselves(drawn: Costs, periods: int,
         joint = 1 - (1 - level) / (len(drawn) - 1)
         differences = [a - b for a, b in zip(own, base)]
         spread = statistics.stdev(differences)
-        wanted = list(stats.ttest_rel(own, base).confidence_interval(joint)) if spread else [statistics.mean(differences)] * 2
+        wanted = [statistics.mean(differences)] * 2
+        if spread:
+            wanted = list(stats.ttest_rel(own, base).confidence_interval(joint))
         assert [it.low, it.high] == near(wanted)
         assert it.std_error == pytest.approx(spread / math.sqrt(count), rel=1e-9, abs=1e-9)
         verdict = "worse" if wanted[0] > 0 else "better" if wanted[1] < 0 else "undecided"
@@ -97,8 +99,10 @@ def changed(row: Row, **fields: object) -> Row:
     return Row(**{**vars(row), **fields})  # type: ignore[arg-type]
 
 
-@pytest.mark.parametrize("fields", [{"total": 11}, {"diff_mean": Fraction(1, 3)}, {"per_period": Fraction(1, 7)}, {"cov": None},
-                                    {"diff_var": Fraction(-1)}, {"cov": Fraction(-9)}], ids=str)
+@pytest.mark.parametrize("fields", [
+    {"total": 11}, {"diff_mean": Fraction(1, 3)}, {"per_period": Fraction(1, 7)}, {"cov": None},
+    {"diff_total": 4, "diff_mean": Fraction(2)}, {"diff_var": Fraction(-1), "cov": Fraction(9)}, {"cov": Fraction(-9)}],
+    ids=str)
 def test_figures_that_contradict_each_other_are_rejected(fields: dict[str, object]) -> None:
     """Checks that a row with one wrong figure is no row of the report."""
     base, other = rows_of_costs({"p0": [3, 4], "p1": [5, 5]}, 1)

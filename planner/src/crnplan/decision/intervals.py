@@ -26,8 +26,9 @@ from ..errors import Refused
 class Compared(Row):
     """A row of a report with its intervals, in the scenario's money. None stands for no figure.
 
-    `percent` is the difference in percent of the base's cost. From `low` to `high` is the joint interval of `diff_mean`,
-    from `cost_low` to `cost_high` that of `per_period`, by itself. `verdict` is base, better, worse or undecided.
+    `percent` is the difference in percent of the base's cost. From `low` to `high` is the joint interval of
+    `diff_mean`, from `cost_low` to `cost_high` that of `per_period`, by itself. `verdict` is base, better, worse or
+    undecided.
     """
 
     percent: Fraction | None = None
@@ -49,8 +50,8 @@ def checked_level(level: float) -> float:
 def t_quantile(tails: float, degrees: int) -> float:
     """Returns the value that Student's |t| exceeds with probability `tails`, above 0, with so many degrees of freedom.
 
-    By Abramowitz and Stegun, Handbook of Mathematical Functions, 26.7.1, from the incomplete beta function: scipy's `stdtrit`
-    is right to nine digits alone if the degrees are few.
+    By Abramowitz and Stegun, Handbook of Mathematical Functions, 26.7.1, from the incomplete beta function: scipy's
+    `stdtrit` is right to nine digits alone if the degrees are few.
     """
     from scipy.special import betaincinv
     inside = float(betaincinv(degrees / 2, 0.5, tails))
