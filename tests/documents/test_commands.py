@@ -1,9 +1,9 @@
 """The commands of the pages can be copied, and print what stands there.
 
-Commands stand in blocks of the kind `sh`, `python` or `r`, and between backticks. Those of a page are run in order, in a
-folder with a copy of `examples/`. What the commands of a block print is the next block without a kind, where a line `..`
-stands for lines that are left out. A command that ends with a status other than 0, or whose pipe does, has failed: a
-page shows a refusal with `|| echo`. What a command between backticks prints is not compared.
+Commands stand in blocks of the kind `sh`, `python` or `r`, and between backticks. Those of a page are run in order, in
+a folder with a copy of `examples/`. What the commands of a block print is the next block without a kind, where a line
+`..` stands for lines that are left out. A command that ends with a status other than 0, or whose pipe does, has failed:
+a page shows a refusal with `|| echo`. What a command between backticks prints is not compared.
 """
 from __future__ import annotations
 

@@ -1,7 +1,7 @@
 """The ranges of the formats, each tested at both ends and one beyond.
 
-What is tested comes from the numbers of crnplan.formats alone. The program must say the same, and so must crnplan and the
-reader of the hostile tests. Words of the command line and the longest inputs are tested in the same way.
+What is tested comes from the numbers of crnplan.formats alone. The program must say the same, and so must crnplan and
+the reader of the hostile tests. Words of the command line and the longest inputs are tested in the same way.
 """
 from __future__ import annotations
 
