@@ -136,8 +136,8 @@ def program(request: pytest.FixtureRequest) -> Path:
 def check_all(record_property: Callable[[str, object], None]) -> Callable[[Cases], None]:
     """Returns a function that checks the cases of a test: pairs of a name and a verdict.
 
-    True is a case that holds. Anything else is one that does not; a text says why. Those that fail are named, also if the
-    test runs out of time, and the summary counts each case.
+    True is a case that holds. Anything else is one that does not; a text says why. Those that fail are named, also if
+    the test runs out of time, and the summary counts each case.
     """
     def check(cases: Cases) -> None:
         verdicts: list[tuple[str, object]] = []
