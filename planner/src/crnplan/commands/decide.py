@@ -10,7 +10,7 @@ from typing import Any
 
 import click
 
-from ..decision.intervals import Compared, checked_level, with_intervals
+from ..decision.intervals import Compared, with_intervals
 from ..decision.reports import check_policies, read_report
 from ..decision.verdicts import MOST_ROWS, decision_text, end_warning, listed, records_of, table_of, table_text
 from ..engine.report import Row
@@ -85,7 +85,7 @@ def command(report: str, scenario_path: str | None, sweep: bool, replications: i
     given = read_report(report, replications)
     if scenario is not None:
         check_policies(given, scenario.policies, (report, str(scenario_path)), sweep)
-    rows = with_intervals(given, replications, checked_level(level))
+    rows = with_intervals(given, replications, level)
     warning = end_warning(scenario, given) if scenario else ""
     if plot or of_costs:
         pictures(rows, given[0], (replications, len(rows) - 1, level), plot, of_costs)

@@ -71,9 +71,9 @@ def own_variance(row: Row, base: Row, replications: int) -> Fraction:
 
 def is_of(row: Row, base: Row, replications: int) -> bool:
     """Returns whether a row can be of a report with this number of replications and this base."""
-    periods, of_base = periods_of(row, replications), periods_of(base, replications)
     if not 1 <= replications <= formats.MOST_REPLICATIONS * MOST_KEYS:
         return False
+    periods, of_base = periods_of(row, replications), periods_of(base, replications)
     if row.diff_mean * replications != row.diff_total or row.total - base.total != row.diff_total or row.total < 0:
         return False
     if periods is not None and (periods.denominator != 1 or of_base not in (None, periods)):
@@ -110,11 +110,13 @@ def with_interval(row: Row, base: Row, replications: int, quantiles: tuple[float
 
 
 def with_intervals(rows: Sequence[Row], replications: int, level: float) -> list[Compared]:
-    """Returns all policies by rank, the cheapest first, each with its intervals and its verdict."""
-    quantiles = 0.0, 0.0
+    """Returns all policies by rank, the cheapest first, each with its intervals and its verdict.
+
+    Raises Refused if the level is not between 0 and 1.
+    """
+    tails, quantiles = 1 - checked_level(level), (0.0, 0.0)
     if replications > 1:
-        joint = (1 - level) / max(1, len(rows) - 1)
-        quantiles = t_quantile(joint, replications - 1), t_quantile(1 - level, replications - 1)
+        quantiles = t_quantile(tails / max(1, len(rows) - 1), replications - 1), t_quantile(tails, replications - 1)
     compared = (with_interval(row, rows[0], replications, quantiles) for row in rows)
     return sorted(compared, key=lambda it: it.diff_total)
 

@@ -10,6 +10,7 @@ from __future__ import annotations
 
 import dataclasses
 import math
+from collections import Counter
 from collections.abc import Iterator, Mapping
 from dataclasses import dataclass
 from fractions import Fraction
@@ -136,12 +137,11 @@ def changed_demand(demand: Table, tenths: int) -> Table:
     If that is not whole, it becomes the whole numbers below and above, with the weight shared so that the mean is
     right.
     """
-    weights: dict[int, int] = {}
+    weights: Counter[int] = Counter()
     for value, weight in zip(demand.values, demand.weights):
         low, rest = divmod(tenths * value, 10)
-        for its_value, its_weight in ((low, weight * (10 - rest)), (low + 1, weight * rest)):
-            if its_weight:
-                weights[its_value] = weights.get(its_value, 0) + its_weight
+        weights[low] += weight * (10 - rest)
+        weights[low + 1] += weight * rest
     return scaled_down(weights)
 
 
