@@ -131,8 +131,9 @@ def test_changed_weights_stay_in_range(weights: dict[int, int], tenths: int) -> 
 
 
 def test_large_weights_keep_their_sum() -> None:
-    """Checks weights that are scaled down and rounded."""
+    """Checks weights that are scaled down and rounded, and that those with a common divisor stay exact."""
     assert sum(changed_demand(Table((1, 2, 3), (1, 40_000, 25_535)), 11).weights) == 65_536
+    assert changed_demand(Table((10, 20), (20_000, 10_000)), 11) == Table((11, 22), (2, 1))
 
 
 @pytest.mark.parametrize(("old", "new", "note"), NOTES, ids=[note for *_, note in NOTES])
