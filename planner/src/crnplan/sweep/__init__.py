@@ -3,11 +3,9 @@ from __future__ import annotations
 
 import importlib
 import os
-import sys
 from collections.abc import Callable, Iterable, Iterator, Sequence
 from concurrent import futures
 from pathlib import Path
-from types import ModuleType
 from typing import Any
 
 from ..engine.program import find_program
@@ -115,14 +113,3 @@ def sweep(scenario: Scenario, s: Iterable[int], S: Iterable[int], *, jobs: int |
     except OSError as fault:
         raise Refused(f"{fault.filename}: {fault.strerror}") from fault
     return Report(rows, scenario.with_policies(Policy(row.policy, row.s, row.S) for row in rows))
-
-
-class _Callable(ModuleType):
-    """Lets `crnplan.sweep` be called: it is a module as soon as this one is imported, and the public function too."""
-
-    def __call__(self, *words: Any, **options: Any) -> Report:
-        """Calls the function `sweep`."""
-        return sweep(*words, **options)
-
-
-sys.modules[__name__].__class__ = _Callable
