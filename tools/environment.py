@@ -1,7 +1,8 @@
 """Says what is wrong with .venv: .venv/bin/python -I tools/environment.py [PREFIX].
 
-If something is, it prints one line: `make WHY` if .venv has to be made anew, or `install WHY` if it is enough to install
-crnplan in it again. With PREFIX, .venv must be made from a Python with that prefix, such as /usr. tools/setup runs it.
+If something is, it prints one line: `make WHY` if .venv has to be made anew, or `install WHY` if it is enough to
+install crnplan in it again. With PREFIX, .venv must be made from a Python with that prefix, such as /usr. tools/setup
+runs it.
 """
 import importlib.metadata
 import importlib.util

@@ -1,8 +1,8 @@
 #!/usr/bin/env python3
 """Writes manual pages from the help texts of a program: tools/manual.py PROGRAM FOLDER.
 
-PROGRAM is asked `--help`, and `NAME --help` for each of its commands. For each text there is a page in FOLDER: PROGRAM.1
-and PROGRAM-NAME.1. It prints their paths.
+PROGRAM is asked `--help`, and `NAME --help` for each of its commands. For each text there is a page in FOLDER:
+PROGRAM.1 and PROGRAM-NAME.1. It prints their paths.
 """
 import argparse
 import datetime
@@ -28,16 +28,17 @@ class NoHelp(Exception):
 
 def help_of(program, *words):
     """Returns the help text of a program or of one of its commands."""
+    wide = {**os.environ, "COLUMNS": "100", "NO_COLOR": "1"}
     how = {"stdin": subprocess.DEVNULL, "capture_output": True, "text": True, "timeout": SECONDS}
-    ran = subprocess.run([program, *words, "--help"], env={**os.environ, "COLUMNS": "100", "NO_COLOR": "1"}, check=False, **how)
+    ran = subprocess.run([program, *words, "--help"], env=wide, check=False, **how)
     if ran.returncode != 0:
         raise NoHelp(f"{' '.join([program, *words, '--help'])} failed: {ran.stderr or ran.stdout}")
     return ran.stdout
 
 
 def entries_of(lines):
-    """Returns the terms of a list, each with what is said of it. Its own lines are set in by at most one blank more than
-    the others; what is set in further goes on."""
+    """Returns the terms of a list, each with what is said of it. A line that is set in by more than one blank more than
+    the least goes on with the term before."""
     entries = []
     least = min(len(it) - len(it.lstrip()) for it in lines)
     for line in lines:
@@ -106,7 +107,7 @@ def lines_of(kind, said):
 
 
 def page(name, about, text, others, day):
-    """Returns the manual page of a program or command, with a line on it, its help text and the names of other pages."""
+    """Returns the manual page of a program or command, made of a line on it, its help and the names of other pages."""
     sections = {it: [] for it in FIRST}
     sections["NAME"] = wrapped(f"{name} - {about.rstrip('.')}")
     for section, kind, said in blocks_of(text):

@@ -1,4 +1,4 @@
-"""A folder that stands for a machine: copies of the repository's files, and fakes of the commands that its tools run."""
+"""A folder that stands for a machine: copies of the repository's files, and fakes of the commands that tools run."""
 from __future__ import annotations
 
 import os

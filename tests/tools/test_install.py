@@ -88,7 +88,8 @@ def test_each_command_has_a_manual_page(installed: Machine) -> None:
 
 
 @pytest.mark.parametrize("words, found", [
-    (["crnsim", "le"], ["leg"]), (["crnsim", "h"], ["help"]), (["crnsim", "help", "w"], ["words"]), (["crnsim", "leg", "w"], [""])])
+    (["crnsim", "le"], ["leg"]), (["crnsim", "h"], ["help"]), (["crnsim", "help", "w"], ["words"]),
+    (["crnsim", "leg", "w"], [""])])
 def test_bash_completes_the_words_of_the_program(installed: Machine, words: list[str], found: list[str]) -> None:
     assert completions(installed, "_crnsim", *words) == found
 
@@ -115,7 +116,8 @@ def test_sources_are_left_as_they_are(installed: Machine, machine: Machine) -> N
 def test_installed_again_and_removed_nothing_is_left(machine: Machine) -> None:
     assert [install(machine).returncode for _ in range(2)] == [0, 0]
     ran = install(machine, "--uninstall")
-    assert (ran.returncode, ran.stdout) == (0, f"tools/install: crnsim and crnplan are removed from {prefix(machine)}/bin\n")
+    said = f"tools/install: crnsim and crnplan are removed from {prefix(machine)}/bin\n"
+    assert (ran.returncode, ran.stdout) == (0, said)
     assert not prefix(machine).exists()
 
 
@@ -164,7 +166,8 @@ def test_missing_program_is_said(machine: Machine) -> None:
 
 def test_program_of_the_repository_is_built_first(machine: Machine) -> None:
     made = "crates/crnsim/out/crnsim"
-    write_script(machine.top / "tools" / "crnsim", f'cd "$(dirname "$0")/.."; mkdir -p crates/crnsim/out; cp ../built {made}')
+    build = f'cd "$(dirname "$0")/.."; mkdir -p crates/crnsim/out; cp ../built {made}'
+    write_script(machine.top / "tools" / "crnsim", build)
     ran = machine.run("tools/install", "--prefix", str(prefix(machine)))
     assert (ran.returncode, ran.stderr) == (0, "")
     assert (prefix(machine) / "bin" / "crnsim").read_bytes() == (machine.top / made).read_bytes()

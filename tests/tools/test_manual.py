@@ -37,7 +37,8 @@ def test_each_command_has_a_page(pages: dict[str, str]) -> None:
 @pytest.mark.parametrize("page, heading, text", [
     ("crnsim.1", "NAME", "crnsim - Compares (s,S) inventory policies by common random numbers"),
     ("crnsim.1", "SYNOPSIS", "crnsim [COMMAND]"),
-    ("crnsim.1", "DESCRIPTION", "Compares (s,S) inventory policies by common random numbers: every policy meets the very same\n"
+    ("crnsim.1", "DESCRIPTION",
+     "Compares (s,S) inventory policies by common random numbers: every policy meets the very same\n"
      "demands and delivery times.\n\nWithout a command it runs a scenario, as by `run`."),
     ("crnsim.1", "OPTIONS", "-h, --help\n       Print help"),
     ("crnsim.1", "EXAMPLE", "    crnsim < examples/two_policies.toml > report.csv"),
@@ -47,7 +48,8 @@ def test_each_command_has_a_page(pages: dict[str, str]) -> None:
     ("crnsim-leg.1", "NAME", "crnsim-leg - Runs a scenario's blocks 0 to N - 1 and writes a checkpoint of it"),
     ("crnsim-leg.1", "DESCRIPTION", "Writes it.\n\n'.dots' and \\slashes"),
     ("crnsim-words.1", "SYNOPSIS", "crnsim words <K0> <N>"),
-    ("crnsim-words.1", "ARGUMENTS", "<K0>   A word of the key: 16 digits 0-9a-f\n\n<N>    The number of the block, in decimal"),
+    ("crnsim-words.1", "ARGUMENTS", "<K0>   A word of the key: 16 digits 0-9a-f\n\n"
+     "<N>    The number of the block, in decimal"),
     ("crnsim-words.1", "EXAMPLE", "Block 0 of the zero key:\n\n    crnsim words 0000000000000000 0000000000000000 \\\n"
      "        0000000000000000 0000000000000000 0"),
     ("crnsim-words.1", "SEE ALSO", "crnsim(1)")],

@@ -31,8 +31,8 @@ DPKG_QUERY = r"""
 for it in "${@:4}"; do grep -qxF "$it" "$HOME/missing" || echo "installed $it"; done
 echo 'dpkg-query: no packages found matching it' >&2
 """
-# Writes its words down, and fails as often as the file `failures` has lines, each with that line. It installs what it is
-# asked for.
+# Writes its words down, and fails as often as the file `failures` has lines, each with that line. It installs what it
+# is asked for.
 APT_GET = r"""
 echo "apt-get $*" >>"$LOG"
 echo 'Reading package lists...'
@@ -80,7 +80,7 @@ def made(kept: Machine) -> Machine:
 
 
 def set_up(machine: Machine, missing: str = "", failures: str = "", **more: str) -> Ran:
-    """Runs tools/setup as root. `missing` are packages, `failures` the faults with which apt-get fails first, one a line."""
+    """Runs tools/setup as root. `missing` has packages, `failures` the faults of apt-get's first runs, one a line."""
     (machine.folder / "missing").write_text(missing, encoding="utf-8")
     (machine.folder / "failures").write_text(failures, encoding="utf-8")
     return machine.run("tools/setup", **more)
@@ -114,7 +114,8 @@ def test_environment_needs_no_root(machine: Machine) -> None:
 
 
 def test_variables_of_python_and_pip_change_nothing(machine: Machine) -> None:
-    ran = set_up(machine, PYTHONHOME="/none", PYTHONPATH="/none", PIP_REQUIRE_VIRTUALENV="1", PIP_TARGET="/none", PIP_USER="1")
+    of_pip = {"PIP_REQUIRE_VIRTUALENV": "1", "PIP_TARGET": "/none", "PIP_USER": "1"}
+    ran = set_up(machine, PYTHONHOME="/none", PYTHONPATH="/none", **of_pip)
     assert (ran.returncode, ran.stderr) == (0, "")
 
 
@@ -138,7 +139,8 @@ def test_lists_that_cannot_be_had_do_not_keep_what_can_be_installed(made: Machin
 def test_apt_that_fails_shows_its_output_as_faults(machine: Machine) -> None:
     ran = set_up(machine, "gcc\n", "E: no network\n" * 8)
     assert ran.returncode == 1
-    assert ran.stderr == "Reading package lists...\nE: no network\ntools/setup: apt-get install failed; its output is above\n"
+    assert ran.stderr == ("Reading package lists...\nE: no network\n"
+                          "tools/setup: apt-get install failed; its output is above\n")
     assert "Reading" not in ran.stdout
     assert not (machine.top / ".venv").exists()
 
@@ -146,7 +148,8 @@ def test_apt_that_fails_shows_its_output_as_faults(machine: Machine) -> None:
 def test_apt_that_installs_nothing_is_seen(machine: Machine) -> None:
     machine.fake("apt-get", "exit 0")
     ran = set_up(machine, "gcc\nvalgrind\n")
-    assert (ran.returncode, ran.stderr) == (1, "tools/setup: apt-get ended well, but these are not installed: gcc valgrind\n")
+    said = "tools/setup: apt-get ended well, but these are not installed: gcc valgrind\n"
+    assert (ran.returncode, ran.stderr) == (1, said)
 
 
 def test_without_root_missing_packages_are_named(machine: Machine) -> None:
@@ -161,7 +164,8 @@ def test_without_debian_missing_commands_are_named(machine: Machine) -> None:
     ran = elsewhere(machine, "python3", "cc", "nm", "parallel", "mandoc")
     assert (ran.returncode, ran.stdout) == (1, "")
     assert ran.stderr == ("tools/setup: these commands are missing (with Debian's packages that bring them): valgrind "
-                          f"(valgrind), Rscript (r-base-core)\ntools/setup: .venv has to be made, since there is none: {PIP}\n")
+                          "(valgrind), Rscript (r-base-core)\n"
+                          f"tools/setup: .venv has to be made, since there is none: {PIP}\n")
     assert not (machine.top / ".venv").exists()
 
 
@@ -183,22 +187,25 @@ def of_another_folder(top: Path) -> None:
 
 
 # What makes .venv stale: a change of the copy, and what tools/environment.py says of it.
+NO_COMMAND = "install .venv/bin/crnplan is missing or of another place"
+HAS_CHANGED = f"install {PROJECT} has changed"
 STALE: dict[str, tuple[Callable[[Path], object], str]] = {
-    "no command": (lambda it: (it / ".venv/bin/crnplan").unlink(), "install .venv/bin/crnplan is missing or of another place"),
-    "a command of elsewhere": (lambda it: changed(it / ".venv/bin/crnplan", ".venv", ".venv2"),
-                               "install .venv/bin/crnplan is missing or of another place"),
-    "another version": (lambda it: changed(it / PROJECT, 'version = "0', 'version = "9'), f"install {PROJECT} has changed"),
-    "another requirement": (lambda it: changed(it / PROJECT, "click>=8.1", "click>=8.0"), f"install {PROJECT} has changed"),
-    "another name": (lambda it: changed(it / PROJECT, 'crnplan = "crn', 'planner = "crn'), f"install {PROJECT} has changed"),
+    "no command": (lambda it: (it / ".venv/bin/crnplan").unlink(), NO_COMMAND),
+    "a command of elsewhere": (lambda it: changed(it / ".venv/bin/crnplan", ".venv", ".venv2"), NO_COMMAND),
+    "another version": (lambda it: changed(it / PROJECT, 'version = "0', 'version = "9'), HAS_CHANGED),
+    "another requirement": (lambda it: changed(it / PROJECT, "click>=8.1", "click>=8.0"), HAS_CHANGED),
+    "another name": (lambda it: changed(it / PROJECT, 'crnplan = "crn', 'planner = "crn'), HAS_CHANGED),
     "crnplan of another folder": (of_another_folder, "install crnplan is that of .*/other/src/crnplan"),
-    "no crnplan": (lambda it: shutil.rmtree(next((it / ".venv").rglob("crnplan-*.dist-info"))), "install crnplan is missing"),
+    "no crnplan": (lambda it: shutil.rmtree(next((it / ".venv").rglob("crnplan-*.dist-info"))),
+                   "install crnplan is missing"),
     "a library that is too old": (lambda it: changed(it / PROJECT, "numpy>=1", "numpy>=1001"),
                                   r"make numpy [\d.]+ is older than 1001[\d.]+"),
     "a library that is missing": (lambda it: changed(it / PROJECT, "numpy>=1", "no-such-library>=1"),
                                   "make no-such-library is missing"),
-    "without the libraries of the system": (lambda it: changed(it / ".venv/pyvenv.cfg", "packages = true", "packages = false"),
-                                            "make [a-z-]+ is missing"),
-    "another place": (lambda it: changed(it / ".venv/bin/activate", "a copy", "a place"), "make it was made at another place")}
+    "without the system's": (lambda it: changed(it / ".venv/pyvenv.cfg", "packages = true", "packages = false"),
+                             "make [a-z-]+ is missing"),
+    "another place": (lambda it: changed(it / ".venv/bin/activate", "a copy", "a place"),
+                      "make it was made at another place")}
 # What makes .venv stale so that its Python does not even run.
 BROKEN: dict[str, Callable[[Path], object]] = {
     "a Python that is gone": lambda it: (it / ".venv/bin/python").unlink(),
@@ -246,7 +253,8 @@ def test_requirement_that_debian_cannot_meet_is_refused(machine: Machine) -> Non
     changed(machine.top / PROJECT, "numpy>=1", "numpy>=1001")
     ran = set_up(machine)
     assert ran.returncode == 1
-    assert re.fullmatch(r"tools/setup: something is wrong with the new \.venv: numpy [\d.]+ is older than 1001[\d.]+\n", ran.stderr)
+    said = r"tools/setup: something is wrong with the new \.venv: numpy [\d.]+ is older than 1001[\d.]+\n"
+    assert re.fullmatch(said, ran.stderr)
 
 
 def test_install_that_fails_shows_why(machine: Machine) -> None:
