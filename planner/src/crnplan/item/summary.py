@@ -186,8 +186,8 @@ def summary_text(figures: Figures) -> str:
     above = [*lines_of(headline(figures)), "", *lines_of(facts(figures)), ""]
     notes = f"notes.txt ({len(figures.notes)} on the history), " if figures.notes else ""
     below = lines_of(comparison(figures), check(figures), warning(figures),
-                     "The columns from long run to orders are theory's, rounded and unproved; this run is crnsim's, "
-                     "proved for its stream.",
+                     "Long run, fill and short are theory's, rounded and unproved; this run is crnsim's, proved for "
+                     "its stream.",
                      f"See {notes}decision.txt and check.txt (all policies) and summary.html (pictures).")
     lines = [*above, *table(figures, LINES - len(above) - len(below) - 2).splitlines(), "", *below]
     return "".join(f"{line}\n" for line in lines)
