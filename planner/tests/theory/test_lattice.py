@@ -69,6 +69,12 @@ def test_a_scenario_without_a_theory(scenario: Scenario, path: tuple[str, ...], 
     assert (str(refused.value), refused.value.path) == (said, path)
 
 
+def test_a_wide_policy_takes_a_coarser_lattice() -> None:
+    scenario, wide = (scenario_of(DEMAND, ([1, 2], [1, 1]), levels=(0, it)) for it in (99, 10**6))
+    steps = [theory.step for theory, _ in (theories_of(scenario), theories_of(scenario, 10**6), theories_of(wide))]
+    assert steps[0] == 1 < steps[1] == steps[2]
+
+
 def test_large_numbers_are_counted_in_steps() -> None:
     demand = list(range(10_001)), [6] * 10_001
     scenario = scenario_of(demand, ([32], [1]), costs=Costs(10**8, 1, 1, 10_000), levels=(0, 1_000_000))

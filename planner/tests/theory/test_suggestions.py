@@ -108,8 +108,9 @@ def test_names_that_today_has() -> None:
 def test_a_level_below_half_a_step() -> None:
     """No policy of a coarse lattice has such an S with s >= 0, so none keeps today's."""
     found = suggestions_of(LARGE["10,001 demands, one lead time"].with_policies([Policy("today", 0, 0)]))
-    assert found.step > 2
-    assert "same_S" not in [it.policy.name for it in found.rows] and len(found.rows) > 10
+    assert found.step > 2 and len(found.rows) > 10
+    assert found.rows[0].reasons == ("today's policy",)
+    assert "same_S" not in [it.policy.name for it in found.rows]
 
 
 def test_the_text_keeps_the_order_and_the_first_comment(top: Path) -> None:
@@ -126,6 +127,13 @@ def test_the_text_keeps_the_order_and_the_first_comment(top: Path) -> None:
     assert "\n\n[lead]\nweights = [1]\nvalues = [1]\n\n[demand]\nweights = [1, 1]\nvalues = [0, 3]\n\n[costs]\n" in told
     wanted, its = tomllib.loads(turned.replace("\r", "")), tomllib.loads(told)
     assert its.pop("policy")[0] == wanted.pop("policy")[0] and its == wanted
+
+
+def test_the_text_has_what_was_changed(top: Path) -> None:
+    scenario = Scenario.read(top / "examples/mail_order.toml").changed(returns=None, initial=7, costs={"setup": 10})
+    found = suggestions_of(scenario)
+    assert Scenario.parse(found.text()) == scenario.with_policies(it.policy for it in found.rows)
+    assert found.text().startswith("# A mail-order shop sells ")
 
 
 def test_a_scenario_without_a_source() -> None:

@@ -165,22 +165,15 @@ error: {self._error_text()}
 
         The comment at the top stays. `initial` writes the proposed start, `unit_zero` an item cost of 0.
         """
-        tree = self.scenario.tree
+        source = self.scenario.toml()
+        tree, _ = read_document(source.encode())
         tree["policy"] = []
         if initial:
             tree["initial"] = self.initial
         if unit_zero:
             tree["costs"]["unit"] = 0
-        source = self.scenario.toml() if self.scenario.source is None else self.scenario.source
         head = itertools.takewhile(lambda line: line.startswith("#"), source.splitlines(keepends=True))
-        tree = _ordered(tree, read_document(source.encode())[0])
         return "".join([*head, plain_text(tree), *(it.text for it in self.rows)])
-
-
-def _ordered(tree: dict[str, Any], like: dict[str, Any]) -> dict[str, Any]:
-    """Returns a tree with its keys in the order of another, if that has them all."""
-    keys = sorted(tree, key=list(like).index) if like.keys() >= tree.keys() else list(tree)
-    return {key: _ordered(tree[key], like.get(key, {})) if isinstance(tree[key], dict) else tree[key] for key in keys}
 
 
 def _frame(rows: Iterable[tuple[Policy, Figures]]) -> pd.DataFrame:
