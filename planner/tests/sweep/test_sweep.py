@@ -9,6 +9,7 @@ import time
 from collections.abc import Callable
 from pathlib import Path
 
+import numpy as np
 import pytest
 
 import crnplan as crn
@@ -62,13 +63,13 @@ def test_any_number_of_runs_at_a_time_gives_the_same_bytes(base: Path, crnplan: 
     words = ["--s", "1", "60", "3", "--S", "60", "90", "3"]
     one = crnplan("sweep", base, *words, "--jobs", "2")
     assert one.status == 0 and crnplan("sweep", base, *words, "--jobs", jobs).output == one.output
-    report = crn.sweep(crn.Scenario.read(base), range(1, 61, 3), range(60, 91, 3), jobs=jobs)
+    report = crn.sweep(crn.Scenario.read(base), np.arange(1, 61, 3), range(60, 91, 3), jobs=jobs)
     assert report.text == one.output and report.scenario.policies[0].name == "A"
 
 
 # A file of a sweep's folder, how much of it is left (0: it is removed) and what is put behind; how many runs the sweep
 # then takes.
-CUTS = [("00001.csv", 0, "", 1), ("00000.toml", 0, "", 1), ("00000.toml", 9, "", 1), ("00002.csv", -2, "", 1),
+CUTS = [("00001.csv", 0, "", 1), ("00000.toml", 0, "", 1), ("00000.toml", 9, "", 1), ("00002.csv", -2, "", 1), ("00002.csv", -1, "", 1),
         ("00001.csv", None, "A", 1), ("", 0, "", 0)]
 
 
@@ -145,6 +146,15 @@ def test_a_failing_program_is_refused(base: Path, room: Path, program: Path, crn
 def test_words_are_refused(base: Path, crnplan: Command, words: list[str], part: str) -> None:
     """Checks what is said of grids, programs and folders that cannot be used."""
     assert refused(crnplan("sweep", "base.toml", *words), part)
+
+
+@pytest.mark.parametrize(("s", "S", "message"), [
+    ([-1], [9], "key s: -1 is not from 0 to 1,000,000"), ([1], [10**7], "10000000 is not from"),
+    ([1.5], [9], "s: 1.5 is not a whole number"), ([1, 1], [9], "s1_S9")])
+def test_levels_of_the_function_are_refused(base: Path, s: list[int], S: list[int], message: str) -> None:
+    """Checks what is said of levels that no policy has, before anything is run."""
+    with pytest.raises(crn.Refused, match=message):
+        crn.sweep(crn.Scenario.read(base), s, S, program="./counting")
 
 
 def test_a_base_with_the_name_of_a_pair_is_refused(base: Path, crnplan: Command) -> None:

@@ -87,7 +87,7 @@ def program_for(named: str | Path | None, cluster: str | None) -> str:
     return os.path.abspath(named) if os.sep in str(named) else str(named)
 
 
-def sweep(scenario: Scenario, s: Iterable[int], S: Iterable[int], *, jobs: int | None = None,
+def sweep(scenario: Scenario, s: Iterable[Any], S: Iterable[Any], *, jobs: int | None = None,
           out: str | Path | None = None, cluster: str | None = None, program: str | Path | None = None,
           progress: bool = False) -> Report:
     """Compares all pairs of reorder points `s` and levels `S` (items) with the scenario's first policy, the base.
@@ -96,11 +96,11 @@ def sweep(scenario: Scenario, s: Iterable[int], S: Iterable[int], *, jobs: int |
     base first, and then the grid by `diff_total`, the cheapest first: the same bytes whatever the number of runs at a
     time, `jobs` (by default one for each core). With `out`, a folder, each report is kept, and the same sweep begun
     again runs only what is not there. With `cluster`, the address of a Dask scheduler, its workers run the program at
-    its path. `progress` shows on standard error how many scenarios are done. Raises Refused, and ProgramError if a run
-    fails.
+    its path. `progress` shows on standard error how many scenarios are done. Raises Refused, ScenarioError if a level is
+    out of range, and ProgramError if a run fails.
     """
     folder = None if out is None else Path(out)
-    grid = grid_of(scenario.policies[0], s, list(S))
+    grid = grid_of(scenario, s, S)
     path = program_for(program, cluster)
 
     def answers(parts: Sequence[Part]) -> Answers:
@@ -111,5 +111,5 @@ def sweep(scenario: Scenario, s: Iterable[int], S: Iterable[int], *, jobs: int |
             folder.mkdir(parents=True, exist_ok=True)
         rows = joined(reports_of(parts_of(scenario, grid), folder, answers, progress))
     except OSError as fault:
-        raise Refused(f"{fault.filename}: {fault.strerror}") from fault
+        raise Refused(f"{fault.filename or out}: {fault.strerror}") from fault
     return Report(rows, scenario.with_policies(Policy(row.policy, row.s, row.S) for row in rows))

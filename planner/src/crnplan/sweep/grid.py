@@ -5,11 +5,14 @@ import os
 from collections.abc import Iterable, Sequence
 from dataclasses import dataclass
 from pathlib import Path
+from typing import Any
 
 from .. import formats
+from ..document.reading import checked_tree
 from ..document.writing import plain_text
 from ..engine.report import Row, report_text, rows_of
 from ..errors import ProgramError, Refused
+from ..money import whole
 from ..scenario import Policy, Scenario
 
 # Each scenario of a sweep has the base, which leaves room for one policy less.
@@ -32,15 +35,19 @@ def numbers_of(name: str, first: int, last: int, step: int) -> range:
     return range(first, last + 1, step)
 
 
-def grid_of(base: Policy, points: Iterable[int], levels: Sequence[int]) -> list[Policy]:
-    """Returns the pairs of the grid with s <= S, without the base's own pair. Raises Refused if there is none."""
-    pairs = [(point, level) for point in points for level in levels
-             if point <= level and (point, level) != (base.s, base.S)]
-    grid = [Policy.of_levels(*pair) for pair in pairs]
+def grid_of(scenario: Scenario, points: Iterable[Any], levels: Iterable[Any]) -> list[Policy]:
+    """Returns the pairs of the grid with s <= S, without the base's own pair.
+
+    Raises Refused if there is none or if a name would come twice, and ScenarioError if a level is out of range.
+    """
+    base, rising = scenario.policies[0], [whole(level, "S") for level in levels]
+    grid = [Policy.of_levels(point, level) for point in (whole(it, "s") for it in points) for level in rising
+            if point <= level and (point, level) != (base.s, base.S)]
     if not grid:
         raise Refused("the grid has no pair with s <= S beside the base")
     if base.name in {policy.name for policy in grid}:
         raise Refused(f"the base is called {base.name}, as a pair of the grid; give it another name")
+    checked_tree(scenario.with_policies([base, *grid]).tree, any_number=True)
     return grid
 
 
