@@ -69,8 +69,8 @@ def test_any_number_of_runs_at_a_time_gives_the_same_bytes(base: Path, crnplan: 
 
 # A file of a sweep's folder, how much of it is left (0: it is removed) and what is put behind; how many runs the sweep
 # then takes.
-CUTS = [("00001.csv", 0, "", 1), ("00000.toml", 0, "", 1), ("00000.toml", 9, "", 1), ("00002.csv", -2, "", 1), ("00002.csv", -1, "", 1),
-        ("00001.csv", None, "A", 1), ("", 0, "", 0)]
+CUTS = [("00001.csv", 0, "", 1), ("00000.toml", 0, "", 1), ("00000.toml", 9, "", 1), ("00002.csv", -2, "", 1),
+        ("00002.csv", -1, "", 1), ("00001.csv", None, "A", 1), ("", 0, "", 0)]
 
 
 @pytest.mark.parametrize(("cut", "left", "behind", "expected"), CUTS,

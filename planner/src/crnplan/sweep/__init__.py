@@ -96,8 +96,8 @@ def sweep(scenario: Scenario, s: Iterable[Any], S: Iterable[Any], *, jobs: int |
     base first, and then the grid by `diff_total`, the cheapest first: the same bytes whatever the number of runs at a
     time, `jobs` (by default one for each core). With `out`, a folder, each report is kept, and the same sweep begun
     again runs only what is not there. With `cluster`, the address of a Dask scheduler, its workers run the program at
-    its path. `progress` shows on standard error how many scenarios are done. Raises Refused, ScenarioError if a level is
-    out of range, and ProgramError if a run fails.
+    its path. `progress` shows on standard error how many scenarios are done. Raises Refused, ScenarioError if a level
+    is out of range, and ProgramError if a run fails.
     """
     folder = None if out is None else Path(out)
     grid = grid_of(scenario, s, S)
