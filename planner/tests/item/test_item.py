@@ -296,7 +296,7 @@ def test_page_stands_alone(room: Path, plan: Plan) -> None:
     assert not page.open and not page.links and "http" not in text and "url(" not in text and "<script" not in text
     words = " ".join(" ".join(page.texts).split())
     summary = " ".join((room / "plan/summary.txt").read_text().split())
-    parts = r"^(Below .*?) (history.csv: .*?) policy s S .* (The coming .*?[.]) (On new .*?[.]) The columns"
+    parts = r"^(Below .*?) (history.csv: .*?) policy s S .* (The coming .*?[.]) (On new .*?[.]) Long run, fill"
     told = re.search(parts, summary)
     assert told and all(part in words for part in told.groups())
     for row in read_rows((room / "plan/report.csv").read_text()):
