@@ -86,7 +86,9 @@ def test_range_of_lead_times(tmp_path: Path) -> None:
 
 def test_refused_words() -> None:
     """A method that isn't there and a box of nothing are refused."""
-    with pytest.raises(Refused, match="there is no method 'auto' to fit demand; say empirical"):
-        fit_demand([1], method="auto")
+    with pytest.raises(Refused, match="there is no method 'normal' to fit demand; say auto, predictive, empirical, "):
+        fit_demand([1], method="normal")
+    with pytest.raises(Refused, match="there is no method 'poisson' to fit lead times; say auto or empirical"):
+        fit_lead([1], method="poisson")
     with pytest.raises(Refused, match="0 is no number of items in a box; it is at least 1"):
         fit_demand([1], box=0)

@@ -1,4 +1,6 @@
 """Makes laws of demand and of lead times from what was observed."""
-from .laws import DemandLaw, Law, LeadLaw, fit_demand, fit_lead
+from .fitting import fit_demand
+from .laws import DemandLaw, Law, LeadLaw
+from .leads import fit_lead
 
 __all__ = ["DemandLaw", "Law", "LeadLaw", "fit_demand", "fit_lead"]

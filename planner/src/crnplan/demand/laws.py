@@ -1,4 +1,4 @@
-"""Fits laws of demand and of lead times: whole values with whole weights, as a scenario has them."""
+"""Defines laws of demand and of lead times: whole values with whole weights, as a scenario has them."""
 from __future__ import annotations
 
 from collections import Counter
@@ -8,7 +8,7 @@ from fractions import Fraction
 from typing import Any
 
 from ..errors import Fault, Refused
-from ..formats import MOST_DEMAND, MOST_LEAD, MOST_WEIGHT
+from ..formats import MOST_WEIGHT
 from ..history.faults import Place, RefusedFiles
 from ..history.observed import Observed
 from ..money import whole
@@ -22,7 +22,8 @@ class Law:
     values: tuple[int, ...]
     weights: tuple[int, ...]
     family: str = "empirical"
-    # What is known of the fit, by name; for the empirical law how many numbers there are, and their mean and variance.
+    # What is known of the fit, by name: how many numbers there are (`observed`), the law's `mean` and `variance`; of a
+    # fitted law much more.
     diagnostics: Mapping[str, Any] = field(default_factory=dict, compare=False)
 
     @property
@@ -58,38 +59,7 @@ def empirical(numbers: Iterable[int]) -> dict[str, Any]:
             "diagnostics": {"observed": total, "mean": float(mean), "variance": variance}}
 
 
-# The ways of fitting a law of demand: each makes the fields of a law from whole numbers.
-METHODS: dict[str, Callable[[Iterable[int]], dict[str, Any]]] = {"empirical": empirical}
-
-
-def fit_demand(observed: Observed | Iterable[Any], *, method: str = "empirical", box: int = 1) -> DemandLaw:
-    """Fits the law of demand to a history, or to any whole numbers from 0, one for each period.
-
-    Numbers are counted in boxes of `box` items, rounded up. Raises RefusedFaults with the place of each number that is
-    too large for a scenario.
-    """
-    if method not in METHODS:
-        raise Refused(f"there is no method {method!r} to fit demand; say {' or '.join(METHODS)}")
-    if box < 1:
-        raise Refused(f"{box} is no number of items in a box; it is at least 1")
-    numbers, places = _numbers(observed, "demand")
-    boxes = [-(-it // box) for it in numbers]
-    larger = f"count in larger boxes: --box {-(-max(numbers) // MOST_DEMAND)} or more"
-    reason = f"is above {MOST_DEMAND:,}{f' in boxes of {box}' if box > 1 else ''}; {larger}"
-    _check(boxes, places, lambda it: reason if it > MOST_DEMAND else "is below 0; correct it" if it < 0 else None)
-    return DemandLaw(**METHODS[method](boxes), family=method, box=box)
-
-
-def fit_lead(observed: Observed | Iterable[Any]) -> LeadLaw:
-    """Fits the law of lead times to observed ones: whole numbers of periods, at least 1. Raises RefusedFaults."""
-    numbers, places = _numbers(observed, "lead time")
-    above = f"is above {MOST_LEAD}; take longer periods (weeks for days, months for weeks), for demands too"
-    below = "is below 1; write 1 if the order is there for the next period's demand"
-    _check(numbers, places, lambda it: above if it > MOST_LEAD else below if it < 1 else None)
-    return LeadLaw(**empirical(numbers))
-
-
-def _numbers(observed: Observed | Iterable[Any], what: str) -> tuple[list[int], list[Place | None]]:
+def numbers_of(observed: Observed | Iterable[Any], what: str) -> tuple[list[int], list[Place | None]]:
     """Returns numbers and their places. Whole numbers of any kind are taken, and floats that are whole."""
     if isinstance(observed, Observed):
         return list(observed.counts), list(observed.places)
@@ -99,7 +69,7 @@ def _numbers(observed: Observed | Iterable[Any], what: str) -> tuple[list[int], 
     return numbers, [Place("", 0, 0, what, f"entry {place}, {it},") for place, it in enumerate(numbers, 1)]
 
 
-def _check(numbers: Iterable[int], places: Iterable[Place | None], reason_of: Callable[[int], str | None]) -> None:
+def check(numbers: Iterable[int], places: Iterable[Place | None], reason_of: Callable[[int], str | None]) -> None:
     """Rejects all numbers that a scenario can't have."""
     reasons = [(place, reason_of(number)) for number, place in zip(numbers, places)]
     faults: list[Fault] = [place.fault(reason) for place, reason in reasons if place and reason]

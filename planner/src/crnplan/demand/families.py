@@ -1,0 +1,231 @@
+"""Fits families of laws to observed whole numbers by maximum likelihood.
+
+A law is an array of chances: those of 0, 1, 2 and so on. In a hurdle family, a period has demand with one chance, and
+the size of a demand has a law of its own on 1, 2 and so on (Mullahy, Specification and testing of some modified count
+data models, 1986, section 2). All figures are rounded and unproved.
+"""
+from __future__ import annotations
+
+import math
+from collections.abc import Callable, Iterable
+from dataclasses import dataclass
+from functools import cached_property
+from typing import NamedTuple
+
+import numpy as np
+import numpy.typing as npt
+from scipy import optimize, special, stats
+
+from ..formats import MOST_DEMAND
+
+Floats = npt.NDArray[np.float64]
+Whole = npt.NDArray[np.int64]
+
+LEAST_TAIL = 1e-7  # what is cut off a law
+PACKED = 8  # demands above 0, at least, for a pack to be recognised
+LEAST_CHANCE = 1e-300
+MOST_SIZE = 1e4  # of a negative binomial law, which is then all but a Poisson law
+CELLS = np.arange(MOST_DEMAND + 1)
+
+
+@dataclass(frozen=True, eq=False)
+class Sample:
+    """Observed whole numbers from 0: the distinct ones, rising, and how often each was seen."""
+
+    values: Whole
+    counts: Whole
+
+    @classmethod
+    def of(cls, numbers: Iterable[int]) -> Sample:
+        """Counts numbers."""
+        values, counts = np.unique(np.fromiter(numbers, np.int64), return_counts=True)
+        return cls(values, counts)
+
+    @cached_property
+    def size(self) -> int:
+        """Returns how many numbers there are."""
+        return int(self.counts.sum())
+
+    @cached_property
+    def total(self) -> int:
+        """Returns the sum of the numbers."""
+        return int(self.values @ self.counts)
+
+    @property
+    def most(self) -> int:
+        """Returns the largest number."""
+        return int(self.values[-1])
+
+    @property
+    def mean(self) -> float:
+        """Returns the mean."""
+        return self.total / self.size
+
+    @property
+    def squares(self) -> float:
+        """Returns the sum of the squared distances from the mean."""
+        return float(self.counts @ (self.values - self.mean)**2)
+
+    @property
+    def variance(self) -> float:
+        """Returns the unbiased variance; 0 for a single number."""
+        return self.squares / max(self.size - 1, 1)
+
+    @property
+    def zeros(self) -> int:
+        """Returns how many numbers are 0."""
+        return int(self.counts[0]) if self.values[0] == 0 else 0
+
+    @cached_property
+    def sizes(self) -> Sample:
+        """Returns the numbers above 0."""
+        above = self.values > 0
+        return Sample(self.values[above], self.counts[above])
+
+    @property
+    def excess(self) -> Sample:
+        """Returns the numbers above 0, less 1."""
+        return Sample(self.sizes.values - 1, self.sizes.counts)
+
+    @property
+    def pack(self) -> int:
+        """Returns the size of the pack of which all demands are multiples, if there are enough of them; else 1."""
+        return int(np.gcd.reduce(self.sizes.values)) if self.size - self.zeros >= PACKED else 1
+
+    @property
+    def law(self) -> Floats:
+        """Returns the shares of 0, 1, 2 and so on."""
+        shares: Floats = np.bincount(self.values, self.counts) / self.size
+        return shares
+
+    def in_packs(self, pack: int) -> Sample:
+        """Returns the numbers of packs."""
+        return Sample(self.values // pack, self.counts)
+
+
+def scaled(chances: Floats) -> Floats:
+    """Returns chances with a sum of 1."""
+    law: Floats = chances / chances.sum()
+    return law
+
+
+def cut(chances: Floats) -> Floats:
+    """Returns a law without the end of its tail, with a sum of 1."""
+    below = np.cumsum(chances)
+    return scaled(chances[:int(np.searchsorted(below, below[-1] * (1 - LEAST_TAIL))) + 1])
+
+
+def unpacked(chances: Floats, pack: int) -> Floats:
+    """Returns the law of the items in packs."""
+    items = np.zeros((len(chances) - 1) * pack + 1)
+    items[::pack] = chances
+    return scaled(items[:MOST_DEMAND + 1])
+
+
+class Fit(NamedTuple):
+    """The member of a family with the greatest likelihood."""
+
+    log_likelihood: float
+    parameters: int
+    chances: Floats
+
+    def bic(self, size: int) -> float:
+        """Returns the Bayesian information criterion (Schwarz, Estimating the dimension of a model, 1978)."""
+        return self.parameters * math.log(size) - 2 * self.log_likelihood
+
+
+Fitting = Callable[[Sample], Fit | None]
+
+
+def poisson(sample: Sample) -> Fit | None:
+    """Fits a Poisson law. None if all numbers are 0."""
+    if not sample.total:
+        return None
+    return Fit(float(sample.counts @ stats.poisson.logpmf(sample.values, sample.mean)), 1,
+               np.exp(stats.poisson.logpmf(CELLS, sample.mean)))
+
+
+def size_of(sample: Sample) -> float | None:
+    """Returns the size k of the negative binomial law with the greatest likelihood.
+
+    The score has a single root if the variance with the divisor n is above the mean, else none (Levin and Reeds,
+    Compound multinomial likelihood functions are unimodal, 1977).
+    """
+    def score(logarithm: float) -> float:
+        """Returns the derivative of the likelihood's logarithm by k, times k."""
+        size = math.exp(logarithm)
+        rises = special.digamma(sample.values + size) - special.digamma(size)
+        return float(size * (sample.counts @ rises - sample.size * math.log1p(sample.mean / size)))
+    low, high = math.log(1e-4), math.log(MOST_SIZE)
+    if sample.squares <= sample.total or score(high) >= 0:
+        return None
+    return math.exp(optimize.brentq(score, low, high))
+
+
+def negative_binomial(sample: Sample) -> Fit | None:
+    """Fits a negative binomial law. None if the numbers vary no more than under a Poisson law."""
+    size = size_of(sample)
+    if size is None:
+        return None
+    chance = size / (size + sample.mean)
+    return Fit(float(sample.counts @ stats.nbinom.logpmf(sample.values, size, chance)), 2,
+               np.exp(stats.nbinom.logpmf(CELLS, size, chance)))
+
+
+def geometric(sample: Sample) -> Fit | None:
+    """Fits a geometric law on 0, 1, 2 and so on. None if all numbers are 0."""
+    if not sample.total:
+        return None
+    chance = 1 / (1 + sample.mean)
+    return Fit(float(sample.counts @ stats.geom.logpmf(sample.values + 1, chance)), 1,
+               np.exp(stats.geom.logpmf(CELLS + 1, chance)))
+
+
+def lognormal_moments(sizes: Sample) -> tuple[float, float]:
+    """Returns the mean and the unbiased deviation of the logarithms of sizes."""
+    logarithms = np.log(sizes.values)
+    mean = float(logarithms @ sizes.counts) / sizes.size
+    return mean, math.sqrt(float(sizes.counts @ (logarithms - mean)**2) / max(sizes.size - 1, 1))
+
+
+def lognormal_cells(mean: float, deviation: float) -> Floats:
+    """Returns the chances of 1, 2 and so on for a rounded lognormal size; what is below 1.5 counts as 1."""
+    below = special.ndtr((np.log(CELLS[1:] + 0.5) - mean) / deviation)
+    return np.diff(below, prepend=0.0)
+
+
+def lognormal(excess: Sample) -> Fit | None:
+    """Fits a lognormal law of sizes by the moments of their logarithms. The sample has sizes less 1."""
+    sizes = Sample(excess.values + 1, excess.counts)
+    mean, deviation = lognormal_moments(sizes)
+    if deviation < 0.01:
+        return None
+    chances = lognormal_cells(mean, deviation)
+    return Fit(float(sizes.counts @ np.log(np.maximum(chances[excess.values], LEAST_CHANCE))), 2, chances)
+
+
+def hurdle(sizes: Fitting) -> Fitting:
+    """Returns the fitting of a hurdle family, from that of the sizes less 1."""
+    def fitted(sample: Sample) -> Fit | None:
+        """Fits the share of periods without demand and the law of sizes."""
+        share = sample.zeros / sample.size
+        fit = sizes(sample.excess)
+        if fit is None:
+            return None
+        likelihood = special.xlogy(sample.zeros, share) + special.xlog1py(sample.size - sample.zeros, -share)
+        above = scaled(fit.chances[:-1])
+        return Fit(fit.log_likelihood + float(likelihood), fit.parameters + (sample.zeros > 0),
+                   np.concatenate([[share], (1 - share) * above]))
+    return fitted
+
+
+FAMILIES: dict[str, Fitting] = {
+    "poisson": poisson, "negative-binomial": negative_binomial, "hurdle-geometric": hurdle(geometric),
+    "hurdle-poisson": hurdle(poisson), "hurdle-negative-binomial": hurdle(negative_binomial),
+    "hurdle-lognormal": hurdle(lognormal)}
+
+
+def fits_of(sample: Sample) -> dict[str, Fit]:
+    """Returns all families that a sample allows, the least BIC first. The sample has a number above 0."""
+    fits = {name: fit for name, family in FAMILIES.items() if (fit := family(sample)) is not None}
+    return dict(sorted(fits.items(), key=lambda it: it[1].bic(sample.size)))

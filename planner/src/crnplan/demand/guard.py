@@ -1,0 +1,63 @@
+"""Checks whether a history looks like one of a law, by histories that are drawn from the law.
+
+A check of a fitted law by the histories that it would bring is a predictive check (Gelman and others, Bayesian Data
+Analysis, third edition, section 6.3). The law was fitted to the history itself, so the shares of a right law are far
+from the ends, and the bounds are higher than those of a test.
+"""
+from __future__ import annotations
+
+from typing import NamedTuple
+
+import numpy as np
+
+from .families import Floats, Sample
+
+TIMES = 199
+SEED = 1
+ROUNDING = 1e-12
+
+
+class Shares(NamedTuple):
+    """The shares of drawn histories that vary at least as much as the real one, at most as much, and that are at least
+    as far from the law."""
+
+    as_much: float
+    as_little: float
+    as_far: float
+
+    @property
+    def passes(self) -> bool:
+        """Returns whether the history looks like one of the law."""
+        return all(share > least for share, least in zip(self, LEAST))
+
+
+LEAST = Shares(0.10, 0.10, 0.30)
+
+
+def distances(counts: Floats, chances: Floats) -> Floats:
+    """Returns how far histories are from a law, by Cramer and von Mises. Each row has the counts of 0, 1, 2 and so on.
+
+    Source: Choulakian, Lockhart and Stephens, Cramer-von Mises statistics for discrete distributions, 1994.
+    """
+    size = counts.sum(axis=1)
+    below = np.cumsum(counts, axis=1) / size[:, None]
+    far: Floats = size * ((below - np.cumsum(chances))**2 @ chances)
+    return far
+
+
+def shares_of(sample: Sample, chances: Floats) -> Shares:
+    """Returns the shares of a sample under a law. The same sample and law have the same shares."""
+    width = max(len(chances), sample.most + 1)
+    law = np.zeros(width)
+    law[:len(chances)] = chances / chances.sum()
+    drawn = np.searchsorted(np.cumsum(law), np.random.default_rng(SEED).random((TIMES, sample.size)), side="right")
+    drawn = np.minimum(drawn, len(chances) - 1)
+    variances = drawn.var(axis=1, ddof=1)
+    counts = np.stack([np.bincount(it, minlength=width) for it in [*drawn, np.repeat(sample.values, sample.counts)]])
+    far = distances(counts.astype(float), law)
+
+    def share(count: np.int64) -> float:
+        """Returns a share in which the history itself counts."""
+        return float((count + 1) / (TIMES + 1))
+    return Shares(share((variances >= sample.variance * (1 - ROUNDING)).sum()),
+                  share((variances <= sample.variance * (1 + ROUNDING)).sum()), share((far[:-1] >= far[-1]).sum()))

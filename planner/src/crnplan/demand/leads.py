@@ -1,0 +1,70 @@
+"""Fits laws of lead times to observed ones."""
+from __future__ import annotations
+
+from collections import Counter
+from collections.abc import Iterable, Mapping, Sequence
+from typing import Any
+
+from ..errors import Refused
+from ..formats import MOST_LEAD
+from ..history.observed import Observed
+from .fitting import fields_of, weights_of
+from .laws import LeadLaw, check, empirical, numbers_of
+
+LEAD_METHODS = ("auto", "empirical")
+FEW = 20  # lead times: with so many, what was seen stays as it is
+LEAST_LEADS = 2  # one lead time is what a supplier says, not a sample
+SIDES = [side / 100 for side in range(31)]  # the shares that the kernel may move to each neighbour
+ELSEWHERE = 0.05  # the chance, in the fit of the kernel, that a lead time is like none that was seen
+
+
+def blurred(counts: Mapping[int, int], side: float) -> dict[int, float]:
+    """Returns the law that has the share `side` of each lead time one period earlier, and as much one later.
+
+    What would be earlier than 1 or later than 32 stays where it is.
+    """
+    total = sum(counts.values())
+    law: dict[int, float] = {}
+    for lead, count in counts.items():
+        for value, share in ((lead - 1, side), (lead, 1 - 2 * side), (lead + 1, side)):
+            place = value if 1 <= value <= MOST_LEAD else lead
+            law[place] = law.get(place, 0.0) + share * count / total
+    return law
+
+
+def side_of(numbers: Sequence[int]) -> float:
+    """Returns the share that the kernel moves to each neighbour: its mean under leave-one-out likelihoods.
+
+    Source: Stone, Cross-validatory choice and assessment of statistical predictions, 1974. All shares from 0 to 0.3 are
+    as likely beforehand. A lead time may be like none of the others with a small chance, so one outlier decides little.
+    """
+    counts = Counter(numbers)
+    likelihoods = dict.fromkeys(SIDES, 1.0)
+    for lead, count in counts.items():
+        others = counts - Counter([lead])
+        for side in SIDES:
+            chance = blurred(others, side).get(lead, 0.0)
+            likelihoods[side] *= ((1 - ELSEWHERE) * chance + ELSEWHERE / MOST_LEAD)**count
+    return sum(side * it for side, it in likelihoods.items()) / sum(likelihoods.values())
+
+
+def fit_lead(observed: Observed | Iterable[Any], *, method: str = "empirical") -> LeadLaw:
+    """Fits the law of lead times to observed ones: whole numbers of periods, at least 1.
+
+    `empirical` has each lead time as often as it was seen. `auto` moves a part of 2 to 19 observed ones to the periods
+    beside them, since a short record has not seen all. Raises RefusedFaults.
+    """
+    if method not in LEAD_METHODS:
+        raise Refused(f"there is no method {method!r} to fit lead times; say {' or '.join(LEAD_METHODS)}")
+    numbers, places = numbers_of(observed, "lead time")
+    above = f"is above {MOST_LEAD}; take longer periods (weeks for days, months for weeks), for demands too"
+    below = "is below 1; write 1 if the order is there for the next period's demand"
+    check(numbers, places, lambda it: above if it > MOST_LEAD else below if it < 1 else None)
+    if method == "empirical" or not LEAST_LEADS <= len(numbers) < FEW:
+        return LeadLaw(**empirical(numbers))
+    import numpy as np
+    side = side_of(numbers)
+    law = np.zeros(MOST_LEAD + 1)
+    for lead, share in blurred(Counter(numbers), side).items():
+        law[lead] = share
+    return LeadLaw(**fields_of(*weights_of(law), "blurred", numbers, side=side))

@@ -1,0 +1,193 @@
+"""Tests of the families of laws: fits, predictive laws and the guard, against scipy, integrals and closed forms."""
+from __future__ import annotations
+
+import math
+from collections.abc import Callable, Sequence
+
+import numpy as np
+import pytest
+from hypothesis import given, settings
+from hypothesis import strategies as st
+from scipy import integrate, optimize, special, stats
+
+from crnplan.demand import fitting, guard, predictive
+from crnplan.demand.families import CELLS, FAMILIES, Floats, Sample, fits_of
+from crnplan.demand.predictive import PREDICTIVE, predictive_of
+
+ERRATIC = [0, 3, 1, 9, 0, 0, 2, 5, 14, 1, 0, 4, 2, 2, 7, 0, 1, 3, 21, 0, 6, 1]
+SMOOTH = [9, 11, 7, 10, 14, 8, 12, 6, 10, 9, 13, 11, 10, 8, 9, 12]
+RARE = [0, 0, 0, 12, 0, 0, 0, 0, 3, 0, 0, 25, 0, 0, 0, 0, 0, 7, 0, 0, 0, 1, 0, 0, 0, 9]
+HISTORIES = pytest.mark.parametrize("numbers", [ERRATIC, SMOOTH, RARE], ids=["erratic", "smooth", "rare"])
+
+
+def test_the_names_of_families() -> None:
+    """The names that are known without scipy are those of the families."""
+    assert (*FAMILIES,) == (*PREDICTIVE,) == fitting.FAMILIES
+
+
+@HISTORIES
+def test_fits_are_the_most_likely(numbers: Sequence[int]) -> None:
+    """Likelihoods are as great as those that a general search over the parameters of scipy's laws finds."""
+    fits, data = fits_of(Sample.of(numbers)), np.array(numbers)
+    sizes, share = data[data > 0] - 1, np.mean(data == 0)
+    zeros = special.xlogy(len(data) - len(sizes), share) + special.xlogy(len(sizes), 1 - share)
+
+    def most(density: Callable[[Floats], Floats], start: Sequence[float]) -> float:
+        """Returns the greatest likelihood over the logarithms of the parameters."""
+        found = optimize.minimize(lambda it: -density(np.exp(it)).sum(), np.log(start), method="Nelder-Mead",
+                                  options={"xatol": 1e-8, "fatol": 1e-10, "maxiter": 4000})
+        return -float(found.fun)
+
+    expected = {
+        "poisson": most(lambda it: stats.poisson.logpmf(data, it[0]), [1]),
+        "negative-binomial": most(lambda it: stats.nbinom.logpmf(data, it[0], it[0] / (it[0] + it[1])), [1, 2]),
+        "hurdle-geometric": zeros + most(lambda it: stats.geom.logpmf(sizes + 1, 1 / (1 + it[0])), [1]),
+        "hurdle-poisson": zeros + most(lambda it: stats.poisson.logpmf(sizes, it[0]), [1]),
+        "hurdle-negative-binomial": zeros + most(
+            lambda it: stats.nbinom.logpmf(sizes, it[0], it[0] / (it[0] + it[1])), [1, 2])}
+    for name in expected.keys() & fits.keys():
+        assert fits[name].log_likelihood == pytest.approx(expected[name], abs=1e-6)
+    assert ("negative-binomial" in fits) == (np.var(data) > np.mean(data))
+    assert ("hurdle-negative-binomial" in fits) == (np.var(sizes) > np.mean(sizes))
+
+
+@HISTORIES
+def test_lognormal_sizes(numbers: Sequence[int]) -> None:
+    """A lognormal fit has the moments of the logarithms, and scipy's chances of the rounded sizes."""
+    data = np.array(numbers)
+    logarithms = np.log(data[data > 0])
+    law = stats.lognorm(logarithms.std(ddof=1), scale=math.exp(logarithms.mean()))
+    share = np.mean(data == 0)
+    fit = fits_of(Sample.of(numbers))["hurdle-lognormal"]
+    chances = (1 - share) * np.diff([0, *law.cdf(np.arange(1, 41) + 0.5)])
+    assert fit.chances[1:41] == pytest.approx(chances, rel=1e-9)
+    seen = [share if it == 0 else chances[it - 1] for it in numbers]
+    assert fit.log_likelihood == pytest.approx(np.log(seen).sum())
+
+
+@HISTORIES
+def test_bic_is_in_order(numbers: Sequence[int]) -> None:
+    """BIC counts parameters, that of the hurdle too, and the least comes first."""
+    fits = fits_of(Sample.of(numbers))
+    hurdle = 0 in numbers
+    counts = {"poisson": 1, "negative-binomial": 2, "hurdle-geometric": 1 + hurdle, "hurdle-poisson": 1 + hurdle,
+              "hurdle-negative-binomial": 2 + hurdle, "hurdle-lognormal": 2 + hurdle}
+    values = [counts[name] * math.log(len(numbers)) - 2 * fit.log_likelihood for name, fit in fits.items()]
+    assert values == sorted(values) == pytest.approx([fit.bic(len(numbers)) for fit in fits.values()])
+
+
+@HISTORIES
+def test_predictive_poisson_and_geometric(numbers: Sequence[int]) -> None:
+    """Predictive laws are integrals of scipy's laws over the posterior of their parameter."""
+    sample, data = Sample.of(numbers), np.array(numbers)
+    sizes = data[data > 0] - 1
+    mean = stats.gamma(data.sum() + 0.5, scale=1 / len(data))
+    poisson = predictive_of("poisson", sample)
+    chance = stats.beta(len(sizes) + 0.5, sizes.sum() + 0.5)
+    geometric = predictive_of("hurdle-geometric", sample)
+    sizes_mean = stats.gamma(sizes.sum() + 0.5, scale=1 / len(sizes))
+    hurdle = predictive_of("hurdle-poisson", sample)
+    some = 1 - ((len(data) - len(sizes) + 0.5) / (len(data) + 1) if 0 in numbers else 0)
+    for value in (1, 2, 5, 11):
+        integral, _ = integrate.quad(lambda it: mean.pdf(it) * stats.poisson.pmf(value, it), 0, 60, limit=200)
+        assert poisson[value] == pytest.approx(integral, rel=1e-5)
+        integral, _ = integrate.quad(lambda it: chance.pdf(it) * stats.geom.pmf(value, it), 0, 1, limit=200)
+        assert geometric[value] == pytest.approx(some * integral, rel=1e-5)
+        integral, _ = integrate.quad(lambda it: sizes_mean.pdf(it) * stats.poisson.pmf(value - 1, it), 0, 60, limit=200)
+        assert hurdle[value] == pytest.approx(some * integral, rel=1e-5)
+
+
+@HISTORIES
+def test_predictive_negative_binomial(numbers: Sequence[int]) -> None:
+    """The law is the sum over a fine grid of mean and size, flat in both logarithms."""
+    sample, data = Sample.of(numbers), np.array(numbers)
+    most = math.log(predictive.greatest_mean(sample))
+    means = np.exp(np.linspace(most - 14, most, 1500))[:, None]
+    sizes = np.geomspace(data.mean() / 50, data.mean() / 0.02, 150)
+    cells = np.arange(31)[:, None, None]
+    laws = np.exp(special.gammaln(cells + sizes) - special.gammaln(sizes) - special.gammaln(cells + 1)
+                  + sizes * np.log(sizes / (sizes + means)) + cells * np.log(means / (sizes + means)))
+    assert laws[7, 700, 70] == pytest.approx(stats.nbinom.pmf(7, sizes[70], sizes[70] / (sizes[70] + means[700, 0])))
+    likelihood = np.prod([laws[it] for it in numbers], axis=0)
+    likelihood[:, [0, -1]] /= 2  # the trapezoidal rule
+    expected = (likelihood * laws).sum(axis=(1, 2)) / likelihood.sum()
+    assert predictive_of("negative-binomial", sample)[:31] == pytest.approx(expected, rel=0.005)
+
+
+@given(size=st.floats(0.05, 50), first=st.floats(0.5, 300), second=st.floats(0.5, 300), most=st.floats(0.5, 30))
+def test_beta_negative_binomial(size: float, first: float, second: float, most: float) -> None:
+    """The law is the integral over the part of the beta law that the bound on the mean leaves."""
+    law = predictive.beta_negative_binomial(size, first, second, most)
+    least = math.log(size / most)  # of log(p / (1 - p))
+    points, step = np.linspace(least, least + 60, 60_001, retstep=True)
+    chance = special.expit(points)
+    density = special.xlogy(first, chance) + special.xlog1py(second, -chance) - special.betaln(first, second)
+    for value in (0, 2, 7):
+        ways = special.binom(value + size - 1, value)
+        heights = np.exp(density) * ways * chance**size * special.expit(-points)**value
+        assert law[value] == pytest.approx(integrate.trapezoid(heights, dx=step), rel=1e-4, abs=1e-12)
+
+
+@HISTORIES
+def test_predictive_lognormal(numbers: Sequence[int]) -> None:
+    """The logarithm of a size has Student's law, as long as its deviation is not cut."""
+    data = np.array(numbers)
+    logarithms = np.log(data[data > 0])
+    count = len(logarithms)
+    student = stats.t(count - 1, logarithms.mean(), logarithms.std(ddof=1) * math.sqrt(1 + 1 / count))
+    some = 1 - ((len(data) - count + 0.5) / (len(data) + 1) if 0 in numbers else 0)
+    law = predictive_of("hurdle-lognormal", Sample.of(numbers))
+    for value in (2, 5, 10, 20):
+        expected = some * student.cdf(math.log(value + 0.5))
+        assert law[1:value + 1].sum() == pytest.approx(expected, abs=0.01 if logarithms.std() < 1 else 0.02)
+
+
+@settings(max_examples=20, deadline=None)
+@given(numbers=st.lists(st.integers(0, 400), min_size=2, max_size=60).filter(lambda it: sum(map(bool, it)) > 1))
+def test_any_history(numbers: list[int]) -> None:
+    """Whatever the history, all laws of its families are laws, and the chance of no demand is that of the hurdle."""
+    sample = Sample.of(numbers)
+    assert (sample.size, sample.total, sample.most) == (len(numbers), sum(numbers), max(numbers))
+    assert sample.variance == pytest.approx(np.var(numbers, ddof=1))
+    for name, fit in fits_of(sample).items():
+        law = predictive_of(name, sample)
+        assert (law >= 0).all() and law.sum() == pytest.approx(1) and len(law) <= len(CELLS)
+        assert (fit.chances >= 0).all() and fit.chances.sum() <= 1 + 1e-9
+        if name.startswith("hurdle"):
+            assert law[0] == pytest.approx((sample.zeros + 0.5) / (len(numbers) + 1) if sample.zeros else 0, abs=1e-6)
+
+
+def test_distances() -> None:
+    """The distance of Cramer and von Mises agrees with scipy's where the law is all but continuous."""
+    law = np.full(5000, 1 / 5000)
+    data = np.random.default_rng(5).integers(0, 5000, (3, 40))
+    found = guard.distances(np.stack([np.bincount(it, minlength=5000) for it in data]).astype(float), law)
+    expected = [stats.cramervonmises((it + 0.5) / 5000, "uniform").statistic for it in data]
+    assert found == pytest.approx(expected, rel=0.02)
+
+
+def test_guard() -> None:
+    """The guard lets a history of its law pass, and none that varies more or less, or has another shape."""
+    random = np.random.default_rng(11)
+    law = np.exp(stats.poisson.logpmf(np.arange(60), 10))
+
+    def passes(numbers: Sequence[int]) -> bool:
+        """Returns the guard's verdict on a history."""
+        return guard.shares_of(Sample.of(numbers), law).passes
+    assert sum(passes(random.poisson(10, 100)) for _ in range(40)) >= 15
+    assert not any(passes(random.negative_binomial(5, 1 / 3, 100)) for _ in range(40))
+    assert not any(passes(random.binomial(13, 10 / 13, 100)) for _ in range(40))
+    assert not any(passes(random.choice([7, 13], 100)) for _ in range(40))
+
+
+def test_guards_shares() -> None:
+    """The guard's shares are those of histories drawn from the law: here of variances with a chi-square law."""
+    random = np.random.default_rng(3)
+    cells = np.arange(400)
+    law = stats.norm.pdf(cells, 200, 25)
+    data = np.rint(random.normal(200, 27, 60)).astype(int)
+    shares = guard.shares_of(Sample.of(data), law)
+    expected = stats.chi2.sf(59 * (data.var(ddof=1) / 25**2), 59)
+    assert shares.as_much == pytest.approx(expected, abs=0.1)
+    assert shares.as_much + shares.as_little == pytest.approx(1, abs=0.02)
+    assert shares == guard.shares_of(Sample.of(data), law)
