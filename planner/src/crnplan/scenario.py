@@ -26,6 +26,7 @@ from .money import scaled_costs, whole
 if TYPE_CHECKING:
     import pandas as pd
 
+    from .engine.long_run import LongRunReport
     from .engine.report import Report
 
 Tree = dict[str, Any]
@@ -222,6 +223,16 @@ class Scenario:
         """
         from .engine.report import report_of
         return report_of(self if policies is None else self._with_base(policies), program)
+
+    def long_run(self, policies: Any = None, *, keys: int = 48, program: str | Path | None = None) -> LongRunReport:
+        """Runs crnsim in the long run on any number of policies: the effect of the start is left out.
+
+        Each of the `keys`, 2 to 256, is a replication, and each policy starts from a state of its own. `policies` are
+        the others than the base, as in `run`. The stock, the periods and the replications of the scenario play no part,
+        and `unit` is left out. Raises what `run` raises, and Refused if there is no long run.
+        """
+        from .engine.long_run import long_run_of
+        return long_run_of(self if policies is None else self._with_base(policies), keys, program)
 
 
 def _key_words(key: str | Sequence[str]) -> list[str]:

@@ -16,6 +16,7 @@ from collections.abc import Sequence
 from fractions import Fraction
 from typing import NamedTuple
 
+from ..scenario import Policy
 from .report import Row
 
 
@@ -43,12 +44,12 @@ def sums_of(row: Row, base_total: int, replications: int) -> Sums:
     return Sums(replications, row.total, base_total, squares, products)
 
 
-def pooled_row(row: Row, sums: Sums, periods: int) -> Row:
-    """Returns the row of a policy from its sums. Name and levels are those of `row`."""
+def pooled_row(policy: Policy, sums: Sums, periods: int) -> Row:
+    """Returns the row of a policy from its sums."""
     count, difference = sums.replications, sums.total - sums.base
     variance = (sums.squares - Fraction(difference**2, count)) / (count * (count - 1))
     covariance = (sums.products - Fraction(sums.total * sums.base, count)) / (count - 1)
-    return Row(row.policy, row.s, row.S, sums.total, Fraction(sums.total, count * periods), difference,
+    return Row(policy.name, policy.s, policy.S, sums.total, Fraction(sums.total, count * periods), difference,
                Fraction(difference, count), variance, covariance)
 
 
@@ -60,5 +61,5 @@ def pooled(reports: Sequence[Sequence[Row]], replications: int, periods: int) ->
         first, *others = (sums_of(row, report[0].total, replications) for row, report in zip(its, reports))
         for sums in others:
             first = first.plus(sums)
-        rows.append(pooled_row(its[0], first, periods))
+        rows.append(pooled_row(Policy(its[0].policy, its[0].s, its[0].S), first, periods))
     return rows

@@ -23,6 +23,7 @@ from typing import NamedTuple
 from .. import formats
 from ..errors import Refused
 from ..scenario import Costs, Policy, Scenario
+from .checkpoints import PERIODS_OF_BLOCK, replication_costs
 from .program import find_program, run_all
 from .report import read_rows
 
@@ -30,7 +31,6 @@ from .report import read_rows
 JOBS = 8
 MOST_DRAWN = 208
 MOST_POLICIES = 8
-PERIODS_OF_BLOCK = 4
 AMPLE = Policy("ample", 0, 0)
 APART = Costs(0, 1, 0, 0), Costs(0, 0, 1, 0), Costs(0, 0, 0, 1)
 
@@ -126,8 +126,7 @@ def net_demands(scenario: Scenario, periods: int, program: Path) -> list[int]:
     blocks = -(-periods // PERIODS_OF_BLOCK)
     ample = replace(scenario, initial=formats.MOST_ITEMS, policies=(AMPLE,))
     texts = _texts(ample, APART[1], range(1, PERIODS_OF_BLOCK + 1), blocks)
-    listed = [[int(line.split(",")[2]) for line in checkpoint.splitlines() if line.startswith("cost,")]
-              for checkpoint in run_all(program, texts, "leg", str(blocks))]
+    listed = [replication_costs(checkpoint) for checkpoint in run_all(program, texts, "leg", str(blocks))]
     stocks = [[formats.MOST_ITEMS, *steps_of(totals)] for totals in zip(*listed)]
     return [before - after for block in stocks for before, after in itertools.pairwise(block)][:periods]
 

@@ -1,0 +1,132 @@
+"""Reads and writes checkpoints: the state of a run between two blocks. docs/FORMATS.md defines the text.
+
+A checkpoint need not come from the program. It may give each policy a state of its own, from which `resume` continues.
+What the program computes from it is exact and proved; this module is not.
+"""
+from __future__ import annotations
+
+import tempfile
+from collections.abc import Iterable, Iterator, Mapping, Sequence
+from concurrent.futures import ThreadPoolExecutor
+from dataclasses import dataclass, field
+from pathlib import Path
+
+from .. import formats
+from ..errors import Refused
+from ..scenario import Scenario
+from .program import JOBS, run_program
+
+PERIODS_OF_BLOCK = 4
+FIELDS = 5
+# The greatest stock and position; more by MOST_DEMAND for each period that has passed, if there are returns. The stock
+# is at least as much below 0.
+MOST_STOCK = formats.MOST_ITEMS
+
+
+@dataclass(frozen=True)
+class State:
+    """The state of a policy between two blocks.
+
+    `stock` is in items, `cost` that of the current replication so far. `due` has the items that arrive, by period of
+    the replication; `costs` the cost of each replication that is done.
+    """
+
+    stock: int
+    cost: int = 0
+    due: Mapping[int, int] = field(default_factory=dict)
+    costs: tuple[int, ...] = ()
+
+
+@dataclass(frozen=True)
+class Checkpoint:
+    """The states of all policies before a block."""
+
+    block: int
+    states: tuple[State, ...]
+
+
+def _head(scenario: Scenario, block: int) -> Iterator[tuple[object, ...]]:
+    """Yields the rows before those of the policies."""
+    laws = [getattr(scenario, name) for name in formats.DRAWS]
+    sizes = [len(law.values) if law else 0 for law in laws]
+    yield "checkpoint", formats.CHECKPOINT_VERSIONS[-1], block, scenario.periods, scenario.replications
+    yield "key", *scenario.key
+    yield "costs", *(getattr(scenario.costs, name) for name in formats.COSTS)
+    yield "sizes", scenario.initial, *sizes[:2], len(scenario.policies)
+    yield "returns", sizes[2]
+    for kind, law in zip(formats.DRAW_ROWS, laws):
+        yield from ((kind, value, weight) for value, weight in (zip(law.values, law.weights) if law else ()))
+
+
+def _rows(scenario: Scenario, block: int, states: Sequence[State]) -> Iterator[tuple[object, ...]]:
+    """Yields the rows of a checkpoint, without the fields that stay empty."""
+    yield from _head(scenario, block)
+    for policy, state in zip(scenario.policies, states, strict=True):
+        yield "policy", policy.name, policy.s, policy.S
+        yield "state", state.stock, state.cost, len(state.due), len(state.costs)
+        yield from (("due", period, state.due[period]) for period in sorted(state.due))
+        yield from (("cost", number, cost) for number, cost in enumerate(state.costs))
+    yield ("end",)
+
+
+def checkpoint_text(scenario: Scenario, block: int, states: Sequence[State]) -> str:
+    """Returns the checkpoint of a scenario before a block, with a state for each policy. Ranges are not checked."""
+    lines = (",".join([*map(str, row), *"-" * (FIELDS - len(row))]) for row in _rows(scenario, block, states))
+    return "\n".join(lines) + "\n"
+
+
+def _states(rows: Iterable[Sequence[str]]) -> Iterator[State]:
+    """Yields the states of a checkpoint's rows. Raises LookupError or ValueError if they are none."""
+    state: tuple[int, int] | None = None
+    due: dict[int, int] = {}
+    costs: list[int] = []
+    for kind, *its in rows:
+        if kind in ("policy", "end"):
+            if state:
+                yield State(*state, due, tuple(costs))
+            state, due, costs = None, {}, []
+        elif kind == "state":
+            state = int(its[0]), int(its[1])
+        elif kind == "due":
+            due[int(its[0])] = int(its[1])
+        elif kind == "cost":
+            costs.append(int(its[1]))
+
+
+def read_checkpoint(text: str, scenario: Scenario) -> Checkpoint:
+    """Reads a checkpoint of a scenario, of the newest version.
+
+    Raises Refused unless the text is, byte for byte, what `checkpoint_text` writes for what is read. Ranges are not
+    checked.
+    """
+    rows = [line.split(",") for line in text.splitlines()]
+    try:
+        found = Checkpoint(int(rows[0][2]), tuple(_states(rows)))
+        if checkpoint_text(scenario, found.block, found.states) == text:
+            return found
+    except (LookupError, ValueError):
+        pass
+    raise Refused("this is no checkpoint of the scenario; give what `crnsim leg` has written of it")
+
+
+def replication_costs(text: str) -> list[int]:
+    """Returns the costs of the replications that are done, of all policies, in the order of a checkpoint's text."""
+    return [int(line.split(",")[2]) for line in text.splitlines() if line.startswith("cost,")]
+
+
+def resume_all(program: Path, runs: Iterable[tuple[str, str]], jobs: int = JOBS) -> list[str]:
+    """Continues runs, several at a time, and returns their reports in order.
+
+    Each run is the text of a scenario and that of its checkpoint. Raises ProgramError if one fails.
+    """
+    with tempfile.TemporaryDirectory(prefix="crnplan-") as folder, ThreadPoolExecutor(jobs) as pool:
+        def resumed(number: int, scenario: str, checkpoint: str) -> str:
+            """Continues a run."""
+            path = Path(folder, f"{number}.csv")
+            path.write_text(checkpoint, "ascii")
+            return run_program(program, scenario, "resume", str(path))
+        running = [pool.submit(resumed, number, *run) for number, run in enumerate(runs)]
+        try:
+            return [it.result() for it in running]
+        finally:
+            pool.shutdown(wait=True, cancel_futures=True)

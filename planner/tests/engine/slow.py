@@ -1,0 +1,72 @@
+"""Simulates periods slowly from words of tests/program/oracle.py: it adds up all earlier orders anew in each period."""
+from __future__ import annotations
+
+from collections.abc import Iterable, Sequence
+from dataclasses import dataclass, field
+
+from crnplan.scenario import Policy, Scenario, Table
+from tests.program import oracle
+
+Draw = tuple[int, int, int]  # demand, lead time, returns
+
+
+@dataclass
+class History:
+    """What a policy has gone through: the first stock, orders with their periods of arrival, and net demands."""
+
+    first: int
+    placed: list[tuple[int, int]] = field(default_factory=list)
+    net: list[int] = field(default_factory=list)
+    costs: list[int] = field(default_factory=list)
+
+    @property
+    def orders(self) -> list[int]:
+        """Returns in which periods something was ordered."""
+        return [period for period, (amount, _) in enumerate(self.placed) if amount]
+
+    def stock(self) -> int:
+        """Returns the stock at the end of the last period."""
+        arrived = sum(amount for amount, due in self.placed if due < len(self.net))
+        return self.first + arrived - sum(self.net)
+
+    def due(self) -> dict[int, int]:
+        """Returns the amounts that arrive later, by the number of periods from the next one."""
+        found: dict[int, int] = {}
+        for amount, due in self.placed:
+            if amount and due >= len(self.net):
+                found[due - len(self.net)] = found.get(due - len(self.net), 0) + amount
+        return found
+
+
+def spread(law: Table | None) -> list[int]:
+    """Returns each value as often as its weight says."""
+    law = law or Table((0,), (1,))
+    return [value for value, weight in zip(law.values, law.weights) for _ in range(weight)]
+
+
+def key_words(key: Iterable[str]) -> tuple[int, ...]:
+    """Returns the numbers of a key."""
+    return tuple(int(word, 16) for word in key)
+
+
+def draws_of(scenario: Scenario, key: Iterable[str], periods: int, streams: Sequence[int] = (0, 1, 2)) -> list[Draw]:
+    """Returns what the first periods of a key draw from three streams."""
+    words, columns = key_words(key), []
+    for stream, law in zip(streams, (scenario.demand, scenario.lead, scenario.returns)):
+        numbers = [word for block in range(-(-periods // 4)) for word in oracle.threefry(words, [block, stream, 0, 0])]
+        columns.append([oracle.pick(spread(law), word) for word in numbers[:periods]])
+    return list(zip(*columns))
+
+
+def simulate(scenario: Scenario, policy: Policy, history: History, draws: Iterable[Draw]) -> History:
+    """Goes on with a history, period by period."""
+    its = scenario.costs
+    for demand, lead, back in draws:
+        position = history.first + sum(amount for amount, _ in history.placed) - sum(history.net)
+        amount = policy.S - position if position < policy.s else 0
+        history.placed.append((amount, len(history.net) + lead))
+        history.net.append(demand - back)
+        stock = history.stock()
+        history.costs.append((its.setup + its.unit * amount if amount else 0)
+                             + (its.holding * stock if stock >= 0 else -its.backlog * stock))
+    return history
