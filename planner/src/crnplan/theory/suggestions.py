@@ -6,14 +6,13 @@ grid. Figures leave `unit` out: in the long run it adds unit times the mean net 
 """
 from __future__ import annotations
 
-import itertools
 import math
 from collections.abc import Iterable, Sequence
 from dataclasses import dataclass
 from typing import TYPE_CHECKING, Any
 
 from ..document import read_document
-from ..document.writing import plain_text
+from ..document.writing import head_of, plain_text
 from ..formats import MOST_ITEMS, POLICIES
 from ..scenario import Policy, Scenario
 from .lattice import theories_of
@@ -172,8 +171,7 @@ error: {self._error_text()}
             tree["initial"] = self.initial
         if unit_zero:
             tree["costs"]["unit"] = 0
-        head = itertools.takewhile(lambda line: line.startswith("#"), source.splitlines(keepends=True))
-        return "".join([*head, plain_text(tree), *(it.text for it in self.rows)])
+        return "".join([head_of(source), plain_text(tree), *(it.text for it in self.rows)])
 
 
 def _frame(rows: Iterable[tuple[Policy, Figures]]) -> pd.DataFrame:
