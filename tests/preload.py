@@ -40,16 +40,16 @@ class Counts(NamedTuple):
         return next((at for at, (begin, end) in enumerate(windows, 1) if begin < number <= end), None)
 
 
-def environment(built: Path, file: Path, **rules: object) -> dict[str, str]:
+def environment(built: Path | str, file: Path | str, **rules: object) -> dict[str, str]:
     """Returns what the environment of a run says so that its counts go to a file, under rules as refuse_memory=3."""
     said = {name.upper(): str(rule) for name, rule in rules.items()}
     return {"LD_PRELOAD": str(built), "WRITE_COUNTS": str(file), **said}
 
 
-def counts_of(file: Path) -> Counts | None:
+def counts_of(file: Path | str) -> Counts | None:
     """Returns the counts that a run has written to a file; None if it did not get to its end."""
-    if not file.exists():
+    if not Path(file).exists():
         return None
-    lines = [line.split() for line in file.read_text("ascii").splitlines()]
+    lines = [line.split() for line in Path(file).read_text("ascii").splitlines()]
     starts = tuple((int(it[1]), int(it[2])) for it in lines if it[0] == "start")
     return Counts(**{it[0]: int(it[1]) for it in lines if it[0] != "start"}, starts=starts)
