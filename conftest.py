@@ -2,7 +2,7 @@
 
     .venv/bin/python -m pytest -n 4                   all suites
     .venv/bin/python -m pytest tests/program -k resume
-    .venv/bin/python -m pytest --program PATH         the tests of another program
+    .venv/bin/python -m pytest --program=PATH         the tests of another program
     .venv/bin/python -m pytest --free                 new random texts on each run
 """
 from __future__ import annotations
@@ -24,6 +24,8 @@ PROGRAM = TOP / "crates" / "crnsim" / "out" / "crnsim"
 # The property of a test that stands for so many cases.
 CASES = "cases"
 LOCK = "serial_lock"
+# A worker of a parallel run has at most so many tests waiting, and gets more if half of them are done.
+MOST_WAITING = 6
 # A failure names so many of its cases, and says how many more there are.
 MOST_NAMED = 20
 
@@ -58,6 +60,30 @@ def pytest_configure(config: pytest.Config) -> None:
 def pytest_configure_node(node: Any) -> None:
     """Tells a worker of a parallel run where the lock is."""
     node.workerinput[LOCK] = getattr(node.config, LOCK)
+
+
+@pytest.hookimpl(optionalhook=True)
+def pytest_xdist_make_scheduler(config: pytest.Config, log: Any) -> Any:
+    """Hands tests to workers a few at a time, so that none has a long tail of slow ones while the others are done."""
+    if config.getoption("dist") != "load":
+        return None
+    from xdist.scheduler.load import LoadScheduling
+
+    class FewAtATime(LoadScheduling):
+        """Sends tests to a worker that has but few left."""
+
+        def check_schedule(self, node: Any, duration: float = 0) -> None:
+            """Sends a worker more tests, or ends it if there are none."""
+            waiting = len(self.node2pending[node])
+            if not self.pending and not node.shutting_down:
+                node.shutdown()
+            elif self.pending and waiting <= MOST_WAITING // 2:
+                self._send_tests(node, MOST_WAITING - waiting)
+
+        def _send_tests(self, node: Any, num: int) -> None:
+            super()._send_tests(node, min(num, MOST_WAITING))
+
+    return FewAtATime(config, log)
 
 
 def pytest_collection_modifyitems(items: list[pytest.Item]) -> None:
@@ -101,7 +127,7 @@ def program(request: pytest.FixtureRequest) -> Path:
     """Returns the absolute path of the program that is tested. Without one the run ends."""
     path = Path(os.path.abspath(request.config.getoption("--program") or PROGRAM))
     if not os.access(path, os.X_OK):
-        request.session.shouldfail = f"there is no program {path}: run tools/build, or give --program PATH"
+        request.session.shouldfail = f"there is no program {path}: run tools/build, or give --program=PATH"
         pytest.fail(request.session.shouldfail, pytrace=False)
     return path
 
@@ -110,8 +136,8 @@ def program(request: pytest.FixtureRequest) -> Path:
 def check_all(record_property: Callable[[str, object], None]) -> Callable[[Cases], None]:
     """Returns a function that checks the cases of a test: pairs of a name and a verdict.
 
-    True is a case that holds. Anything else is one that does not; a text says why. Those that fail are named, also if the
-    test runs out of time, and the summary counts each case.
+    True is a case that holds. Anything else is one that does not; a text says why. Those that fail are named, also if
+    the test runs out of time, and the summary counts each case.
     """
     def check(cases: Cases) -> None:
         verdicts: list[tuple[str, object]] = []

@@ -12,6 +12,7 @@ import pytest
 
 import crnplan as crn
 from crnplan.commands import COMMANDS
+from planner.tests.conftest import Command
 
 PLANNER = Path(__file__).parents[1]
 HEAVY = ("numpy", "scipy", "pandas", "matplotlib", "jinja2", "tqdm", "tomlkit", "distributed")
@@ -69,3 +70,11 @@ def test_types() -> None:
     """Runs mypy on the package, with the settings of its project."""
     ran = subprocess.run([sys.executable, "-m", "mypy"], cwd=PLANNER, capture_output=True, text=True, timeout=300)
     assert ran.returncode == 0, ran.stdout
+
+
+@pytest.mark.parametrize("words, message", [
+    (["wy"], "there is no command 'wy'; did you mean why? crnplan --help shows the words."),
+    (["why"], "Missing argument 'SCENARIO.toml'. crnplan why --help shows the words.")], ids=["unknown", "missing"])
+def test_wrong_words(words: list[str], message: str, crnplan: Command) -> None:
+    """Checks the line on words that are refused."""
+    assert crnplan(*words) == (2, "", f"crnplan: {message}\n")

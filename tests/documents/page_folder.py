@@ -62,11 +62,12 @@ class Folder:
                 shutil.copy(TOP / name, self.path / name)
 
     def run(self, kind: str, command: str) -> tuple[int | None, str]:
-        """Runs a command. Returns its status, and what it prints, faults too, as a terminal shows it but for progress."""
+        """Runs a command. Returns its status, and what it prints, faults too, without progress."""
         self.fetch(command)
+        words = [*RUNNERS[kind], command]
         try:
-            ran = subprocess.run([*RUNNERS[kind], command], cwd=self.path, env=self.environment, stdin=subprocess.DEVNULL,
-                                 stdout=subprocess.PIPE, stderr=subprocess.STDOUT, timeout=SECONDS, check=False)
+            ran = subprocess.run(words, cwd=self.path, env=self.environment, stdin=subprocess.DEVNULL, timeout=SECONDS,
+                                 stdout=subprocess.PIPE, stderr=subprocess.STDOUT, check=False)
         except subprocess.TimeoutExpired:
             return None, f"it does not end in {SECONDS} seconds"
         return ran.returncode, PROGRESS.sub("", ran.stdout.decode("utf-8", "replace"))

@@ -1,9 +1,9 @@
 """The commands of the pages can be copied, and print what stands there.
 
-Commands stand in blocks of the kind `sh`, `python` or `r`, and between backticks. Those of a page are run in order, in a folder
-with a copy of `examples/`. What the commands of a block print is the next block without a kind, where a line `..` stands for
-lines that are left out. A command that ends with a status other than 0, or whose pipe does, has failed: a page shows a refusal
-with `|| echo`. What a command between backticks prints is not compared.
+Commands stand in blocks of the kind `sh`, `python` or `r`, and between backticks. Those of a page are run in order, in
+a folder with a copy of `examples/`. What the commands of a block print is the next block without a kind, where a line
+`..` stands for lines that are left out. A command that ends with a status other than 0, or whose pipe does, has failed:
+a page shows a refusal with `|| echo`. What a command between backticks prints is not compared.
 """
 from __future__ import annotations
 
@@ -40,9 +40,9 @@ NOT_PRINTED = {("docs/FORMATS.md", "period  t  "): "a drawing",
 # Blocks of other kinds, and what is done with them.
 OTHER_KINDS = {"toml": "they are compared with the examples", "cpp": "not run, as it needs the headers of Random123"}
 # A span is a command if it begins with one of these and goes on, unless it only names a command's words.
-COMMAND = re.compile(r"\.ci/run|(crnsim|crnplan|(tools|crates/crnsim/out)/crnsim|(examples/tools|bench|tests)/[\w/]+\.py"
-                     r"|apt-get|awk|cat|cd|cmp|cp|cut|diff|echo|git|grep|head|ls|mkdir|parallel|pip|printf|python3|rt|sed|seq"
-                     r"|sh|sort|tail|tr|xargs) .*")
+COMMAND = re.compile(r"\.ci/run|(crnsim|crnplan|(tools|crates/crnsim/out)/crnsim|(examples/tools|bench)/[\w/]+\.py"
+                     r"|apt-get|awk|cat|cd|cmp|cp|cut|diff|echo|git|grep|head|ls|mkdir|parallel|pip|printf|python3|rt"
+                     r"|sed|seq|sh|sort|tail|tr|xargs) .*")
 USAGE = re.compile(r"(crnsim|crnplan)( [a-z]+)?( \[?-?-?[A-Z][\w.]*\]?| --[a-z-]+)*( \.\.)?")
 
 

@@ -1,7 +1,7 @@
 """The docstrings of the crates have one form, and no comment says one thing in another way than all others.
 
-Each public item has a docstring. Each public function says what it asks and its errors under headings of their own, if it asks
-for something or can fail, and nowhere else. Each file of code begins with a comment on its module.
+Each public item has a docstring. Each public function says what it asks and its errors under headings of their own, if
+it asks for something or can fail, and nowhere else. Each file of code begins with a comment on its module.
 """
 from __future__ import annotations
 
@@ -42,20 +42,25 @@ def broken_rules(doc: str, kind: str, head: str) -> Iterator[str]:
     wanted = ["# Asks"] * bool(re.search(r"\brequires\b", head)) + ["# Errors"] * bool(re.search(r"-> Result<", head))
     if [lines[at] for at in headings] != wanted:
         yield f"it lacks the headings {wanted}, or has others"
-    if 0 in headings or not all(lines[at - 1] == lines[at + 1] == "" and lines[at + 2][:1] not in ("", "#") for at in headings):
+    apart = (lines[at - 1] == lines[at + 1] == "" and lines[at + 2][:1] not in ("", "#") for at in headings)
+    if 0 in headings or not all(apart):
         yield "a heading is not between blank lines, or has no text below"
     if LOOSE.search(" ".join(lines)):
         yield "it says what it asks or its errors outside the headings"
 
 
 @pytest.mark.parametrize("name", [it for it in CODE if "tests" not in it.rpartition("/src/")[2]])
-def test_docstrings(name: str) -> None:
+def test_docstrings(name: str, check_all: Any) -> None:
     """Each public item of a file has a docstring of the one form."""
     text = text_of(name)
     found = list(ITEM.finditer(text))
-    assert len(found) == len(KIND.findall(text))
-    broken = {f"{it[2]} {it[3]}": rules for it in found if (rules := list(broken_rules(it[1], it[2], it[4])))}
-    assert not broken
+
+    def cases() -> Iterator[tuple[str, object]]:
+        yield "each public item is looked at", len(found) == len(KIND.findall(text))
+        for it in found:
+            yield f"{it[2]} {it[3]}", "; ".join(broken_rules(it[1], it[2], it[4])) or True
+
+    check_all(cases())
 
 
 @pytest.mark.parametrize("name", CODE)

@@ -36,7 +36,7 @@ def is_field(field: str, kind: str) -> bool:
 
 
 def test_rows_of_a_checkpoint(ask: Ask, check_all: Any) -> None:
-    """A checkpoint that has each kind of row has them in order, with the fields of the formats, and is that of the oracle."""
+    """A checkpoint with each kind of row has them in order, with the fields of the formats, and is the oracle's."""
     text = text_of("tests/program/five_periods.toml")
     text = text.replace("version = 1", "version = 2\nreturns = { values = [1], weights = [1] }")
     written = ask("leg 3", text).output
@@ -121,12 +121,13 @@ def reasons(kind: str) -> dict[int, str]:
     return said
 
 
-NUMBERS = {"Rules of a scenario": sorted(formats.RULES.values()), "Exit status": sorted({0, *formats.STATUSES.values()})}
+NUMBERS = {"Rules of a scenario": sorted(formats.RULES.values()),
+           "Exit status": sorted({0, *formats.STATUSES.values()})}
 
 
 @pytest.mark.parametrize("kind", NUMBERS, ids=["rules", "statuses"])
 def test_help_says_the_same(ask: Ask, kind: str) -> None:
-    """Each text of the help is nearest, by its words, to the page's of its number, and has no limit that the page lacks."""
+    """A text of the help is nearest, by its words, to the page's of its number, and has no limit that this lacks."""
     told, on_page = listed(ask("help").output, kind), reasons(kind)
     assert list(told) == list(on_page) == NUMBERS[kind]
     assert nearest(told, on_page) == {it: it for it in told}
@@ -135,7 +136,7 @@ def test_help_says_the_same(ask: Ask, kind: str) -> None:
 
 @pytest.mark.parametrize("line", formats.STATUSES)
 def test_fault_has_a_case(line: str) -> None:
-    """A fault's line has a case in tests/program, which compares the line and its status with what the program shows."""
+    """A fault's line has a case in tests/program, which compares it and its status with what the program shows."""
     groups = [group for it in (TOP / "tests/program").glob("*.toml")
               for group in tomllib.loads(it.read_text("utf-8")).get("group", [])]
     met = {it["fault"].rstrip(" 0123456789") for group in groups for it in (group, *group["cases"]) if "fault" in it}

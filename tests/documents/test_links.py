@@ -3,6 +3,7 @@ from __future__ import annotations
 
 import os
 import re
+from typing import Any
 
 import pytest
 
@@ -13,17 +14,20 @@ from tests.runs import TOP
 READ = [it for it in PAGES if it.startswith("docs/") and it != "docs/DEFINITIONS.md"] + ["README.md", "CONTRIBUTING.md"]
 
 
-@pytest.mark.parametrize("page", PAGES)
-def test_links(page: str) -> None:
+def links_of(page: str) -> list[str]:
+    """Returns the links of a page to files and headings of the repository."""
+    return [it for it in re.findall(r"\]\(([^)\s]+)\)", text_of(page)) if not it.startswith("http")]
+
+
+@pytest.mark.parametrize("page", filter(links_of, PAGES))
+def test_links(page: str, check_all: Any) -> None:
     """A link to a file of the repository, or to a heading, leads there."""
     def leads(link: str) -> bool:
         path, _, anchor = link.partition("#")
         name = os.path.normpath(os.path.join(os.path.dirname(page), path)) if path else page
         return (TOP / name).exists() and (not anchor or anchor in anchors_of(name))
 
-    links = [it for it in re.findall(r"\]\(([^)\s]+)\)", text_of(page)) if not it.startswith("http")]
-    wrong = [it for it in links if not leads(it)]
-    assert not wrong
+    check_all((it, leads(it)) for it in links_of(page))
 
 
 @pytest.mark.parametrize("page", PAGES)

@@ -3,6 +3,7 @@ from __future__ import annotations
 
 import re
 from collections import Counter
+from typing import Any
 
 import pytest
 
@@ -17,7 +18,8 @@ ROWS = dict(re.findall(r"^\| `((?:crn|tests_|uses)[a-z_]*)` \|[^|]*\|([^|]*)\|",
 PROGRAM_NAMES = {"simulate", "leg", "resume", "migrate", "replay_run", "read_words", "Command", "Fault"}
 # Names in pages that stand for any of their kind.
 STANDING_FOR_ANY = {"crn_x", "tests_x", "tests_ring_tests", "what_it_does_wrong"}
-ENGINEERS = ["docs/CALLING.md", "docs/CHANGING.md", "docs/ARCHITECTURE.md", "docs/PROOFS.md", "docs/READING.md", "CONTRIBUTING.md"]
+ENGINEERS = ["docs/CALLING.md", "docs/CHANGING.md", "docs/ARCHITECTURE.md", "docs/PROOFS.md", "docs/READING.md",
+             "CONTRIBUTING.md"]
 EDITS = [it for crate in crates() for folder in FOLDERS for it in edits_of(crate, folder)]
 SENTENCES = Counter(it.what for it in EDITS)
 
@@ -35,7 +37,8 @@ def test_map_of_crate(name: str) -> None:
 
 def test_program_gives_out_its_names() -> None:
     """The program exports its engines, its command line and its faults. crates/tests_engines has the other names."""
-    given = re.findall(r"^pub use [\w:]+?(?:::(\w+)|::\{([^}]*)\});", text_of("crates/crnsim/src/main.rt"), re.MULTILINE)
+    code = text_of("crates/crnsim/src/main.rt")
+    given = re.findall(r"^pub use [\w:]+?(?:::(\w+)|::\{([^}]*)\});", code, re.MULTILINE)
     names = {name.strip() for one, more in given for name in (more or one).split(",")}
     assert names >= PROGRAM_NAMES
 
@@ -52,7 +55,7 @@ def quotes() -> dict[str, tuple[str, list[str]]]:
     return found
 
 
-def test_quotes(check_all) -> None:
+def test_quotes(check_all: Any) -> None:
     """A quoted line stands in one of the files that the paragraph before it names, and each of these is there."""
     def stands(line: str, files: list[str]) -> bool:
         texts = [" ".join(text_of(it).split()) for it in files if (TOP / it).exists()]
@@ -63,7 +66,7 @@ def test_quotes(check_all) -> None:
 
 @pytest.fixture(scope="module")
 def words() -> set[str]:
-    """Returns the names of the code: words of sources, functions and classes of Python, and names of files and crates."""
+    """Returns the names of the code: words of sources, functions and classes of Python, files and crates."""
     patterns = ("crates/*/src/**/*.rt", "crates/*/specs/**/*.antt", "crates/*/proofs/**/*.antt", "crates/*/*/*.edit",
                 "tests/**/*.*", "tools/*", "examples/**/*.*", "planner/**/*.*")
     paths = [it for pattern in patterns for it in TOP.glob(pattern) if it.is_file()]
@@ -77,7 +80,8 @@ def words() -> set[str]:
 @pytest.mark.parametrize("page", ENGINEERS)
 def test_names_of_the_code(page: str, words: set[str]) -> None:
     """A name of the code that a page for engineers uses stands in a source."""
-    names = {it for span in re.findall(r"`([^`\n]+)`", text_of(page)) for it in re.findall(r"\b[a-z]+_[a-z0-9_]+\b", span)}
+    spans = " ".join(re.findall(r"`([^`\n]+)`", text_of(page)))
+    names = set(re.findall(r"\b[a-z]+_[a-z0-9_]+\b", spans))
     assert names
     assert sorted(names - words - STANDING_FOR_ANY) == []
 

@@ -17,7 +17,7 @@ NAMES = ["", *(it.split()[0] for it in formats.COMMANDS if it != "help")]
 
 
 def examples_of(text: str) -> list[str]:
-    """Returns the commands of a help's text: what is set in below a line that begins with Example and ends with a colon."""
+    """Returns the commands of a help's text: what is set in below a line `Example ..:`."""
     parts = re.findall(r"^Example.*:\n((?:  .*\n?)+)", text, re.MULTILINE)
     return ["\n".join(line[2:] for line in part.splitlines()) for part in parts]
 

@@ -1,5 +1,5 @@
-"""The rules by which scenarios and checkpoints are refused: the examples of the pages are refused so, and the sources have
-the same names and numbers."""
+"""The rules by which scenarios and checkpoints are refused: each example of the pages is refused so, and the sources
+have the same names and numbers."""
 from __future__ import annotations
 
 import re
@@ -43,7 +43,7 @@ def with_line(text: str, line: str) -> str:
 
 
 def examples_of(text: str, cell: str) -> Iterator[tuple[str, str]]:
-    """Yields the examples of a cell, and each done to a scenario. Lines after `for` and `write` are those that are right."""
+    """Yields the examples of a cell, and each done to a scenario. Lines after `for` and `write` are right ones."""
     for found in EXAMPLE.finditer(cell):
         before, first, second, behind = found.groups()
         if before in ("for ", "write "):
@@ -96,7 +96,8 @@ def edited(text: str, edits: list[tuple[str, str]]) -> str:
 
 def check_refusal(ask: Ask, command: str, text: str, number: int) -> None:
     """Checks that a command refuses a checkpoint with a number, or accepts it if that is 0."""
-    answer = ask(f"{command} FILE", text_of("tests/program/five_periods.toml") if command == "resume" else "", file=text)
+    scenario = text_of("tests/program/five_periods.toml") if command == "resume" else ""
+    answer = ask(f"{command} FILE", scenario, file=text)
     status, line = (formats.STATUSES["checkpoint"], f"crnsim: checkpoint {number}\n") if number else (0, "")
     assert (answer.status, answer.errors) == (status, line)
 
@@ -121,18 +122,20 @@ def test_examples_of_checkpoint_rules() -> None:
     rows = {int(number): cell for number, _, _, cell in rows_of(FORMATS, *CHECKPOINT_RULES)}
     assert set(rows) == set(formats.CHECKPOINT_RULES.values()) == tested.keys() - {0}
     tested[4] += "".join(map(text_of, CUTS[:-1]))
-    assert [it for number, cell in rows.items() for it in re.findall("`([a-z]+,[^`]*)`", cell) if f"{it}\n" not in tested[number]] == []
+    named = ((number, it) for number, cell in rows.items() for it in re.findall("`([a-z]+,[^`]*)`", cell))
+    assert [it for number, it in named if f"{it}\n" not in tested[number]] == []
 
 
 # ---- names
 
 
-@pytest.mark.parametrize("crate, name, rules", [("crn_scenario", "scenario_fault", formats.RULES),
-                                                ("crn_checkpoint", "fault", formats.CHECKPOINT_RULES)], ids=["scenario", "checkpoint"])
-def test_names_of_rules(crate: str, name: str, rules: dict[str, int]) -> None:
+SOURCES = {"crn_scenario/src/scenario_fault": formats.RULES, "crn_checkpoint/src/fault": formats.CHECKPOINT_RULES}
+
+
+@pytest.mark.parametrize("source", SOURCES)
+def test_names_of_rules(source: str) -> None:
     """The names and numbers of the rules are those of the sources."""
-    text = text_of(f"crates/{crate}/src/{name}.rt")
+    text = text_of(f"crates/{source}.rt")
     constants = dict(re.findall(r"const (\w+): u8 = ([0-9]+);", text))
     found = ((fault, constants.get(number, number)) for fault, number in re.findall(r"Fault::(\w+) => (\w+),", text))
-    source = {fault: int(number) for fault, number in found if number.isdigit() and number != "90"}
-    assert source == rules
+    assert {fault: int(number) for fault, number in found if number.isdigit() and number != "90"} == SOURCES[source]

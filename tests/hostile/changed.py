@@ -1,7 +1,7 @@
 """Changed texts: scenarios, checkpoints and schedules that are nearly right, or far from it.
 
-Each change takes a generator and a text (or a tree) and returns another. Numbers are at the ends of each range that the formats
-name, one beyond them, and far off. If the generator is hypothesis's, a failing text shrinks to a small one.
+Each change takes a generator and a text (or a tree) and returns another. Numbers are at the ends of each range that the
+formats name, one beyond them, and far off. If the generator is hypothesis's, a failing text shrinks to a small one.
 """
 from __future__ import annotations
 
@@ -18,15 +18,17 @@ from tests.hostile.second_reader import MARK, Tree
 
 Change = Callable[[Random, bytes], bytes]
 # The ends of the range of each key's numbers, and of all entries of lists.
-RANGES = {it.name: formats.limits(it.table, it.name) for it in formats.KEYS if it.table not in formats.DRAWS and it.ranges}
+RANGES = {it.name: formats.limits(it.table, it.name) for it in formats.KEYS
+          if it.table not in formats.DRAWS and it.ranges}
 RANGES["version"] = (formats.VERSIONS[0], formats.VERSIONS[-1])
 LIST_ENDS = sorted({int(end) for it in formats.KEYS if it.table in formats.DRAWS for pair in it.ranges for end in pair})
 ENDS = sorted({0, 1, 4, 31, 1023, formats.MOST_COST, 2**31, 2**32, 2**63, 2**64, *LIST_ENDS,
                *(end for pair in RANGES.values() for end in pair), *formats.POLICIES})
 NUMBERS = sorted({sign * it + step for it in ENDS for sign in (1, -1) for step in (-1, 0, 1)})
-STRINGS = ["", "A", "B", "A b", "a" * 16, "a" * 17, "a" * 5000, "0" * 16, "f" * 15 + "F", "\u00e4", "x\u0000", "q,r", "-", "_0-Z",
-           "\ufeff"]
-OTHER_KINDS: list[Any] = [True, 1.0, "1", [], {}, [1], [[1]], [{}], {"a": 1}, ["1"], [1, "1"], 2**63 - 1, -(2**63), float("inf"), ""]
+STRINGS = ["", "A", "B", "A b", "a" * 16, "a" * 17, "a" * 5000, "0" * 16, "f" * 15 + "F", "\u00e4", "x\u0000", "q,r",
+           "-", "_0-Z", "\ufeff"]
+OTHER_KINDS: list[Any] = [True, 1.0, "1", [], {}, [1], [[1]], [{}], {"a": 1}, ["1"], [1, "1"], 2**63 - 1, -(2**63),
+                          float("inf"), ""]
 KEYS = ["colour", "Version", "s", "S", "name", "values", "weights", "", "a b", "returns", "ring", "x" * 300]
 # Bytes that mean something in one of the formats, and some that mean nothing.
 MARKS = b"[]{}=.,\"'#\\\n\r\t -+_0123456789abefnrSsxZ:\x00\x7f\x80\xc3\xa4\xff"
@@ -64,7 +66,7 @@ def with_other_lines(chance: Random, text: bytes) -> bytes:
 
 
 def cut_off(chance: Random, text: bytes) -> bytes:
-    """Returns a prefix of the text, up to anywhere, the end of a line or the last byte; sometimes with an end that closes nothing."""
+    """Returns a prefix of the text, up to anywhere, the end of a line or the last byte; sometimes with an odd end."""
     ends = [it.start() + more for it in re.finditer(rb"\n", text) for more in (0, 1)] or [0]
     size = chance.choice([chance.randint(0, len(text)), chance.choice(ends), len(text) - 1])
     return text[:size] + chance.choice([b"", b"", b"\n", b"]", b"#"])
@@ -99,8 +101,8 @@ def with_other_spelling(chance: Random, text: bytes) -> bytes:
     return text[:place.start()] + spelt + text[place.end():]
 
 
-TEXT_CHANGES: list[Change] = [with_other_bytes, with_other_lines, cut_off, with_other_number, with_other_number, with_other_spelling,
-                              with_mark]
+TEXT_CHANGES: list[Change] = [with_other_bytes, with_other_lines, cut_off, with_other_number, with_other_number,
+                              with_other_spelling, with_mark]
 
 
 # ---- trees of scenarios
@@ -209,8 +211,10 @@ def tree_changed(chance: Random, tree: Tree) -> Tree:
         del holder[key]
     elif kind == 2 and isinstance(holder, dict):
         holder[chance.choice(KEYS)] = old
+    elif kind == 3:
+        holder[key] = chance.choice(OTHER_KINDS)
     else:
-        holder[key] = chance.choice(OTHER_KINDS) if kind == 3 else deep(chance, old) if kind == 4 else other_value(chance, key, old)
+        holder[key] = deep(chance, old) if kind == 4 else other_value(chance, key, old)
     return tree
 
 
@@ -326,8 +330,9 @@ def changed_checkpoint(chance: Random, text: bytes, ends: Sequence[int]) -> byte
 
 def changed_schedule(chance: Random, readers: int) -> bytes:
     """Returns a schedule of up to forty lines, with some that are of another form."""
-    odd = ["", "r", "l", "P", "p ", " p", "p0", "e1", "r+1", "r-1", "r01", "r00", "r 1", "r1\r", "rr", "r0x1", "r\u0661", "r1.", "x",
-           "r4294967296", "r4294967295", "l18446744073709551616", "r" + "1" * 400, f"r{readers}", f"l{readers}"]
+    odd = ["", "r", "l", "P", "p ", " p", "p0", "e1", "r+1", "r-1", "r01", "r00", "r 1", "r1\r", "rr", "r0x1",
+           "r\u0661", "r1.", "x", "r4294967296", "r4294967295", "l18446744073709551616", "r" + "1" * 400, f"r{readers}",
+           f"l{readers}"]
     good = ["p", "p", "e", *(f"{it}{number}" for it in "rrl" for number in range(readers))]
     lines = chance.choices(good, k=chance.randint(0, 40))
     for _ in range(chance.choice([0, 0, 0, 1, 2])):

@@ -96,14 +96,15 @@ def cut_of(program: Path, text: bytes, block: int) -> Cut:
 
 
 def name_of(usage: str, kind: str) -> str:
-    """Returns what answers to a text of this kind are called: those to the input by its kind, those to FILE by the command."""
+    """Returns how answers to a text are named: those to the input by its kind, those to FILE by the command."""
     return kind if kind == READS[usage].input else usage.split()[0]
 
 
 def faults_in(usage: str, data: bytes, file: bytes, count: int) -> Iterator[tuple[str, int, Any]]:
     """Yields the faults of what a command reads, in the order in which it reads.
 
-    Of each text: its kind, the number of its fault, 0 if there is none, and what it says. A schedule is for `count` readers.
+    Of each text: its kind, the number of its fault, 0 if there is none, and what it says. A schedule is for `count`
+    readers.
     """
     reads, scenario = READS[usage], None
     if reads.input == "scenario":
@@ -118,7 +119,7 @@ def faults_in(usage: str, data: bytes, file: bytes, count: int) -> Iterator[tupl
 
 
 def case_with(usage: str, data: bytes = b"", file: bytes = b"", count: int = 1, **values: str) -> Case:
-    """Returns a command with its input and FILE: it refuses the first text with a fault, or shows what it makes of all."""
+    """Returns a command with its texts: it refuses the first that has a fault, or shows what it makes of all."""
     words, said = words_of(usage, READERS=str(count), **values), {}
     for kind, fault, said[kind] in faults_in(usage, data, file, count):
         if fault:
@@ -130,8 +131,8 @@ def case_with(usage: str, data: bytes = b"", file: bytes = b"", count: int = 1, 
 
 def rules_of(kind: str) -> set[str]:
     """Returns the answers that there are to texts of a kind."""
-    rules = set()
-    for usage, reads in ((it, READS[it]) for it in READS if READS[it].shown and kind in (READS[it].input, READS[it].file)):
+    rules, all_reads = set(), ((usage, reads) for usage, reads in READS.items() if reads.shown)
+    for usage, reads in ((usage, reads) for usage, reads in all_reads if kind in (reads.input, reads.file)):
         if kind == "checkpoint":
             numbers = {1, 2 if reads.input else 1, reads.number}
         else:
@@ -155,8 +156,9 @@ def ends_of(checkpoint: reader.Checkpoint) -> list[int]:
     """Returns numbers at the ends of the ranges that a checkpoint's amounts have."""
     total, each = reader.blocks_of(checkpoint.scenario)
     done = 4 * (checkpoint.block % each)
-    near = [-reader.MOST_A_PERIOD * done, formats.MOST_ITEMS + reader.MOST_A_PERIOD * done, -reader.MOST_A_PERIOD, formats.MOST_ITEMS,
-            done, done + formats.MOST_LEAD - 1, total, formats.MOST_COST * done, formats.MOST_COST * checkpoint.scenario["periods"]]
+    items, each_period, cost = formats.MOST_ITEMS, reader.MOST_A_PERIOD, formats.MOST_COST
+    near = [-each_period * done, items + each_period * done, -each_period, items, done, done + formats.MOST_LEAD - 1,
+            total, cost * done, cost * checkpoint.scenario["periods"]]
     return [it + step for it in near for step in (-1, 0, 1)]
 
 
@@ -164,7 +166,8 @@ def changed_file(chance: Random, cut: Cut, spelling: int) -> bytes:
     """Returns the checkpoint of a cut in a spelling, or sometimes in another, with changes."""
     others = [it for it in formats.CHECKPOINT_VERSIONS if it != spelling]
     spelling = spelling if chance.random() < 0.8 else chance.choice(others)
-    return changed.changed_checkpoint(chance, reader.text_of(cut.checkpoint._replace(spelling=spelling)), ends_of(cut.checkpoint))
+    text = reader.text_of(cut.checkpoint._replace(spelling=spelling))
+    return changed.changed_checkpoint(chance, text, ends_of(cut.checkpoint))
 
 
 def file_case(chance: Random, cuts: Sequence[Cut]) -> Case:
@@ -187,4 +190,5 @@ def file_cases(cut: Cut, checkpoint: reader.Checkpoint) -> Iterator[Case]:
     """Yields each command that reads a checkpoint, with this one of a cut in each version that it takes."""
     for usage in FILE_USAGES:
         for version in set(READS[usage].versions) & set(reader.versions_of(cut.scenario)):
-            yield case_with(usage, cut.text if READS[usage].input else b"", reader.text_of(checkpoint._replace(spelling=version)))
+            text = reader.text_of(checkpoint._replace(spelling=version))
+            yield case_with(usage, cut.text if READS[usage].input else b"", text)

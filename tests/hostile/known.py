@@ -1,13 +1,13 @@
 """The commands of the program as these tests use them: what each reads, and each with an input and the right bytes.
 
-READS and COMMANDS are the only places of these tests that know a command. Right bytes are stored reports and checkpoints, or
-texts worked by hand.
+READS and COMMANDS are the only places of these tests that know a command. Right bytes are stored reports and
+checkpoints, or texts worked by hand.
 """
 from __future__ import annotations
 
 import os
 import subprocess
-from collections.abc import Callable, Sequence
+from collections.abc import Callable, Iterable, Sequence
 from dataclasses import dataclass, replace
 from functools import cached_property
 from pathlib import Path
@@ -30,16 +30,17 @@ END = b"end,-,-,-,-\n"
 MEMORY, THREAD, READING, WRITING = map(refused, ("memory", "thread", "reading", "writing"))
 
 
-def run(program: Path, words: Sequence[str], data: bytes | int = b"", *, environment: dict[str, str] | None = None,
-        prepare: Callable[[], None] | None = None, output: Any = subprocess.PIPE) -> Shown:
+def run(program: Path, words: Sequence[str], data: bytes | int = b"", *, before: Sequence[str] = (),
+        environment: dict[str, str] | None = None, **how: Any) -> Shown:
     """Runs the program on an input, bytes or an open file, and returns what it shows.
 
-    `prepare` is called in the new process before it becomes the program.
+    `before` has the words of a command that becomes the program. How else it is started is up to subprocess.
     """
-    how: dict[str, Any] = {"input": data} if isinstance(data, bytes) else {"stdin": data}
+    how |= {"input": data} if isinstance(data, bytes) else {"stdin": data}
     how |= {"env": {**os.environ, **environment}} if environment else {}
+    pipes = {"stdout": subprocess.PIPE, "stderr": subprocess.PIPE}
     try:
-        ran = subprocess.run([program, *words], stdout=output, stderr=subprocess.PIPE, preexec_fn=prepare, timeout=SECONDS, **how)
+        ran = subprocess.run([*before, program, *words], timeout=SECONDS, check=False, **pipes | how)
     except subprocess.TimeoutExpired:
         return Shown(b"", b"", None)
     return Shown(ran.stdout or b"", ran.stderr, ran.returncode)
@@ -78,8 +79,8 @@ def trace_lines(said: dict[str, Any]) -> list[str]:
 class Reads(NamedTuple):
     """What a command reads: the kind of its input and that of FILE, empty if there is none.
 
-    It takes checkpoints of these versions, and refuses others with a number. `shown` makes of what the texts say, by their
-    kinds, the whole output or the beginnings of its lines. Without `shown` any output is right.
+    It takes checkpoints of these versions, and refuses others with a number. `shown` makes of what the texts say, by
+    their kinds, the whole output or the beginnings of its lines. Without `shown` any output is right.
     """
 
     input: str = ""
@@ -119,8 +120,8 @@ def words_of(usage: str, **values: str) -> list[str]:
 class Command:
     """A command with its input. FILE in its words stands for the path of a file with the bytes `file`.
 
-    The right output is `output`, or if that is None a text with all of `parts`; or the command is refused with `fault`. It
-    starts so many threads.
+    The right output is `output`, or if that is None a text with all of `parts`; or the command is refused with
+    `fault`. It starts so many threads.
     """
 
     name: str
@@ -160,8 +161,8 @@ class Command:
 def of_policies(count: int) -> tuple[bytes, bytes, bytes]:
     """Returns the scenario of five periods with so many policies, its report, and its checkpoint at block 1.
 
-    The policies are A and B by turns under names of their own. Each has the rows of the stored texts, since these do not
-    depend on the other policies.
+    The policies are A and B by turns under names of their own. Each has the rows of the stored texts, since these do
+    not depend on the other policies.
     """
     scenario, report, cut = (stored(f"tests/program/five_periods{it}") for it in (".toml", ".csv", "_cut.csv"))
     header, *rows = report.splitlines(keepends=True)
@@ -183,7 +184,7 @@ def runs_of_policies(count: int) -> list[Command]:
 
 
 def base_commands() -> list[Command]:
-    """Returns `run`, `leg` and `resume` of README's scenario, from its checkpoint at block 0. The oracle makes the checkpoints."""
+    """Returns `run`, `leg` and `resume` of README's scenario, from its checkpoint at block 0 by the oracle."""
     scenario, report = stored("examples/two_policies.toml"), stored("examples/two_policies.csv")
     start, end = (oracle.checkpoint(scenario.decode(), block).encode() for block in (0, 1))
     return [Command("run-of-the-base", ["run"], scenario, report, starts=2),
@@ -209,9 +210,11 @@ def all_commands() -> list[Command]:
     """Returns each command once, with its right bytes. The words of the zero key are the oracle's."""
     words = Command("words", words_of("words K0 K1 K2 K3 N"), output=oracle.words_text((0, 0, 0, 0), 0).encode())
     *olds, new = map(stored, CUTS)
-    migrations = [Command(f"migrate-of-{version}", ["migrate", "FILE"], output=new, file=old) for version, old in enumerate(olds, 1)]
+    migrations = [Command(f"migrate-of-{version}", ["migrate", "FILE"], output=new, file=old)
+                  for version, old in enumerate(olds, 1)]
     help_text = Command("help", ["help"], parts=tuple(f"\n  {it.split()[0]} ".encode() for it in formats.COMMANDS))
-    base = Command("run-of-the-stored-run", ["run"], stored("crates/crnsim/stdin"), stored("crates/crnsim/stdout"), starts=2)
+    scenario, report = stored("crates/crnsim/stdin"), stored("crates/crnsim/stdout")
+    base = Command("run-of-the-stored-run", ["run"], scenario, report, starts=2)
     return [*runs_of_policies(2), base, *migrations, words, REPLAY, help_text]
 
 
@@ -221,7 +224,8 @@ COMMANDS = all_commands()
 def refused_commands() -> list[Command]:
     """Returns commands whose words, input or file is refused."""
     scenario, _, cut = of_policies(2)
-    return [Command("run-on-a-broken-rule", ["run"], swapped(scenario, b"initial = 10\n", b"initial = -1\n"), fault="scenario 6"),
+    broken = swapped(scenario, b"initial = 10\n", b"initial = -1\n")
+    return [Command("run-on-a-broken-rule", ["run"], broken, fault="scenario 6"),
             Command("leg-on-no-document", ["leg", "1"], scenario + b"[", fault="scenario 1"),
             Command("resume-on-no-checkpoint", ["resume", "FILE"], scenario, file=cut + b"end", fault="checkpoint 1"),
             Command("resume-on-another-scenario", ["resume", "FILE"], scenario.replace(b'"P2"', b'"P3"'), file=cut,
@@ -231,6 +235,10 @@ def refused_commands() -> list[Command]:
             Command("leg-past-the-end", ["leg", "5"], scenario, fault="command line"),
             Command("no-command", ["walk"], fault="command line"),
             Command("resume-without-a-file", ["resume", "none"], scenario, fault="reading")]
+
+
+Case = tuple[str, object]
+CheckAll = Callable[[Iterable[Case]], None]
 
 
 def named(command: Command) -> str:

@@ -1,4 +1,4 @@
-"""Scenarios and checkpoints with each of their numbers at the ends of its range and one beyond, which chance may miss."""
+"""Scenarios and checkpoints with each number at the ends of its range and one beyond, which chance may miss."""
 from __future__ import annotations
 
 import copy
@@ -13,7 +13,8 @@ from tests.hostile.second_reader import MOST_A_PERIOD, Checkpoint, State, Tree
 MOST_LETTERS, MOST_WEIGHT, MOST_ITEMS = formats.MOST_LETTERS, formats.MOST_WEIGHT, formats.MOST_ITEMS
 NAMES = ["", "a", "a" * MOST_LETTERS, "a" * (MOST_LETTERS + 1), "B", "b", "A B", "azAZ09_-", "\u00e4", "a\n", "."]
 WORDS = ["0" * 16, "0" * 15, "0" * 17, "g" + "0" * 15, "F" * 16, "f" * 16, "-" + "0" * 15, " " + "0" * 15]
-WEIGHTS = [[0, 0], [0, 1], [MOST_WEIGHT, 0], [MOST_WEIGHT - 1, 1], [MOST_WEIGHT, 1], [MOST_WEIGHT + 1, 0], [-1, 2], [1], [1, 1, 1], []]
+WEIGHTS = [[0, 0], [0, 1], [MOST_WEIGHT, 0], [MOST_WEIGHT - 1, 1], [MOST_WEIGHT, 1], [MOST_WEIGHT + 1, 0], [-1, 2], [1],
+           [1, 1, 1], []]
 
 
 def a_scenario(version: int) -> Tree:
@@ -75,7 +76,8 @@ def scenario_ends() -> Iterator[Tree]:
     yield from (with_value(SCENARIO, ["policy", 0, "name"], it) for it in NAMES)
     yield from (with_value(SCENARIO, ["key", 3], it) for it in WORDS)
     yield from (with_value(SCENARIO, ["key"], ["0" * 16] * it) for it in (0, 3, 4, 5))
-    yield from (with_value(SCENARIO, ["ring"], it + step) for size in formats.RING_SIZES for it in (size, 2 * size) for step in (-1, 0, 1))
+    yield from (with_value(SCENARIO, ["ring"], it + step) for size in formats.RING_SIZES for it in (size, 2 * size)
+                for step in (-1, 0, 1))
     policy = SCENARIO["policy"][0]
     for count in around(*formats.POLICIES):
         yield with_value(SCENARIO, ["policy"], [{**policy, "name": f"P{it}"} for it in range(count)])
@@ -103,7 +105,8 @@ def state_ends(state: State, scenario: Tree, period: int) -> Iterator[State]:
     for stock in [*around(-MOST_A_PERIOD * period, top), *around(-MOST_A_PERIOD, MOST_ITEMS), state.stock]:
         yield from (state._replace(stock=stock, due=due) for due in due_ends(stock, period, top))
     yield from (state._replace(cost=it) for it in around(0, formats.MOST_COST * period))
-    yield from (state._replace(costs=[*state.costs[:-1], it]) for it in around(0, formats.MOST_COST * scenario["periods"]))
+    most = formats.MOST_COST * scenario["periods"]
+    yield from (state._replace(costs=[*state.costs[:-1], it]) for it in around(0, most))
     yield from (state._replace(costs=it) for it in (state.costs[:-1], [*state.costs, 0]))
 
 

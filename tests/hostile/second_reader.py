@@ -1,6 +1,7 @@
 """A second reader of scenarios, checkpoints and schedules: which fault a text has, and what it says.
 
-It is written from docs/FORMATS.md and shares no line with crnsim. Keys, ranges and versions are those of `crnplan.formats`.
+It is written from docs/FORMATS.md and shares no line with crnsim. Keys, ranges and versions are those of
+`crnplan.formats`.
 """
 from __future__ import annotations
 
@@ -20,9 +21,10 @@ MOST_A_PERIOD = formats.limits("demand", "values")[1]
 MOST_ROWS = formats.WEIGHT_SUMS[1]
 INTEGER = re.compile(r"0|-?[1-9][0-9]*")
 # What counts when levels are counted, and texts and comments, in which nothing does.
-PIECE = re.compile(r'"""(?:\\.|[^\\])*?"{3,5}|\'\'\'.*?\'{3,5}|"(?:\\.|[^"\\])*"|\'[^\']*\'|#[^\n]*|[][{}.=,\n]', re.DOTALL)
-# What TOML 1.1 takes and 1.0, which Python's reader knows, does not: a comma or a line's end before the end of an inline
-# table, two escapes, and a time without seconds.
+PIECE = re.compile(r'"""(?:\\.|[^\\])*?"{3,5}|\'\'\'.*?\'{3,5}|"(?:\\.|[^"\\])*"|\'[^\']*\'|#[^\n]*|[][{}.=,\n]',
+                   re.DOTALL)
+# What TOML 1.1 takes and 1.0, which Python's reader knows, does not: a comma or a line's end before the end of an
+# inline table, two escapes, and a time without seconds.
 NEWER = re.compile(rb",\s*}|{[^}]*\n|\\[ex]|[0-9]{2}:[0-9]{2}")
 
 
@@ -115,7 +117,8 @@ def policies_faults(value: Any, keys: formats.Shape) -> set[int]:
         return {5}
     least, most = formats.POLICIES
     faults: set[int] = set().union(*(table_faults(it, keys) for it in value if isinstance(it, dict)))
-    return faults | list_faults(value, lambda it: isinstance(it, dict)) | (set() if least <= len(value) <= most else {13})
+    faults |= set() if least <= len(value) <= most else {13}
+    return faults | list_faults(value, lambda it: isinstance(it, dict))
 
 
 def value_faults(value: Any, kind: str, *more: Any) -> set[int]:
@@ -169,7 +172,8 @@ def scenario_of(data: bytes) -> tuple[int, Tree | None]:
     if not is_integer(tree.get("version")) or tree["version"] not in formats.VERSIONS:
         return 2, None
     faults = table_faults(tree, formats.SHAPES[tree["version"]])
-    # Values are compared with each other only if each is of its kind. The faults up to 5 are below those that this finds.
+    # Values are compared with each other only if each is of its kind. The faults up to 5 are below those that this
+    # finds.
     if not faults & {3, 4, 5}:
         faults |= policy_faults(tree["policy"])
         faults = faults.union(*(draw_faults(tree[it]) for it in formats.DRAWS if it in tree))
@@ -180,7 +184,7 @@ def scenario_of(data: bytes) -> tuple[int, Tree | None]:
 
 
 class State(NamedTuple):
-    """The state of a policy: its stock, its running cost, its outstanding orders by period, and costs of replications."""
+    """The state of a policy: stock, running cost, outstanding orders by period, and costs of replications."""
 
     stock: int
     cost: int
@@ -243,7 +247,8 @@ class Rows:
 
 def draws_of(rows: Rows, kind: str, count: int, table: str) -> Tree:
     """Reads values with their weights, a row each."""
-    pairs = [rows.numbers(kind, formats.limits(table, "values"), formats.limits(table, "weights")) for _ in range(count)]
+    limits = [formats.limits(table, it) for it in ("values", "weights")]
+    pairs = [rows.numbers(kind, *limits) for _ in range(count)]
     draws = {"values": [it[0] for it in pairs], "weights": [it[1] for it in pairs]}
     demand_that(pairs and not draw_faults(draws))
     return draws
@@ -336,7 +341,8 @@ def versions_of(scenario: Tree) -> list[int]:
     return [it for it in formats.CHECKPOINT_VERSIONS if it > 1 or "returns" not in scenario]
 
 
-def checkpoint_fault(checkpoint: Checkpoint | None, versions: Collection[int], number: int, scenario: Tree | None = None) -> int:
+def checkpoint_fault(checkpoint: Checkpoint | None, versions: Collection[int], number: int,
+                     scenario: Tree | None = None) -> int:
     """Returns the number with which a command refuses a checkpoint, 0 if it takes it.
 
     The command takes these versions, and refuses others with this number. It may read a scenario too.

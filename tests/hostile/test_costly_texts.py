@@ -1,8 +1,8 @@
 """Texts of 1,048,576 bytes that are made to cost time or memory.
 
-Each is answered within a second of processor time and 128 MB, by each command that reads texts of its kind. Scenarios of many
-small tables are beyond that, as the program's reader of TOML takes a kilobyte for each table, and a table needs two bytes. They
-have limits of their own.
+Each is answered within a second of processor time and 128 MB, by each command that reads texts of its kind. Scenarios
+of many small tables are beyond that, as the program's reader of TOML takes a kilobyte for each table, and a table needs
+two bytes. They have limits of their own.
 """
 from __future__ import annotations
 
@@ -115,7 +115,8 @@ def scenario_texts() -> Iterator[tuple[str, Text]]:
         "a name of a million bytes": (11, filled(b"n", tables + b'[[policy]]\ns = 1\nS = 1\nname = "', b'"\n')),
         "a text of many lines": (3, filled(b"\n", GOOD + b'name = """', b'"""\n')),
         "many demands": (7, filled(b"0,", before + mark, after)),
-        "many quoted names": (11, listed(lambda it: b'{name="\\u004%d",s=1,S=1},' % (it % 10), front + b"policy=[", b"]")),
+        "many quoted names":
+            (11, listed(lambda it: b'{name="\\u004%d",s=1,S=1},' % (it % 10), front + b"policy=[", b"]")),
     }
     yield from ((name, Text(make, f"scenario {rule}")) for name, (rule, make) in faulty.items())
     good = {"many comments": filled(b"#\n", end=GOOD), "one long comment": filled(b"#", end=b"\n" + GOOD),
@@ -207,8 +208,8 @@ def files() -> Iterator[object]:
 def check_cost(program: Path, room: Path, usage: str, text: Text, data: bytes) -> None:
     """Checks the fault of a text, and what the run takes."""
     (room / "input").write_bytes(data)
-    words = words_of(usage, FILE=str(room / "FILE"), **text.values)
-    took = subprocess.run([sys.executable, "-S", COST, room / "input", room / "errors", program, *words], capture_output=True,
+    measured = [program, *words_of(usage, FILE=str(room / "FILE"), **text.values)]
+    took = subprocess.run([sys.executable, "-S", COST, room / "input", room / "errors", *measured], capture_output=True,
                           check=True).stdout.split()
     line = f"crnsim: {text.fault}\n".encode() if text.fault else b""
     assert (int(took[2]), (room / "errors").read_bytes()) == (formats.status_of(text.fault), line)

@@ -9,14 +9,14 @@ from pathlib import Path
 
 import pytest
 
-from tests.hostile.known import unlike
+from tests.hostile.known import CheckAll, unlike
 from tests.runs import SECONDS, Shown, written
 from tests.stored import on_ring, stored
 
 PROCESSES = 100
 BUSY = 4
-# Sizes of rings, and for each how many runs go on, one after the other, while other processes are busy on the same processor. On
-# a ring of one block each block waits for a turn of every thread, so one run takes some ten seconds.
+# Sizes of rings, and for each how many runs go on, one after the other, while other processes are busy on the same
+# processor. On a ring of one block each block waits for a turn of every thread, so one run takes some ten seconds.
 RINGS = {1: 1, 16: 3, 1024: 3}
 WANTED = written(stored("examples/spare_part.csv"))
 
@@ -31,8 +31,9 @@ def scenario(room: Path, ring: int) -> Path:
 
 def begun(program: Path, file: Path, prepare: Callable[[], None] | None = None) -> subprocess.Popen[bytes]:
     """Starts a process that runs on a file."""
+    pipe = subprocess.PIPE
     with file.open("rb") as data:
-        return subprocess.Popen([program], stdin=data, stdout=subprocess.PIPE, stderr=subprocess.PIPE, preexec_fn=prepare)
+        return subprocess.Popen([program], stdin=data, stdout=pipe, stderr=pipe, preexec_fn=prepare)
 
 
 def ended(process: subprocess.Popen[bytes], seconds: float) -> Shown:
@@ -48,7 +49,7 @@ def ended(process: subprocess.Popen[bytes], seconds: float) -> Shown:
 
 @pytest.mark.serial
 @pytest.mark.parametrize("ring", RINGS)
-def test_many_processes(program: Path, scenario: Path, check_all: Callable[[Iterator[tuple[str, object]]], None]) -> None:
+def test_many_processes(program: Path, scenario: Path, check_all: CheckAll) -> None:
     """A hundred processes at once write the same report."""
     processes = [begun(program, scenario) for _ in range(PROCESSES)]
     shown = [ended(it, SECONDS) for it in processes]
@@ -63,7 +64,8 @@ def stay() -> None:
 @pytest.fixture
 def busy_processor() -> Iterator[None]:
     """Keeps one processor busy."""
-    processes = [subprocess.Popen([sys.executable, "-S", "-c", "while True: pass"], preexec_fn=stay) for _ in range(BUSY)]
+    words = [sys.executable, "-S", "-c", "while True: pass"]
+    processes = [subprocess.Popen(words, preexec_fn=stay) for _ in range(BUSY)]
     yield
     for process in processes:
         process.kill()

@@ -2,7 +2,7 @@
 from __future__ import annotations
 
 import collections
-from collections.abc import Callable, Iterator
+from collections.abc import Callable
 from pathlib import Path
 from random import Random
 
@@ -11,72 +11,63 @@ from hypothesis import assume, given, note, settings
 from hypothesis import strategies as st
 
 from tests.hostile import changed, document_edges, range_ends
-from tests.hostile.judged import CUTS, SCENARIOS, Case, Cut, cut_of, file_case, file_cases, rules_of, scenario_case, schedule_case
+from tests.hostile.judged import (CUTS, SCENARIOS, Case, Cut, cut_of, file_case, file_cases, rules_of, scenario_case,
+                                  schedule_case)
+from tests.hostile.known import CheckAll
 from tests.hostile.second_reader import is_for_both
-from tests.hostile.test_refusals import CheckAll
 from tests.stored import stored
 
-Judge = Callable[[Case], None]
-EDGES = {"marks": document_edges.mark_texts, "encodings": document_edges.encoded_texts, "numbers": document_edges.number_texts,
-         "levels": document_edges.level_texts}
+EDGES = {"marks": document_edges.mark_texts, "encodings": document_edges.encoded_texts,
+         "numbers": document_edges.number_texts, "levels": document_edges.level_texts}
 CHANCE, SEEDS = st.randoms(use_true_random=False), st.integers(0, 2**32)
 
 
 @pytest.fixture
-def judge(program: Path, room: Path, request: pytest.FixtureRequest) -> Iterator[Judge]:
-    """Returns a function that judges a case. At the end, each answer that there is to texts of the test's kind was wanted."""
-    met: collections.Counter[str] = collections.Counter()
+def judge_all(program: Path, room: Path, record_property: Callable[[str, object], None]) -> Callable[..., None]:
+    """Returns a function that judges so many cases of a kind of text, which a strategy draws.
 
-    def check(case: Case) -> None:
-        met[case.rule] += 1
-        verdict = case.verdict(program, room)
-        note(f"{case.words}, input {case.data!r}, FILE {case.file!r}")
-        assert verdict is True
+    Together they want each answer that there is to texts of that kind.
+    """
+    def judge(kind: str, count: int, cases: st.SearchStrategy[Case]) -> None:
+        met: collections.Counter[str] = collections.Counter()
 
-    yield check
-    request.node.user_properties.append(("cases", met.total()))
-    assert not rules_of(request.param) - met.keys()
+        @settings(max_examples=count)
+        @given(cases)
+        def is_answered(case: Case) -> None:
+            met[case.rule] += 1
+            note(f"input {case.data!r}, FILE {case.file!r}")
+            assert case.verdict(program, room) is True
+
+        is_answered()
+        record_property("cases", met.total())
+        assert sorted(rules_of(kind) - met.keys()) == []
+
+    return judge
 
 
-@pytest.fixture(scope="session")
-def cuts(program: Path) -> list[Cut]:
-    """Returns the checkpoints that are changed."""
-    return [cut_of(program, text, block) for text, blocks in CUTS.values() for block in blocks]
+@st.composite
+def scenario_cases(draw: st.DrawFn) -> Case:
+    """Draws a scenario whose tree or bytes are changed."""
+    chance = draw(CHANCE)
+    text = changed.changed_scenario(chance, draw(SEEDS), SCENARIOS)
+    assume(is_for_both(text))
+    return scenario_case(chance, text)
 
 
-@pytest.mark.parametrize("judge", ["scenario"], indirect=True)
-def test_changed_scenarios(judge: Judge) -> None:
+def test_changed_scenarios(judge_all: Callable[..., None]) -> None:
     """A scenario whose tree or bytes are changed."""
-    @settings(max_examples=1000)
-    @given(CHANCE, SEEDS)
-    def check(chance: Random, seed: int) -> None:
-        text = changed.changed_scenario(chance, seed, SCENARIOS)
-        assume(is_for_both(text))
-        judge(scenario_case(chance, text))
-
-    check()
+    judge_all("scenario", 1000, scenario_cases())
 
 
-@pytest.mark.parametrize("judge", ["checkpoint"], indirect=True)
-def test_changed_checkpoints(judge: Judge, cuts: list[Cut]) -> None:
-    """A checkpoint whose bytes are changed."""
-    @settings(max_examples=700)
-    @given(CHANCE)
-    def check(chance: Random) -> None:
-        judge(file_case(chance, cuts))
-
-    check()
+def test_changed_checkpoints(judge_all: Callable[..., None], program: Path) -> None:
+    """A checkpoint whose bytes are changed, beside a scenario that sometimes is."""
+    cuts = [cut_of(program, text, block) for text, blocks in CUTS.values() for block in blocks]
+    judge_all("checkpoint", 700, CHANCE.map(lambda chance: file_case(chance, cuts)))
 
 
-@pytest.mark.parametrize("judge", ["schedule"], indirect=True)
-def test_changed_schedules(judge: Judge) -> None:
+def test_changed_schedules(judge_all: Callable[..., None]) -> None:
     """A schedule with lines of another form."""
-    @settings(max_examples=300)
-    @given(CHANCE)
-    def check(chance: Random) -> None:
-        judge(schedule_case(chance))
-
-    check()
+    judge_all("schedule", 300, CHANCE.map(schedule_case))
 
 
 @pytest.mark.parametrize("texts", EDGES)
@@ -100,7 +91,10 @@ def test_damaged_scenarios(program: Path, room: Path, check_all: CheckAll) -> No
     check_all((repr(text), scenario_case(chance, text).verdict(program, room)) for text in texts)
 
 
-@pytest.mark.parametrize("name, block", [("long_leads", 1), ("long_leads", 8), ("with_returns", 1), ("with_returns", 5)])
+ENDED = [("long_leads", 1), ("long_leads", 8), ("with_returns", 1), ("with_returns", 5)]
+
+
+@pytest.mark.parametrize("name, block", ENDED)
 def test_ends_of_checkpoints(program: Path, room: Path, check_all: CheckAll, name: str, block: int) -> None:
     """A checkpoint with a number at an end of its range, or just beyond."""
     cut = cut_of(program, CUTS[name][0], block)

@@ -1,13 +1,13 @@
 """Limits on address space and on stack, from a size in which no process comes up to one in which all is right.
 
-A process is up once the loader has done its work: below, the loader says that it can't map a library, or the system ends the
-process before it could say anything. The stack of a process grows within its address space as well; if it can't, the system ends
-the process. From some room for that on, the result under a limit on address space is the right bytes, or that memory or a thread
-was refused. So a stack that is too small by itself has no answer, but nothing is written.
+A process is up once the loader has done its work: below, the loader says that it can't map a library, or the system
+ends the process before it could say anything. The stack of a process grows within its address space as well; if it
+can't, the system ends the process. From some room for that on, the result under a limit on address space is the right
+bytes, or that memory or a thread was refused. So a stack that is too small by itself has no answer, but nothing is
+written.
 """
 from __future__ import annotations
 
-import resource
 import signal
 from collections.abc import Iterator
 from dataclasses import replace
@@ -15,8 +15,8 @@ from pathlib import Path
 
 import pytest
 
-from tests.hostile.known import COMMANDS, LIMIT, MEMORY, THREAD, Command, named, run, runs_of_policies, unlike
-from tests.hostile.test_refusals import Case, CheckAll
+from tests.hostile.known import (COMMANDS, LIMIT, MEMORY, THREAD, Case, CheckAll, Command, named, run, runs_of_policies,
+                                 unlike)
 from tests.runs import Shown
 from tests.stored import stored
 
@@ -43,14 +43,9 @@ def long_commands() -> list[Command]:
             Command("long-replay", ["replay", "1", "1", "0"], b"e\n" * (LIMIT // 2), trace)]
 
 
-def limited(program: Path, command: Command, kind: int, kilobytes: int) -> Shown:
-    """Returns what a run of a command shows under a limit."""
-    def prepare() -> None:
-        _, most = resource.getrlimit(kind)
-        size = 1024 * kilobytes
-        resource.setrlimit(kind, (size if most == resource.RLIM_INFINITY else min(size, most), most))
-
-    return run(program, command.words, command.data, prepare=prepare)
+def limited(program: Path, command: Command, kind: str, kilobytes: int) -> Shown:
+    """Returns what a run of a command shows under a limit on `as`, its address space, or `stack`."""
+    return run(program, command.words, command.data, before=["prlimit", f"--{kind}={1024 * kilobytes}:"])
 
 
 def is_ended(shown: Shown) -> bool:
@@ -67,18 +62,17 @@ def is_up(shown: Shown) -> bool:
 def least_address(program: Path) -> int:
     """Returns the least of the address spaces in which a process comes up."""
     command = next(it for it in COMMANDS if it.name == "help")
-    return next(it for it in ADDRESSES if is_up(limited(program, command, resource.RLIMIT_AS, it)))
+    return next(it for it in ADDRESSES if is_up(limited(program, command, "as", it)))
 
 
-@pytest.mark.parametrize("command, sizes", [(it, ADDRESSES) for it in COMMANDS + long_commands()] + [(it, ADDRESSES_OF_16) for it in OF_16],
-                         ids=lambda it: it.name if isinstance(it, Command) else "")
-def test_limited_address_space(program: Path, room: Path, check_all: CheckAll, least_address: int, command: Command,
-                               sizes: list[int]) -> None:
+@pytest.mark.parametrize("command", COMMANDS + long_commands() + OF_16, ids=named)
+def test_limited_address_space(program: Path, room: Path, check_all: CheckAll, least_address: int,
+                               command: Command) -> None:
     """Under rising limits, once the process is up and has its stack, its results are its own, and at last right."""
     def cases() -> Iterator[Case]:
         its, seen = command.in_room(room), []
-        for size in sizes:
-            shown = limited(program, its, resource.RLIMIT_AS, size)
+        for size in ADDRESSES_OF_16 if command.starts == 16 else ADDRESSES:
+            shown = limited(program, its, "as", size)
             seen.append(shown)
             good = shown == MEMORY or (shown == THREAD and its.starts > 0) or its.is_right(shown)
             good = good or (size < least_address + STACK_ROOM and (is_ended(shown) or not is_up(shown)))
@@ -97,7 +91,7 @@ def test_limited_stack(program: Path, room: Path, check_all: CheckAll, command: 
     def cases() -> Iterator[Case]:
         its = command.in_room(room)
         for size in SMALL_STACKS + LARGE_STACKS + HUGE_STACKS:
-            shown = limited(program, its, resource.RLIMIT_STACK, size)
+            shown = limited(program, its, "stack", size)
             good = its.is_right(shown) or (size in SMALL_STACKS and is_ended(shown))
             # A thread cannot get a stack that is larger than all address space.
             good = good or (size in HUGE_STACKS and shown == THREAD and its.starts > 0)

@@ -4,17 +4,16 @@ The library is tests/preload.c.
 """
 from __future__ import annotations
 
-from collections.abc import Callable, Iterator
+from collections.abc import Iterator
 from pathlib import Path
 
 import pytest
 
-from tests.hostile.known import COMMANDS, MEMORY, THREAD, Command, base_commands, named, refused_commands, run, runs_of_policies, unlike
+from tests.hostile.known import (COMMANDS, MEMORY, THREAD, Case, CheckAll, Command, base_commands, named,
+                                 refused_commands, run, runs_of_policies, unlike)
 from tests.preload import Counts, counts_of, environment
 from tests.runs import Shown
 
-Case = tuple[str, bool | str]
-CheckAll = Callable[[Iterator[Case]], None]
 BASE = base_commands()
 # Runs of so many policies have starts of threads refused.
 STARTED = BASE + [it for count in (1, 2, 3, 16) for it in runs_of_policies(count)]
@@ -34,7 +33,7 @@ def counted(program: Path, command: Command, library: Path, room: Path, **rules:
 
 
 def keeps_nothing(counts: Counts | None) -> bool | str:
-    """Returns the verdict on a run's end, whatever was refused: each started thread is joined, and all memory is freed."""
+    """Returns the verdict on a run's end: each started thread is joined and all memory freed, whatever was refused."""
     if counts is None:
         return "the process did not come to its end"
     if counts.started != counts.joined:
@@ -50,7 +49,7 @@ def has_threads(counts: Counts | None, asked: int, started: int) -> bool | str:
 
 
 def of_refused_start(shown: Shown, counts: Counts | None, number: int) -> bool | str:
-    """Returns the verdict on a run whose start of a thread was refused: it shows that, and the starts before were made."""
+    """Returns the verdict on a run whose start of a thread was refused: it shows that, after all starts before."""
     if shown != THREAD:
         return f"start {number} of a thread was refused: {unlike(shown)}"
     if counts and counts.started != number - 1:
@@ -61,8 +60,8 @@ def of_refused_start(shown: Shown, counts: Counts | None, number: int) -> bool |
 def without_memory(command: Command, shown: Shown, counts: Counts | None, start: int | None) -> bool | str:
     """Returns the verdict on a run of which requests for memory were refused.
 
-    It shows the right bytes, or that memory was refused. If the start of a thread, with this number, made the first of the
-    requests, it shows that a thread was refused.
+    It shows the right bytes, or that memory was refused. If the start of a thread, with this number, made the first of
+    the requests, it shows that a thread was refused.
     """
     if start:
         return of_refused_start(shown, counts, start)
@@ -71,8 +70,9 @@ def without_memory(command: Command, shown: Shown, counts: Counts | None, start:
 
 @pytest.mark.parametrize("onward", ["", "+"], ids=["one", "all_later"])
 @pytest.mark.parametrize("command", BASE + COMMANDS + refused_commands(), ids=named)
-def test_refused_memory(program: Path, preload_library: Path, room: Path, check_all: CheckAll, command: Command, onward: str) -> None:
-    """Each request for memory of a command is refused in turn, alone or with all later ones, until a run meets no refusal.
+def test_refused_memory(program: Path, preload_library: Path, room: Path, check_all: CheckAll, command: Command,
+                        onward: str) -> None:
+    """Each request for memory is refused in turn, alone or with all later ones, until a run meets no refusal.
 
     That run is right, and its requests are as many as were refused in turn.
     """
@@ -86,13 +86,15 @@ def test_refused_memory(program: Path, preload_library: Path, room: Path, check_
             if (counts and not counts.memory_refused) or (not counts and its.is_right(shown)):
                 break
             yield f"memory {number}{onward}", without_memory(its, shown, counts, whole.start_of(number))
-        yield f"all {number - 1} requests", bool(its.is_right(shown) and counts and counts.memory == number - 1) or unlike(shown)
+        right = its.is_right(shown) and counts is not None and counts.memory == number - 1
+        yield f"all {number - 1} requests", right or unlike(shown)
 
     check_all(cases())
 
 
 @pytest.mark.parametrize("command", STARTED, ids=named)
-def test_refused_starts(program: Path, preload_library: Path, room: Path, check_all: CheckAll, command: Command) -> None:
+def test_refused_starts(program: Path, preload_library: Path, room: Path, check_all: CheckAll,
+                        command: Command) -> None:
     """Each start of a thread is refused in turn: no other is asked for after it."""
     def cases() -> Iterator[Case]:
         its = command.in_room(room)

@@ -1,9 +1,9 @@
 """Refuses the requests of calls that no command makes alone: tests of the crate tests_ring, as the gate has built them.
 
-Whatever is refused, each started thread is joined, and all memory is freed. One test opens a ring: if an allocation fails,
-opening it returns a memory fault and keeps nothing. Another runs two policies twice from one start: if an allocation or a
-thread start of the first run fails, the start is as before, and the second run is right. A third prints the fault of a run: that
-of a thread if a request that a thread's start makes was refused, and otherwise that of memory.
+Whatever is refused, each started thread is joined, and all memory is freed. One test opens a ring: if an allocation
+fails, opening it returns a memory fault and keeps nothing. Another runs two policies twice from one start: if an
+allocation or a thread start of the first run fails, the start is as before, and the second run is right. A third prints
+the fault of a run: that of a thread if a request that a thread's start makes was refused, and otherwise that of memory.
 """
 from __future__ import annotations
 
@@ -12,8 +12,8 @@ from pathlib import Path
 
 import pytest
 
-from tests.hostile.known import Command, unlike
-from tests.hostile.test_refusals import MOST, Case, CheckAll, counted, keeps_nothing
+from tests.hostile.known import Case, CheckAll, Command, unlike
+from tests.hostile.test_refusals import MOST, counted, keeps_nothing
 from tests.preload import Counts
 from tests.runs import Shown
 

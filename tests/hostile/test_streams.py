@@ -4,8 +4,6 @@ from __future__ import annotations
 import ctypes
 import fcntl
 import os
-import resource
-import signal
 import subprocess
 import termios
 import threading
@@ -13,13 +11,14 @@ import time
 from collections.abc import Callable, Iterator
 from dataclasses import replace
 from pathlib import Path
+from typing import Any
 
 import pytest
 from crnplan import formats
 
 from tests.hostile import second_reader as reader
-from tests.hostile.known import COMMANDS, LIMIT, READING, REPLAY, WRITING, Command, named, run, unlike
-from tests.hostile.test_refusals import Case, CheckAll
+from tests.hostile.known import (COMMANDS, LIMIT, READING, REPLAY, WRITING, Case, CheckAll, Command, named, run,
+                                 unlike)
 from tests.runs import SECONDS, Shown, as_wanted, refused, written
 
 # Each of so many bytes is the last one that goes out in a test.
@@ -34,10 +33,10 @@ Answer = Callable[..., Shown]
 
 @pytest.fixture
 def answer(program: Path, room: Path) -> Answer:
-    """Returns a function that runs a command, with a `prepare`, an `output` or another input `data`."""
-    def ask(command: Command, data: bytes | int | None = None, **how: object) -> Shown:
+    """Returns a function that runs a command, also on another input, or started in another way."""
+    def ask(command: Command, data: bytes | int | None = None, **how: Any) -> Shown:
         its = command.in_room(room)
-        return run(program, its.words, its.data if data is None else data, **how)  # type: ignore[arg-type]
+        return run(program, its.words, its.data if data is None else data, **how)
 
     return ask
 
@@ -67,7 +66,7 @@ def dribble(text: bytes, end: int) -> None:
 def test_input_that_cannot_be_read(answer: Answer, top: Path, command: Command, kind: str) -> None:
     """A command that reads its input fails; another does not care."""
     if kind == "closed":
-        shown = answer(command, subprocess.DEVNULL, prepare=lambda: os.close(0))
+        shown = answer(command, subprocess.DEVNULL, preexec_fn=lambda: os.close(0))
     else:
         folder = os.open(top, os.O_RDONLY)
         shown = answer(command, folder)
@@ -108,7 +107,7 @@ def test_input_that_is_cut_off(answer: Answer, check_all: CheckAll, command: Com
 
 
 def is_prefix(whole: bytes, size: int, shown: Shown, may_all_be_taken: bool) -> bool | str:
-    """Returns the verdict on a run of whose output so many bytes were taken: a failure to write the others is reported."""
+    """Returns the verdict on a run of whose output so many bytes were taken: if there are others, that is reported."""
     ends = [WRITING[1:]] if size < len(whole) else [(b"", 0)]
     if may_all_be_taken:
         ends = [WRITING[1:], (b"", 0)]
@@ -116,7 +115,7 @@ def is_prefix(whole: bytes, size: int, shown: Shown, may_all_be_taken: bool) -> 
 
 
 def run_to_leaver(program: Path, command: Command, room: Path, count: int) -> Shown:
-    """Returns what a run shows whose reader leaves after so many bytes, or before it begins. The output is what it got."""
+    """Returns what a run shows, with the output that its reader got, who leaves after so many bytes, or before."""
     (room / "input").write_bytes(command.data)
     read_end, write_end = os.pipe()
     if count == 0:
@@ -141,10 +140,10 @@ def run_to_leaver(program: Path, command: Command, room: Path, count: int) -> Sh
 def test_output_that_cannot_be_written(answer: Answer, command: Command, kind: str) -> None:
     """The failure is reported."""
     if kind == "closed":
-        shown = answer(command, prepare=lambda: os.close(1))
+        shown = answer(command, preexec_fn=lambda: os.close(1))
     else:
         with open("/dev/full", "wb") as full:
-            shown = answer(command, output=full)
+            shown = answer(command, stdout=full)
     assert as_wanted(shown, WRITING) is True
 
 
@@ -152,22 +151,22 @@ def test_output_that_cannot_be_written(answer: Answer, command: Command, kind: s
 def test_output_to_a_file_that_is_full(answer: Answer, room: Path, check_all: CheckAll, command: Command) -> None:
     """A file takes the first bytes of the output, and then no more."""
     def of_size(size: int) -> Shown:
-        def prepare() -> None:
-            signal.signal(signal.SIGXFSZ, signal.SIG_IGN)
-            resource.setrlimit(resource.RLIMIT_FSIZE, (size, size))
-
+        # Python ignores the signal that a file is too long, and so does the program if it is not restored.
+        limit = {"before": ["prlimit", f"--fsize={size}"], "restore_signals": False}
         with open(room / "output", "w+b") as output:
-            shown = answer(command, prepare=prepare, output=output)
+            shown = answer(command, stdout=output, **limit)
             output.seek(0)
             return shown._replace(output=output.read())
 
     # No text of the help is stored, so its prefixes are those of what was found to have the right parts.
     whole = command.output or answer(command).output
-    check_all((f"to a file of {size} bytes", is_prefix(whole, size, of_size(size), False)) for size in range(min(BYTES, len(whole)) + 1))
+    check_all((f"to a file of {size} bytes", is_prefix(whole, size, of_size(size), False))
+              for size in range(min(BYTES, len(whole)) + 1))
 
 
 @pytest.mark.parametrize("command", COMMANDS, ids=named)
-def test_output_whose_reader_leaves(program: Path, room: Path, answer: Answer, check_all: CheckAll, command: Command) -> None:
+def test_output_whose_reader_leaves(program: Path, room: Path, answer: Answer, check_all: CheckAll,
+                                    command: Command) -> None:
     """A pipe takes a short text whole, unless its reader has left before: then either end is right."""
     its, whole = command.in_room(room), command.output or answer(command).output
     check_all((f"leaves after {size} bytes", is_prefix(whole, size, run_to_leaver(program, its, room, size), size > 0))
@@ -183,10 +182,10 @@ def test_long_output_whose_reader_leaves(program: Path, room: Path, check_all: C
               for size in range(BYTES + 1))
 
 
-@pytest.mark.parametrize("prepare", [lambda: os.close(2), lambda: os.dup2(os.open("/dev/full", os.O_WRONLY), 2)], ids=["closed", "full"])
-def test_errors_that_cannot_be_written(program: Path, prepare: Callable[[], None]) -> None:
+@pytest.mark.parametrize("redirection", ["2>&-", "2>/dev/full"], ids=["closed", "full"])
+def test_errors_that_cannot_be_written(program: Path, redirection: str) -> None:
     """If the line of a fault can't be written, its status is still right."""
-    shown = run(program, ["run"], b"version = 0\n", prepare=prepare)
+    shown = run(program, ["run"], b"version = 0\n", before=["sh", "-c", f'exec "$0" "$@" {redirection}'])
     assert shown == Shown(b"", b"", formats.status_of("scenario"))
 
 
@@ -209,7 +208,7 @@ def test_file_that_cannot_be_read(program: Path, room: Path, command: Command, k
     command.in_room(room)
     if kind == "unreadable":
         file.chmod(0)
-    assert as_wanted(run(program, [command.words[0], str(file)], command.data, prepare=prepare), READING) is True
+    assert as_wanted(run(program, [command.words[0], str(file)], command.data, preexec_fn=prepare), READING) is True
 
 
 @pytest.mark.parametrize("command", FILE_COMMANDS, ids=named)
@@ -239,7 +238,7 @@ def test_longest_file(answer: Answer, command: Command, more: int) -> None:
 
 @pytest.mark.parametrize("command", [it for it in COMMANDS if it.reads.input == "scenario"], ids=named)
 def test_longest_scenario(answer: Answer, command: Command) -> None:
-    """An input of the most bytes is read, and one of a byte more is not. The scenario stands at its end, behind comments."""
+    """An input of the most bytes is read, and one of a byte more is not. The scenario stands behind comments."""
     text = (b"#" * 99 + b"\n") * (LIMIT // 100)
     text = text[:LIMIT - len(command.data) - 1] + b"\n" + command.data
     assert command.is_right(answer(command, text))

@@ -1,8 +1,8 @@
 """tools/rounds.py fails when it must.
 
-A small crate is proved in a temporary repository and given wrong implementations, one set after another. Those that are refused
-for a reason of their own pass, and every other kind fails by its name. So do those that a test must see, with a program and tests
-that are scripts.
+A small crate is proved in a temporary repository and given wrong implementations, one set after another. Those that are
+refused for a reason of their own pass, and every other kind fails by its name. So do those that a test must see, with a
+program and tests that are scripts.
 """
 from __future__ import annotations
 
@@ -124,7 +124,8 @@ NO_TYPE = ("following", "    1 + n\n", "    1 + true\n")
 NO_FUNCTION = ("follows", "    1 + n\n", "    2 + n\n")
 NO_TEXT = ("following", "    3 + n\n", "    2 + n\n")
 
-# Each case: its name, the edits by name, what becomes of each ("" if it passes, else a part of the message), and a prover.
+# Each case: its name, the edits by name, what becomes of each ("" if it passes, else a part of the message), and a
+# prover.
 CASES = [
     ("edits that are refused, two of them in one function, one of a constant",
      {"next": TWO_MORE, "again": ("next", "    n + 1\n", "    n\n"), "following": OTHER_FOLLOWS, "above": ANOTHER_SUM,
@@ -136,17 +137,22 @@ CASES = [
      {"next": "", "harmless": "it is not refused: following is still proved",
       "constant": "it is not refused: step is still proved",
       "name": "above is refused only because its proof file names what the edit took away",
-      "above": "above is not refused by itself", "text": "stands 0 times", "function": "there is no function follows"}, None),
+      "above": "above is not refused by itself", "text": "stands 0 times", "function": "there is no function follows"},
+     None),
     ("edits of the arms of one function", {"up": UP, "down": DOWN}, {"up": "", "down": ""}, None),
     ("edits of arms that show nothing", {"up": UP, "stay": HARMLESS_STAY, "other": UP_AS_STAY},
-     {"up": "", "stay": "it is not refused: moved is still proved", "other": "no goal of the arm Stay of moved is open"}, None),
+     {"up": "", "stay": "it is not refused: moved is still proved",
+      "other": "no goal of the arm Stay of moved is open"},
+     None),
     ("edits that are hidden by one that does not compile", {"type": NO_TYPE, "next": TWO_MORE, "above": ANOTHER_SUM},
      {"type": "its check ended with status", "next": "", "above": ""}, None),
     ("a name that is gone, which the second line of an error says", {"above": ANOTHER_SUM},
      {"above": "above is refused only because its proof file names what the edit took away"}, TELLS_IN_TWO_LINES),
     ("names of functions that are not there, without a control",
-     {"next": TWO_MORE, "function": NO_FUNCTION, "other": ("folows", "    1 + n\n", "    3 + n\n"), "above": ANOTHER_SUM},
-     {"next": "", "function": "there is no function follows", "other": "there is no function folows", "above": ""}, NO_CONTROL),
+     {"next": TWO_MORE, "function": NO_FUNCTION, "other": ("folows", "    1 + n\n", "    3 + n\n"),
+      "above": ANOTHER_SUM},
+     {"next": "", "function": "there is no function follows", "other": "there is no function folows", "above": ""},
+     NO_CONTROL),
     ("a prover that crashes", {"next": TWO_MORE}, {"next": "its check was killed by signal 11"}, CRASHES),
     ("a prover that is cut off", {"next": TWO_MORE}, {"next": "its check was killed by signal 9"}, HANGS),
     ("a prover that ends without a verdict", {"next": TWO_MORE}, {"next": "and no verdict"}, IS_SILENT),
@@ -173,9 +179,14 @@ echo '2 passed, 0 failed'
 """
 BROKEN = "#!/bin/sh\necho 'FAILED sums: next'\necho '0 passed, 1 failed'\nexit 1\n"
 BREAKS_OFF = "#!/bin/sh\necho 'no such file'\nexit 2\n"
-BY_PART, BY_CRATE = "seen by: tests/part PROGRAM\nfails: sums: next\n", "seen by: tiny sums\n"
 OTHER_SUM = "file: src/lib.rt\nold:     n + 1\nnew:     n + 2\n"
+OTHER_PROOF = "file: proofs/above/Answers.antt\nold: first_is c = c\nnew: first_is c =  c\n"
 SAME_SUM = "file: src/lib.rt\nold:         Way::Stay => n,\nnew:         Way::Stay => n + 0,\n"
+
+
+def seen_by(command: str, fails: str = "sums: next") -> str:
+    """Returns the lines of an edit on the command that must see it."""
+    return f"seen by: {command}\nfails: {fails}\n"
 
 
 def sum_with(number: int) -> str:
@@ -183,23 +194,25 @@ def sum_with(number: int) -> str:
     return f"file: src/lib.rt\nold:     first + 2\nnew:     first + {number}\n"
 
 
+BY_PART, BY_CRATE = seen_by("tests/part PROGRAM"), "seen by: tiny sums\n"
 # Edits that a test must see: the head and the pairs, and what becomes of each.
 TESTED = {
     "seen": (BY_PART + OTHER_SUM, ""),
     "seen_by_a_crate": (BY_CRATE + OTHER_SUM, ""),
     "seen_for_its_reason": (BY_CRATE + "fails: sums FAILED\n" + OTHER_SUM, ""),
-    "seen_before_it_hangs": ("seen by: tests/part PROGRAM\nfails: sums: above\n" + sum_with(8), ""),
-    "of_a_proof": (BY_PART + OTHER_SUM + "file: proofs/above/Answers.antt\nold: first_is c = c\nnew: first_is c =  c\n", ""),
-    "of_a_proof_alone": (BY_PART + "file: proofs/above/Answers.antt\nold: first_is c = c\nnew: first_is c =  c\n", "its test passes"),
+    "seen_before_it_hangs": (seen_by("tests/part PROGRAM", "sums: above") + sum_with(8), ""),
+    "of_a_proof": (BY_PART + OTHER_SUM + OTHER_PROOF, ""),
+    "of_a_proof_alone": (BY_PART + OTHER_PROOF, "its test passes"),
     "not_seen": (BY_PART + SAME_SUM, "its test passes"),
     "not_seen_by_a_crate": (BY_CRATE + SAME_SUM, "its test passes"),
-    "other_reason": ("seen by: tests/part PROGRAM\nfails: sums: above\n" + OTHER_SUM, "fails for another reason: FAILED sums: next"),
+    "other_reason": (seen_by("tests/part PROGRAM", "sums: above") + OTHER_SUM,
+                     "fails for another reason: FAILED sums: next"),
     "other_reason_of_a_crate": (BY_CRATE + "fails: products\n" + OTHER_SUM, "fails for another reason: sums FAILED"),
     "hangs": (BY_PART + sum_with(9), "its test has not ended"),
     "not_proved": (BY_PART + OTHER_SUM.replace("n + 2", "n + 1000"), "it is not proved: fn tiny::next: not proved"),
-    "fails_anyway": ("seen by: tests/broken PROGRAM\nfails: sums: next\n" + OTHER_SUM, "does not pass without an edit: it fails: FAILED"),
-    "breaks_off": ("seen by: tests/off PROGRAM\nfails: sums: next\n" + OTHER_SUM, "does not pass without an edit: it breaks off"),
-    "no_command": ("seen by: tests/none PROGRAM\nfails: sums: next\n" + OTHER_SUM, "is neither a test of a crate nor a command"),
+    "fails_anyway": (seen_by("tests/broken PROGRAM") + OTHER_SUM, "does not pass without an edit: it fails: FAILED"),
+    "breaks_off": (seen_by("tests/off PROGRAM") + OTHER_SUM, "does not pass without an edit: it breaks off"),
+    "no_command": (seen_by("tests/none PROGRAM") + OTHER_SUM, "is neither a test of a crate nor"),
     "no_test": ("seen by: tiny\n" + OTHER_SUM, "names no test of tiny"),
     "no_reason": ("seen by: tests/part PROGRAM\n" + OTHER_SUM, "it lacks the head line 'fails:'"),
     "no_head": (OTHER_SUM, "it lacks a head line"),
@@ -234,7 +247,8 @@ def make_repository(room: Path, top: Path) -> None:
     write(crate / "specs" / "Moves.antt", MOVES)
     write(crate / "proofs" / "above" / "Answers.antt", ANSWERS)
     (room / ".git").mkdir()
-    ran = subprocess.run(["rt", "check"], cwd=crate, stdin=subprocess.DEVNULL, capture_output=True, text=True, check=False)
+    ran = subprocess.run(["rt", "check"], cwd=crate, stdin=subprocess.DEVNULL, capture_output=True, text=True,
+                         check=False)
     assert ran.returncode == 0, f"the small crate is not proved: {ran.stdout[-400:]}"
 
 
@@ -266,8 +280,8 @@ def edit_text(function: str, old: str, new: str) -> str:
 
 def run_tool(repository: Path, *words: str | Path) -> Said:
     """Runs the tool with these words."""
-    done = subprocess.run([repository / "tools" / "rounds.py", *words], stdin=subprocess.DEVNULL, stdout=subprocess.PIPE,
-                          stderr=subprocess.STDOUT, text=True, check=False)
+    done = subprocess.run([repository / "tools" / "rounds.py", *words], stdin=subprocess.DEVNULL,
+                          stdout=subprocess.PIPE, stderr=subprocess.STDOUT, text=True, check=False)
     return Said(done.returncode, done.stdout.splitlines())
 
 
@@ -285,8 +299,8 @@ def last_line(wanted: dict[str, str]) -> str:
 
 @pytest.mark.timeout(600)
 @pytest.mark.parametrize("edits, wanted, prover", [pytest.param(*it[1:], id=it[0].replace(" ", "_")) for it in CASES])
-def test_wrong_implementations(repository: Path, check_all: CheckAll, edits: dict[str, tuple[str, str, str]], wanted: dict[str, str],
-                               prover: str | None) -> None:
+def test_wrong_implementations(repository: Path, check_all: CheckAll, edits: dict[str, tuple[str, str, str]],
+                               wanted: dict[str, str], prover: str | None) -> None:
     """Each edit passes or fails as it must, and so do the last line and the status."""
     for name, edit in edits.items():
         write(repository / "crates" / "tiny" / "wrong" / f"{name}.edit", edit_text(*edit))

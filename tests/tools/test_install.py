@@ -88,7 +88,7 @@ def test_each_command_has_a_manual_page(installed: Machine) -> None:
 
 
 @pytest.mark.parametrize("words, found", [
-    (["crnsim", "le"], ["leg"]), (["crnsim", "help", "w"], ["words"]), (["crnsim", "leg", "w"], [""])])
+    (["crnsim", "le"], ["leg"]), (["crnsim", "h"], ["help"]), (["crnsim", "help", "w"], ["words"]), (["crnsim", "leg", "w"], [""])])
 def test_bash_completes_the_words_of_the_program(installed: Machine, words: list[str], found: list[str]) -> None:
     assert completions(installed, "_crnsim", *words) == found
 
@@ -100,7 +100,7 @@ def test_bash_completes_the_words_of_crnplan(installed: Machine, words: list[str
 
 @pytest.mark.parametrize("path, words", [
     ("zsh/site-functions/_crnsim", ["#compdef crnsim", "'leg:Runs a scenario'\\''s blocks 0 to N - 1 and"]),
-    ("zsh/site-functions/_crnplan", ["#compdef crnplan", "_CRNPLAN_COMPLETE=zsh_complete"]),
+    ("zsh/site-functions/_crnplan", ["#compdef crnplan", "_CRNPLAN_COMPLETE=zsh_complete", '_crnplan_completion "$@"']),
     ("fish/vendor_completions.d/crnsim.fish", ["complete -c crnsim -n __fish_use_subcommand -f -a leg -d 'Runs"]),
     ("fish/vendor_completions.d/crnplan.fish", ["_CRNPLAN_COMPLETE=fish_complete", "--command crnplan"])])
 def test_other_shells_have_completions(installed: Machine, path: str, words: list[str]) -> None:

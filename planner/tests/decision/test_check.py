@@ -20,6 +20,8 @@ from planner.tests.decision.answers import changed, priced
 from planner.tests.decision.costs import pairs_sum
 
 KEYS = ["00000000000000a1", "00000000000000a2"]
+COLUMNS = ("total", "per_period", "diff_total", "diff_mean", "diff_var", "cov")
+Write = Callable[[str, str], Path]
 
 
 def report(*rows: str) -> str:
@@ -69,7 +71,7 @@ REFUSED = [
     ("asked.toml:8:", "both", "initial = 12", "initial = -1"),
     ("asked.toml:8:", "both", "initial = 12", "initial = 1,200"),
     ("the scenario has one policy", "only", "[[policy]]", "[[other]]"),
-    ("there is no program ./no_program; build crnsim, or name it with --program", "both --program ./no_program", "", ""),
+    ("there is no program ./no_program; build crnsim, or name it with", "both --program ./no_program", "", ""),
     ("two_lines: first; second\n", "both --program ./two_lines", "", ""),
     ("true: what it writes is no report of the scenario", "both --program /bin/true", "", ""),
     ("--out examples: the folder is not empty", "both --out examples", "", ""),
@@ -78,7 +80,7 @@ REFUSED = [
 
 
 @pytest.fixture
-def write_program(room: Path) -> Callable[[str, str], Path]:
+def write_program(room: Path) -> Write:
     """Returns a function that writes a program, and returns its path."""
     def write(name: str, text: str) -> Path:
         """Writes the program."""
@@ -107,7 +109,8 @@ def costs_of(program: Path, text: str, key: str, replications: int) -> dict[str,
     for count in range(1, replications + 1):
         asked = re.sub("replications = [0-9]+", f"replications = {count}", text.replace("5eed000000000001", key))
         totals.append({row["policy"]: int(row["total"]) for row in csv.DictReader(run(program, asked).splitlines())})
-    return {name: [after[name] - before.get(name, 0) for before, after in zip(totals, totals[1:])] for name in totals[1]}
+    pairs = list(zip(totals, totals[1:]))
+    return {name: [after[name] - before.get(name, 0) for before, after in pairs] for name in totals[1]}
 
 
 def test_two_keys_are_all_their_replications(part: Path, room: Path, program: Path, crnplan: Command) -> None:
@@ -126,32 +129,34 @@ def test_two_keys_are_all_their_replications(part: Path, room: Path, program: Pa
         wanted = [sum(own), Fraction(sum(own), count * 104), sum(differences), Fraction(sum(differences), count),
                   Fraction(pairs_sum(differences, differences), count**2 * (count - 1)),
                   Fraction(pairs_sum(own, base), count * (count - 1))]
-        assert [Fraction(row[it]) for it in ("total", "per_period", "diff_total", "diff_mean", "diff_var", "cov")] == wanted
+        assert [Fraction(row[it]) for it in COLUMNS] == wanted
         # Three intervals at 0.85 together: 0.975 on each side, for which tables have 2.26216 with 9 degrees of freedom.
         half = 2.26216 * math.sqrt(wanted[4])
         line = dict(zip(heading, next(line for line in lines if line[0] == name)))
-        ends = [float(wanted[3]) - half, float(wanted[3]) + half]
-        assert name == "both" or [float(line[it]) for it in ("low", "high")] == pytest.approx(ends, abs=0.0006, rel=1e-5)
+        if name != "both":
+            ends = [float(wanted[3]) - half, float(wanted[3]) + half]
+            assert [float(line[it]) for it in ("low", "high")] == pytest.approx(ends, abs=0.0006, rel=1e-5)
 
 
 @pytest.mark.parametrize(("level", "row", "sentence"), VERDICTS)
-def test_two_reports_by_hand(room: Path, crnplan: Command, write_program: Callable[[str, str], Path], level: str, row: str,
+def test_two_reports_by_hand(room: Path, crnplan: Command, write_program: Write, level: str, row: str,
                              sentence: str) -> None:
     """Compares the pooled report, a row and the sentence with those of two reports worked by hand."""
     words = ["--key", KEYS[0], "--key", KEYS[1], "--replications", "2", "--level", level, "--out", "canned"]
-    told = crnplan("check", "examples/two_policies.toml", "A", *words, "--program", write_program("canned_program", CANNED))
+    words += ["--program", str(write_program("canned_program", CANNED))]
+    told = crnplan("check", "examples/two_policies.toml", "A", *words)
     assert told.status == 0 and row.split() in [line.split() for line in told.output.splitlines()]
     assert told.output.endswith(f"\nOn these new histories {sentence}\n")
     assert (room / "canned/pooled.csv").read_text("utf-8") == POOLED
 
 
-def test_a_winner_that_does_not_hold(room: Path, crnplan: Command, write_program: Callable[[str, str], Path]) -> None:
-    """Checks the status and the sentence if another policy is better: by hand, the reports above with A and B turned."""
+def test_a_winner_that_does_not_hold(room: Path, crnplan: Command, write_program: Write) -> None:
+    """Checks status and sentence if another policy is better: by hand, the reports above with A and B turned."""
     turned = [report("B,60,80,26,13/4,0,0/1,0/1,8/1", "A,20,40,22,11/4,-4,-2/1,1/1,4/1"),
               report("B,60,80,52,13/2,0,0/1,0/1,2/1", "A,20,40,40,5/1,-12,-6/1,1/1,0/1")]
     text = f"#!/bin/sh\nif grep -q {KEYS[0]}; then cat <<END\n{turned[0]}END\nelse cat <<END\n{turned[1]}END\nfi\n"
-    words = ["check", "examples/two_policies.toml", "B", "--key", KEYS[0], "--key", KEYS[1], "--replications", "2", "--program",
-             write_program("turned", text)]
+    words = ["check", "examples/two_policies.toml", "B", "--key", KEYS[0], "--key", KEYS[1], "--replications", "2",
+             "--program", write_program("turned", text)]
     told = crnplan(*words, "--level", "0.9")
     assert told.status == 1 and not told.errors
     assert told.output.endswith("\nOn these new histories B does not hold: A is better.\n")
@@ -185,7 +190,8 @@ def test_runs_the_scenario_but_for_key_and_order(part: Path, room: Path, program
 
 def test_keys_are_drawn_anew(room: Path, crnplan: Command) -> None:
     """Checks that two checks without a key draw two keys."""
-    lines = [crnplan("check", "examples/spare_part.toml", "both", "--replications", "2").output.split("\n")[0] for _ in "ab"]
+    words = ["check", "examples/spare_part.toml", "both", "--replications", "2"]
+    lines = [crnplan(*words).output.split("\n")[0] for _ in range(2)]
     assert all(re.fullmatch("--key( [0-9a-f]{16}){4}", line) for line in lines) and lines[0] != lines[1]
 
 
@@ -202,7 +208,7 @@ def test_the_function_is_the_command(part: Path, crnplan: Command) -> None:
 
 
 @pytest.mark.parametrize(("message", "words", "old", "new"), REFUSED, ids=[f"{it[1]} {it[3]}" for it in REFUSED])
-def test_is_refused(room: Path, crnplan: Command, write_program: Callable[[str, str], Path], message: str, words: str, old: str,
+def test_is_refused(room: Path, crnplan: Command, write_program: Write, message: str, words: str, old: str,
                     new: str) -> None:
     """Checks that what cannot be used is refused in one line, and that nothing is printed."""
     write_program("two_lines", TWO_LINES)

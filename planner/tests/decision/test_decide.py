@@ -62,7 +62,7 @@ def cases_room(room: Path, write_priced: Callable[[str, str], None]) -> Path:
 
 @pytest.mark.parametrize(("words", "status", "part"), CASES, ids=[f"{words}: {part[:40]}" for words, _, part in CASES])
 def test_prints_or_refuses(cases_room: Path, crnplan: Command, words: str, status: int, part: str) -> None:
-    """Checks the status and a part of what is printed. A refusal is one line on standard error alone, but for many faults."""
+    """Checks the status and a part of what is printed. A refusal has one line, or one for each fault."""
     told = crnplan("decide", *words.replace("SPARE", "examples/spare_part").split())
     assert told.status == status and part in told.output + told.errors
     assert status == 0 or told.output == "" and (told.errors.count("\n") == 1 or part.startswith("fault "))
@@ -72,7 +72,8 @@ def test_standard_input_is_a_report(room: Path, crnplan: Command) -> None:
     """Checks that `-` reads the report from standard input."""
     given = crnplan("decide", "-", "--replications", "64", data=(room / "examples/spare_part.csv").read_bytes())
     assert given == crnplan("decide", "examples/spare_part.csv", "--replications", "64") and given.status == 0
-    assert crnplan("decide", "-", "--replications", "64").errors.startswith("crnplan: standard input:1: this is no report")
+    empty = crnplan("decide", "-", "--replications", "64")
+    assert empty.errors.startswith("crnplan: standard input:1: this is no report")
 
 
 @pytest.mark.parametrize(("option", "count"), [(["--csv"], 122), (["--all"], 122), ([], 21)], ids=str)

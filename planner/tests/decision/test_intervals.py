@@ -1,4 +1,4 @@
-"""Tests of paired-t intervals: quantiles as tables print them, and intervals of random costs computed from these costs."""
+"""Tests of paired-t intervals: quantiles as tables print them, and intervals computed from random costs themselves."""
 from __future__ import annotations
 
 import math
@@ -23,7 +23,24 @@ CASES = tomllib.loads((Path(__file__).parent / "decisions.toml").read_text("utf-
 @pytest.mark.parametrize(("probability", "degrees", "printed"), CASES["quantiles"])
 def test_quantile_is_as_tables_print_it(probability: float, degrees: int, printed: str) -> None:
     """Compares a quantile of Student's t with published tables."""
-    assert f"{t_quantile(probability, degrees):.3f}" == printed
+    assert f"{t_quantile(2 * (1 - probability), degrees):.3f}" == printed
+
+
+@given(st.floats(1e-12, 0.9))
+def test_quantile_is_exact_for_few_degrees(tails: float) -> None:
+    """Compares quantiles with closed forms, which only one and two degrees of freedom have."""
+    assert t_quantile(tails, 1) == pytest.approx(1 / math.tan(math.pi * tails / 2), rel=1e-12)
+    assert t_quantile(tails, 2) == pytest.approx((1 - tails) * math.sqrt(2 / (tails * (2 - tails))), rel=1e-12)
+
+
+def rounding(ends: list[float]) -> float:
+    """Returns by how much the ends of an interval may be off: one may be near 0 if the other is large."""
+    return 1e-8 * max(map(abs, ends)) + 1e-9
+
+
+def near(ends: list[float]) -> object:
+    """Returns what equals both ends of an interval but for rounding."""
+    return pytest.approx(ends, rel=0, abs=rounding(ends))
 
 
 @given(costs(st.integers(2, 12)), st.integers(1, 9), st.sampled_from([0.5, 0.9, 0.95, 0.99]))
@@ -36,18 +53,20 @@ def test_intervals_are_those_of_the_costs_themselves(drawn: Costs, periods: int,
         own = drawn[it.policy]
         half = stats.t.interval(level, count - 1)[1] * statistics.stdev(own) / math.sqrt(count)
         wanted = [(statistics.mean(own) + sign * half) / periods for sign in (-1, 1)]
-        assert [it.cost_low, it.cost_high] == (pytest.approx(wanted, rel=1e-9, abs=1e-6) if sum(own) else [0, 0])
+        assert [it.cost_low, it.cost_high] == (near(wanted) if sum(own) else [0, 0])
         if it.verdict == "base":
             assert it.policy == "p0" and it.low is None
             continue
         joint = 1 - (1 - level) / (len(drawn) - 1)
         differences = [a - b for a, b in zip(own, base)]
         spread = statistics.stdev(differences)
-        wanted = list(stats.ttest_rel(own, base).confidence_interval(joint)) if spread else [statistics.mean(differences)] * 2
-        assert [it.low, it.high] == pytest.approx(wanted, rel=1e-9, abs=1e-6)
+        wanted = [statistics.mean(differences)] * 2
+        if spread:
+            wanted = list(stats.ttest_rel(own, base).confidence_interval(joint))
+        assert [it.low, it.high] == near(wanted)
         assert it.std_error == pytest.approx(spread / math.sqrt(count), rel=1e-9, abs=1e-9)
-        verdict = "worse" if wanted[0] > 1e-6 else "better" if wanted[1] < -1e-6 else "undecided"
-        assert it.verdict == verdict or min(map(abs, wanted)) <= 1e-6
+        verdict = "worse" if wanted[0] > 0 else "better" if wanted[1] < 0 else "undecided"
+        assert it.verdict == verdict or min(map(abs, wanted)) <= rounding(wanted)
 
 
 @given(costs(st.integers(2, 12)))
@@ -80,8 +99,10 @@ def changed(row: Row, **fields: object) -> Row:
     return Row(**{**vars(row), **fields})  # type: ignore[arg-type]
 
 
-@pytest.mark.parametrize("fields", [{"total": 11}, {"diff_mean": Fraction(1, 3)}, {"per_period": Fraction(1, 7)}, {"cov": None},
-                                    {"diff_var": Fraction(-1)}, {"cov": Fraction(-9)}], ids=str)
+@pytest.mark.parametrize("fields", [
+    {"total": 11}, {"diff_mean": Fraction(1, 3)}, {"per_period": Fraction(1, 7)}, {"cov": None},
+    {"diff_total": 4, "diff_mean": Fraction(2)}, {"diff_var": Fraction(-1), "cov": Fraction(9)}, {"cov": Fraction(-9)}],
+    ids=str)
 def test_figures_that_contradict_each_other_are_rejected(fields: dict[str, object]) -> None:
     """Checks that a row with one wrong figure is no row of the report."""
     base, other = rows_of_costs({"p0": [3, 4], "p1": [5, 5]}, 1)

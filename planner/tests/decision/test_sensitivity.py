@@ -52,7 +52,8 @@ def owing(room: Path) -> str:
 @pytest.fixture
 def shown(owing: str, crnplan: Command) -> Rows:
     """Returns the rows of the changed scenario's table, in order, by policy."""
-    return {row["policy"]: row for row in csv.DictReader(crnplan("sensitivity", "owing.toml", "--csv").output.splitlines())}
+    lines = crnplan("sensitivity", "owing.toml", "--csv").output.splitlines()
+    return {row["policy"]: row for row in csv.DictReader(lines)}
 
 
 def costs_of(program: Path, owing: str, case: tuple[str, str, str, int]) -> list[float]:
@@ -85,11 +86,12 @@ def test_ranks_by_the_greatest_regret(program: Path, owing: str, shown: Rows) ->
 def test_an_example_by_hand(crnplan: Command) -> None:
     """Compares a row with an example by hand.
 
-    The demands are 1, 2, 2 and 4 in all cases. A never orders and costs 222. B's one order costs 32, and its 21 items are in
-    stock at the ends of two periods: (32 + 2 * 21) / 4. With a lead time of 2 they come a period later, so they are in stock
-    at the end of one: (32 + 21) / 4.
+    The demands are 1, 2, 2 and 4 in all cases. A never orders and costs 222. B's one order costs 32, and its 21 items
+    are in stock at the ends of two periods: (32 + 2 * 21) / 4. With a lead time of 2 they come a period later, so they
+    are in stock at the end of one: (32 + 21) / 4.
     """
-    row = next(line for line in crnplan("sensitivity", "examples/two_policies.toml").output.splitlines() if line.startswith("B "))
+    lines = crnplan("sensitivity", "examples/two_policies.toml").output.splitlines()
+    row = next(line for line in lines if line.startswith("B "))
     regrets = "18.500 (33.33%) 18.500 (33.33%) 18.500 (33.33%) 13.250 (23.87%) 18.500 (33.33%) 18.500 (33.33%)"
     assert " ".join(row.split()).startswith(f"B 60 80 {regrets}")
 
@@ -102,7 +104,8 @@ def test_json_has_the_figures_of_the_table(owing: str, crnplan: Command, shown: 
     assert data["notes"] == []
 
 
-@pytest.mark.parametrize(("tenths", "weights"), [(11, {1: 9, 2: 17, 3: 18, 4: 12, 5: 4}), (9, {0: 1, 1: 13, 2: 22, 3: 18, 4: 6})])
+@pytest.mark.parametrize(("tenths", "weights"), [
+    (11, {1: 9, 2: 17, 3: 18, 4: 12, 5: 4}), (9, {0: 1, 1: 13, 2: 22, 3: 18, 4: 6})], ids=["up", "down"])
 def test_changes_demand_as_by_hand(tenths: int, weights: dict[int, int]) -> None:
     """Compares a changed demand with one by hand."""
     assert changed_demand(Table((1, 2, 3, 4), (1, 2, 2, 1)), tenths) == Table.of(weights)
@@ -135,7 +138,8 @@ def test_large_weights_keep_their_sum() -> None:
 @pytest.mark.parametrize(("old", "new", "note"), NOTES, ids=[note for *_, note in NOTES])
 def test_notes_what_is_left_out_or_rounded(room: Path, crnplan: Command, old: str, new: str, note: str) -> None:
     """Checks the notes: with a table as CSV they go to standard error."""
-    (room / "noted.toml").write_text(changed((room / "examples/two_policies.toml").read_text("utf-8"), old, new), "utf-8")
+    text = (room / "examples/two_policies.toml").read_text("utf-8")
+    (room / "noted.toml").write_text(changed(text, old, new), "utf-8")
     told = crnplan("sensitivity", "noted.toml")
     assert told.status == 0 and note in told.output and not told.errors
     told = crnplan("sensitivity", "noted.toml", "--csv")

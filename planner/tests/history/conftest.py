@@ -18,6 +18,7 @@ def answer(crnplan: Callable[..., Any]) -> Callable[..., Any]:
 def file(tmp_path: Path) -> Callable[..., Path]:
     """Returns a function that writes a file and returns its path. Each character of a text is a byte, as in Latin-1."""
     def write(text: str, name: str = "FILE", encoding: str = "latin-1") -> Path:
+        """Writes one."""
         path = tmp_path / name
         path.write_bytes(text.encode(encoding))
         return path

@@ -1,8 +1,8 @@
 """Makes three messy histories, each from a fixed seed.
 
-A case is a folder with a history, the orders or lead times beside it, and a head: the rest of the scenario, with plausible
-costs and a plausible but poor policy of today. The histories look like exports of real systems. They are not tuned: the
-seeds are 1, 2 and 3. Each case has the words with which `crnplan history` reads it.
+A case is a folder with a history, the orders or lead times beside it, and a head: the rest of the scenario, with
+plausible costs and a plausible but poor policy of today. The histories look like exports of real systems. They are not
+tuned: the seeds are 1, 2 and 3. Each case has the words with which `crnplan history` reads it.
 """
 from __future__ import annotations
 
@@ -55,8 +55,9 @@ def german(day: Day) -> str:
 def spare_part() -> Case:
     """Returns the intermittent spare part.
 
-    It has movements of two years in Latin-1 with semicolons and `1,0`, a week with movements in three, a few corrections on
-    the day after, orders that are partly not received, blank last lines. Two rows with 0 say when the record begins and ends.
+    It has movements of two years in Latin-1 with semicolons and `1,0`, a week with movements in three, a few
+    corrections on the day after, orders that are partly not received, blank last lines. Two rows with 0 say when the
+    record begins and ends.
     """
     source, first = random.Random(1), datetime.date(2024, 1, 1)
     rows = [(first, "Beginn", 0)]
@@ -88,8 +89,8 @@ def spare_part() -> Case:
 def fast_mover() -> Case:
     """Returns the fast mover.
 
-    It has daily sales of a year in thousands with separators, parted by tabs, UTF-8 with a byte order mark. The days on which
-    the tills failed have no row. The head counts in cases of 48.
+    It has daily sales of a year in thousands with separators, parted by tabs, UTF-8 with a byte order mark. The days on
+    which the tills failed have no row. The head counts in cases of 48.
     """
     source, first = random.Random(2), datetime.date(2025, 1, 1)
     lines = ["Day\tArticle\tUnits sold\tTurnover €"]
@@ -114,8 +115,8 @@ def stamp(source: random.Random, day: Day) -> str:
 def mail_order() -> Case:
     """Returns the mail-order shop.
 
-    It has a row for each sale or return with a time in ISO form, over a year. Nearly a third of what is sold comes back after 3
-    to 20 days. Orders are placed every few days and overtake one another.
+    It has a row for each sale or return with a time in ISO form, over a year. Nearly a third of what is sold comes back
+    after 3 to 20 days. Orders are placed every few days and overtake one another.
     """
     source, first = random.Random(3), datetime.date(2024, 12, 1)
     sold: dict[int, list[int]] = {}

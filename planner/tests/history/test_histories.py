@@ -16,7 +16,8 @@ def cases() -> Iterator[Any]:
     for text, copies, words, status, part in CASES["rows"]:
         yield case(text * copies, words.split() if isinstance(words, str) else words, status, [part])
     for rows, words, status, *parts in CASES["movements"]:
-        yield case("at,n\n" + rows.replace(" ", "\n") + "\n", ["--demand", "n", "--date", "at", *words.split()], status, parts)
+        text = "at,n\n" + rows.replace(" ", "\n") + "\n"
+        yield case(text, ["--demand", "n", "--date", "at", *words.split()], status, parts)
     for rows, words, status, *parts in CASES["orders"]:
         text = "ordered,received\n" + rows.replace(" ", "\n") + "\n"
         yield case(text, ["--demand", "d", "--orders", "FILE", *words.split()], status, parts)

@@ -23,9 +23,11 @@ class Export(NamedTuple):
 def made_export() -> Export:
     """Returns an export in German: title lines, two forms of dates, three decimals, faults and a total row."""
     source, day = random.Random(5), datetime.date(2025, 1, 2)
-    export = Export(["Auswertung Materialbewegungen;;;", "Werk 1000;Stand 09.11.2026;;", "", "Datum;Beleg;Menge;Vermerk"], [], {})
+    titles = ["Auswertung Materialbewegungen;;;", "Werk 1000;Stand 09.11.2026;;", ""]
+    export = Export([*titles, "Datum;Beleg;Menge;Vermerk"], [], {})
 
     def add(date: str, amount: str, name: str = "", remark: str = "") -> None:
+        """Adds a row, and keeps its line under a name."""
         export.lines.append(f"{date};{4900000 + len(export.lines)};{amount};{remark}")
         export.odd.update({name: len(export.lines)} if name else {})
 
@@ -64,6 +66,7 @@ def path(export: Export, file: Callable[..., Path]) -> Path:
     return file("\r\n".join(export.lines), "export.csv", "cp1252")
 
 
+MENGE = ":18: column 'Menge'"
 WORDS = ["--demand", "Menge", "--date", "Datum", "--every", "week"]
 
 
@@ -84,22 +87,26 @@ def test_first_command_says_all(export: Export, path: Path, answer: Callable[...
     status, output, errors = answer([path, *WORDS])
     assert (status, output) == (2, "")
     odd, first = export.odd, export.movements[0][1]
-    for part in (f":{odd['correction']}:26: the byte 0xfc is not UTF-8; say --encoding latin-1", f":{odd['no day']}:1: column 'Datum': "
-                 "'31.02.2026' is no day of the calendar; correct it, or leave the row out", f":{odd['empty']}:18: column 'Menge': "
-                 "the cell is empty; write 0 where nothing was asked for", f":{odd['n/a']}:18: column 'Menge': 'n/a' is not a number",
-                 f":{odd['correction']}:18: column 'Menge': -1,000 is negative; say --net to take it off its week",
-                 f":{odd['thousand']}:18: column 'Menge': '1.000,000' is not a number; write digits, as 12, or say --decimal ,",
-                 f":{odd['total']}:1: column 'Datum': the row looks like a total of the rows above (it has 'Summe'); leave it out",
-                 f":5:18: column 'Menge': '{first},000' is read as {first}000 (if the comma is a decimal sign, say --decimal ,)",
-                 "crnplan: 7 faults in 6 rows; "):
-        assert part in errors
+    places = {"no day": ":1: column 'Datum'", "total": ":1: column 'Datum'"}
+    for name, what in {
+            "no day": "'31.02.2026' is no day of the calendar; correct it, or leave the row out",
+            "empty": "the cell is empty; write 0 where nothing was asked for",
+            "n/a": "'n/a' is not a number; write digits, as 12\n",
+            "correction": "-1,000 is negative; say --net to take it off its week",
+            "thousand": "'1.000,000' is not a number; write digits, as 12, or say --decimal ,",
+            "total": "the row looks like a total of the rows above (it has 'Summe'); leave it out"}.items():
+        assert f":{odd[name]}{places.get(name, MENGE)}: {what}" in errors
+    assert f":{odd['correction']}:26: the byte 0xfc is not UTF-8; say --encoding latin-1" in errors
+    assert f":5{MENGE}: '{first},000' is read as {first}000 (if the comma is a decimal sign, say --decimal ,)" in errors
+    assert "crnplan: 7 faults in 6 rows; " in errors
     assert len(errors.splitlines()) == 7 + 1 + 3
 
 
 def test_second_command_gives_tables(export: Export, path: Path, answer: Callable[..., Any], tmp_path: Path) -> None:
     """The second command gives the tables. It names each row that is left out, and what is suspicious."""
     rejects, odd = tmp_path / "rejects.csv", export.odd
-    status, output, errors = answer([path, *WORDS, "--encoding", "cp1252", "--decimal", ",", "--net", "--leave-out", "--rejects", rejects])
+    words = [*WORDS, "--encoding", "cp1252", "--decimal", ",", "--net", "--leave-out", "--rejects", rejects]
+    status, output, errors = answer([path, *words])
     expected = weeks(export.movements)
     assert status == 0
     assert output == f"\n[demand]\nvalues = {sorted(expected)}\nweights = {[expected[it] for it in sorted(expected)]}\n"
@@ -107,18 +114,18 @@ def test_second_command_gives_tables(export: Export, path: Path, answer: Callabl
         rows = list(csv.DictReader(file))
     assert [int(row["line"]) for row in rows] == [odd[it] for it in ("no day", "empty", "n/a", "total")]
     assert [row["row"] for row in rows] == [export.lines[int(row["line"]) - 1] for row in rows]
-    first_of_2026 = next(odd[f"row {number}"] for number in range(1, 200)
-                         if export.lines[odd[f"row {number}"] - 1].split(";")[0].endswith("2026"))
+    good = [line for name, line in odd.items() if name.startswith("row ")]
+    first_of_2026 = next(it for it in good if export.lines[it - 1].split(";")[0].endswith("2026"))
+    next_largest = next(it for it in good if ";27,000;" in export.lines[it - 1])
     count = sum(bool(line.strip(";")) for line in export.lines) - 3
     lines = ", ".join(str(odd[it]) for it in ("no day", "empty", "n/a", "total"))
-    next_largest = next(odd[f"row {number}"] for number in range(1, 200) if ";27,000;" in export.lines[odd[f"row {number}"] - 1])
     for part in (f"export.csv: rows left out: 4 of {count} (lines {lines})",
-                 "lines 1, 2, 3 above the heading passed over: 'Auswertung Materialbewegungen', 'Werk 1000 Stand 09.11.2026', ''",
+                 "lines 1, 2, 3 above the heading passed over: 'Auswertung Materialbewegungen', 'Werk ",
                  f"blank rows passed over: 2 (lines {odd['twice'] + 1}, {odd['twice'] + 2})",
                  f":{odd['twice']}: the row is the same as that of line {odd['row 20']}; ",
                  f":{first_of_2026}:1: column 'Datum': the dates have 2 forms: '02.01.25' (line 5) is 2025-01-02, ",
-                 f":{odd['thousand']}:18: column 'Menge': 1000 is 37 times 27, the next largest (line {next_largest}); ",
-                 f":{odd['thousand']}:18: column 'Menge': '1.000,000' is read as 1000 (1 of {count - 4} rows are written so; "
+                 f":{odd['thousand']}{MENGE}: 1000 is 37 times 27, the next largest (line {next_largest}); ",
+                 f":{odd['thousand']}{MENGE}: '1.000,000' is read as 1000 (1 of {count - 4} rows are written so; "
                  "with another decimal sign it would be 1)", "weeks from 2025-W01 to 2026-W45: 97, filled with 0: "):
         assert part in errors
 
@@ -128,8 +135,8 @@ def test_total_row_that_is_no_fault(file: Callable[..., Path], answer: Callable[
     rows = "".join(f"{number};{number % 4 + 1}\n" for number in range(8))
     status, output, errors = answer([file(f"week;n\n{rows}8;20\n"), "--demand", "n"])
     assert status == 0 and "[1, 2, 3, 4, 20]" in output
-    assert ":10:3: column 'n': the last row looks like a total of the rows above (20 is the sum of all others); if it is, " in errors
+    assert ":10:3: column 'n': the last row looks like a total of the rows above (20 is the sum of all others" in errors
     assert answer([file(f"week;n\n{rows}8;21\n"), "--demand", "n"]).errors == ""
-    errors = answer([file("at;n\n2026-03-01;1\n2026-03-02 ;1\n2026-03-02;2\n2026-03-03;Total\n"), "--demand", "n", "--date", "at", "--every",
-                     "day"]).errors
+    path = file("at;n\n2026-03-01;1\n2026-03-02 ;1\n2026-03-02;2\n2026-03-03;Total\n")
+    errors = answer([path, "--demand", "n", "--date", "at", "--every", "day"]).errors
     assert ":5:12: column 'n': 'Total' is not a number" in errors

@@ -1,8 +1,8 @@
 """Tests of the way from a messy history to a decision, as a planner goes it.
 
-The policy that a report ranks first is checked on new histories. A better one there takes its place. If the suggested `best`
-can't be told apart from it, `best` is chosen. The chosen policy must cost at most 1% more than the best of all, both computed
-by a second theory, which shares no code with the one that suggests.
+The policy that a report ranks first is checked on new histories. A better one there takes its place. If the suggested
+`best` can't be told apart from it, `best` is chosen. The chosen policy must cost at most 1% more than the best of all,
+both computed by a second theory, which shares no code with the one that suggests.
 """
 from __future__ import annotations
 
@@ -39,6 +39,7 @@ def test_messy_history(case: Case, crnplan: Any, program: Path, tmp_path: Path) 
     scenario = Scenario.parse(suggested_text(Scenario.parse(case.head + tables)))
 
     def check(name: str, count: int = 1) -> Check:
+        """Checks a policy on new histories."""
         return check_keys(scenario, name, keys=[KEY], count=count, program=program)
 
     checked = check(scenario.run(program=program).decide().index[0])

@@ -1,4 +1,5 @@
-"""Tests of reading: all faults in one pass, rejects, title lines, standard input, one item, the record's span, suspicions."""
+"""Tests of reading: all faults in one pass, rejects, title lines, standard input, one item, the record's span,
+suspicions."""
 from __future__ import annotations
 
 import csv
@@ -21,7 +22,8 @@ DATED = ["--demand", "n", "--date", "at", "--every", "day"]
 
 
 def test_all_faults_in_one_pass(file: Files, answer: Answers, tmp_path: Path) -> None:
-    """The first 20 faults are printed, and how many there are. All are in the rejects, of all files, with their rows."""
+    """The first 20 faults are printed, and how many there are. All are in the rejects, of all files, with their
+    rows."""
     path = file("at;n\n" + "2026-03-01;x\n" * 30 + "2026-02-30;y\n2026-03-02;1\n")
     orders = file("ordered,received\n2026-03-02,2026-03-01\n", "orders.csv")
     status, output, errors = answer([path, *DATED, "--orders", orders, "--rejects", tmp_path / "rejects.csv"])
@@ -47,6 +49,8 @@ def test_leave_out_names_and_counts(file: Files, answer: Answers, tmp_path: Path
     assert f"crnplan: {path}: rows left out: 2 of 4 (lines 3, 4)\n" in errors
     assert (tmp_path / "rejects.csv").read_text("utf-8").count("\n") == 3
     assert answer([path, *DATED]).status == 2
+    answer([path, *DATED, "--leave-out", "--rejects", tmp_path / "rejects.csv", "--lead", path, "none"])
+    assert (tmp_path / "rejects.csv").read_text("utf-8").count("\n") == 4
 
 
 def test_leave_out_leaves_no_row(file: Files, answer: Answers) -> None:
@@ -73,7 +77,8 @@ def test_rejects_that_cannot_be_written(file: Files, answer: Answers, tmp_path: 
 def test_columns_are_named(file: Files, answer: Answers) -> None:
     """Without --demand the columns are named, below title lines too."""
     status, _, errors = answer([path := file("Report\n\nday,part,n\n1,2,3\n")])
-    assert (status, errors) == (2, f"crnplan: {path}: say --demand with the name of a column; the columns are: day, part, n\n")
+    assert status == 2
+    assert errors == f"crnplan: {path}: say --demand with the name of a column; the columns are: day, part, n\n"
 
 
 def test_all_missing_columns_are_named(file: Files, answer: Answers) -> None:
@@ -102,14 +107,15 @@ def test_titles_are_passed_over(titles: str, note: str, file: Files, answer: Ans
     ("01.02.69 02.02.1969", ["--leave-out"], None),
     ("13.03.26 03/14/26", ["--date-format", "%d.%m.%y", "--date-format", "%m/%d/%y"], [1, 1]),
 ])
-def test_several_forms_of_dates(rows: str, words: list[str], counts: list[int] | None, file: Files, answer: Answers) -> None:
+def test_several_forms_of_dates(rows: str, words: list[str], counts: list[int] | None, file: Files,
+                                answer: Answers) -> None:
     """Dates of several forms are read if each is unambiguous, and the forms are named."""
     path = file("at,n\n" + "".join(f"{it},1\n" for it in rows.split()))
     status, output, errors = answer([path, *DATED, *words])
     if counts is None:
         assert status == 2 and errors.count("the year is not from 1980 to 2199") == 2
     else:
-        assert status == 0 and f"weights = {[counts.count(0), counts.count(1)] if 0 in counts else [counts.count(1)]}" in output
+        assert status == 0 and f"weights = {[counts.count(it) for it in sorted(set(counts))]}" in output
         assert " forms: " in errors
 
 
@@ -118,11 +124,12 @@ def test_ambiguous_patterns(file: Files, answer: Answers) -> None:
     words = [*DATED, "--date-format", "%d/%m/%y", "--date-format", "%m/%d/%y"]
     status, _, errors = answer([file("at,n\n13/03/26,1\n03/03/26,1\n04/03/26,1\n"), *words])
     assert status == 2 and errors.count("crnplan: ") == 1
-    assert ":4:1: column 'at': '04/03/26' may be 2026-03-04 or 2026-04-03 by the patterns of --date-format; say one" in errors
+    assert ":4:1: column 'at': '04/03/26' may be 2026-03-04 or 2026-04-03 by the patterns of --date-format;" in errors
 
 
 def test_blank_rows(file: Files, answer: Answers) -> None:
-    """Blank rows between movements are passed over and counted. Without dates a blank row may be a period, so it is a fault."""
+    """Blank rows between movements are passed over and counted. Without dates a blank row may be a period, so it is a
+    fault."""
     path = file("at,n\n2026-03-01,1\n,\n \n2026-03-02,2\n,\n\n")
     assert f"crnplan: {path}: blank rows passed over: 2 (lines 3, 4)\n" in answer([path, *DATED]).errors
     status, _, errors = answer([path, "--demand", "n"])
@@ -136,7 +143,8 @@ def test_standard_input(file: Files, answer: Answers) -> None:
     """`-` is standard input, for one of the files."""
     fault = "crnplan: standard input:3:1: column 'n': 'x' is not a number; write digits, as 12\n"
     assert answer(["-", "--demand", "n"], data=b"n\n5\nx\n") == (2, "", fault)
-    assert "[lead]\nvalues = [3]" in answer([file("n\n1\n"), "--demand", "n", "--lead", "-", "weeks"], data=b"weeks\n3\n").output
+    words = [file("n\n1\n"), "--demand", "n", "--lead", "-", "weeks"]
+    assert "[lead]\nvalues = [3]" in answer(words, data=b"weeks\n3\n").output
     status, _, errors = answer(["-", "--demand", "n", "--lead", "-", "weeks"])
     assert (status, errors) == (2, "crnplan: standard input (-) can be one file only; name the others\n")
 
@@ -145,13 +153,14 @@ ITEMS = "part,site,at,n\nA,1,2026-03-05,3\nB,1,2026-03-02,x\nA,2,2026-03-06,9\nB
 
 
 def test_one_item(file: Files, answer: Answers) -> None:
-    """Only rows of the item are read. The record is that of the whole file, so days without demand at both ends count."""
+    """Only rows of the item are read. The record is that of the whole file, so days without demand at both ends
+    count."""
     path = file(ITEMS)
     status, output, errors = answer([path, *DATED, "--item", "part=A", "--item", " site = 1 "])
     assert (status, output) == (0, "\n[demand]\nvalues = [0, 2, 3]\nweights = [6, 1, 1]\n")
     assert f"crnplan: {path}: rows with part = A and site = 1: 2 of 5\n" in errors
     assert f"crnplan: {path}: days from 2026-03-02 to 2026-03-09: 8, filled with 0: 6; " in errors
-    assert answer([path, "--demand", "n", "--item", "part=A"]).output == "\n[demand]\nvalues = [2, 3, 9]\nweights = [1, 1, 1]\n"
+    assert "\nvalues = [2, 3, 9]\nweights = [1, 1, 1]\n" in answer([path, "--demand", "n", "--item", "part=A"]).output
     assert answer([path, *DATED, "--item", "part=B"]).status == 2
 
 
@@ -171,26 +180,27 @@ def test_item_of_other_files(file: Files, answer: Answers) -> None:
     assert "[lead]\nvalues = [3, 4]" in answer([*words, file("days\n3\n4\n", "all.csv"), "days"]).output
 
 
-@pytest.mark.parametrize("words, weights, notes", [
-    ("--from 2026-03-01", [4, 2], ["days from 2026-03-01 to 2026-03-06: 6, filled with 0: 4; the last one may be partial (--whole leaves "
-                                   "it out)"]),
-    ("--from 28.02.2026 --to 2026-03-08", [7, 2], ["days from 2026-02-28 to 2026-03-08: 9, filled with 0: 7; all are whole"]),
-    ("--to 2026-03-08 --whole", [4, 1], ["days from 2026-03-04 to 2026-03-08: 5, filled with 0: 4; the first one is left out"]),
-    ("--from 2026-03-04", [2, 1], ["rows before --from 2026-03-04 left out: 1 (line 2)"]),
-    ("--to 2026-03-05", [2, 1], ["rows after --to 2026-03-05 left out: 1 (line 3)"]),
-    ("--every week --from 2026-02-16 --to 2026-03-22", [4, 1], ["weeks from 2026-W08 to 2026-W12: 5, filled with 0: 4; all are whole"]),
-    ("--every week --from 2026-02-17 --to 2026-03-22 --whole", [3, 1], ["weeks from 2026-W09 to 2026-W12: 4, filled with 0: 3; the first "
-                                                                        "one is left out"]),
-    ("--from 2026-03-03 --to 2026-03-06", [2, 2], ["days from 2026-03-03 to 2026-03-06: 4, filled with 0: 2; all are whole"]),
-    ("--every week --from 2026-02-16 --to 2026-03-21", [4, 1], ["the last one may be partial (--whole leaves it out)"]),
-    ("--every month --from 2026-01-01 --to 2026-03-31", [2, 1], ["months from 2026-01 to 2026-03: 3, filled with 0: 2; all are whole"]),
+@pytest.mark.parametrize("words, weights, note", [
+    ("--from 2026-03-01", [4, 2],
+     "days from 2026-03-01 to 2026-03-06: 6, filled with 0: 4; the last one may be partial (--whole leaves it out)"),
+    ("--from 28.02.2026 --to 2026-03-08", [7, 2], "from 2026-02-28 to 2026-03-08: 9, filled with 0: 7; all are whole"),
+    ("--to 2026-03-08 --whole", [4, 1], "from 2026-03-04 to 2026-03-08: 5, filled with 0: 4; the first one is left"),
+    ("--from 2026-03-04", [2, 1], "rows before --from 2026-03-04 left out: 1 (line 2)"),
+    ("--to 2026-03-05", [2, 1], "rows after --to 2026-03-05 left out: 1 (line 3)"),
+    ("--from 2026-03-03 --to 2026-03-06", [2, 2], "from 2026-03-03 to 2026-03-06: 4, filled with 0: 2; all are whole"),
+    ("--every week --from 2026-02-16 --to 2026-03-22", [4, 1],
+     "weeks from 2026-W08 to 2026-W12: 5, filled with 0: 4; all are whole"),
+    ("--every week --from 2026-02-17 --to 2026-03-22 --whole", [3, 1],
+     "weeks from 2026-W09 to 2026-W12: 4, filled with 0: 3; the first one is left out"),
+    ("--every week --from 2026-02-16 --to 2026-03-21", [4, 1], "the last one may be partial (--whole leaves it out)"),
+    ("--every month --from 2026-01-01 --to 2026-03-31", [2, 1],
+     "months from 2026-01 to 2026-03: 3, filled with 0: 2; all are whole"),
 ])
-def test_span(words: str, weights: list[int], notes: list[str], file: Files, answer: Answers) -> None:
+def test_span(words: str, weights: list[int], note: str, file: Files, answer: Answers) -> None:
     """--from and --to are the record's ends: periods without demand count, and rows outside are named. The rows are of
     3 March (1 item) and 6 March (1 item); 2 March 2026 is a Monday, and begins W10."""
     status, output, errors = answer([file("at,n\n2026-03-03,1\n2026-03-06,1\n"), *DATED, *words.split()])
-    assert status == 0 and f"weights = {weights}" in output
-    assert [note for note in notes if note not in errors] == []
+    assert status == 0 and f"weights = {weights}" in output and note in errors
 
 
 @pytest.mark.parametrize("words, part", [
@@ -199,7 +209,7 @@ def test_span(words: str, weights: list[int], notes: list[str], file: Files, ans
     ("--from 2026-03-06 --to 2026-03-05", "--from 2026-03-06 is after --to 2026-03-05; change one of them"),
     ("--from 03/04/2026", "--from: '03/04/2026' may have the day or the month first"),
     ("--to soon", "--to: 'soon' is no date as 2026-03-31"),
-    ("--from 1980-01-01 --to 2199-12-31", "FILE: 80,354 days are more than 65,536; change --from or --to, or take longer periods")])
+    ("--from 1980-01-01 --to 2199-12-31", "FILE: 80,354 days are more than 65,536; change --from or --to, or")])
 def test_refused_span(words: str, part: str, file: Files, answer: Answers) -> None:
     """A span without rows, or that is none, is refused in one line."""
     status, _, errors = answer([file("at,n\n2026-03-03,1\n2026-03-06,1\n"), *DATED, *words.split()])
@@ -220,16 +230,19 @@ def test_span_needs_dates(file: Files, answer: Answers) -> None:
     ("90 90 90 90 3", "", []),
     ("0 0 5", "", []),
     # A number that another decimal sign would make a thousand times smaller or larger, if few are written so.
-    ("5 1,000 70 400", "--decimal .", [":3:3: column 'n': '1,000' is read as 1000 (1 of 4 rows are written so; with another decimal "
-                                      "sign it would be 1)"]),
-    ("5 7 1.000 9", "--decimal .", [":4:3: column 'n': '1.000' is read as 1 (1 of 4 rows are written so; with another decimal sign it "
-                                    "would be 1000)"]),
+    ("5 1,000 70 400", "--decimal .", [
+        ":3:3: column 'n': '1,000' is read as 1000 (1 of 4 rows are written so; with another decimal sign it would be "
+        "1)"]),
+    ("5 7 1.000 9", "--decimal .", [
+        ":4:3: column 'n': '1.000' is read as 1 (1 of 4 rows are written so; with another decimal sign it would be "
+        "1000)"]),
     ("5.000 7.000 1.000 9.000", "--decimal .", []),
     ("1,111 2,222 3,333 500", "--decimal .", []),
-    ("1,111 2,222 3,333 500", "", [":2:3: column 'n': '1,111' is read as 1111 (if the comma is a decimal sign, say --decimal ,)"]),
+    ("1,111 2,222 3,333 500", "", [":2:3: column 'n': '1,111' is read as 1111 (if the comma is a decimal sign, say "]),
     ("5 1,234,567 7", "--decimal .", ["1234567 is 176366 times 7"]),
     # The last row has the sum of the others.
-    ("1 0 2 1 0 3 7", "", [":8:3: column 'n': the last row looks like a total of the rows above (7 is the sum of all others); if it is"]),
+    ("1 0 2 1 0 3 7", "", [
+        ":8:3: column 'n': the last row looks like a total of the rows above (7 is the sum of all others); if it is"]),
     ("0 0 0 0 0 0 7 7", "", []),
     # A total is not far above the others as well.
     ("1 " * 31 + "31", "", [":33:4: column 'n': the last row looks like a total"]),
@@ -244,7 +257,8 @@ def test_suspicions(rows: str, words: str, notes: list[str], file: Files, answer
 
 @pytest.mark.parametrize("text, words, note", [
     ("w,n\n1,5\n2,5\n1,5\n", "", ":4: the row is the same as that of line 2; if they were exported twice, remove them"),
-    ("w,n\n1,5\n1,5\n2,5\n1,5\n2,5\n", "", ":3: the row is the same as that of line 2, and 2 more as others above them (lines 5, 6); if"),
+    ("w,n\n1,5\n1,5\n2,5\n1,5\n2,5\n", "",
+     ":3: the row is the same as that of line 2, and 2 more as others above them (lines 5, 6); if they"),
     ("n\n5\n5\n5\n", "", None),
     ("w,n\n1,5\n1,6\n", "", None),
     ("at,n\n2026-03-01,5\n2026-03-01,5\n", "--date at --every day", ":3: the row is the same as that of line 2; "),
@@ -261,16 +275,18 @@ def test_total_words(file: Files, answer: Answers) -> None:
     """A last row with a word for a total is a fault if it has no date, and a note if it has one."""
     rows = "at,what,n\n2026-03-01,sale,1\n2026-03-02,sale,2\n"
     status, _, errors = answer([file(f"{rows},Grand total,17\n"), *DATED])
-    assert status == 2 and ":4:1: column 'at': the row looks like a total of the rows above (it has 'Grand total'); leave it out" in errors
+    assert status == 2
+    assert ":4:1: column 'at': the row looks like a total of the rows above (it has 'Grand total'); leave it" in errors
     status, _, errors = answer([file(f"{rows}2026-03-02,Gesamtsumme:,3\n"), *DATED])
-    assert status == 0 and ":4:25: column 'n': the last row looks like a total of the rows above (it has 'Gesamtsumme:'); if it" in errors
+    assert status == 0
+    assert ":4:25: column 'n': the last row looks like a total of the rows above (it has 'Gesamtsumme:'" in errors
     status, _, errors = answer([file(f"{rows},sale,3\n"), *DATED])
     assert status == 2 and ":4:1: column 'at': the cell is empty; write the date, or leave the row out" in errors
 
 
 @pytest.mark.parametrize("text, line, column", [
-    ('a,n\n"x, y",z\n', 2, 8), ('a,n\n"x ""y"", y", z\n', 2, 15), ('a,n\n"x\ny",z\n', 3, 4), ("a,n\n5,z", 2, 3), ("a,n\r\n5\r\n", 2, 2),
-    ('a,n\n5" tube,z\n', 2, 9), ("a\tn\n1\tz\n", 2, 3), ('a,n\n"5","z\n"\n', 2, 5)])
+    ('a,n\n"x, y",z\n', 2, 8), ('a,n\n"x ""y"", y", z\n', 2, 15), ('a,n\n"x\ny",z\n', 3, 4), ("a,n\n5,z", 2, 3),
+    ("a,n\r\n5\r\n", 2, 2), ('a,n\n5" tube,z\n', 2, 9), ("a\tn\n1\tz\n", 2, 3), ('a,n\n"5","z\n"\n', 2, 5)])
 def test_places(text: str, line: int, column: int, file: Files) -> None:
     """A fault has the line and the column in which its cell begins, whatever quotes and ends of lines are before it."""
     with pytest.raises(RefusedFaults) as refused:
@@ -282,7 +298,8 @@ def test_likely_encoding(file: Files, answer: Answers) -> None:
     """Bytes that only cp1252 has lead to that encoding, and the rest of the file is checked with it."""
     status, _, errors = answer([file("n \u20ac,m\nx,1\n", encoding="cp1252"), "--demand", "n \u20ac"])
     assert status == 2
-    assert ":1:3: the byte 0x80 is not UTF-8; say --encoding cp1252" in errors and ":2:1: column 'n \u20ac': 'x' is not" in errors
+    assert ":1:3: the byte 0x80 is not UTF-8; say --encoding cp1252" in errors
+    assert ":2:1: column 'n \u20ac': 'x' is not a number" in errors
 
 
 def test_series(file: Files) -> None:
@@ -305,8 +322,10 @@ def test_rules_of_the_interface(file: Files) -> None:
     path = file("at,n\n2026-03-03,4\n2026-02-30,4\n")
     history = read_history(path, demand="n", date="at", every="day", leave_out=True)
     assert [(it.file, it.line, it.column) for it in history.faults] == [(str(path), 3, 1)] and history.notes
-    for words in ({"every": "day"}, {"date": "at"}, {"date": "at", "every": "year"}, {"delimiter": "|"}, {"decimal": "x"},
-                  {"encoding": "none"}, {"date_formats": ("%d",)}, {"start": "2026-03-01"}):
+    wrong: list[dict[str, Any]] = [
+        {"every": "day"}, {"date": "at"}, {"date": "at", "every": "year"}, {"delimiter": "|"}, {"decimal": "x"},
+        {"encoding": "none"}, {"date_formats": ("%d",)}, {"start": "2026-03-01"}]
+    for words in wrong:
         with pytest.raises(Refused):
             read_history(path, demand="n", **words)
     with pytest.raises(Refused, match="--date and --orders need the period"):
@@ -320,12 +339,14 @@ def test_large_file(tmp_path: Path) -> None:
     path = tmp_path / "large.csv"
     with path.open("wb") as file:
         file.truncate(100_000_001)
-    with pytest.raises(Refused, match="it has more than 100,000,000 bytes; export only the columns and years that you need"):
+    with pytest.raises(Refused, match="it has more than 100,000,000 bytes; export only the columns and years that"):
         read_history(path, demand="n")
 
 
-@pytest.mark.parametrize("text, status, part", [("d\n5\n", 0, "values = [5]"), ("d\n\u00ff\n", 2, "--encoding latin-1")])
+@pytest.mark.parametrize("text, status, part", [
+    ("d\n5\n", 0, "values = [5]"), ("d\n\u00ff\n", 2, "--encoding latin-1")])
 def test_process(text: str, status: int, part: str, file: Files) -> None:
     """The command is the same as a process of its own."""
-    answer = subprocess.run([sys.executable, "-m", "crnplan", "history", file(text), "--demand", "d"], capture_output=True, text=True)
+    words = [sys.executable, "-m", "crnplan", "history", file(text), "--demand", "d"]
+    answer = subprocess.run(words, capture_output=True, text=True)
     assert answer.returncode == status and part in answer.stdout + answer.stderr

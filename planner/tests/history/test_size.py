@@ -16,7 +16,8 @@ ROWS, MOST_SECONDS, MOST_KILOBYTES = 400_000, 10, 400_000
 @pytest.mark.serial
 @pytest.mark.parametrize("time", ["", " {:02}:{:02}:{:02}"], ids=["dates", "times"])
 def test_large_history(tmp_path: Path, time: str) -> None:
-    """400,000 rows of three years take at most 10 processor seconds and 400 MB, with a fault and even if all dates differ."""
+    """400,000 rows of three years take at most 10 processor seconds and 400 MB, with a fault and even if all dates
+    differ."""
     source, path, total = random.Random(1), tmp_path / "large.csv", 0
     with path.open("w", encoding="utf-8") as file:
         file.write("document,item,at,amount\n")

@@ -1,4 +1,5 @@
-"""Tests with random numbers, dates and files: what is written in an accepted form is read as itself, and nothing is lost."""
+"""Tests with random numbers, dates and files: what is written in an accepted form is read as itself, and nothing is
+lost."""
 from __future__ import annotations
 
 import csv
@@ -27,7 +28,8 @@ def test_number_in_any_form(number: int, decimal: str | None, data: st.DataObjec
     sign, other = decimal or ".", "," if decimal != "," else "."
     group = data.draw(st.sampled_from(["", other, *GROUPS]))
     digits = f"{abs(number):,}".replace(",", group)
-    zeros = data.draw(st.sampled_from(["", "0", "00", "0000"] + ["000"] * (decimal is not None or abs(number) >= 1000 and not group)))
+    thousandths = ["000"] if decimal or abs(number) >= 1000 and not group else []
+    zeros = data.draw(st.sampled_from(["", "0", "00", "0000", *thousandths]))
     text = digits + (sign + zeros if zeros else "")
     if number < 0:
         text = data.draw(st.sampled_from([f"-{text}", f"\u2212{text}", f"- {text}", f"{text}-"]))
@@ -38,7 +40,8 @@ def test_number_in_any_form(number: int, decimal: str | None, data: st.DataObjec
 
 @given(text=st.text("0123456789.,-+ '\u00a0x", max_size=12), decimal=st.sampled_from([None, ".", ","]))
 def test_any_text(text: str, decimal: str | None) -> None:
-    """Any text is read as a number or rejected with a reason. Two readings of a text differ only where a note is due."""
+    """Any text is read as a number or rejected with a reason. Two readings of a text differ only where a note is
+    due."""
     readings = set()
     for sign in (decimal, "." if decimal == "," else ","):
         try:
@@ -49,8 +52,9 @@ def test_any_text(text: str, decimal: str | None) -> None:
 
 
 @pytest.mark.parametrize("text, decimal, reading", [
-    ("1.000,000", ",", "1"), ("1,234", None, "1.234"), ("1,230.0", ".", "1.23"), ("-1.000", ",", "1"), ("2,000", ",", "2000"), ("12", ",", None),
-    ("1,234,567", ".", None), ("1 000", ",", None), ("x", ",", None), ("12,00", ",", None), ("1234,000", ",", None)])
+    ("1.000,000", ",", "1"), ("1,234", None, "1.234"), ("1,230.0", ".", "1.23"), ("-1.000", ",", "1"),
+    ("2,000", ",", "2000"), ("12", ",", None), ("1,234,567", ".", None), ("1 000", ",", None), ("x", ",", None),
+    ("12,00", ",", None), ("1234,000", ",", None)])
 def test_other_reading(text: str, decimal: str | None, reading: str | None) -> None:
     """What a number would be with another decimal sign is known, or that it would be none."""
     assert other_reading(text, decimal) == reading
@@ -84,13 +88,15 @@ def test_periods(day: datetime.date, every: str) -> None:
 
 
 GOOD = st.tuples(st.dates(datetime.date(2024, 1, 1), datetime.date(2026, 12, 31)), st.integers(0, 10**9))
-BAD = st.sampled_from([("2026-02-30", "1"), ("soon", "1"), ("2026-02-03", "1.5"), ("2026-02-03", ""), ("", "7"), ("2026-02-03", "-2")])
+BAD = st.sampled_from([("2026-02-30", "1"), ("soon", "1"), ("2026-02-03", "1.5"), ("2026-02-03", ""), ("", "7"),
+                       ("2026-02-03", "-2")])
 
 
 @given(rows=st.lists(st.one_of(GOOD, BAD), max_size=30), first=GOOD, delimiter=st.sampled_from([",", ";", "\t"]),
        end=st.sampled_from(["\n", "\r\n"]), encoding=st.sampled_from(["utf-8", "utf-8-sig", "utf-16", "latin-1"]),
        every=st.sampled_from(["day", "week", "month"]))
-def test_nothing_is_lost(tmp_path_factory: Any, rows: list[Any], first: Any, delimiter: str, end: str, encoding: str, every: str) -> None:
+def test_nothing_is_lost(tmp_path_factory: Any, rows: list[Any], first: Any, delimiter: str, end: str, encoding: str,
+                         every: str) -> None:
     """Each row of any file is counted in its period, or rejected. The sums are those of pandas."""
     rows = [first, *rows]
     text = io.StringIO()
@@ -102,6 +108,7 @@ def test_nothing_is_lost(tmp_path_factory: Any, rows: list[Any], first: Any, del
     good = [row for row in rows if isinstance(row[0], datetime.date)]
     assert [it.line for it in history.faults] == [place for place, row in enumerate(rows, 2) if row not in good]
     frequency = {"day": "D", "week": "W-SUN", "month": "M"}[every]
-    sums = pd.Series([number for _, number in good], pd.PeriodIndex([day for day, _ in good], freq=frequency)).groupby(level=0).sum()
+    periods = pd.PeriodIndex([day for day, _ in good], freq=frequency)
+    sums = pd.Series([number for _, number in good], periods).groupby(level=0).sum()
     pd.testing.assert_series_equal(history.series()[sums.index], sums, check_names=False, check_freq=False)
     assert sum(history.counts) == sum(number for _, number in good)

@@ -232,7 +232,7 @@ def test_dates_returns_and_orders(room: Path, plan: Plan) -> None:
     assert (room / "plan/demand.csv").read_text().splitlines()[:2] == ["period,demand,returns", "2026-W10,5,1"]
     notes = (room / "plan/notes.txt").read_text()
     assert "history.csv: weeks from 2026-W10 to 2026-W14" in notes and "orders.csv: lead times in weeks: 2" in notes
-    assert str(room) not in notes
+    assert "([history] whole leaves them out)" in notes and str(room) not in notes
 
 
 def test_boxes(room: Path, plan: Plan) -> None:
@@ -339,6 +339,9 @@ def test_all_faults_of_a_history(room: Path, plan: Plan) -> None:
     edit(room / "history.csv", "2023-W07,1", "2023-W07,-1")
     status, output, errors = plan()
     assert (status, output) == (2, "") and "history.csv:3:" in errors and "history.csv:8:" in errors
+    assert "([history] net takes it off" in errors and "say [history] leave_out to go on" in errors
+    edit(room / "settings.toml", 'every = "week"', "leave_out = true")
+    assert plan().status in (0, 1) and "rows left out: 2 of 104" in (room / "plan/notes.txt").read_text()
 
 
 def test_no_program(room: Path, plan: Plan) -> None:

@@ -18,6 +18,7 @@ GOOD = (Path(__file__).parent / "settings.toml").read_text()
 # said.
 FAULTS = {
     "a table that is misspelt": ("[costs]", "[cost]", "[cost]", "there is no such table; did you mean [costs]?"),
+    "a table of levels that is misspelt": ("[today]", "[tody]", "[tody]", "did you mean [today]?"),
     "a table that nobody knows": ("[check]", "[zebra]", "[zebra]",
         "the tables are [history], [lead], [costs], [today], [run], [check]"),
     "a key above the tables": ("# A small", "stock = 1\n# A small", "stock = 1",

@@ -1,8 +1,8 @@
 """A Dask cluster of two workers on this machine, for the tests of crnplan sweep with --cluster.
 
 Each process knows its name from its environment, and so does a program that it runs. It has a process group of its own,
-so that it ends together with whatever it has started. Only the loopback is listened on. The processes of the cluster find
-a package crnplan that cannot be imported: workers need the program and nothing else.
+so that it ends together with whatever it has started. Only the loopback is listened on. The processes of the cluster
+find a package crnplan that cannot be imported: workers need the program and nothing else.
 """
 from __future__ import annotations
 

@@ -1,4 +1,4 @@
-"""Tests of sweeps over a cluster of two workers: one worker ends, there is a fault, the scheduler ends, it is not there."""
+"""Tests of sweeps over a cluster: a worker ends, there is a fault, the scheduler ends, or is not there."""
 from __future__ import annotations
 
 import sys
@@ -60,7 +60,8 @@ def taken(room: Path, worker: str) -> Taken:
 
 def start(cluster: Cluster, name: str, *words: str) -> None:
     """Starts a sweep over the cluster."""
-    cluster.start(name, "-m", "crnplan", "sweep", "base.toml", *GRID, "--cluster", cluster.address, *words, hidden=False)
+    sweep = ["-m", "crnplan", "sweep", "base.toml", *GRID, "--cluster", cluster.address]
+    cluster.start(name, *sweep, *words, hidden=False)
 
 
 def ended(cluster: Cluster, name: str) -> Answer:

@@ -36,7 +36,8 @@ def test_a_log_of_many_scenarios_has_at_most_ten_lines(crnplan: Command) -> None
     """Checks that the number of lines does not grow with that of the scenarios."""
     told = crnplan(*WORDS[:2], "--s", "1", "40", "1", "--S", "41", "100", "1")
     shown = told.errors.splitlines()
-    assert told.status == 0 and "\r" not in told.errors and 2 <= len(shown) <= 10 and shown[-1].startswith("160 of 160 ")
+    assert told.status == 0 and "\r" not in told.errors
+    assert 2 <= len(shown) <= 10 and shown[-1].startswith("160 of 160 ")
 
 
 @pytest.mark.parametrize("total", [1, 2, 8, 9, 10, 11, 100, 12345])
@@ -54,8 +55,8 @@ def test_lines_begin_and_end(capsys: pytest.CaptureFixture[str], total: int) -> 
 def test_a_terminal_has_a_bar(room: Path) -> None:
     """Runs a sweep whose standard error is a terminal."""
     ours, theirs = pty.openpty()
-    with subprocess.Popen([sys.executable, "-m", "crnplan", *WORDS], stdin=subprocess.DEVNULL, stdout=subprocess.DEVNULL,
-                          stderr=theirs) as process:
+    with subprocess.Popen([sys.executable, "-m", "crnplan", *WORDS], stdin=subprocess.DEVNULL,
+                          stdout=subprocess.DEVNULL, stderr=theirs) as process:
         os.close(theirs)
         shown = b"".join(iter(lambda: read_part(ours), b"")).decode()
     os.close(ours)

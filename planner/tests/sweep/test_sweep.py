@@ -51,7 +51,8 @@ def test_the_table_has_the_programs_rows_by_rank(base: Path, room: Path, crnplan
     assert first[0] == "A" and sorted((int(row[1]), int(row[2])) for row in rows) == PAIRS
     assert [int(row[5]) for row in rows] == sorted(int(row[5]) for row in rows)
     one = changed(base.read_text("utf-8"), 'name = "B"\ns = 60\nS = 80', 'name = "s60_S60"\ns = 60\nS = 60')
-    alone = subprocess.run(["./counting"], input=one, cwd=room, capture_output=True, text=True, check=True).stdout.splitlines()
+    ran = subprocess.run(["./counting"], input=one, cwd=room, capture_output=True, text=True, check=True)
+    alone = ran.stdout.splitlines()
     assert set(alone) < set(table.splitlines()) and len(alone) == 3
 
 
@@ -65,12 +66,14 @@ def test_any_number_of_runs_at_a_time_gives_the_same_bytes(base: Path, crnplan: 
     assert report.text == one.output and report.scenario.policies[0].name == "A"
 
 
-# A file of a sweep's folder, how much of it is left (0: it is removed) and what is put behind; how many runs it then takes.
+# A file of a sweep's folder, how much of it is left (0: it is removed) and what is put behind; how many runs the sweep
+# then takes.
 CUTS = [("00001.csv", 0, "", 1), ("00000.toml", 0, "", 1), ("00000.toml", 9, "", 1), ("00002.csv", -2, "", 1),
         ("00001.csv", None, "A", 1), ("", 0, "", 0)]
 
 
-@pytest.mark.parametrize(("cut", "left", "behind", "expected"), CUTS, ids=[f"{it[0] or 'nothing'} {it[1]} {it[2]}" for it in CUTS])
+@pytest.mark.parametrize(("cut", "left", "behind", "expected"), CUTS,
+                         ids=[f"{it[0] or 'nothing'} {it[1]} {it[2]}" for it in CUTS])
 def test_goes_on_where_it_was_cut_off(base: Path, room: Path, crnplan: Command, runs: Callable[[], int], cut: str,
                                       left: int | None, behind: str, expected: int) -> None:
     """Checks that a sweep runs only what is not kept whole, and prints the same table."""
@@ -131,7 +134,7 @@ def test_a_failing_program_is_refused(base: Path, room: Path, program: Path, crn
 
 
 @pytest.mark.parametrize(("words", "part"), [
-    (["--s", "9", "3", "1", "--S", "9", "9", "1"], "--s: FROM and TO are 0 to 1,000,000 and rise, and STEP is at least 1"),
+    (["--s", "9", "3", "1", "--S", "9", "9", "1"], "--s: FROM and TO are 0 to 1,000,000 and rise, and STEP is at"),
     (["--s", "1", "3", "1", "--S", "9", "1000001", "1"], "--S: FROM and TO are 0 to 1,000,000"),
     (["--s", "1", "3", "0", "--S", "9", "9", "1"], "STEP is at least 1"),
     (["--s", "20", "20", "1", "--S", "40", "40", "1"], "the grid has no pair with s <= S beside the base"),
@@ -160,7 +163,7 @@ def test_json_has_the_fields_of_the_report(base: Path, crnplan: Command) -> None
     assert [["-" if it is None else str(it) for it in record.values()] for record in data] == rows
 
 
-# Runs of a program that waits, the third one for ever, until there is a file.
+# A program whose third run waits for a minute, unless it is interrupted or the file go_on is there.
 WAITING = """#!/bin/sh
 echo >> "{room}/runs"
 if [ "$(wc -l < "{room}/runs")" -eq 3 ] && [ ! -e "{room}/go_on" ]; then touch "{room}/third"; exec sleep 60; fi
@@ -168,20 +171,22 @@ exec "{program}"
 """
 
 
-def test_goes_on_after_an_interrupt(base: Path, room: Path, program: Path, crnplan: Command, runs: Callable[[], int]) -> None:
+def test_goes_on_after_an_interrupt(base: Path, room: Path, program: Path, crnplan: Command,
+                                    runs: Callable[[], int]) -> None:
     """Interrupts a sweep at its third scenario, as Ctrl-C does. The same sweep begun again runs the rest alone."""
     (room / "counting").write_text(WAITING.format(room=room, program=program), "utf-8")
     words = ["sweep", str(base), *GRID, "--s", "1", "60", "3", "--out", "kept"]
-    with subprocess.Popen([sys.executable, "-m", "crnplan", *words], stdout=subprocess.PIPE, stderr=subprocess.PIPE, text=True,
-                          start_new_session=True) as process:
+    with subprocess.Popen([sys.executable, "-m", "crnplan", *words], stdout=subprocess.PIPE,
+                          stderr=subprocess.PIPE, text=True, start_new_session=True) as process:
         for _ in range(600):
-            if (room / "third").exists():
+            if (room / "third").exists() and len(list((room / "kept").glob("*.toml"))) == 2:
                 break
             time.sleep(0.05)
         os.killpg(process.pid, signal.SIGINT)
         output, errors = process.communicate(timeout=60)
     assert (process.returncode, output) == (130, "") and errors.endswith("crnplan: interrupted\n")
-    assert len(list((room / "kept").glob("*.toml"))) == 2 and runs() == 3
+    # The interrupt ends the third run too, so the next one may have begun before all are cancelled.
+    assert len(list((room / "kept").glob("*.toml"))) == 2 and runs() in (3, 4)
     (room / "go_on").touch()
     after = crnplan(*words)
     parts = len(list((room / "kept").glob("*.toml")))

@@ -95,6 +95,10 @@ def test_the_best_of_all_pairs(lead: Pair) -> None:
     costs = {(level - gap, level): cost_of(scenario, shorts[gap], level)
              for level in range(31) for gap in range(level + 1)}
     assert (best.point, best.level) == min(costs, key=costs.__getitem__)
+    for number in (2, 9, 14):
+        least = [min(cost for pair, cost in costs.items() if pair[place] == number) for place in (0, 1)]
+        told = theory.best_with_point(number).cost, theory.best_with_level(number).cost
+        assert told == pytest.approx(least, abs=1e-7)
     filled = {pair: cost for pair, cost in costs.items() if theory.figures(*pair).fill >= 0.98}
     assert (fill.point, fill.level) == min(filled, key=filled.__getitem__)
     assert fill.cost == pytest.approx(filled[fill.point, fill.level], abs=1e-7)

@@ -105,6 +105,13 @@ def test_names_that_today_has() -> None:
     assert names[:2] == ["best", "best_"] and len(set(names)) == len(names)
 
 
+def test_a_level_below_half_a_step() -> None:
+    """No policy of a coarse lattice has such an S with s >= 0, so none keeps today's."""
+    found = suggestions_of(LARGE["10,001 demands, one lead time"].with_policies([Policy("today", 0, 0)]))
+    assert found.step > 2
+    assert "same_S" not in [it.policy.name for it in found.rows] and len(found.rows) > 10
+
+
 def test_the_text_keeps_the_order_and_the_first_comment(top: Path) -> None:
     text = (top / "examples" / "spare_part.toml").read_text("utf-8")
     lines = text.splitlines(keepends=True)

@@ -75,11 +75,13 @@ def main() -> None:
     """Runs the command. Ends with status 0; 1 if the answer is no; 2 if an input or a word is refused; 130 if
     interrupted."""
     try:
-        result: Any = group.main(standalone_mode=False)
+        result: Any = group.main(prog_name="crnplan", standalone_mode=False)
         sys.exit(result if isinstance(result, int) else 0)
     except click.UsageError as fault:
-        hint = f". {fault.ctx.command_path} --help shows the words." if fault.ctx else ""
-        print(f"crnplan: {fault.format_message().removesuffix('.')}{hint}", file=sys.stderr)
+        message = fault.format_message()
+        end = "" if message.endswith(("?", ".")) else "."
+        hint = f"{end} {fault.ctx.command_path} --help shows the words." if fault.ctx else ""
+        print(f"crnplan: {message}{hint}", file=sys.stderr)
         sys.exit(2)
     except click.ClickException as fault:
         print(f"crnplan: {fault.format_message()}", file=sys.stderr)

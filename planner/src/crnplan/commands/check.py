@@ -35,7 +35,8 @@ class Keys(click.Command):
 @click.argument("best", metavar="BEST")
 @click.option("--key", "keys", metavar="WORD | W0 W1 W2 W3", multiple=True, help="A key: one word, or four.")
 @click.option("--keys", "count", type=int, metavar="N", help="How many keys, up to 64.")
-@click.option("--replications", type=int, default=formats.MOST_REPLICATIONS, metavar="R", show_default=True, help="For each key.")
+@click.option("--replications", type=int, default=formats.MOST_REPLICATIONS, metavar="R", show_default=True,
+              help="For each key.")
 @click.option("--level", type=float, default=0.95, show_default=True, help="The joint level of the intervals.")
 @click.option("--program", metavar="PATH", help="The program crnsim.")
 @click.option("--out", metavar="FOLDER", help="Keep the scenarios and reports here.")
@@ -46,23 +47,25 @@ def command(scenario: str, best: str, keys: tuple[str, ...], count: int | None, 
     """Check the best policy of a scenario on new histories, against all others. `-` is standard input.
 
     BEST is the name of a policy. It was picked because it did well on the histories of the scenario's own key, so it is
-    judged on others. It is moved to the first place, a new key is drawn, 256 replications are run, and each other policy is
-    compared with BEST, as crnplan decide does. One sentence says what comes of it. If a policy is better, the exit status
-    is 1.
+    judged on others. It is moved to the first place, a new key is drawn, 256 replications are run, and each other
+    policy is compared with BEST, as crnplan decide does. One sentence says what comes of it. If a policy is better, the
+    exit status is 1.
 
-    The key is printed. With --key the same check runs again: four words of 16 digits of 0-9a-f, or one word that replaces
-    the first word of the scenario's key. The scenario's own key is rejected, as it gives the same histories again. With
-    --keys N there are N different keys. Each --key names one of them, and the others are drawn. All replications are pooled.
+    The key is printed. With --key the same check runs again: four words of 16 digits of 0-9a-f, or one word that
+    replaces the first word of the scenario's key. The scenario's own key is rejected, as it gives the same histories
+    again. With --keys N there are N different keys. Each --key names one of them, and the others are drawn. All
+    replications are pooled.
 
-    --out FOLDER keeps what was run: key_1.toml and key_1.csv for the first key, and pooled.csv with several keys, the report
-    of all replications. FOLDER is new or empty.
+    --out FOLDER keeps what was run: key_1.toml and key_1.csv for the first key, and pooled.csv with several keys, the
+    report of all replications. FOLDER is new or empty.
     """
     found = check_keys(Scenario.read(scenario), best, keys=[key.split() for key in keys], count=count, **options)
     if form == "csv":
         csv.writer(sys.stdout, lineterminator="\n").writerows(table_of(found.rows))
         print(found.sentence, end="", file=sys.stderr)
     elif form:
-        head = {"best": best, "holds": found.holds, "keys": found.keys, "replications": found.replications, "level": found.level}
+        head = {"best": best, "holds": found.holds, "keys": found.keys, "replications": found.replications,
+                "level": found.level}
         print(json.dumps({**head, "policies": records_of(found.rows)}, indent=2))
     else:
         print(found.text, end="")

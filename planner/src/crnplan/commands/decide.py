@@ -19,7 +19,8 @@ from ..report.pictures import picture_path
 from ..scenario import Scenario
 
 
-def pictures(rows: Sequence[Compared], base: Row, sample: tuple[int, int, float], plot: str | None, of_costs: str | None) -> None:
+def pictures(rows: Sequence[Compared], base: Row, sample: tuple[int, int, float], plot: str | None,
+             of_costs: str | None) -> None:
     """Draws the pictures that are asked for."""
     from ..report.decision_pictures import draw_differences, draw_map
     from ..report.pictures import open_pyplot
@@ -66,14 +67,14 @@ def command(report: str, scenario_path: str | None, sweep: bool, replications: i
             form: str | None, plot: str | None, of_costs: str | None) -> None:
     """Turn a report of crnsim into decimals, confidence intervals and a decision. `-` is standard input.
 
-    The first policy of the report is the base. Each other policy gets a paired-t interval for its diff_mean, from low to
-    high. All these intervals together hold at the level. percent is diff_mean in percent of the base's cost. From cost_low
-    to cost_high is an interval for the policy's own cost per period. These hold at the level one by one, not together. The
-    policies are ranked by diff_total. At most 20 are listed, the base always.
+    The first policy of the report is the base. Each other policy gets a paired-t interval for its diff_mean, from low
+    to high. All these intervals together hold at the level. percent is diff_mean in percent of the base's cost. From
+    cost_low to cost_high is an interval for the policy's own cost per period. These hold at the level one by one, not
+    together. The policies are ranked by diff_total. At most 20 are listed, the base always.
 
-    The number of replications comes from the scenario or from --replications. The report must have the scenario's policies:
-    the same names, s and S in the same order. With --sweep only the first one is compared. With the scenario, a warning says
-    how much the cost unit favours policies that end a replication with little stock.
+    The number of replications comes from the scenario or from --replications. The report must have the scenario's
+    policies: the same names, s and S in the same order. With --sweep only the first one is compared. With the scenario,
+    a warning says how much the cost unit favours policies that end a replication with little stock.
     """
     for path in (plot, of_costs):
         picture_path(path or ".png")

@@ -1,7 +1,7 @@
 """Turns a history of demand into the tables [demand], [lead] and [returns] of a scenario."""
 from __future__ import annotations
 
-from collections.abc import Callable
+from collections.abc import Callable, Iterable
 from pathlib import Path
 from typing import Any
 
@@ -33,12 +33,19 @@ def item_of(context: click.Context, option: click.Parameter, words: tuple[str, .
     return {name.strip(): text.strip() for name, _, text in pairs}
 
 
+def left_out(read: Iterable[Observed]) -> list[Fault]:
+    """Returns the faults of all rows that were left out."""
+    return [it for its in read for it in its.faults]
+
+
 def tables(asked: dict[str, Any], rules: dict[str, Any], read: list[Observed]) -> str:
-    """Returns all tables that are asked for. What is read is added to a list; faults of all files are raised together."""
+    """Returns all tables that are asked for. What is read is added to a list; faults of all files are raised
+    together."""
     faults: list[Fault] = []
     notes: list[str] = []
 
     def attempted(make: Callable[[], Any]) -> Any:
+        """Returns what a function makes, or None if it finds faults."""
         try:
             its = make()
         except RefusedFaults as fault:
@@ -65,30 +72,36 @@ def tables(asked: dict[str, Any], rules: dict[str, Any], read: list[Observed]) -
     return "".join(f"\n{VERSION if name == 'returns' else ''}{law.toml(name)}" for name, law in laws.items() if law)
 
 
-@click.command(epilog="Example: crnplan history movements.csv --demand Menge --date Datum --every week --decimal , --net")
+@click.command(epilog="Example: crnplan history sales.csv --demand Menge --date Datum --every week --decimal , --net")
 @click.argument("file", metavar="HISTORY.csv")
 @click.option("--demand", metavar="COLUMN", callback=stripped, help="What customers asked for.")
-@click.option("--returns", metavar="COLUMN", callback=stripped, help="What customers gave back, for a scenario of version 2.")
+@click.option("--returns", metavar="COLUMN", callback=stripped,
+              help="What customers gave back, for a scenario of version 2.")
 @click.option("--date", metavar="COLUMN", callback=stripped, help="Each row is a movement at this date.")
-@click.option("--every", type=click.Choice(EVERY), help="The period of --date and --orders. Weeks are ISO weeks, from Monday.")
-@click.option("--from", "start", metavar="DATE", help="The first day of the record. Periods without demand from then on count 0.")
+@click.option("--every", type=click.Choice(EVERY),
+              help="The period of --date and --orders. Weeks are ISO weeks, from Monday.")
+@click.option("--from", "start", metavar="DATE",
+              help="The first day of the record. Periods without demand from then on count 0.")
 @click.option("--to", "end", metavar="DATE", help="The last day of the record.")
 @click.option("--net", is_flag=True, help="Take amounts below 0 off their period.")
 @click.option("--whole", is_flag=True, help="Leave out the first and the last period if they may be partial.")
 @click.option("--item", metavar="COLUMN=VALUE", multiple=True, callback=item_of,
               help="Read only rows with this text; the record is that of all rows. May be given several times.")
-@click.option("--box", type=click.IntRange(1), default=1, metavar="N", help="Count each period in boxes of N items, rounded up.")
+@click.option("--box", type=click.IntRange(1), default=1, metavar="N",
+              help="Count each period in boxes of N items, rounded up.")
 @click.option("--lead", type=(str, str), metavar="FILE.csv COLUMN", help="Lead times, in periods.")
 @click.option("--orders", metavar="FILE.csv", help="Dates of orders and of their receipts. Open orders are left out.")
 @click.option("--ordered", metavar="COLUMN", default="ordered", show_default=True, callback=stripped)
 @click.option("--received", metavar="COLUMN", default="received", show_default=True, callback=stripped)
 @click.option("--delimiter", metavar="SIGN", help="One of , ; tab. It is found from the heading and the rows.")
-@click.option("--encoding", metavar="NAME", help="For example cp1252; without it that of the byte order mark, or UTF-8.")
+@click.option("--encoding", metavar="NAME",
+              help="For example cp1252; without it that of the byte order mark, or UTF-8.")
 @click.option("--decimal", type=click.Choice(DECIMALS), help="The decimal sign; without it the point.")
 @click.option("--date-format", "date_formats", metavar="PATTERN", multiple=True,
               help="A pattern as %d/%m/%y in place of the usual forms. May be given several times.")
 @click.option("--leave-out", is_flag=True, help="Go on without rows that have a fault.")
-@click.option("--rejects", type=click.Path(dir_okay=False, path_type=Path), metavar="FILE", help="Write all faults as CSV.")
+@click.option("--rejects", type=click.Path(dir_okay=False, path_type=Path), metavar="FILE",
+              help="Write all faults as CSV.")
 def command(**asked: Any) -> int:
     """Turn a history of demand into the tables [demand], [lead] and [returns] of a scenario.
 
@@ -97,13 +110,13 @@ def command(**asked: Any) -> int:
     weight of a value is how often it was observed. Notes go to standard error. All faults of the files are found in
     one pass.
 
-    --lead has one row for each lead time, in periods. --orders has one row for each order. An order that was placed on any
-    day of period t and received on any day of period t + L has lead time L, and 1 if both fell in one period. If you
-    place orders only at the beginning of a period, these lead times are half a period too short on average: then take
-    shorter periods.
+    --lead has one row for each lead time, in periods. --orders has one row for each order. An order that was placed on
+    any day of period t and received on any day of period t + L has lead time L, and 1 if both fell in one period. If
+    you place orders only at the beginning of a period, these lead times are half a period too short on average: then
+    take shorter periods.
 
-    Dates are 2026-03-31, 31.03.2026, 31.03.26, 31/03/2026 or 03/31/2026, with or without a time of day. A date with a number over
-    12 decides whether the day or the month comes first. These options hold for all files.
+    Dates are 2026-03-31, 31.03.2026, 31.03.26, 31/03/2026 or 03/31/2026, with or without a time of day. A date with a
+    number over 12 decides whether the day or the month comes first. These options hold for all files.
     """
     rules = {it: asked[it] for it in ("delimiter", "encoding", "decimal", "date_formats", "item", "leave_out")}
     if asked["lead"] and asked["orders"]:
@@ -118,9 +131,9 @@ def command(**asked: Any) -> int:
         text = tables(asked, rules, read)
     except RefusedFaults as fault:
         if asked["rejects"]:
-            write_rejects(asked["rejects"], fault.faults)
+            write_rejects(asked["rejects"], [*left_out(read), *fault.faults])
         raise
-    faults = [it for its in read for it in its.faults]
+    faults = left_out(read)
     if asked["rejects"]:
         write_rejects(asked["rejects"], faults)
     for line in [*printed(faults), *(note for its in read for note in its.notes)]:

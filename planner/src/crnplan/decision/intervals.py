@@ -26,8 +26,9 @@ from ..errors import Refused
 class Compared(Row):
     """A row of a report with its intervals, in the scenario's money. None stands for no figure.
 
-    `percent` is the difference in percent of the base's cost. From `low` to `high` is the joint interval of `diff_mean`,
-    from `cost_low` to `cost_high` that of `per_period`, by itself. `verdict` is base, better, worse or undecided.
+    `percent` is the difference in percent of the base's cost. From `low` to `high` is the joint interval of
+    `diff_mean`, from `cost_low` to `cost_high` that of `per_period`, by itself. `verdict` is base, better, worse or
+    undecided.
     """
 
     percent: Fraction | None = None
@@ -46,10 +47,15 @@ def checked_level(level: float) -> float:
     return level
 
 
-def t_quantile(probability: float, degrees: int) -> float:
-    """Returns the quantile of Student's t with this number of degrees of freedom."""
-    from scipy.special import stdtrit
-    return float(stdtrit(degrees, probability))
+def t_quantile(tails: float, degrees: int) -> float:
+    """Returns the value that Student's |t| exceeds with probability `tails`, above 0, with so many degrees of freedom.
+
+    By Abramowitz and Stegun, Handbook of Mathematical Functions, 26.7.1, from the incomplete beta function: scipy's
+    `stdtrit` is right to nine digits alone if the degrees are few.
+    """
+    from scipy.special import betaincinv
+    inside = float(betaincinv(degrees / 2, 0.5, tails))
+    return math.sqrt(degrees * (1 - inside) / inside)
 
 
 def periods_of(row: Row, replications: int) -> Fraction | None:
@@ -107,8 +113,8 @@ def with_intervals(rows: Sequence[Row], replications: int, level: float) -> list
     """Returns all policies by rank, the cheapest first, each with its intervals and its verdict."""
     quantiles = 0.0, 0.0
     if replications > 1:
-        joint = 1 - (1 - level) / (2 * max(1, len(rows) - 1))
-        quantiles = t_quantile(joint, replications - 1), t_quantile((1 + level) / 2, replications - 1)
+        joint = (1 - level) / max(1, len(rows) - 1)
+        quantiles = t_quantile(joint, replications - 1), t_quantile(1 - level, replications - 1)
     compared = (with_interval(row, rows[0], replications, quantiles) for row in rows)
     return sorted(compared, key=lambda it: it.diff_total)
 

@@ -1,7 +1,7 @@
 """Checks the best policy of a scenario on new histories, against all others.
 
-The best policy was picked because it did well on the histories of the scenario's own key, so it is judged on others. All
-replications of all keys are pooled. A report says the sums of the differences and of their squares exactly, so the
+The best policy was picked because it did well on the histories of the scenario's own key, so it is judged on others.
+All replications of all keys are pooled. A report says the sums of the differences and of their squares exactly, so the
 intervals are the paired-t intervals of N times R differences, with N R - 1 degrees of freedom.
 
 This is not proved; crnsim's figures are, and decimals are rounded.
@@ -55,7 +55,8 @@ class Check:
         """Returns one sentence on what the verdicts say of the best policy."""
         better, alike, worse = (list(with_verdict(self.rows, it)) for it in ("better", "undecided", "worse"))
         parts = clause_of(better, "is better", "are better") or ["no policy is better"]
-        parts += clause_of(alike, *[f"can't be told apart from {self.best}"] * 2) + clause_of(worse, "is worse", "are worse")
+        parts += clause_of(alike, *[f"can't be told apart from {self.best}"] * 2)
+        parts += clause_of(worse, "is worse", "are worse")
         return f"On these new histories {self.best} {'holds' if self.holds else 'does not hold'}: {'; '.join(parts)}.\n"
 
     @property
@@ -96,8 +97,8 @@ def new_folder(path: str | Path) -> Path:
 def checked_replications(replications: int) -> int:
     """Returns the number of replications for each key. Raises Refused if it is out of range."""
     if not LEAST_REPLICATIONS <= replications <= formats.MOST_REPLICATIONS:
-        raise Refused(f"--replications {replications}: there can be {LEAST_REPLICATIONS} to {formats.MOST_REPLICATIONS} for "
-                      "each key; more come from more keys (--keys)")
+        raise Refused(f"--replications {replications}: there can be {LEAST_REPLICATIONS} to "
+                      f"{formats.MOST_REPLICATIONS} for each key; more come from more keys (--keys)")
     return replications
 
 
@@ -106,11 +107,12 @@ def check_keys(scenario: Scenario, best: str, *, keys: Sequence[Sequence[str]] =
                out: str | Path | None = None) -> Check:
     """Runs a scenario again under new keys, and compares each other policy with the policy named `best`.
 
-    `keys` are given ones, each of four words, or of one that replaces the first word of the scenario's key; a word has 16
-    digits of 0-9a-f. If they are fewer than `count`, 1 to 64, the others are drawn. Each is run with so many `replications`,
-    2 to 256. The joint `level` is between 0 and 1. `out` is a new or empty folder, which gets the scenario and the report of
-    each key, key_1.toml and key_1.csv for the first one, and pooled.csv if there are several: the report of all
-    replications. Raises Refused, also for the scenario's own key, and ProgramError if a run fails.
+    `keys` are given ones, each of four words, or of one that replaces the first word of the scenario's key; a word has
+    16 digits of 0-9a-f. If they are fewer than `count`, 1 to 64, the others are drawn. Each is run with so many
+    `replications`, 2 to 256. The joint `level` is between 0 and 1. `out` is a new or empty folder, which gets the
+    scenario and the report of each key, key_1.toml and key_1.csv for the first one, and pooled.csv if there are
+    several: the report of all replications. Raises Refused, also for the scenario's own key, and ProgramError if a run
+    fails.
     """
     checked_replications(replications)
     checked_level(level)

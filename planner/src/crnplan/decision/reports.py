@@ -28,10 +28,11 @@ def read_report(path: str | Path, replications: int) -> list[Row]:
     return rows
 
 
-def check_policies(rows: Sequence[Row], policies: Sequence[Policy], names: tuple[str, str], sweep: bool = False) -> None:
-    """Raises Refused if the rows are not those of a scenario's policies, in order. Of a sweep only the first is compared.
+def check_policies(rows: Sequence[Row], policies: Sequence[Policy], names: tuple[str, str],
+                   sweep: bool = False) -> None:
+    """Raises Refused if the rows are not those of a scenario's policies, in order.
 
-    `names` are those of the report and of the scenario.
+    Of a sweep only the first policy is compared. `names` are those of the report and of the scenario.
     """
     found = [(row.policy, row.s, row.S) for row in rows]
     wanted = [(policy.name, policy.s, policy.S) for policy in policies]
@@ -42,5 +43,6 @@ def check_policies(rows: Sequence[Row], policies: Sequence[Policy], names: tuple
             raise Refused("{}: policy {} is {} ({}, {}), but in {} it is {} ({}, {}); give the report's own scenario"
                           .format(names[0], number, *its, names[1], *other))
     if len(found) != len(wanted):
-        hint = "; for a table of crnplan sweep add --sweep" if found[:1] == wanted[:1] and len(found) > len(wanted) else ""
+        is_sweep = found[:1] == wanted[:1] and len(found) > len(wanted)
+        hint = "; for a table of crnplan sweep add --sweep" * is_sweep
         raise Refused(f"{names[0]}: it has {len(found)} policies, but {names[1]} has {len(wanted)}{hint}")

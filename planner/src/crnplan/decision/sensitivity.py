@@ -1,8 +1,8 @@
 """Says how much each policy of a scenario may cost too much if the scenario is not quite right.
 
-The cases are the scenario itself (`base`); demand 10% up and down; every lead time one period longer; the cost `backlog`
-halved and doubled. All else stays as it is, the key too. Costs with another `backlog` follow exactly from the items owed,
-which one run counts.
+The cases are the scenario itself (`base`); demand 10% up and down; every lead time one period longer; the cost
+`backlog` halved and doubled. All else stays as it is, the key too. Costs with another `backlog` follow exactly from the
+items owed, which one run counts.
 
 This is not proved; crnsim's figures are, and decimals are rounded.
 """
@@ -57,7 +57,7 @@ class Loss:
 
 @dataclass(frozen=True)
 class Sensitivity:
-    """What each policy may cost too much: exact costs by case, and notes on the cases that are not exact or left out."""
+    """What each policy may cost too much: exact costs by case, and notes on cases that are not exact or left out."""
 
     policies: tuple[Policy, ...]
     cases: tuple[Case, ...]
@@ -82,7 +82,8 @@ class Sensitivity:
     def records(self) -> Iterator[dict[str, str | int | float | None]]:
         """Yields the table as data, without rounding to decimals."""
         for loss in self.losses:
-            figures = [(case.name, regret) for case, regret in zip(self.cases, loss.regrets)] + [("greatest", loss.greatest)]
+            names = [*(case.name for case in self.cases), "greatest"]
+            figures = zip(names, [*loss.regrets, loss.greatest])
             cells = {f"{name}{end}": None if it is None else float(it) for name, regret in figures
                      for end, it in zip(("", "_percent"), regret)}
             policy = loss.policy
@@ -90,7 +91,7 @@ class Sensitivity:
 
     @property
     def frame(self) -> pd.DataFrame:
-        """Returns the table indexed by `policy`: s, S (items), the regret in each case (money per period, and percent)."""
+        """Returns the table indexed by `policy`: s, S (items), the regret in each case (money per period, percent)."""
         import pandas as pd
         return pd.DataFrame(self.records()).set_index("policy")
 
@@ -98,7 +99,7 @@ class Sensitivity:
     def text(self) -> str:
         """Returns the table, the cheapest policy of each case, and the notes."""
         heading = ["policy", "s", "S", *(case.name for case in self.cases), "greatest", "in"]
-        cells = [[it.policy.name, str(it.policy.s), str(it.policy.S), *map(cell, it.regrets), cell(it.greatest), it.worst]
+        cells = [[it.policy.name, str(it.policy.s), str(it.policy.S), *map(cell, (*it.regrets, it.greatest)), it.worst]
                  for it in self.losses]
         table = [[case, name, f"{float(cost):.3f}"] for case, name, cost in self.cheapest]
         notes = "".join(f"\n{note}" for note in self.notes) + "\n" * bool(self.notes)
@@ -132,7 +133,8 @@ def scaled_down(weights: Mapping[int, int]) -> Table:
 def changed_demand(demand: Table, tenths: int) -> Table:
     """Returns the demands of which each is multiplied by so many tenths.
 
-    If that is not whole, it becomes the whole numbers below and above, with the weight shared so that the mean is right.
+    If that is not whole, it becomes the whole numbers below and above, with the weight shared so that the mean is
+    right.
     """
     weights: dict[int, int] = {}
     for value, weight in zip(demand.values, demand.weights):
@@ -148,7 +150,8 @@ def demand_cases(scenario: Scenario, notes: list[str]) -> Iterator[tuple[str, Sc
     for name, tenths, words in CHANGES:
         demand = changed_demand(scenario.demand, tenths)
         if demand.values[-1] > formats.MOST_DEMAND:
-            notes.append(f"{words} is left out: a demand would be {demand.values[-1]:,}, which is over {formats.MOST_DEMAND:,}")
+            notes.append(f"{words} is left out: a demand would be {demand.values[-1]:,}, which is over "
+                         f"{formats.MOST_DEMAND:,}")
             continue
         before, after = scenario.demand.mean, demand.mean
         if after != before * tenths / 10:
@@ -160,7 +163,8 @@ def lead_cases(scenario: Scenario, notes: list[str]) -> Iterator[tuple[str, Scen
     """Yields the case with longer lead times. A note says if it is left out."""
     lead = Table.of({value + 1: weight for value, weight in zip(scenario.lead.values, scenario.lead.weights)})
     if lead.values[-1] > formats.MOST_LEAD:
-        notes.append(f"lead time plus 1 is left out: a lead time would be {lead.values[-1]}, which is over {formats.MOST_LEAD}")
+        notes.append(f"lead time plus 1 is left out: a lead time would be {lead.values[-1]}, which is over "
+                     f"{formats.MOST_LEAD}")
     else:
         yield "lead_plus_1", dataclasses.replace(scenario, lead=lead)
 
@@ -169,7 +173,8 @@ def sensitivity(scenario: Scenario, *, program: str | Path | None = None) -> Sen
     """Runs a scenario as it is and changed, and returns what each policy costs too much in each case.
 
     The regrets are means of one sample, without intervals, and contain the end effect of the cost `unit`. A case whose
-    numbers are out of range, a demand over 10,000 or a lead time over 32, is left out. Raises ProgramError if a run fails.
+    numbers are out of range, a demand over 10,000 or a lead time over 32, is left out. Raises ProgramError if a run
+    fails.
     """
     notes: list[str] = []
     cases = {"base": scenario, **dict(demand_cases(scenario, notes)), **dict(lead_cases(scenario, notes))}

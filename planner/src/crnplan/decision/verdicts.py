@@ -71,7 +71,7 @@ def listed(rows: Sequence[Compared], every: bool = False) -> Sequence[Compared]:
 
 
 def decision_text(rows: Sequence[Compared], base: str, replications: int, level: float, most_names: int) -> str:
-    """Returns what the intervals say of each policy compared with the base, with at most `most_names` names in a line."""
+    """Returns what the intervals say of each policy compared with the base, with so many names in a line at most."""
     comparisons = len(rows) - 1
     lines = ["", f"replications: {replications}, comparisons with {base}: {comparisons}, joint level: {level:g}"]
     if replications == 1:

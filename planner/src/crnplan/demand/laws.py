@@ -53,8 +53,9 @@ def empirical(numbers: Iterable[int]) -> dict[str, Any]:
     total = sum(counts.values())
     mean = Fraction(sum(value * count for value, count in counts.items()), total)
     squares = sum(count * (value - mean)**2 for value, count in counts.items())
-    diagnostics = {"observed": total, "mean": float(mean), "variance": float(squares / (total - 1)) if total > 1 else None}
-    return {"values": tuple(sorted(counts)), "weights": tuple(counts[it] for it in sorted(counts)), "diagnostics": diagnostics}
+    variance = float(squares / (total - 1)) if total > 1 else None
+    return {"values": tuple(sorted(counts)), "weights": tuple(counts[it] for it in sorted(counts)),
+            "diagnostics": {"observed": total, "mean": float(mean), "variance": variance}}
 
 
 # The ways of fitting a law of demand: each makes the fields of a law from whole numbers.
@@ -64,8 +65,8 @@ METHODS: dict[str, Callable[[Iterable[int]], dict[str, Any]]] = {"empirical": em
 def fit_demand(observed: Observed | Iterable[Any], *, method: str = "empirical", box: int = 1) -> DemandLaw:
     """Fits the law of demand to a history, or to any whole numbers from 0, one for each period.
 
-    Numbers are counted in boxes of `box` items, rounded up. Raises RefusedFaults with the place of each number that is too
-    large for a scenario.
+    Numbers are counted in boxes of `box` items, rounded up. Raises RefusedFaults with the place of each number that is
+    too large for a scenario.
     """
     if method not in METHODS:
         raise Refused(f"there is no method {method!r} to fit demand; say {' or '.join(METHODS)}")

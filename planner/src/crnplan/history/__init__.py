@@ -1,4 +1,4 @@
-"""Reads the histories and lead times of planners: real exports, with all their faults in one pass and nothing silently wrong."""
+"""Reads histories of demand and lead times: real exports, with all faults in one pass and nothing silently wrong."""
 from .histories import read_history
 from .leads import read_lead_times
 from .observed import History, LeadTimes

@@ -45,8 +45,8 @@ def _two_readings(found: re.Match[str], text: str, sign: str) -> Unreadable:
 def amount_of(text: str, decimal: str | None = None, if_empty: str = NO_DEMAND) -> int:
     """Returns the whole number of a text, which may be negative.
 
-    Without a stated decimal sign it is the point, and a point before three digits is rejected, since it may stand between
-    thousands. Raises Unreadable.
+    Without a stated decimal sign it is the point, and a point before three digits is rejected, since it may stand
+    between thousands. Raises Unreadable.
     """
     sign = decimal or "."
     if not text:
@@ -60,8 +60,8 @@ def amount_of(text: str, decimal: str | None = None, if_empty: str = NO_DEMAND) 
     if _could_be_group(found) and (decimal is None or part):
         raise _two_readings(found, text, sign)
     if part:
-        raise Unreadable(f"{shown(text)!r} is not a whole number; count in a smaller unit, as grams for kilograms, and then "
-                         "in boxes of many (--box)")
+        raise Unreadable(f"{shown(text)!r} is not a whole number; count in a smaller unit, as grams for kilograms, and "
+                         "then in boxes of many (--box)")
     digits = re.sub("[^0-9]", "", found["whole"]).lstrip("0") or "0"
     if len(digits) > MOST_DIGITS:
         raise Unreadable(f"{shown(text)!r} has more than {MOST_DIGITS} digits; correct it")
@@ -70,10 +70,11 @@ def amount_of(text: str, decimal: str | None = None, if_empty: str = NO_DEMAND) 
 
 
 def other_reading(text: str, decimal: str | None) -> str | None:
-    """Returns what a readable number would be if its sign between thousands were a decimal sign, or the other way round.
+    """Returns what a readable number would be if its sign between thousands were a decimal sign, or the other way
+    round.
 
-    So `1.000,000`, which is 1000 with the comma as decimal sign, is 1 if the point is one. Returns None if there is no such
-    sign.
+    So `1.000,000`, which is 1000 with the comma as decimal sign, is 1 if the point is one. Returns None if there is no
+    such sign.
     """
     sign = decimal or "."
     found = FORMS[sign].fullmatch(text)

@@ -1,7 +1,7 @@
 """Reads the cells of a CSV file: its encoding, its delimiter, its heading, and the rows below it.
 
-Each column keeps its distinct texts once, and a whole number for each row. So each text is read as a number or a date once,
-and 400,000 rows take a few megabytes.
+Each column keeps its distinct texts once, and a whole number for each row. So each text is read as a number or a date
+once, and 400,000 rows take a few megabytes.
 """
 from __future__ import annotations
 
@@ -51,7 +51,8 @@ class Rules:
         try:
             b"a".decode(self.encoding or "utf-8", "replace")
         except (LookupError, ValueError) as fault:
-            raise Refused(f"--encoding {self.encoding!r} is no encoding of texts; say utf-8, latin-1 or cp1252") from fault
+            raise Refused(f"--encoding {self.encoding!r} is no encoding of texts; say utf-8, latin-1 or "
+                          "cp1252") from fault
         for pattern in self.date_formats:
             checked_format(pattern)
 
@@ -109,11 +110,13 @@ class Sheet:
 
     def cells(self, row: int) -> list[str]:
         """Returns the texts of all cells of a row."""
-        reader = csv.reader(io.StringIO(self.row_text(row), newline=""), delimiter=self.delimiter, skipinitialspace=True)
+        text = io.StringIO(self.row_text(row), newline="")
+        reader = csv.reader(text, delimiter=self.delimiter, skipinitialspace=True)
         return [it.strip() for it in next(reader, [])]
 
     def place(self, row: int, place: int) -> tuple[int, int]:
-        """Returns the line and the column in which a cell begins. A cell that isn't there begins at the end of its row."""
+        """Returns the line and the column in which a cell begins. A cell that isn't there begins at the end of its
+        row."""
         text, sign = self.row_text(row), re.escape(self.delimiter)
         cells = re.finditer(rf' *(?:"(?:[^"]|"")*")?[^{sign}]*(?:{sign}|\Z)', text)
         start = next((it.start() for it in itertools.islice(cells, place, None)), len(text))
@@ -128,8 +131,8 @@ class Sheet:
     def reject_long(self, row: int) -> Reject:
         """Returns the fault of a row that has more cells than the heading."""
         sign = "tab" if self.delimiter == "\t" else self.delimiter
-        return Reject(f"there are {self.long[row]} cells, and {len(self.heading)} columns in the heading; put a cell with a "
-                      f"{sign} in quotes, or name each column in the heading", self.name,
+        return Reject(f"there are {self.long[row]} cells, and {len(self.heading)} columns in the heading; put a cell "
+                      f"with a {sign} in quotes, or name each column in the heading", self.name,
                       *self.place(row, len(self.heading)), self.row_text(row))
 
 
@@ -155,10 +158,11 @@ def read_bytes(path: str | Path) -> tuple[str, bytes]:
 
 
 def decoded(name: str, data: bytes, encoding: str | None) -> tuple[str, Fault | None]:
-    """Returns the text of a file. A byte order mark decides the encoding; without one it is the given encoding, or UTF-8.
+    """Returns the text of a file. A byte order mark decides the encoding; without one it is the given encoding, or
+    UTF-8.
 
-    If nobody has stated the encoding and the bytes are not UTF-8, the text is that of the likely encoding, with a fault: so
-    the rest of the file can be checked too. Raises RefusedFaults for other bytes that can't be decoded.
+    If nobody has stated the encoding and the bytes are not UTF-8, the text is that of the likely encoding, with a
+    fault: so the rest of the file can be checked too. Raises RefusedFaults for other bytes that can't be decoded.
     """
     known = next((it for mark, it in MARKS if data.startswith(mark)), encoding) or "utf-8"
     fault = None
@@ -170,8 +174,8 @@ def decoded(name: str, data: bytes, encoding: str | None) -> tuple[str, Fault | 
         likely = "cp1252" if re.search(b"[\x80-\x9f]", data) else "latin-1"
         is_utf_8 = known[:5] == "utf-8"
         advice = f"--encoding {likely}" if is_utf_8 else "another --encoding"
-        fault = Fault(f"the byte 0x{data[start:start + 1].hex()} is not {'UTF-8' if is_utf_8 else known}; say {advice}, "
-                      f"{EXPORT}", name, *place_of(before, len(before)))
+        fault = Fault(f"the byte 0x{data[start:start + 1].hex()} is not {'UTF-8' if is_utf_8 else known}; say "
+                      f"{advice}, {EXPORT}", name, *place_of(before, len(before)))
         if encoding or known != "utf-8":
             raise RefusedFaults([fault]) from wrong
         text = data.decode(likely, "replace")
@@ -190,8 +194,8 @@ def raw_rows(name: str, text: str, delimiter: str) -> Iterator[tuple[int, list[s
             yield line, texts
             line = reader.line_num + 1
     except csv.Error as fault:
-        raise RefusedFaults([Fault(f"{fault}; check the quotes and the length of the cells in this row, or say --delimiter",
-                                   name, line)]) from fault
+        advice = "check the quotes and the length of the cells in this row, or say --delimiter"
+        raise RefusedFaults([Fault(f"{fault}; {advice}", name, line)]) from fault
 
 
 def sample(text: str, delimiter: str) -> list[list[str]]:
@@ -206,7 +210,8 @@ def sample(text: str, delimiter: str) -> list[list[str]]:
 
 
 def heading_of(rows: Sequence[Sequence[str]], wanted: Sequence[str]) -> int:
-    """Returns the place of the heading among the first rows: the row with most of the wanted names, else with most texts."""
+    """Returns the place of the heading among the first rows: the row with most of the wanted names, else with most
+    texts."""
     fits = [(sum(name in row for name in wanted), sum(map(bool, row))) for row in rows[:TITLE_ROWS]]
     return fits.index(max(fits)) if fits else 0
 

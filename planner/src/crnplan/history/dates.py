@@ -32,13 +32,14 @@ def checked_format(pattern: str) -> str:
     except (ValueError, re.error):
         whole = False
     if not whole:
-        raise Refused(f"--date-format {pattern!r}: this is no pattern of a whole date; write one such as %d.%m.%Y (%d is the "
-                      "day, %m the month, %Y the year, %y its last two digits)")
+        raise Refused(f"--date-format {pattern!r}: this is no pattern of a whole date; write one such as %d.%m.%Y (%d "
+                      "is the day, %m the month, %Y the year, %y its last two digits)")
     return pattern
 
 
 class DateReader:
-    """Reads the dates of a file. All its dates together decide whether a date with slashes has the day or the month first."""
+    """Reads the dates of a file. All its dates together decide whether a date with slashes has the day or the month
+    first."""
 
     def __init__(self, texts: Iterable[str] = (), patterns: Sequence[str] = ()) -> None:
         """Looks at all dates of the file. Patterns of strptime, if there are any, stand in place of the usual forms."""
@@ -56,8 +57,8 @@ class DateReader:
             raise Unreadable("the cell is empty; write the date, or leave the row out")
         date, form = self._by_pattern(text) if self.patterns else self._by_form(text)
         if not FIRST_YEAR <= date.year <= LAST_YEAR:
-            raise Unreadable(f"{shown(text)!r}: the year is not from {FIRST_YEAR} to {LAST_YEAR}; correct it, or leave the row "
-                             "out")
+            raise Unreadable(f"{shown(text)!r}: the year is not from {FIRST_YEAR} to {LAST_YEAR}; correct it, or leave "
+                             "the row out")
         return date, form
 
     def _by_pattern(self, text: str) -> tuple[datetime.date, str]:
@@ -70,11 +71,11 @@ class DateReader:
                 except ValueError:
                     continue
         if len(dates) > 1:
-            raise Unreadable(f"{shown(text)!r} may be {' or '.join(map(str, dates))} by the patterns of --date-format; say one, "
-                             "or write the date as 2026-03-31")
+            raise Unreadable(f"{shown(text)!r} may be {' or '.join(map(str, dates))} by the patterns of --date-format; "
+                             "say one, or write the date as 2026-03-31")
         if not dates:
-            raise Unreadable(f"{shown(text)!r} is no date of the form {' or '.join(self.patterns)} that --date-format says; "
-                             "correct it, or say another pattern")
+            raise Unreadable(f"{shown(text)!r} is no date of the form {' or '.join(self.patterns)} that --date-format "
+                             "says; correct it, or say another pattern")
         return next(iter(dates.items()))
 
     def _by_form(self, text: str) -> tuple[datetime.date, str]:
@@ -103,9 +104,10 @@ class DateReader:
         day_first = first > 12 if (first > 12) != (second > 12) else True in self.sides
         if first <= 12 and second <= 12 and first != second and len(self.sides) != 1:
             both = " and ".join(repr(shown(it)) for it in self.sides.values())
-            why = f"the dates here have both, as {both}; write it as 2026-03-31, or" if both else "no date here decides it;"
-            raise Unreadable(f"{shown(text)!r} may have the day or the month first, and {why} say --date-format %d/%m/%Y or "
-                             "--date-format %m/%d/%Y")
+            why = f"the dates here have both, as {both}; write it as 2026-03-31, or" if both else \
+                "no date here decides it;"
+            raise Unreadable(f"{shown(text)!r} may have the day or the month first, and {why} say --date-format "
+                             "%d/%m/%Y or --date-format %m/%d/%Y")
         return (second, first, "31/03/2026") if day_first else (first, second, "03/31/2026")
 
 

@@ -65,7 +65,8 @@ class RefusedFiles(RefusedFaults):
         lines = list(printed(faults))
         if len(faults) > 1:
             rows = len({(it.file, it.line) for it in faults})
-            advice = "; correct them, or say --leave-out to go on without bad rows" * any(isinstance(it, Reject) for it in faults)
+            has_rows = any(isinstance(it, Reject) for it in faults)
+            advice = "; correct them, or say --leave-out to go on without bad rows" if has_rows else ""
             lines.append(f"{len(faults):,} faults in {rows:,} rows{advice}")
         self.notes = tuple(notes)
         super().__init__(faults, "\n".join([*lines, *notes]))
@@ -77,6 +78,6 @@ def write_rejects(path: Path, faults: Sequence[Fault]) -> None:
         with path.open("w", encoding="utf-8", newline="") as file:
             out = csv.writer(file, lineterminator="\n")
             out.writerow(["file", "line", "column", "what", "row"])
-            out.writerows([it.file, it.line, it.column, it.what, it.row if isinstance(it, Reject) else ""] for it in faults)
+            out.writerows([it.file, it.line, it.column, it.what, getattr(it, "row", "")] for it in faults)
     except OSError as fault:
         raise Refused(f"{path}: {fault.strerror}; name another file after --rejects") from fault

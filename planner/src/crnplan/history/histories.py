@@ -1,10 +1,10 @@
-"""Reads a history of demand: a row for each period, or movements at dates, which are summed by day, ISO week or month."""
+"""Reads a history of demand: a row for each period, or movements at dates, summed by day, ISO week or month."""
 from __future__ import annotations
 
 import contextlib
 import datetime
 from collections import defaultdict
-from collections.abc import Sequence
+from collections.abc import Mapping, Sequence
 from dataclasses import dataclass
 from itertools import compress
 from pathlib import Path
@@ -22,26 +22,25 @@ from .suspicions import total_reason, twice_notes
 Day = datetime.date
 
 
-def read_history(path: str | Path, *, demand: str, returns: str | None = None, date: str | None = None, every: str | None = None,
-                 net: bool = False, whole: bool = False, start: Day | str | None = None, end: Day | str | None = None,
-                 **rules: Any) -> History:
-    """Reads a history of demand from a CSV file; `-` is standard input. `demand`, `returns` and `date` name its columns.
+def read_history(path: str | Path, *, demand: str, returns: str | None = None, date: str | None = None,
+                 every: str | None = None, net: bool = False, whole: bool = False, start: Day | str | None = None,
+                 end: Day | str | None = None, **rules: Any) -> History:
+    """Reads a history of demand from a CSV file; `-` is standard input. `demand`, `returns` and `date` name its
+    columns.
 
-    Without `date` each row is a period. With it each row is a movement. They are summed by day, ISO week or month (`every`),
-    and a period without one has the demand 0. The record is from `start` to `end`, else from the first to the last movement,
-    of all items if `item` is given. With `whole` periods at its ends that may be partial are left out. With `net` amounts
-    below 0 are taken off their period. Further words are those of `cells.Rules`: `delimiter`, `encoding`, `decimal`,
-    `date_formats`, `item` and `leave_out`.
+    Without `date` each row is a period. With it each row is a movement. They are summed by day, ISO week or month
+    (`every`), and a period without one has the demand 0. The record is from `start` to `end`, else from the first to
+    the last movement, of all items if `item` is given. With `whole` periods at its ends that may be partial are left
+    out. With `net` amounts below 0 are taken off their period. Further words are those of `cells.Rules`: `delimiter`,
+    `encoding`, `decimal`, `date_formats`, `item` and `leave_out`.
 
-    Raises RefusedFaults with all faults of the file. With `leave_out` rows with faults are left out, and are in `faults`.
+    Raises RefusedFaults with all faults of the file. With `leave_out` rows with faults are left out, and are in
+    `faults`.
     """
     rule, names = Rules(**rules), [demand] if returns is None else [demand, returns]
     if date is None:
-        column = "dates: say --date with the name of their column"
-        for option, given, more in (("--every needs", every, ""), ("--net and --whole need", net or whole, ", and --every"),
-                                    ("--from and --to need", start or end, ", and --every")):
-            if given:
-                raise Refused(f"{option} {column}{more}")
+        _check_undated({"--every needs": every, "--net and --whole need": net or whole,
+                        "--from and --to need": start or end})
         return _undated(Reading(path, names, rule), names)
     if every not in EVERY:
         raise Refused(NEED_PERIOD)
@@ -53,6 +52,13 @@ def read_history(path: str | Path, *, demand: str, returns: str | None = None, d
     periods = _spanned(movements, first, last, whole)
     movements.suspect()
     return _summed(movements, periods)
+
+
+def _check_undated(given: Mapping[str, object]) -> None:
+    """Rejects options that say nothing without dates."""
+    for option in (it for it in given if given[it]):
+        more = "" if option.startswith("--every") else ", and --every"
+        raise Refused(f"{option} dates: say --date with the name of their column{more}")
 
 
 def _day_of(day: Day | str | None, option: str) -> Day | None:
@@ -113,7 +119,8 @@ class _Movements:
             self.rows, self.dates = list(compress(self.rows, inside)), list(compress(self.dates, inside))
             self.amounts = {name: list(compress(its, inside)) for name, its in self.amounts.items()}
         if not self.rows:
-            raise self.refused_span(f"no row is from {start or 'the beginning'} to {end or 'the end'}; change --from or --to")
+            raise self.refused_span(f"no row is from {start or 'the beginning'} to {end or 'the end'}; change --from "
+                                    "or --to")
 
     def refused_span(self, reason: str, row: int | None = None) -> RefusedFaults:
         """Returns the error of a record whose ends can't be meant, at the date of a row if there is one."""
@@ -132,8 +139,8 @@ def _movements(reading: Reading, names: Sequence[str], date: str, every: str, ne
     """Reads the movements of a file. Raises RefusedFaults."""
     reading.skip_blank()
     reader = DateReader(reading.sheet.columns[date].index, reading.rules.date_formats)
-    below = (f"is negative; say --net to take it off its {every}, or write items that came back into a column of their own "
-             "(--returns)")
+    below = (f"is negative; say --net to take it off its {every}, or write items that came back into a column of their "
+             "own (--returns)")
     columns: dict[str, list[Any]] = {date: reading.read(date, reader.read, reading.rows)}
     columns |= {name: reading.amounts(name, below, None if net else 0) for name in names}
     _name_total(reading, date, columns[date], columns[names[0]])
@@ -160,15 +167,16 @@ def _spanned(movements: _Movements, start: Day | None, end: Day | None, whole: b
                end is None or first_day(last + 1, every) - datetime.timedelta(days=1) != end]
     periods = range(first + (whole and partial[0]), last + 1 - (whole and partial[1]))
     if not periods:
-        raise movements.refused_span(f"there is no {every} between the first and the last one; leave --whole out", movements.rows[0])
+        raise movements.refused_span(f"there is no {every} between the first and the last one; leave --whole out",
+                                     movements.rows[0])
     if len(periods) > MOST_WEIGHT:
         last_row = next((row for row, (day, _) in zip(movements.rows, movements.dates) if day == ends[1]), None)
         advice = "change --from or --to" if start or end else "correct the first or the last date"
-        raise movements.refused_span(f"{len(periods):,} {every}s are more than {MOST_WEIGHT:,}; {advice}, or take longer periods "
-                                     "(--every)", None if start or end else last_row)
-    numbers = {period_of(it, every) for it in {day for day, _ in movements.dates}}
+        raise movements.refused_span(f"{len(periods):,} {every}s are more than {MOST_WEIGHT:,}; {advice}, or take "
+                                     "longer periods (--every)", None if start or end else last_row)
+    filled = len(set(periods) - {period_of(it, every) for it in {day for day, _ in movements.dates}})
     movements.reading.note(f"{every}s from {period_name(periods[0], every)} to {period_name(periods[-1], every)}: "
-                           f"{len(periods)}, filled with 0: {len(set(periods) - numbers)}; {_ends_text(partial, whole)}")
+                           f"{len(periods)}, filled with 0: {filled}; {_ends_text(partial, whole)}")
     return periods
 
 
@@ -196,9 +204,10 @@ def _summed(movements: _Movements, periods: range) -> History:
             how_many = "1 row" if rows and len(rows) == 1 else f"{len(rows or ())} rows"
             subject = f"{every} {period_name(period, every)}, which comes to {count} in {how_many},"
             places.append(reading.place(movements.rows[rows[0]], name, subject) if rows else None)
-        faults += [place.fault("is negative; correct its rows, move the amount to the period of its sale, or take longer "
-                               "periods (--every)") for place, count in zip(places, counts) if place and count < 0]
-        history = History(tuple(counts), tuple(places), tuple(reading.notes), tuple(reading.faults), every, periods[0], history)
+        advice = "correct its rows, move the amount to the period of its sale, or take longer periods (--every)"
+        faults += [place.fault(f"is negative; {advice}") for place, count in zip(places, counts) if place and count < 0]
+        history = History(tuple(counts), tuple(places), tuple(reading.notes), tuple(reading.faults), every, periods[0],
+                          history)
     if faults or history is None:
         raise RefusedFiles(faults)
     return history

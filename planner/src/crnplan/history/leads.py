@@ -17,10 +17,10 @@ def read_lead_times(path: str | Path, *, lead: str | None = None, every: str | N
                     received: str = "received", **rules: Any) -> LeadTimes:
     """Reads lead times in whole periods from a CSV file; `-` is standard input.
 
-    With `lead`, the name of a column, each row is a lead time. Without it each row is an order, with the dates on which it
-    was placed and received, and `every` is day, week or month. An order that was placed on any day of period t and received
-    on any day of period t + L has lead time L, and 1 if both fell in one period. Orders not yet received are left out, with a
-    note. Further words are those of `cells.Rules`. Raises RefusedFaults with all faults of the file.
+    With `lead`, the name of a column, each row is a lead time. Without it each row is an order, with the dates on which
+    it was placed and received, and `every` is day, week or month. An order that was placed on any day of period t and
+    received on any day of period t + L has lead time L, and 1 if both fell in one period. Orders not yet received are
+    left out, with a note. Further words are those of `cells.Rules`. Raises RefusedFaults with all faults of the file.
     """
     rule = Rules(**rules)
     if lead is not None:
@@ -49,7 +49,8 @@ def _orders(reading: Reading, ordered: str, received: str, every: str) -> LeadTi
     sheet, all_rows = reading.sheet, reading.rows
     reading.rows = [row for row in all_rows if sheet.columns[received].text(row)]
     if not reading.rows:
-        raise RefusedFaults([sheet.reject(all_rows[0], received, "no order has a date of receipt; take orders of longer ago")])
+        reason = "no order has a date of receipt; take orders of longer ago"
+        raise RefusedFaults([sheet.reject(all_rows[0], received, reason)])
     if len(reading.rows) > MOST_WEIGHT:
         reason = f"{len(reading.rows):,} orders are more than {MOST_WEIGHT:,}; leave the oldest out"
         raise RefusedFaults([sheet.reject(reading.rows[MOST_WEIGHT], ordered, reason)])
@@ -64,7 +65,8 @@ def _orders(reading: Reading, ordered: str, received: str, every: str) -> LeadTi
         elif placed and there:
             numbers[place] = max(1, period_of(there[0], every) - period_of(placed[0], every))
     rows, kept = reading.kept({**dates, "number": numbers})
-    reading.note(f"lead times in {every}s: {len(rows)}, orders not yet received and left out: {len(all_rows) - len(reading.rows)}")
+    reading.note(f"lead times in {every}s: {len(rows)}, orders not yet received and left out: "
+                 f"{len(all_rows) - len(reading.rows)}")
     for name in dates:
         reading.note_forms(name, rows, kept[name], reader)
     reading.notes += twice_notes(sheet, rows, ())

@@ -43,7 +43,8 @@ class History(Observed):
         return tuple(period_name(it, self.every) if self.every else str(it) for it in numbers)
 
     def series(self) -> pd.Series:
-        """Returns the demand as a Series of whole numbers by period: a PeriodIndex, or 1, 2, 3 and so on without dates."""
+        """Returns the demand as a Series of whole numbers by period: a PeriodIndex, or 1, 2, 3 and so on without
+        dates."""
         import pandas as pd
         index: pd.Index = pd.RangeIndex(self.first, self.first + len(self.counts), name="period")
         if self.every:
@@ -55,6 +56,7 @@ class History(Observed):
 
 @dataclass(frozen=True)
 class LeadTimes(Observed):
-    """Lead times in whole periods, at least 1. `every` is the period of the dates, or None if the file says the periods."""
+    """Lead times in whole periods, at least 1. `every` is the period of the dates, or None if the file says the
+    periods."""
 
     every: str | None

@@ -38,8 +38,8 @@ class Reading:
         for name, text in asked.items():
             if text not in sheet.columns[name].index:
                 others = [repr(shown(it)) for it in sheet.columns[name].texts if it]
-                raise Refused(f"{sheet.name}: no row has {text!r} in column {name!r}, which has {len(others):,} others: "
-                              f"{', '.join(others[:MOST_NAMED])}{', ..' * (len(others) > MOST_NAMED)}")
+                raise Refused(f"{sheet.name}: no row has {text!r} in column {name!r}, which has {len(others):,} "
+                              f"others: {', '.join(others[:MOST_NAMED])}{', ..' * (len(others) > MOST_NAMED)}")
         if not asked:
             return rows
         codes = [(sheet.columns[name].codes, sheet.columns[name].index[text]) for name, text in asked.items()]
@@ -82,7 +82,8 @@ class Reading:
     def kept(self, columns: Mapping[str, Sequence[Any]]) -> tuple[list[int], dict[str, list[Any]]]:
         """Returns the rows in which each of these columns was read, and their values.
 
-        Raises RefusedFaults for faults. If rows with faults are to be left out, this is noted, and one at least must be left.
+        Raises RefusedFaults for faults. If rows with faults are to be left out, this is noted, and one at least must be
+        left.
         """
         places = [place for place, values in enumerate(zip(*columns.values())) if None not in values]
         rows = [self.rows[it] for it in places]
@@ -107,7 +108,8 @@ class Reading:
         self.notes += [*totals, *suspicions.far_notes(self.sheet, name, rows, numbers),
                        *suspicions.sign_notes(self.sheet, name, rows, numbers, self.rules.decimal)]
 
-    def note_forms(self, name: str, rows: Sequence[int], dates: Sequence[tuple[datetime.date, str]], reader: DateReader) -> None:
+    def note_forms(self, name: str, rows: Sequence[int], dates: Sequence[tuple[datetime.date, str]],
+                   reader: DateReader) -> None:
         """Notes if the dates of a column have several forms."""
         first_rows: dict[str, int] = {}
         for row, (_, form) in zip(rows, dates):
@@ -123,6 +125,7 @@ class Reading:
         self.amount_names.append(name)
 
         def amount(text: str) -> int:
+            """Reads one."""
             number = amount_of(text, self.rules.decimal, **words)
             if least is not None and number < least:
                 raise Unreadable(f"{shown(text)} {below}")

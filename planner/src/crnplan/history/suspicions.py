@@ -15,7 +15,8 @@ TIMES_NEXT, MOST_FAR = 30, 3
 RARE = 10
 # A sum of fewer rows may well come again below them.
 LEAST_SUMMED = 6
-TOTAL = re.compile(r"\W*(?:grand |sub)?(?:totals?|totale|totaal|sum|summe|gesamt\w*|insgesamt|zwischensumme|somme|suma)\b", re.I)
+TOTAL = re.compile(r"\W*(?:grand |sub)?(?:totals?|totale|totaal|sum|summe|gesamt\w*|insgesamt|zwischensumme|somme|suma)"
+                   r"\b", re.IGNORECASE)
 
 
 def _note(sheet: Sheet, row: int, name: str, what: str) -> str:
@@ -38,8 +39,8 @@ def total_notes(sheet: Sheet, name: str, rows: Sequence[int], numbers: Sequence[
     if rows and rows[-1] == len(sheet.lines) - 1:
         reason = total_reason(sheet, rows[-1], numbers[-1], numbers[:-1])
         if reason:
-            yield _note(sheet, rows[-1], name, f"the last row looks like a total of the rows above ({reason}); if it is, "
-                        "remove it")
+            yield _note(sheet, rows[-1], name, f"the last row looks like a total of the rows above ({reason}); if it "
+                        "is, remove it")
 
 
 def far_notes(sheet: Sheet, name: str, rows: Sequence[int], numbers: Sequence[int]) -> Iterator[str]:
@@ -55,14 +56,16 @@ def far_notes(sheet: Sheet, name: str, rows: Sequence[int], numbers: Sequence[in
             return
 
 
-def sign_notes(sheet: Sheet, name: str, rows: Sequence[int], numbers: Sequence[int], decimal: str | None) -> Iterator[str]:
+def sign_notes(sheet: Sheet, name: str, rows: Sequence[int], numbers: Sequence[int],
+               decimal: str | None) -> Iterator[str]:
     """Yields a note on the first number that another decimal sign would make a thousand times smaller, or larger.
 
     If the decimal sign is stated, a way of writing is suspicious only if few numbers are written so.
     """
     column, group = sheet.columns[name], "." if decimal == "," else ","
-    texts = {text: code for text, code in column.index.items() if ("," in text or "." in text) and other_reading(text, decimal)}
-    for codes in ({code for text, code in texts.items() if group in text}, {code for text, code in texts.items() if group not in text}):
+    texts = [it for it in column.index if ("," in it or "." in it) and other_reading(it, decimal)]
+    for is_grouped in (True, False):
+        codes = {column.index[it] for it in texts if (group in it) == is_grouped}
         found = [place for place, row in enumerate(rows) if column.codes[row] in codes] if codes else []
         if not found or decimal is not None and len(found) > max(1, len(rows) // RARE):
             continue
@@ -75,14 +78,15 @@ def sign_notes(sheet: Sheet, name: str, rows: Sequence[int], numbers: Sequence[i
 
 
 def twice_notes(sheet: Sheet, rows: Sequence[int], amounts: Sequence[str]) -> Iterator[str]:
-    """Yields a note if rows are the same as others. Rows of nothing but amounts can't be told apart, so they are not named."""
+    """Yields a note if rows are the same as others. Rows of nothing but amounts can't be told apart, so they are not
+    named."""
     kept = set(rows) if len([it for it in sheet.heading if it]) > len(amounts) else set()
     again = [row for row, first in sheet.twice.items() if row in kept and first in kept]
     if again:
         more = named_lines([sheet.lines[it] for it in again[1:]])
         others = f", and {len(again) - 1} more as others above them ({more})" if again[1:] else ""
-        yield str(Fault(f"the row is the same as that of line {sheet.lines[sheet.twice[again[0]]]}{others}; if they were "
-                        "exported twice, remove them", sheet.name, sheet.lines[again[0]]))
+        yield str(Fault(f"the row is the same as that of line {sheet.lines[sheet.twice[again[0]]]}{others}; if they "
+                        "were exported twice, remove them", sheet.name, sheet.lines[again[0]]))
 
 
 def form_notes(sheet: Sheet, name: str, first_rows: Mapping[str, int], read: Callable[[str], object]) -> Iterator[str]:
@@ -90,4 +94,5 @@ def form_notes(sheet: Sheet, name: str, first_rows: Mapping[str, int], read: Cal
     if len(first_rows) > 1:
         texts = {row: sheet.columns[name].text(row) for row in first_rows.values()}
         named = ", ".join(f"{shown(text)!r} (line {sheet.lines[row]}) is {read(text)}" for row, text in texts.items())
-        yield _note(sheet, max(texts), name, f"the dates have {len(texts)} forms: {named}; if one is wrong, say --date-format")
+        yield _note(sheet, max(texts), name, f"the dates have {len(texts)} forms: {named}; if one is wrong, say "
+                    "--date-format")

@@ -15,10 +15,10 @@ MOST_BARS = 520
 
 
 def marks_of(names: Sequence[str]) -> list[tuple[float, str, str]]:
-    """Returns some names at an axis: their places, and which are the first and the last."""
+    """Returns some names at an axis: their places, and their class. A narrow page has no room for the inner ones."""
     last = len(names) - 1
-    places = sorted({round(last * part / MARKS) for part in range(MARKS + 1)})
-    css = {0: "first", last: "last"}
+    places = dict.fromkeys(round(last * part / MARKS) for part in range(MARKS + 1))
+    css = {**{place: "inner" for place in list(places)[1::2]}, 0: "first", last: "last"}
     return [(UNITS * place / max(last, 1), names[place], css.get(place, "")) for place in places]
 
 

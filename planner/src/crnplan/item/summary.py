@@ -19,7 +19,8 @@ WIDTH, LINES = 80, 24
 LARGE = 100_000
 # The columns of the table that are left out if a line is too long, in this order.
 OPTIONAL = ("orders", "stock", "short", "fill", "percent")
-VERDICTS = {"better": "cheaper than", "worse": "dearer than", "undecided": "not told apart from"}
+# What a verdict on today's policy, beside the chosen one, says of the chosen one.
+VERDICTS = {"worse": "cheaper than", "better": "dearer than", "undecided": "not told apart from"}
 Row = dict[str, str]
 
 
@@ -96,12 +97,13 @@ def amount(value: float) -> str:
 
 
 def headline(figures: Figures) -> str:
-    """Returns the decision in a sentence."""
-    today, row = figures.scenario.policies[0], figures.decided[figures.chosen]
+    """Returns the decision in a sentence, by the verdict on new random numbers."""
+    today, row = figures.scenario.policies[0], figures.checked[figures.chosen]
     order = f"Below {int(row['s']):,}, order up to {int(row['S']):,}"
     if figures.chosen == figures.today:
         return f"{order}: keep today's policy"
-    return f"{order}: {VERDICTS[row['verdict']]} today's policy ({today.s:,}, {today.S:,})"
+    verdict = VERDICTS[figures.checked[figures.today]["verdict"]]
+    return f"{order}: {verdict} today's policy ({today.s:,}, {today.S:,})"
 
 
 def facts(figures: Figures) -> str:

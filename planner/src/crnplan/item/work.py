@@ -3,6 +3,7 @@ from __future__ import annotations
 
 import csv
 import io
+import re
 import tomllib
 from collections.abc import Iterable, Mapping, Sequence
 from dataclasses import dataclass
@@ -10,9 +11,9 @@ from functools import cached_property
 from pathlib import Path
 from typing import TYPE_CHECKING, Any
 
-from ..errors import Refused
+from ..errors import Refused, RefusedFaults
 from ..scenario import Scenario, Table
-from .settings import Settings, need_file
+from .settings import HOMES, Settings, need_file
 from .steps import Folder, digest_of
 
 if TYPE_CHECKING:
@@ -97,8 +98,17 @@ def _read_leads(item: Item) -> LeadTimes | list[int]:
                            **{name: of_history[name] for name in RULES})
 
 
-def make_tables(item: Item) -> dict[str, str]:
-    """Reads the history and the lead times: the laws, the demand by period, and what is to be said of the files."""
+def as_settings(text: str) -> str:
+    """Returns a message with keys of the settings in place of the options of `crnplan history`."""
+    def key(option: re.Match[str]) -> str:
+        """Returns the key of an option, or the option if it has none."""
+        name = {"date-format": "date_formats", "leave-out": "leave_out"}.get(option[1], option[1])
+        return f"[{HOMES[name]}] {name}" if name in HOMES else f"crnplan history {option[0]}"
+    return re.sub("--([a-z]+(?:-[a-z]+)*)", key, text)
+
+
+def _make_tables(item: Item) -> dict[str, str]:
+    """Does what `make_tables` does. Messages are those of `crnplan history`."""
     from ..demand import fit_demand, fit_lead
     history, leads, box = _read_history(item), _read_leads(item), item.settings["history"]["box"]
     columns = {"demand": history, **({"returns": history.returns} if history.returns else {})}
@@ -107,7 +117,17 @@ def make_tables(item: Item) -> dict[str, str]:
     notes = [*history.notes, *(leads.notes if not isinstance(leads, list) else ())]
     return {"tables.toml": "\n".join(law.toml(name) for name, law in laws.items()),
             "demand.csv": csv_text([["period", *columns], *rows]),
-            "notes.txt": "".join(item.named(line) + "\n" for line in notes)}
+            "notes.txt": "".join(as_settings(item.named(line)) + "\n" for line in notes)}
+
+
+def make_tables(item: Item) -> dict[str, str]:
+    """Reads the history and the lead times: the laws, the demand by period, and what is to be said of the files."""
+    try:
+        return _make_tables(item)
+    except RefusedFaults as refusal:
+        raise RefusedFaults(refusal.faults, as_settings(str(refusal))) from refusal
+    except Refused as refusal:
+        raise Refused(as_settings(str(refusal))) from refusal
 
 
 def make_scenario(item: Item) -> dict[str, str]:

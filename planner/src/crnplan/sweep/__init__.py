@@ -26,7 +26,7 @@ Answers = Iterator[tuple[Part, Answer]]
 
 
 def answers_here(jobs: int | None, program: str, parts: Sequence[Part]) -> Answers:
-    """Yields the answers to scenarios as they come, from so many runs at a time on this machine; None means all cores."""
+    """Yields the answers to scenarios as they come, from so many runs at a time here; None is one for each core."""
     with futures.ThreadPoolExecutor(jobs or os.cpu_count()) as pool:
         running = {pool.submit(worker.run_scenario, program, part.text): part for part in parts}
         try:
@@ -96,9 +96,10 @@ def sweep(scenario: Scenario, s: Iterable[int], S: Iterable[int], *, jobs: int |
 
     Pairs with s above S are left out. All policies meet the same demands, under the scenario's key. The report has the
     base first, and then the grid by `diff_total`, the cheapest first: the same bytes whatever the number of runs at a
-    time, `jobs` (by default one for each core). With `out`, a folder, each report is kept, and the same sweep begun again
-    runs only what is not there. With `cluster`, the address of a Dask scheduler, its workers run the program at its path.
-    `progress` shows on standard error how many scenarios are done. Raises Refused, and ProgramError if a run fails.
+    time, `jobs` (by default one for each core). With `out`, a folder, each report is kept, and the same sweep begun
+    again runs only what is not there. With `cluster`, the address of a Dask scheduler, its workers run the program at
+    its path. `progress` shows on standard error how many scenarios are done. Raises Refused, and ProgramError if a run
+    fails.
     """
     folder = None if out is None else Path(out)
     grid = grid_of(scenario.policies[0], s, list(S))

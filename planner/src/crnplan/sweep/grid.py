@@ -89,7 +89,7 @@ def kept_text(path: Path) -> str | None:
 
 
 def kept_rows(folder: Path, part: Part) -> list[Row] | None:
-    """Returns the rows of the report that is kept of a scenario, or None if there is none or one of another scenario."""
+    """Returns the rows of the report that is kept of a scenario; None if there is none, or another scenario's."""
     if kept_text(folder / f"{part.number:05}.toml") != part.text:
         return None
     report = kept_text(folder / f"{part.number:05}.csv")

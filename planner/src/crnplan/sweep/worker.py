@@ -1,4 +1,4 @@
-"""Runs one scenario. A worker of a cluster is sent this module's function, so it needs no crnplan and no other import."""
+"""Runs one scenario. A worker of a cluster is sent the function itself, so it needs no crnplan."""
 from __future__ import annotations
 
 

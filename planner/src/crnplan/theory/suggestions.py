@@ -219,5 +219,5 @@ def suggested_text(scenario: Scenario, *, initial: bool = False, unit_zero: bool
 
 def figures_of(scenario: Scenario, policies: Sequence[Policy]) -> pd.DataFrame:
     """Returns the long-run figures of these policies, with the columns of `suggested`. Raises NoTheory as that does."""
-    theory, _ = theories_of(scenario, max(it.S - it.s for it in policies))
+    theory, _ = theories_of(scenario, max((it.S - it.s for it in policies), default=0))
     return _frame((it, theory.figures(it.s, it.S)) for it in policies)
