@@ -1,6 +1,7 @@
 """Fixtures of the tests of the program: folders and small C libraries."""
 from __future__ import annotations
 
+import shutil
 from collections.abc import Callable
 from pathlib import Path
 
@@ -25,6 +26,8 @@ def compiled(tmp_path_factory: pytest.TempPathFactory) -> Compiler:
     built: dict[Path, Path] = {}
 
     def build(source: Path) -> Path:
+        if not shutil.which("cc"):
+            pytest.skip("there is no C compiler (cc)")
         if source not in built:
             built[source] = library(source, folder)
         return built[source]

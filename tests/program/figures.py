@@ -14,7 +14,9 @@ from __future__ import annotations
 
 import argparse
 import os
+import platform
 import re
+import shutil
 import tempfile
 import tomllib
 from collections.abc import Iterator, Mapping
@@ -105,8 +107,16 @@ def instructions_in(file: Path, program: Path) -> int:
     return count
 
 
+def can_count_instructions() -> bool:
+    """Returns whether valgrind is there, and the processor is of the kind whose instructions the table has."""
+    return shutil.which("valgrind") is not None and platform.machine() == "x86_64"
+
+
 def figures_of(program: Path, case: Case, built: Path, room: Path) -> dict[str, int | str]:
-    """Returns the figures of a run by their columns. Raises Unfit if it does not end as it should."""
+    """Returns the figures of a run by their columns, without the instructions if they cannot be counted.
+
+    Raises Unfit if the run does not end as it should.
+    """
     if not (room / CALLED).exists():
         (room / CALLED).symlink_to(program.resolve())
     put_file(case, room)
@@ -120,6 +130,8 @@ def figures_of(program: Path, case: Case, built: Path, room: Path) -> dict[str, 
     figures |= {it: getattr(counts, it) if is_held else NO_FIGURE for it in HELD}
     if not is_held:
         return {**figures, INSTRUCTIONS: NO_FIGURE}
+    if not can_count_instructions():
+        return figures
     checked(case, shown_of(case, words, room, CALLGRIND, {**environment, **NO_STRINGS}))
     return {**figures, INSTRUCTIONS: instructions_in(room / "callgrind", program.resolve())}
 
@@ -142,6 +154,8 @@ def main() -> None:
                 figures = figures_of(program, case, built, Path(room))
             except Unfit as why:
                 words.error(f"{name}: {why}")
+            if INSTRUCTIONS not in figures:
+                words.error("valgrind on x86_64 is needed")
             rows.append(";".join([name, *(str(figures[it]) for it in COLUMNS)]))
     TABLE.write_text(HEAD + "\n".join([";".join(["run", *COLUMNS]), *rows]) + "\n", "ascii")
 

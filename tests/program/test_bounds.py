@@ -12,7 +12,7 @@ from pathlib import Path
 import pytest
 
 from tests.program import figures
-from tests.program.figures import COLUMNS, INSTRUCTIONS, NO_FIGURE, Unfit, figures_of, stored_rows
+from tests.program.figures import INSTRUCTIONS, NO_FIGURE, Unfit, figures_of, stored_rows
 
 # The instructions of a run may differ by this part, either way.
 TOLERANCE = 0.001
@@ -30,7 +30,9 @@ def is_within(column: str, figure: int | str, stored: str) -> bool:
 def test_figures(program: Path, name: str, preload_library: Path, room: Path) -> None:
     """A run takes what the table says."""
     stored, taken = stored_rows()[name], figures_of(program, CASES[name], preload_library, room)
-    assert {it: taken[it] for it in COLUMNS if not is_within(it, taken[it], stored[it])} == {}, f"stored: {stored}"
+    assert {it: taken[it] for it in taken if not is_within(it, taken[it], stored[it])} == {}, f"stored: {stored}"
+    if INSTRUCTIONS not in taken:
+        pytest.skip("there is no valgrind for x86_64, which counts the instructions")
 
 
 def test_table() -> None:

@@ -7,8 +7,11 @@ nothing else shows it. What is left out has a symbol.
 from __future__ import annotations
 
 import re
+import shutil
 import subprocess
 from pathlib import Path
+
+import pytest
 
 # The functions of the loop, as their symbols begin.
 LOOP = re.compile(r"crn_stock::(period|terms)::|crn_stock::state::State::(advance|run_|take_)"
@@ -19,6 +22,8 @@ LEFT_OUT = {"crn_stock::state::State::run_short_block", "crn_draw::guide::search
 
 def test_loop_has_its_code(program: Path) -> None:
     """Of the functions of the loop only those that may be left out have a symbol."""
+    if not shutil.which("nm"):
+        pytest.skip("there is no nm")
     listed = subprocess.run(["nm", program], capture_output=True, text=True, check=True).stdout
     names = {line.split(" ", 2)[2].split("::<")[0] for line in listed.splitlines() if line[:1] != " "}
     assert {it for it in names if LOOP.match(it)} == LEFT_OUT

@@ -139,7 +139,8 @@ TEXT, NO, MONEY = Rule(text), Rule(flag, default=False), Rule(money, True)
 ITEMS, REPLICATIONS = Rule(_limits("policy", "S"), True), whole(2, formats.MOST_REPLICATIONS)
 TABLES: dict[str, dict[str, Rule]] = {
     "history": {"demand": Rule(text, True), "returns": TEXT, "date": TEXT,
-                "every": Rule(choice("day", "week", "month")), "decimal": Rule(choice(".", ",")), "delimiter": Rule(choice(",", ";", "tab")), "encoding": TEXT,
+                "every": Rule(choice("day", "week", "month")), "decimal": Rule(choice(".", ",")),
+                "delimiter": Rule(choice(",", ";", "tab")), "encoding": TEXT,
                 "date_formats": Rule(texts, default=[]), "net": NO, "whole": NO, "leave_out": NO,
                 "box": Rule(whole(1, formats.MOST_ITEMS), default=1), "item": Rule(cells, default={}),
                 "from": Rule(date), "to": Rule(date)},

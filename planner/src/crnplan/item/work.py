@@ -112,7 +112,7 @@ def _make_tables(item: Item) -> dict[str, str]:
     from ..demand import fit_demand, fit_lead
     history, leads, box = _read_history(item), _read_leads(item), item.settings["history"]["box"]
     columns = {"demand": history, **({"returns": history.returns} if history.returns else {})}
-    laws = {name: fit_demand(its, box=box) for name, its in columns.items()} | {"lead": fit_lead(leads)}
+    laws = {name: fit_demand(its, method="empirical", box=box) for name, its in columns.items()} | {"lead": fit_lead(leads)}
     rows = zip(history.periods, *(its.counts for its in columns.values()))
     notes = [*history.notes, *(leads.notes if not isinstance(leads, list) else ())]
     return {"tables.toml": "\n".join(law.toml(name) for name, law in laws.items()),

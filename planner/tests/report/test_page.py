@@ -1,0 +1,41 @@
+"""Tests the scales and numbers of a page."""
+from __future__ import annotations
+
+import math
+
+import pytest
+from hypothesis import given
+from hypothesis import strategies as st
+
+from crnplan.report.page import UNITS, Scale, number, tick
+
+VALUES = st.lists(st.floats(-1e9, 1e9).filter(lambda it: it == 0 or abs(it) > 1e-6), min_size=1, max_size=5)
+
+
+@given(VALUES, st.booleans())
+def test_scale_has_all_values_and_zero(values: list[float], is_whole: bool) -> None:
+    """Each value and 0 stand within the picture, in their order, and there are round numbers in it."""
+    values = [round(it) for it in values] if is_whole else values
+    scale = Scale.of(values, is_whole)
+    places = [scale.at(it) for it in sorted([*values, 0])]
+    assert 0 <= places[0] and places[-1] <= UNITS and places == sorted(places)
+    assert 0 in scale.ticks and all(0 <= scale.at(it) <= UNITS for it in scale.ticks) and len(scale.ticks) <= 7
+    assert not is_whole or all(it == int(it) for it in scale.ticks)
+
+
+def test_scale_of_nothing() -> None:
+    """A history without demand has a scale too."""
+    assert (Scale.of([0, 0]).at(0), Scale.of([0]).at(1)) == (0, UNITS)
+
+
+@pytest.mark.parametrize("value, digits, text", [(1234.5, 2, "1,234.50"), (-1234.5, 2, "\u22121,234.50"),
+                                                 (-0.001, 2, "0.00"), (12, 0, "12"), (math.nan, 2, "-")])
+def test_number(value: float, digits: int, text: str) -> None:
+    """A number has separators of thousands and a minus sign, and no sign if it is rounded to 0."""
+    assert number(value, digits) == text
+
+
+@pytest.mark.parametrize("value, text", [(0.0, "0"), (-2000.0, "\u22122,000"), (2.5, "2.5")])
+def test_tick(value: float, text: str) -> None:
+    """A round number at an axis has no decimals that it does not need."""
+    assert tick(value) == text
