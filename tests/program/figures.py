@@ -121,7 +121,7 @@ def figures_of(program: Path, case: Case, built: Path, room: Path) -> dict[str, 
         (room / CALLED).symlink_to(program.resolve())
     put_file(case, room)
     is_held, words = case.get("held", False), [str(it) for it in words_of(case, Path("."))]
-    environment = preload.environment(str(built), str(room / "counts"), **({"hold_threads": 1} if is_held else {}))
+    environment = preload.environment(built, room / "counts", **({"hold_threads": 1} if is_held else {}))
     checked(case, shown_of(case, words, room, environment=environment))
     counts = preload.counts_of(room / "counts")
     if counts is None:

@@ -3,22 +3,26 @@
 A piece is written when the pipe is empty, so no read of the program gets more than one piece. A piece has at most the
 65,536 bytes that a pipe holds.
 """
+from __future__ import annotations
+
 import contextlib
 import fcntl
 import os
 import termios
 import threading
 import time
+from collections.abc import Iterator
+from pathlib import Path
 
 
-def is_empty(end):
+def is_empty(end: int) -> bool:
     """Returns whether all bytes that were written to a pipe have been read."""
     waiting = bytearray(4)
     fcntl.ioctl(end, termios.FIONREAD, waiting)
     return not any(waiting)
 
 
-def write_pieces(text, size, end, ended):
+def write_pieces(text: bytes, size: int, end: int, ended: threading.Event) -> None:
     """Writes a text to a pipe in pieces of `size` bytes and closes the pipe; stops early if the run has ended."""
     for at in range(0, len(text), size):
         os.write(end, text[at:at + size])
@@ -30,7 +34,7 @@ def write_pieces(text, size, end, ended):
 
 
 @contextlib.contextmanager
-def written(text, size, end):
+def written(text: bytes, size: int, end: int) -> Iterator[None]:
     """Writes a text to a pipe in pieces, from a thread, while the body runs."""
     ended = threading.Event()
     writer = threading.Thread(target=write_pieces, args=(text, size, end, ended))
@@ -43,7 +47,7 @@ def written(text, size, end):
 
 
 @contextlib.contextmanager
-def piped(text, size):
+def piped(text: bytes, size: int) -> Iterator[int]:
     """Yields the end of a pipe from which a text is read in pieces."""
     read_end, write_end = os.pipe()
     try:
@@ -54,7 +58,7 @@ def piped(text, size):
 
 
 @contextlib.contextmanager
-def named_pipe(text, size, path):
+def named_pipe(text: bytes, size: int, path: Path) -> Iterator[None]:
     """Makes a named pipe from which a text is read in pieces, and removes it at the end."""
     os.mkfifo(path)
     try:

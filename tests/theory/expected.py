@@ -1,31 +1,37 @@
 """Computes what a replication of a scenario costs on average, exactly but for rounding, by the theory of inventories.
 
-It shares no line with crnsim, with tests/program/oracle.py or with the tools. All demand is met in the end, so two facts
-do (Zipkin, Foundations of Inventory Management, 2000, chapter 9): the position before each review is a Markov chain; and
-if m is the longest lead time, all orders of the reviews up to period t - m have arrived in period t. So the stock at the
-end of period t follows from the position before the first of the last m reviews, and from which of the orders placed
-since then are late.
+It shares no line with crnsim, with tests/program/oracle.py or with crnplan. All demand is met in the end, so two facts
+do (Zipkin, Foundations of Inventory Management, 2000, chapter 9): the position before each review is a Markov chain;
+and if m is the longest lead time, all orders of the reviews up to period t - m have arrived in period t. So the stock
+at the end of period t follows from the position before the first of the last m reviews, and from which of the orders
+placed since then are late.
 """
+from __future__ import annotations
+
+from collections.abc import Callable, Mapping
 from functools import lru_cache
 from itertools import accumulate
+from typing import Any
+
+Chances = dict[int, float]
 
 
-def chances_of(table):
+def chances_of(table: Mapping[str, Any]) -> Chances:
     """Returns the chance of each value of a table of values and weights."""
     total = sum(table["weights"])
     return {value: weight / total for value, weight in zip(table["values"], table["weights"]) if weight}
 
 
-def added(left, right):
+def added(left: Chances, right: Chances) -> Chances:
     """Returns the chances of the sum of two independent numbers."""
-    total = {}
+    total: Chances = {}
     for value, chance in left.items():
         for other, its_chance in right.items():
             total[value + other] = total.get(value + other, 0) + chance * its_chance
     return total
 
 
-def common_chances(demand, lead):
+def common_chances(demand: Mapping[str, Any], lead: Mapping[str, Any]) -> dict[tuple[int, ...], float]:
     """Returns the chance of each demand with each lead time if both are drawn with the same word: a wrong theory."""
     chances, ends = {}, [(table, list(accumulate(table["weights"]))) for table in (demand, lead)]
     places = sorted({end / its_ends[-1] for _, its_ends in ends for end in its_ends})
@@ -41,11 +47,12 @@ def common_chances(demand, lead):
 class Expected:
     """The expected costs of one policy of a scenario."""
 
-    def __init__(self, tree, policy, common_words=False):
+    def __init__(self, tree: Mapping[str, Any], policy: Mapping[str, Any], common_words: bool = False) -> None:
         """Takes a scenario and the levels of a policy."""
         self.costs, self.periods, self.initial = tree["costs"], tree["periods"], tree["initial"]
         self.point, self.level = policy["s"], policy["S"]
-        back = {-value: chance for value, chance in chances_of(tree.get("returns", {"values": [0], "weights": [1]})).items()}
+        returns = tree.get("returns", {"values": [0], "weights": [1]})
+        back = {-value: chance for value, chance in chances_of(returns).items()}
         demand, lead = chances_of(tree["demand"]), chances_of(tree["lead"])
         self.longest, self.has_one_lead = max(lead), len(lead) == 1
         pairs = common_chances(tree["demand"], tree["lead"]) if common_words else {
@@ -62,13 +69,15 @@ class Expected:
         self.general_cost = lru_cache(maxsize=None)(self.general_cost)
         self.sums = [{0: 1.0}]
 
-    def stock_cost(self, stock):
+    def stock_cost(self, stock: int) -> float:
         """Returns the cost of the stock at the end of a period."""
         return self.costs["holding"] * stock if stock >= 0 else self.costs["backlog"] * -stock
 
-    def general_cost(self, reviews, position, late):
-        """Returns the expected cost of stock at the end of the period of the last of some reviews, from the position
-        before the first of them, with the amount ordered before that is late then."""
+    def general_cost(self, reviews: int, position: int, late: int) -> float:
+        """Returns the expected cost of stock at the end of the period of the last of some reviews.
+
+        It follows from the position before the first of them, and the amount ordered before that is late then.
+        """
         order = self.level - position if position < self.point else 0
         total = 0.0
         for net, (chance, lates) in self.steps.items():
@@ -79,21 +88,21 @@ class Expected:
                                      else self.stock_cost(position + order - net - amount))
         return total
 
-    def one_lead_cost(self, reviews, position):
+    def one_lead_cost(self, reviews: int, position: int) -> float:
         """Returns the same with one lead time: no order of these reviews has arrived."""
         while len(self.sums) <= reviews:
             self.sums.append(added(self.sums[-1], self.net))
         return sum(chance * self.stock_cost(position - net) for net, chance in self.sums[reviews].items())
 
-    def end_cost(self, reviews, position):
+    def end_cost(self, reviews: int, position: int) -> float:
         """Returns the expected cost of stock after some reviews, by the shorter way where there is one."""
         return self.one_lead_cost(reviews, position) if self.has_one_lead else self.general_cost(reviews, position, 0)
 
-    def order_cost(self, position):
+    def order_cost(self, position: int) -> float:
         """Returns the cost of the order that a review places."""
         return self.costs["setup"] + self.costs["unit"] * (self.level - position) if position < self.point else 0
 
-    def cost(self, end_cost=None):
+    def cost(self, end_cost: Callable[[int, int], float] | None = None) -> float:
         """Returns the expected cost of a replication."""
         end_cost = end_cost or lru_cache(maxsize=None)(self.end_cost)
         positions, total = {self.initial: 1.0}, 0.0
@@ -112,9 +121,11 @@ class Expected:
         return total
 
 
-def best_policy(demand, costs, highest):
-    """Returns the cost, s and S of the best policy in the long run if orders arrive at once, by looking at all pairs
-    from 0 to a level. A policy orders when the position is below s."""
+def best_policy(demand: Chances, costs: tuple[int, int, int], highest: int) -> tuple[float, int, int]:
+    """Returns the cost, s and S of the best policy in the long run if orders arrive at once.
+
+    It looks at all pairs from 0 to a level. A policy orders when the position is below s.
+    """
     setup, holding, backlog = costs
     ends = [sum(chance * (holding * max(y - d, 0) + backlog * max(d - y, 0)) for d, chance in demand.items())
             for y in range(highest + 1)]

@@ -1,25 +1,31 @@
-"""Draws the picture of tests/theory/run.py --picture: what crnsim estimates, beside what theory expects.
+"""Draws docs/theory.svg: what crnsim estimates, beside what theory expects (samples.py).
 
-It needs matplotlib. The same samples always give the same file; texts stay texts.
+The same samples always give the same file; texts stay texts.
 """
+from __future__ import annotations
+
 import math
+from collections.abc import Iterator, Sequence
+from typing import Any
 
 NORMAL_95 = 1.959964
 DARK, MIDDLE, LIGHT = "#1f3b57", "#8aa1b8", "#e9edf1"
 MOST_Z = 4
 
 
-def caption_of(zs):
+def caption_of(zs: Sequence[float]) -> str:
     """Returns the line below the picture, from the z of each policy's mean cost with each key."""
     mean = sum(zs) / len(zs)
     deviation = math.sqrt(sum((z - mean)**2 for z in zs) / (len(zs) - 1))
-    return (f"{len(zs):,} mean costs: greatest |z| {max(map(abs, zs)):.2f}, mean of z {mean:.3f}, standard deviation of z "
-            f"{deviation:.3f}")
+    return (f"{len(zs):,} mean costs: greatest |z| {max(map(abs, zs)):.2f}, mean of z {mean:.3f}, "
+            f"standard deviation of z {deviation:.3f}")
 
 
-def deviations_of(samples, costs):
-    """Returns the deviation of each policy's mean cost over all keys from the expected one, and half the width of its 95%
-    interval, both in % of the expected cost."""
+def deviations_of(samples: Any, costs: Sequence[Sequence[float]]) -> Iterator[tuple[float, float]]:
+    """Yields the deviation of each policy's mean cost over all keys from the expected one, in % of the expected cost.
+
+    With it comes half the width of its 95% interval, in % too.
+    """
     for sample, expected in zip(samples, costs):
         for place, cost in enumerate(expected):
             keys = [key[place][0] for key in sample]
@@ -28,7 +34,7 @@ def deviations_of(samples, costs):
             yield 100 * (mean / cost - 1), 100 * NORMAL_95 * error / cost
 
 
-def draw_intervals(axes, deviations, groups):
+def draw_intervals(axes: Any, deviations: list[tuple[float, float]], groups: Sequence[str]) -> None:
     """Draws each policy's deviation with its interval, group by group."""
     size = len(deviations) // len(groups)
     for place, group in enumerate(groups):
@@ -38,8 +44,9 @@ def draw_intervals(axes, deviations, groups):
     missing = [abs(deviation) > width for deviation, width in deviations]
     for color, marker, wanted in ((MIDDLE, "o", False), (DARK, "D", True)):
         chosen = [(place, *it) for place, (it, off) in enumerate(zip(deviations, missing)) if off == wanted]
-        axes.errorbar([it[0] for it in chosen], [it[1] for it in chosen], [it[2] for it in chosen], fmt=marker, color=DARK,
-                      ecolor=color, markersize=3 if wanted else 2, elinewidth=1.3, linewidth=0)
+        places, middles, widths = ([it[part] for it in chosen] for part in range(3))
+        axes.errorbar(places, middles, widths, fmt=marker, color=DARK, ecolor=color, markersize=3 if wanted else 2,
+                      elinewidth=1.3, linewidth=0)
     axes.axhline(0, color="black", linewidth=0.8)
     greatest = max(abs(deviation) + width for deviation, width in deviations)
     axes.set(xlim=(-0.5, len(deviations) - 0.5), ylim=(-1.05 * greatest, 1.25 * greatest), xticks=[],
@@ -48,7 +55,7 @@ def draw_intervals(axes, deviations, groups):
              f"{len(deviations) // 20} are expected to")
 
 
-def draw_histogram(axes, zs):
+def draw_histogram(axes: Any, zs: Sequence[float]) -> None:
     """Draws the histogram of all z, with the standard normal density."""
     edges = [place / 2 for place in range(-2 * MOST_Z, 2 * MOST_Z + 1)]
     axes.hist(zs, edges, density=True, color=MIDDLE, edgecolor="white", linewidth=0.6, label="crnsim")
@@ -60,7 +67,7 @@ def draw_histogram(axes, zs):
     axes.legend(frameon=False, loc="upper left", fontsize=8.5, borderaxespad=0.2, handlelength=1.2)
 
 
-def draw(path, samples, costs, groups, zs):
+def draw(path: str, samples: Any, costs: Sequence[Sequence[float]], groups: Sequence[str], zs: Sequence[float]) -> None:
     """Draws the picture into a file, as its ending says."""
     import matplotlib
     matplotlib.use("Agg")

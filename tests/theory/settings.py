@@ -1,29 +1,32 @@
-"""The scenarios on which tests/theory/run.py compares the program with theory: demands by lead times, with five policies
-each."""
+"""The scenarios on which the program is compared with theory: demands by lead times, with five policies each."""
+from __future__ import annotations
+
+from collections.abc import Mapping
 from math import exp, factorial
+from typing import Any
 
 TOTAL = 60_000
 REPLICATIONS = 256
 
 
-def table(chances):
+def table(chances: Mapping[int, float]) -> dict[str, list[int]]:
     """Returns a table of values and weights, near to these chances; values without a weight are left out."""
     weights = {value: round(TOTAL * chance) for value, chance in chances.items()}
     return {"values": [it for it in weights if weights[it]], "weights": [it for it in weights.values() if it]}
 
 
-def poisson(mean):
+def poisson(mean: float) -> dict[str, list[int]]:
     """Returns the table of a Poisson law."""
     return table({value: exp(-mean) * mean**value / factorial(value) for value in range(40)})
 
 
-def geometric(mean, most):
+def geometric(mean: float, most: int) -> dict[str, list[int]]:
     """Returns the table of a geometric law from 0 to a value."""
     ratio = mean / (1 + mean)
     return table({value: (1 - ratio) * ratio**value for value in range(most + 1)})
 
 
-def even(*values):
+def even(*values: int) -> dict[str, list[int]]:
     """Returns the table of some values, all alike."""
     return {"values": list(values), "weights": [1] * len(values)}
 
@@ -42,7 +45,7 @@ LEADS = {
 COSTS = [{"setup": 20, "unit": 3, "holding": 2, "backlog": 11}, {"setup": 6, "unit": 0, "holding": 1, "backlog": 4}]
 
 
-def settings():
+def settings() -> list[tuple[str, dict[str, Any]]]:
     """Returns each setting: its name and its scenario, as a tree."""
     made = []
     for demand, tables in DEMANDS.items():
