@@ -19,7 +19,7 @@ from typing import TypeVar
 
 # What a cluster may take, from its first process to its last one. A process whose driver was ended by force ends by
 # itself soon after that.
-SECONDS = 60
+SECONDS = 120
 LOOPBACK = "127.0.0.1"
 WORKERS = ("stays", "leaves")
 WAITING = "import distributed, sys; distributed.Client(sys.argv[1]).wait_for_workers(int(sys.argv[2]), 30)"
