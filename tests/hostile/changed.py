@@ -223,7 +223,7 @@ def rule_changed(chance: Random, tree: Tree) -> Tree:
     tree = copy.deepcopy(tree)
     draws = tree[chance.choice([it for it in formats.DRAWS if it in tree])]
     policies, policy, most = tree["policy"], chance.choice(tree["policy"]), formats.MOST_WEIGHT
-    kind, more = chance.randrange(7), chance.randrange(2)
+    kind, more = chance.randrange(8), chance.randrange(2)
     match kind:
         case 0:
             draws["weights"] = [0] * (len(draws["values"]) - 1) + [chance.choice([0, 1, most, most + 1])]
@@ -240,6 +240,8 @@ def rule_changed(chance: Random, tree: Tree) -> Tree:
         case 5:
             most = formats.POLICIES[1]
             tree["policy"] = [{**policy, "name": f"N{it}"} for it in range(chance.choice([0, most, most + 1, 40]))]
+        case 6:
+            draws["weights"] = draws["weights"] + [1] * (1 + more)
         case _:
             tree["key"] = tree["key"][more:] + chance.choice([[], ["0" * 16], ["0" * 15], ["0" * 17]])
     return tree
@@ -331,8 +333,8 @@ def changed_checkpoint(chance: Random, text: bytes, ends: Sequence[int]) -> byte
 def changed_schedule(chance: Random, readers: int) -> bytes:
     """Returns a schedule of up to forty lines, with some that are of another form."""
     odd = ["", "r", "l", "P", "p ", " p", "p0", "e1", "r+1", "r-1", "r01", "r00", "r 1", "r1\r", "rr", "r0x1",
-           "r\u0661", "r1.", "x", "r4294967296", "r4294967295", "l18446744073709551616", "r" + "1" * 400, f"r{readers}",
-           f"l{readers}"]
+           "r\u0661", "r1.", "x", "r4294967296", "r4294967295", "l18446744073709551616", "r" + "1" * 400,
+           *[f"r{readers}", f"l{readers}"] * 3]
     good = ["p", "p", "e", *(f"{it}{number}" for it in "rrl" for number in range(readers))]
     lines = chance.choices(good, k=chance.randint(0, 40))
     for _ in range(chance.choice([0, 0, 0, 1, 2])):
