@@ -1,0 +1,107 @@
+"""Compares the bias of the start with a chain of all states, period by period from the start, and with simulations."""
+from __future__ import annotations
+
+import math
+from dataclasses import replace
+from pathlib import Path
+
+import numpy as np
+import pytest
+
+from crnplan.scenario import Costs, Policy, Scenario
+from crnplan.theory.lattice import NoTheory
+from crnplan.theory.start_bias import start_bias
+from planner.tests.theory.chain import State, by_chain, draws_of, period
+from planner.tests.theory.scenarios import Pair, scenario_of
+
+COSTS = Costs(40, 3, 2, 9)
+DEMAND: Pair = ([0, 1, 3], [5, 3, 1])
+CASES = {"one lead time": scenario_of(DEMAND, ([2], [1])),
+         "least demand above 0": scenario_of(([1, 2, 4], [2, 2, 1]), ([1], [1])),
+         "several lead times": scenario_of(DEMAND, ([1, 2, 4], [2, 1, 1])),
+         "returns": scenario_of(DEMAND, ([2], [1]), ([0, 1], [8, 1])),
+         "returns and several lead times": scenario_of(([0, 1, 2], [3, 2, 1]), ([1, 3], [2, 1]), ([0, 1], [7, 1]))}
+# Policies, and the stock before the first period: below s, between, at S, and above.
+STARTS = [(4, 11, 0), (4, 11, 7), (4, 11, 11), (2, 6, 15), (5, 5, 5), (0, 20, 3)]
+
+
+def expected(scenario: Scenario) -> list[float]:
+    """Returns the expected cost of each period of the first policy, from the law of all states."""
+    policy, costs, draws = scenario.policies[0], scenario.costs, draws_of(scenario)
+    law: dict[State, float] = {(scenario.initial, *[0] * max(lead for _, lead, _, _ in draws)): 1.0}
+    found = []
+    for _ in range(scenario.periods):
+        after: dict[State, float] = {}
+        total = 0.0
+        for state, chance in law.items():
+            for *drawn, share in draws:
+                its, counted = period(state, (policy.s, policy.S), *drawn)
+                after[its] = after.get(its, 0.0) + chance * share
+                items = (policy.S - counted.position) * counted.orders
+                total += chance * share * (costs.setup * counted.orders + costs.unit * items
+                                           + costs.holding * counted.stock + costs.backlog * counted.owed)
+        found.append(total)
+        law = {state: chance for state, chance in after.items() if chance > 1e-14}
+    return found
+
+
+@pytest.mark.parametrize("periods", [1, 3, 40])
+@pytest.mark.parametrize("start", STARTS, ids=lambda it: f"({it[0]},{it[1]}) from {it[2]}")
+@pytest.mark.parametrize("case", CASES)
+def test_biases_are_those_of_a_chain(case: str, start: tuple[int, int, int], periods: int) -> None:
+    s, S, initial = start
+    asked = replace(CASES[case], costs=COSTS, periods=periods, initial=initial, policies=(Policy("it", s, S),))
+    found = start_bias(asked)
+    net = asked.demand.mean - (asked.returns.mean if asked.returns else 0)
+    usual = by_chain(asked)[0]
+    assert found.costs == pytest.approx([usual], rel=1e-8)
+    assert found.exactness == "exact but for rounding"
+    wanted = sum(expected(asked)) - periods * (usual + COSTS.unit * float(net))
+    assert found.biases == pytest.approx([wanted], abs=1e-5 * periods)
+
+
+def test_means_of_runs(program: Path, top: Path) -> None:
+    """The mean cost of 256 replications lies within 4 standard errors, for each policy and each difference."""
+    asked = Scenario.read(top / "examples/mail_order.toml").changed(replications=256, initial=0, periods=60)
+    found, rows = start_bias(asked), asked.run(program=program).rows
+    net = float(asked.demand.mean - (asked.returns.mean if asked.returns else 0))
+    wanted = [bias + 60 * (cost + asked.costs.unit * net) for bias, cost in zip(found.biases, found.costs)]
+    base = rows[0]
+    assert base.cov is not None
+    for row, its in zip(rows, wanted):
+        assert row.diff_var is not None and row.cov is not None
+        own = 256 * row.diff_var - base.cov + 2 * row.cov
+        assert abs(row.total / 256 - its) <= 4 * math.sqrt(own / 256)
+        assert abs(float(row.diff_mean) - (its - wanted[0])) <= 4 * math.sqrt(row.diff_var)
+    assert min(abs(it) for it in found.biases) > 10
+
+
+@pytest.mark.parametrize("case", ["one lead time", "several lead times"])
+def test_steps_of_several_items(case: str, monkeypatch: pytest.MonkeyPatch) -> None:
+    """On a coarser lattice the biases are about the same, and the figures say so."""
+    demand = list(range(0, 200, 3)), [1 + it % 4 for it in range(67)]
+    asked = replace(CASES[case], demand=scenario_of(demand).demand, periods=100, initial=900,
+                    costs=Costs(900, 0, 1, 9),
+                    policies=(Policy("low", 300, 700), Policy("high", 700, 1300)))
+    exact = start_bias(asked)
+    monkeypatch.setattr("crnplan.theory.lattice.MOST_PRODUCTS", 30_000)
+    monkeypatch.setattr("crnplan.theory.lattice.MOST_CHAIN", 30_000_000)
+    coarse = start_bias(asked)
+    assert coarse.exactness == f"rounded to steps of {coarse.theory.step} items" and coarse.theory.step > 3
+    assert coarse.biases == pytest.approx(exact.biases, rel=0.02, abs=100 * 900 / 1e3)
+    assert coarse.biases != pytest.approx(exact.biases, rel=1e-9)
+
+
+def test_costs_of_0() -> None:
+    """The laws do not depend on costs, so the bias is linear in each."""
+    asked = replace(CASES["several lead times"], periods=12, initial=30, policies=(Policy("it", 4, 11),))
+    parts = [start_bias(replace(asked, costs=Costs(*its))) for its in np.eye(4, dtype=int).tolist()]
+    whole = start_bias(replace(asked, costs=COSTS))
+    values = [COSTS.setup, COSTS.unit, COSTS.holding, COSTS.backlog]
+    assert whole.biases[0] == pytest.approx(sum(cost * it.biases[0] for cost, it in zip(values, parts)))
+    assert whole.costs[0] == pytest.approx(sum(cost * it.costs[0] for cost, it in zip(values, parts)))
+
+
+def test_no_long_run() -> None:
+    with pytest.raises(NoTheory, match="nothing to order in the long run"):
+        start_bias(scenario_of(([1], [1]), back=([1], [1])))
