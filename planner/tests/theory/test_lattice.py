@@ -57,8 +57,8 @@ FREE = "is 0, so there is no best policy: stock, or being short, costs nothing; 
 @pytest.mark.parametrize("scenario, path, said", [
     (scenario_of(SAME, costs=Costs(1, 1, 0, 1)), ("costs", "holding"), f"the cost holding {FREE}"),
     (scenario_of(SAME, costs=Costs(1, 1, 1, 0)), ("costs", "backlog"), f"the cost backlog {FREE}"),
-    (scenario_of(SAME, back=SAME), ("demand",), "on average 1 items come back and 1 are asked for in a period, so there "
-     "is nothing to order in the long run; look at the tables demand and returns"),
+    (scenario_of(SAME, back=SAME), ("demand",), "on average 1 items come back and 1 are asked for in a period, so "
+     "there is nothing to order in the long run; look at the tables demand and returns"),
     (scenario_of(([0], [1])), ("demand",), "no item is ever asked for; give a demand above 0 a weight"),
     (NEAR, (), "the numbers of this scenario are too far apart for the theory's tables: what comes back is nearly what "
      "is asked for, or one order lasts for far too long; compare policies of your own by runs"),
