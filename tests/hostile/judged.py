@@ -165,7 +165,7 @@ def ends_of(checkpoint: reader.Checkpoint) -> list[int]:
 def changed_file(chance: Random, cut: Cut, spelling: int) -> bytes:
     """Returns the checkpoint of a cut in a spelling, or sometimes in another, with changes."""
     others = [it for it in formats.CHECKPOINT_VERSIONS if it != spelling]
-    spelling = spelling if chance.random() < 0.8 else chance.choice(others)
+    spelling = spelling if chance.randrange(5) < 4 else chance.choice(others)
     text = reader.text_of(cut.checkpoint._replace(spelling=spelling))
     return changed.changed_checkpoint(chance, text, ends_of(cut.checkpoint))
 
