@@ -7,7 +7,8 @@ from typing import Any
 
 import click
 
-from ..demand import fit_demand, fit_lead
+from ..demand import Law, fit_demand, fit_lead, notes_of
+from ..demand.fitting import METHODS
 from ..errors import Fault, Refused, RefusedFaults
 from ..history import read_history, read_lead_times
 from ..history.amounts import DECIMALS
@@ -38,8 +39,8 @@ def left_out(read: Iterable[Observed]) -> list[Fault]:
     return [it for its in read for it in its.faults]
 
 
-def tables(asked: dict[str, Any], rules: dict[str, Any], read: list[Observed]) -> str:
-    """Returns all tables that are asked for. What is read is added to a list; faults of all files are raised
+def laws_of(asked: dict[str, Any], rules: dict[str, Any], read: list[Observed]) -> dict[str, Law]:
+    """Returns the laws of all tables that are asked for. What is read is added to a list; faults of all files are raised
     together."""
     faults: list[Fault] = []
     notes: list[str] = []
@@ -64,12 +65,14 @@ def tables(asked: dict[str, Any], rules: dict[str, Any], read: list[Observed]) -
     if asked["orders"]:
         orders = {it: asked[it] for it in ("every", "ordered", "received")}
         lead = attempted(lambda: read_lead_times(asked["orders"], **orders, **rules))
-    laws = {"demand": history and attempted(lambda: fit_demand(history, box=asked["box"])),
-            "lead": lead and attempted(lambda: fit_lead(lead)),
-            "returns": history and history.returns and attempted(lambda: fit_demand(history.returns, box=asked["box"]))}
+    demand = {"method": asked["fit"], "box": asked["box"]}
+    method = "empirical" if asked["fit"] == "empirical" else "auto"
+    laws = {"demand": history and attempted(lambda: fit_demand(history, **demand)),
+            "lead": lead and attempted(lambda: fit_lead(lead, method=method)),
+            "returns": history and history.returns and attempted(lambda: fit_demand(history.returns, **demand))}
     if faults:
         raise RefusedFiles(faults, notes)
-    return "".join(f"\n{VERSION if name == 'returns' else ''}{law.toml(name)}" for name, law in laws.items() if law)
+    return {name: law for name, law in laws.items() if law}
 
 
 @click.command(epilog="Example: crnplan history sales.csv --demand Menge --date Datum --every week --decimal , --net")
@@ -89,6 +92,8 @@ def tables(asked: dict[str, Any], rules: dict[str, Any], read: list[Observed]) -
               help="Read only rows with this text; the record is that of all rows. May be given several times.")
 @click.option("--box", type=click.IntRange(1), default=1, metavar="N",
               help="Count each period in boxes of N items, rounded up.")
+@click.option("--fit", type=click.Choice(METHODS), metavar="METHOD", default="empirical", show_default=True,
+              help="How demand and returns are fitted: auto, predictive, empirical, or the name of a family.")
 @click.option("--lead", type=(str, str), metavar="FILE.csv COLUMN", help="Lead times, in periods.")
 @click.option("--orders", metavar="FILE.csv", help="Dates of orders and of their receipts. Open orders are left out.")
 @click.option("--ordered", metavar="COLUMN", default="ordered", show_default=True, callback=stripped)
@@ -106,9 +111,14 @@ def command(**asked: Any) -> int:
     """Turn a history of demand into the tables [demand], [lead] and [returns] of a scenario.
 
     HISTORY.csv (- is standard input) has a heading and one row for each period. With --date each row is a movement.
-    The movements of a period are summed, and periods without one count 0. The tables go to standard output: the
-    weight of a value is how often it was observed. Notes go to standard error. All faults of the files are found in
-    one pass.
+    The movements of a period are summed, and periods without one count 0. The tables go to standard output. Notes go
+    to standard error. All faults of the files are found in one pass.
+
+    By default (--fit empirical) the weight of a value is how often it was observed. --fit predictive takes the
+    posterior predictive law of the family with the least BIC of those whose drawn histories look like this one; if
+    there is none, what was observed stays. --fit auto takes that law without demands above twice the largest one seen,
+    and mixes it with what was observed. Both blur 2 to 19 lead times. The families are poisson, negative-binomial,
+    hurdle-geometric, hurdle-poisson, hurdle-negative-binomial and hurdle-lognormal.
 
     --lead has one row for each lead time, in periods. --orders has one row for each order. An order that was placed on
     any day of period t and received on any day of period t + L has lead time L, and 1 if both fell in one period. If
@@ -128,7 +138,7 @@ def command(**asked: Any) -> int:
         raise Refused(f"{asked['file']}: say --demand with the name of a column; the columns are: {names}")
     read: list[Observed] = []
     try:
-        text = tables(asked, rules, read)
+        laws = laws_of(asked, rules, read)
     except RefusedFaults as fault:
         if asked["rejects"]:
             write_rejects(asked["rejects"], [*left_out(read), *fault.faults])
@@ -136,7 +146,9 @@ def command(**asked: Any) -> int:
     faults = left_out(read)
     if asked["rejects"]:
         write_rejects(asked["rejects"], faults)
-    for line in [*printed(faults), *(note for its in read for note in its.notes)]:
+    fits = (note for name, law in laws.items() for note in notes_of(law, name))
+    for line in [*printed(faults), *(note for its in read for note in its.notes), *fits]:
         click.echo(f"crnplan: {line}", err=True)
-    click.echo(text, nl=False)
+    for name, law in laws.items():
+        click.echo(f"\n{VERSION if name == 'returns' else ''}{law.toml(name)}", nl=False)
     return 0

@@ -136,7 +136,8 @@ def _family_law(numbers: Sequence[int], method: str) -> dict[str, Any]:
         return fields_of(seen["values"], seen["weights"], "empirical", numbers, **found)
     law = unpacked(predictive_of(chosen.family, packs), pack)
     if method == "auto":
-        law = scaled(law[:TIMES_LARGEST * sample.most + 1])
+        found["cap"] = TIMES_LARGEST * sample.most
+        law = scaled(law[:found["cap"] + 1])
         found["periods"] = periods_of(sample, law)
         law = mixed(sample, law, found["periods"])
     return fields_of(*weights_of(law), chosen.family, numbers, **found)

@@ -14,7 +14,7 @@ from .laws import LeadLaw, check, empirical, numbers_of
 LEAD_METHODS = ("auto", "empirical")
 FEW = 20  # lead times: with so many, what was seen stays as it is
 LEAST_LEADS = 2  # one lead time is what a supplier says, not a sample
-SIDES = [side / 100 for side in range(31)]  # the shares that the kernel may move to each neighbour
+SIDES = [(cell + 0.5) / 100 for cell in range(30)]  # the shares that the kernel may move to each neighbour
 ELSEWHERE = 0.05  # the chance, in the fit of the kernel, that a lead time is like none that was seen
 
 

@@ -1,0 +1,50 @@
+"""Says in lines of text how a law was fitted, and how it differs from what was seen."""
+from __future__ import annotations
+
+from collections.abc import Iterator, Mapping
+from typing import Any
+
+from .laws import Law, LeadLaw
+
+
+def notes_of(law: Law, name: str) -> list[str]:
+    """Returns lines about a fitted law; none about one that has only what was seen, if no fit was asked for."""
+    if "history" not in law.diagnostics:
+        return []
+    lines = _lead_lines(law) if isinstance(law, LeadLaw) else _demand_lines(law)
+    figures = (_figures(title, its) for title, its in (("seen", law.diagnostics["history"]), ("law", law.diagnostics)))
+    return [f"{name}: {line}" for line in (*lines, *figures)]
+
+
+def _figures(title: str, figures: Mapping[str, Any]) -> str:
+    """Returns a line with mean, variance and quantiles."""
+    quantiles = ", ".join(f"{100 * share:g}% {value}" for share, value in figures["quantiles"].items())
+    variance = "-" if figures["variance"] is None else f"{figures['variance']:.4g}"
+    return f"{title}: mean {figures['mean']:.4g}, variance {variance}, quantiles {quantiles}"
+
+
+def _lead_lines(law: Law) -> Iterator[str]:
+    """Returns the line about the blur of lead times."""
+    its = law.diagnostics
+    yield (f"of each of the {its['observed']} lead times seen, {its['side']:.1%} count one period earlier, and as much "
+           "one later")
+
+
+def _demand_lines(law: Law) -> Iterator[str]:
+    """Returns the lines about the family of a law of demand."""
+    its = law.diagnostics
+    if its["pack"] > 1:
+        yield f"all demands are packs of {its['pack']}, so packs are fitted"
+    if law.family == "empirical":
+        yield "no family gives back this history, so it stays as it is"
+    elif "periods" in its:
+        yield (f"{law.family}, which counts for {its['periods']:.3g} periods beside the {its['observed']} seen; at most "
+               f"{its['cap']}, twice the largest demand seen")
+    else:
+        yield law.family
+    least = min(its["bic"].values(), default=0.0)
+    if its["bic"]:
+        yield "BIC above the least: " + ", ".join(f"{family} {value - least:.1f}" for family, value in its["bic"].items())
+    for family, shares in its["guard"].items():
+        yield (f"guard: a history of {family} varies as much with chance {shares.as_much:.2f}, as little with "
+               f"{shares.as_little:.2f}, is as far off with {shares.as_far:.2f}{'' if shares.passes else ': rejected'}")

@@ -1,0 +1,186 @@
+"""Tests of fitted laws of demand: how a method chooses, caps, mixes and rounds."""
+from __future__ import annotations
+
+from collections.abc import Sequence
+from pathlib import Path
+
+import numpy as np
+import pytest
+from hypothesis import given, settings
+from hypothesis import strategies as st
+from scipy import special, stats
+
+from crnplan.demand import fit_demand, fit_lead, notes_of
+from crnplan.demand.families import Sample, fits_of
+from crnplan.demand.fitting import FAMILIES, METHODS, mixed, periods_of, weights_of
+from crnplan.demand.predictive import predictive_of
+from crnplan.errors import Refused
+from planner.tests.conftest import Command
+
+RANDOM = np.random.default_rng(2)
+POISSON = RANDOM.poisson(4, 80).tolist()
+ERRATIC = RANDOM.negative_binomial(1.5, 1 / 3, 104).tolist()
+RARE = np.where(RANDOM.random(104) < 0.15, RANDOM.geometric(1 / 8, 104), 0).tolist()
+PROJECTS = (RANDOM.poisson(3, 104) + 30 * (RANDOM.random(104) < 0.05)).tolist()  # two humps
+
+
+def mean_of(values: Sequence[int], weights: Sequence[int]) -> float:
+    """Returns the mean of a law."""
+    return float(np.average(values, weights=weights))
+
+
+@given(chances=st.lists(st.floats(0, 1), min_size=1, max_size=300).filter(sum))
+def test_weights(chances: list[float]) -> None:
+    """Weights add up to 65,536, and no share of the tail is off by more than half a unit."""
+    values, weights = weights_of(np.array(chances))
+    assert sum(weights) == 65_536 and min(weights) > 0 and list(values) == sorted(set(values))
+    for least in range(len(chances)):
+        share = sum(weight for value, weight in zip(values, weights) if value >= least)
+        assert share == pytest.approx(65_536 * sum(chances[least:]) / sum(chances), abs=0.5001)
+    # So the mean, a sum of these shares, is off by at most half a unit for each value.
+    mean = np.average(np.arange(len(chances)), weights=chances)
+    assert abs(mean_of(values, weights) - mean) <= len(chances) * 0.5001 / 65_536
+
+
+def test_weights_within_range() -> None:
+    """Demands above 10,000 count as 10,000."""
+    law = np.zeros(10_400)
+    law[[3, 10_000, 10_399]] = 0.5, 0.25, 0.25
+    assert weights_of(law) == ((3, 10_000), (32_768, 32_768))
+
+
+@pytest.mark.parametrize("numbers", [POISSON, ERRATIC, RARE], ids=["poisson", "erratic", "rare"])
+@pytest.mark.parametrize("family", FAMILIES)
+def test_named_family(family: str, numbers: list[int]) -> None:
+    """A named family's law is its predictive law, whose mean it has but for rounding."""
+    allowed = fits_of(Sample.of(numbers))
+    if family not in allowed:
+        with pytest.raises(Refused, match=f"the history does not allow the family {family}; it allows hurdle|poisson"):
+            fit_demand(numbers, method=family)
+        return
+    law = fit_demand(numbers, method=family)
+    base = predictive_of(family, Sample.of(numbers))
+    assert (law.family, law.diagnostics["guard"]) == (family, {})
+    assert law.diagnostics["mean"] == pytest.approx(mean_of(law.values, law.weights))
+    assert abs(law.diagnostics["mean"] - base @ np.arange(len(base))) <= len(base) * 0.5001 / 65_536
+    assert {*law.diagnostics["bic"]} == {*allowed}
+
+
+def test_the_guard_decides() -> None:
+    """The family with the least BIC is taken if its histories look like this one; else the history stays."""
+    law = fit_demand(ERRATIC, method="predictive")
+    least = min(law.diagnostics["bic"], key=law.diagnostics["bic"].__getitem__)
+    assert law.family == least and law.diagnostics["guard"][least].passes
+    seen = fit_demand(PROJECTS)
+    for method in ("predictive", "auto"):
+        law = fit_demand(PROJECTS, method=method)
+        assert (law.family, law.values, law.weights) == ("empirical", seen.values, seen.weights)
+        assert law.diagnostics["guard"] and not any(it.passes for it in law.diagnostics["guard"].values())
+    assert fit_demand(POISSON, method="predictive").family == "poisson"
+
+
+def test_families_far_behind_are_not_taken() -> None:
+    """A family that is more than 10 units of BIC behind the least is not looked at."""
+    law = fit_demand(PROJECTS, method="auto")
+    bic = law.diagnostics["bic"]
+    assert {*law.diagnostics["guard"]} == {it for it in bic if bic[it] <= min(bic.values()) + 10} != {*bic}
+
+
+@pytest.mark.parametrize("numbers", [POISSON, ERRATIC, RARE], ids=["poisson", "erratic", "rare"])
+def test_auto(numbers: list[int]) -> None:
+    """The law is a mixture of the history and the capped predictive law, with the most likely weight."""
+    law = fit_demand(numbers, method="auto")
+    base = predictive_of(law.family, Sample.of(numbers))[:2 * max(numbers) + 1]
+    base = np.pad(base, (0, 2 * max(numbers) + 1 - len(base))) / base.sum()
+    assert law.values[-1] <= 2 * max(numbers) == law.diagnostics["cap"]
+    periods, size = law.diagnostics["periods"], len(numbers)
+    shares = (periods * base + np.bincount(numbers, minlength=len(base))) / (periods + size)
+    got = np.zeros(len(base))
+    got[[*law.values]] = law.weights
+    assert np.abs(np.cumsum(got / 65_536) - np.cumsum(shares)).max() <= 1 / 65_536
+    counts = np.bincount(numbers, minlength=len(base))
+    values = np.flatnonzero(counts)
+    # scipy's law of the counts of the values seen and of all others together.
+    alphas = np.append(base[values], max(1 - base[values].sum(), 1e-12))
+    likelihoods = [special.gammaln(it) - special.gammaln(it + size) + sum(
+        special.gammaln(it * alpha + count) - special.gammaln(it * alpha) for alpha, count in
+        zip(alphas, [*counts[values], 0])) for it in (periods / 1.3, periods, periods * 1.3)]
+    inside = 0.0101 * size < periods < 99 * size
+    assert not inside or likelihoods[1] == max(likelihoods)
+
+
+def test_weight_of_the_family() -> None:
+    """A law like the history counts for many periods, and one unlike it for few."""
+    sample = Sample.of(np.random.default_rng(1).poisson(4, 300).tolist())
+    like, unlike = stats.poisson.pmf(np.arange(40), 4), stats.poisson.pmf(np.arange(40), 9)
+    assert periods_of(sample, like) > 3 * sample.size and periods_of(sample, unlike) < sample.size / 3
+    assert mixed(sample, like, 0.0) == pytest.approx(np.pad(sample.law, (0, 40 - len(sample.law))))
+
+
+def test_packs() -> None:
+    """If all of at least 8 demands are packs, so are those of the law."""
+    packs = RANDOM.poisson(0.7, 60)
+    law = fit_demand((6 * packs).tolist(), method="auto")
+    assert law.diagnostics["pack"] == 6 and {it % 6 for it in law.values} == {0}
+    inner = fit_demand(packs.tolist(), method="auto")
+    assert law.values == tuple(6 * it for it in inner.values) and law.weights == inner.weights
+    assert fit_demand([6, 12, 0, 6, 18], method="auto").diagnostics["pack"] == 1
+
+
+@pytest.mark.parametrize("numbers", [[5], [0, 0, 4], [0, 0], [7] * 30, [0, 1] * 20], ids=str)
+@pytest.mark.parametrize("method", ["auto", "predictive"])
+def test_histories_that_say_little(numbers: list[int], method: str) -> None:
+    """With less than two demands, and if none of the families looks like it, the history stays."""
+    law = fit_demand(numbers, method=method)
+    assert law == fit_demand(numbers) and law.diagnostics["observed"] == len(numbers)
+
+
+@settings(max_examples=25, deadline=None)
+@given(numbers=st.lists(st.integers(0, 10_000), min_size=1, max_size=40), method=st.sampled_from(METHODS[:3]))
+def test_any_history(numbers: list[int], method: str) -> None:
+    """Each history has a law within the range of a scenario, always the same."""
+    law = fit_demand(numbers, method=method)
+    assert 0 <= law.values[0] and law.values[-1] <= 10_000 and 1 <= sum(law.weights) <= 65_536
+    assert min(law.weights) > 0 and law == fit_demand(iter(numbers), method=method)
+    if method == "auto":
+        assert law.values[-1] <= 2 * max(numbers)
+
+
+def test_diagnostics() -> None:
+    """Figures of the law stand beside those of the history."""
+    law = fit_demand(ERRATIC, method="auto")
+    drawn = np.repeat(law.values, law.weights)
+    expected = {share: int(np.quantile(drawn, share, method="inverted_cdf")) for share in (0.95, 0.99, 0.999)}
+    assert law.diagnostics["quantiles"] == expected
+    assert law.diagnostics["variance"] == pytest.approx(np.var(drawn))
+    history = law.diagnostics["history"]
+    assert history["quantiles"] == {it: int(np.quantile(ERRATIC, it, method="inverted_cdf")) for it in expected}
+    assert (history["mean"], history["variance"]) == pytest.approx((np.mean(ERRATIC), np.var(ERRATIC, ddof=1)))
+
+
+def test_notes() -> None:
+    """Notes say the family, the guard's verdicts, and the figures of the history and of the law."""
+    assert notes_of(fit_demand(ERRATIC), "demand") == []
+    notes = notes_of(fit_demand(ERRATIC, method="auto"), "demand")
+    assert all(it.startswith("demand: ") for it in notes)
+    assert "periods beside the 104 seen; at most " in notes[0] and "BIC above the least: " in notes[1]
+    assert notes[2].startswith("demand: guard: a history of ") and notes[-2].startswith("demand: seen: mean ")
+    assert notes[-1].startswith("demand: law: mean ")
+    text = "\n".join(notes_of(fit_demand(PROJECTS, method="auto"), "returns"))
+    assert "returns: no family gives back this history, so it stays as it is" in text and ": rejected" in text
+    notes = notes_of(fit_demand([6 * it for it in POISSON], method="poisson"), "demand")
+    assert notes[:2] == ["demand: all demands are packs of 6, so packs are fitted", "demand: poisson"]
+
+
+def test_command(tmp_path: Path, crnplan: Command) -> None:
+    """--fit fits demand and lead times; without it the tables are those of what was seen."""
+    (tmp_path / "demand.csv").write_text("n\n" + "\n".join(map(str, ERRATIC)))
+    (tmp_path / "leads.csv").write_text("weeks\n2\n3\n2\n4\n")
+    words = ["history", tmp_path / "demand.csv", "--demand", "n", "--lead", tmp_path / "leads.csv", "weeks"]
+    seen = "\n" + fit_demand(ERRATIC).toml("demand") + "\n[lead]\nvalues = [2, 3, 4]\nweights = [2, 1, 1]\n"
+    assert crnplan(*words) == crnplan(*words, "--fit", "empirical") == (0, seen, "")
+    status, text, notes = crnplan(*words, "--fit", "auto")
+    law, lead = fit_demand(ERRATIC, method="auto"), fit_lead([2, 3, 2, 4], method="auto")
+    assert (status, text) == (0, f"\n{law.toml('demand')}\n{lead.toml('lead')}")
+    lines = [f"crnplan: {it}\n" for it in [*notes_of(law, "demand"), *notes_of(lead, "lead")]]
+    assert notes == "".join(lines)
