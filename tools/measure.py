@@ -2,7 +2,6 @@
 """Says where the time of the gate goes.
 
     tools/measure.py checks [CRATE ..]    each crate, each crate's tests and the twenty slowest functions, from nothing
-    tools/measure.py runs                 what .ci/run does after its proofs, on the program that stands built
 
 With no crate: all of them. It works on a copy of the repository with one job at a time; seconds are of processor time,
 which another process beside it changes little. What it prints can be pasted into a table.
@@ -85,17 +84,6 @@ def checks(names, copy):
         print(f"{seconds:6.1f} {function}")
 
 
-def runs(copy):
-    """The wall time of what the gate does once all is proved."""
-    program = f"{TOP}/crates/crnsim/out/crnsim"
-    for part in ("tests/program/run.py", "tests/hostile/run.py", "tests/theory/run.py", "examples/check",
-                 "tests/documents/run.py"):
-        began = time.monotonic()
-        said = subprocess.run([f"{TOP}/{part}", program], cwd=copy, capture_output=True, text=True).stdout
-        last = said.splitlines()[-1] if said else "nothing said"
-        print(f"{time.monotonic() - began:6.1f} {part}: {last}", flush=True)
-
-
 def main(words):
     """Runs one part on a copy."""
     with tempfile.TemporaryDirectory(prefix="crnsim-") as room:
@@ -104,8 +92,6 @@ def main(words):
         subprocess.run(["git", "init", "-q", copy], check=True)
         if words[:1] == ["checks"]:
             checks(words[1:] or crates(), copy)
-        elif words == ["runs"]:
-            runs(copy)
         else:
             return __doc__
     return 0

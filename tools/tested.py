@@ -186,7 +186,7 @@ class Copy:
     def words(self, test):
         """Returns the command line of a test that is no crate's."""
         if test.words[0] == "pytest":
-            return [*PYTEST, "--program", self.target(test), *test.words[1:]]
+            return [*PYTEST, f"--program={self.target(test)}", *test.words[1:]]
         first, *others = (self.target(test) if it == "PROGRAM" else it for it in test.words)
         return [f"{self.room}/{first}", *others]
 

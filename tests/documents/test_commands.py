@@ -40,7 +40,7 @@ NOT_PRINTED = {("docs/FORMATS.md", "period  t  "): "a drawing",
 # Blocks of other kinds, and what is done with them.
 OTHER_KINDS = {"toml": "they are compared with the examples", "cpp": "not run, as it needs the headers of Random123"}
 # A span is a command if it begins with one of these and goes on, unless it only names a command's words.
-COMMAND = re.compile(r"\.ci/run|(crnsim|crnplan|(tools|crates/crnsim/out)/crnsim|(examples/tools|bench)/[\w/]+\.py"
+COMMAND = re.compile(r"\.ci/run|(crnsim|crnplan|(tools|crates/crnsim/out)/crnsim|bench/[\w/]+\.py"
                      r"|apt-get|awk|cat|cd|cmp|cp|cut|diff|echo|git|grep|head|ls|mkdir|parallel|pip|printf|python3|rt"
                      r"|sed|seq|sh|sort|tail|tr|xargs) .*")
 USAGE = re.compile(r"(crnsim|crnplan)( [a-z]+)?( \[?-?-?[A-Z][\w.]*\]?| --[a-z-]+)*( \.\.)?")
@@ -159,7 +159,7 @@ def test_commands(page: str, folder: Folder, check_all: Any) -> None:
 @pytest.mark.parametrize("page", [*RUN, "examples/README.md", "examples/case/README.md"])
 def test_options(page: str) -> None:
     """An option that a page for planners names is one that a command takes."""
-    patterns = ("planner/src/**/*.py", "examples/tools/*.py", "tests/theory/*.py", "tools/*", "conftest.py")
+    patterns = ("planner/src/**/*.py", "tests/theory/*.py", "tools/*", "conftest.py")
     sources = "".join(it.read_text("utf-8") for pattern in patterns for it in TOP.glob(pattern) if it.is_file())
     options = {"--help", *re.findall(r"""["'/ |(](--[A-Za-z][\w-]*)""", sources)}
     named = re.findall(r"(?<![\w-])--[A-Za-z][\w-]*", " ".join(spans_of(prose_of(page))))
