@@ -91,11 +91,3 @@ def test_wrong_implementation_says_what_it_is(edit: Edit) -> None:
     """It says what goes wrong, in a sentence of its own, and which function or test must notice it."""
     assert SENTENCES[edit.what] == 1 and edit.what.endswith(".")
     assert edit.seen_by if edit.folder == "tested" else edit.refused_by
-
-
-@pytest.mark.parametrize("page", ["CONTRIBUTING.md", "docs/CHANGING.md"])
-def test_pages_name_wrong_implementations(page: str) -> None:
-    """A wrong implementation that a page names is there."""
-    rows = re.findall(r"`(?:wrong|must-fail|tested)/`[^|\n]*\|([^|\n]*)", text_of(page))
-    named = {name for row in rows for name in re.findall(r"`([a-z0-9]+_[a-z0-9_]+)`", row)}
-    assert sorted(named - {it.name for it in EDITS} - set(LISTED)) == []
