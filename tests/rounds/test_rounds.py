@@ -177,6 +177,12 @@ grep -q 'first + 8' "$1" && echo 'FAILED sums: above' && sleep 600
 grep -q 'n + 2$' "$1" && echo 'FAILED sums: next' && echo '1 passed, 1 failed' && exit 1
 echo '2 passed, 0 failed'
 """
+# Tests by pytest, which also fail by what stands in the program.
+OPTION = 'def pytest_addoption(parser):\n    parser.addoption("--program")\n'
+SUMS = """def test_next(request):
+    with open(request.config.getoption("--program")) as program:
+        assert "n + 2\\n" not in program.read()
+"""
 BROKEN = "#!/bin/sh\necho 'FAILED sums: next'\necho '0 passed, 1 failed'\nexit 1\n"
 BREAKS_OFF = "#!/bin/sh\necho 'no such file'\nexit 2\n"
 OTHER_SUM = "file: src/lib.rt\nold:     n + 1\nnew:     n + 2\n"
@@ -195,11 +201,17 @@ def sum_with(number: int) -> str:
 
 
 BY_PART, BY_CRATE = seen_by("tests/part PROGRAM"), "seen by: tiny sums\n"
+BY_PYTEST = seen_by("pytest tests/test_sums.py -k next", "test_next")
 # Edits that a test must see: the head and the pairs, and what becomes of each.
 TESTED = {
     "seen": (BY_PART + OTHER_SUM, ""),
     "seen_by_a_crate": (BY_CRATE + OTHER_SUM, ""),
     "seen_for_its_reason": (BY_CRATE + "fails: sums FAILED\n" + OTHER_SUM, ""),
+    "seen_by_pytest": (BY_PYTEST + OTHER_SUM, ""),
+    "not_seen_by_pytest": (BY_PYTEST + SAME_SUM, "its test passes"),
+    "other_reason_of_pytest": (seen_by("pytest tests/test_sums.py", "test_above") + OTHER_SUM,
+                               "fails for another reason: FAILED tests/test_sums.py::test_next"),
+    "no_such_pytest": (seen_by("pytest tests/test_products.py") + OTHER_SUM, "is neither a test of a crate nor"),
     "seen_before_it_hangs": (seen_by("tests/part PROGRAM", "sums: above") + sum_with(8), ""),
     "of_a_proof": (BY_PART + OTHER_SUM + OTHER_PROOF, ""),
     "of_a_proof_alone": (BY_PART + OTHER_PROOF, "its test passes"),
@@ -333,10 +345,12 @@ def test_edit_without_a_head(repository: Path) -> None:
 
 
 @pytest.fixture
-def tested(repository: Path) -> Path:
+def tested(repository: Path, top: Path) -> Path:
     """Returns the repository with edits that a test must see."""
-    for name, text in (("builder", BUILDER), ("tests/part", PART), ("tests/broken", BROKEN), ("tests/off", BREAKS_OFF)):
+    for name, text in (("builder", BUILDER), ("tests/part", PART), ("tests/broken", BROKEN), ("tests/off", BREAKS_OFF),
+                       ("tests/conftest.py", OPTION), ("tests/test_sums.py", SUMS)):
         write(repository / name, text, 0o755)
+    (repository / ".venv").symlink_to(top / ".venv")
     write(repository / "crates" / "crnsim" / "src" / "main.rt", "")
     for name, (text, _) in TESTED.items():
         head = f"what: A wrong {name}.\n" if name != "no_head" else ""
