@@ -11,7 +11,8 @@ import pytest
 from crnplan.scenario import Costs, Policy, Scenario
 from crnplan.theory.lattice import NoTheory
 from crnplan.theory.start_bias import start_bias
-from planner.tests.theory.chain import State, by_chain, draws_of, period
+from planner.tests.theory.chain import by_chain
+from planner.tests.theory.finite import expected
 from planner.tests.theory.scenarios import Pair, scenario_of
 
 COSTS = Costs(40, 3, 2, 9)
@@ -23,26 +24,6 @@ CASES = {"one lead time": scenario_of(DEMAND, ([2], [1])),
          "returns and several lead times": scenario_of(([0, 1, 2], [3, 2, 1]), ([1, 3], [2, 1]), ([0, 1], [7, 1]))}
 # Policies, and the stock before the first period: below s, between, at S, and above.
 STARTS = [(4, 11, 0), (4, 11, 7), (4, 11, 11), (2, 6, 15), (5, 5, 5), (0, 20, 3)]
-
-
-def expected(scenario: Scenario) -> list[float]:
-    """Returns the expected cost of each period of the first policy, from the law of all states."""
-    policy, costs, draws = scenario.policies[0], scenario.costs, draws_of(scenario)
-    law: dict[State, float] = {(scenario.initial, *[0] * max(lead for _, lead, _, _ in draws)): 1.0}
-    found = []
-    for _ in range(scenario.periods):
-        after: dict[State, float] = {}
-        total = 0.0
-        for state, chance in law.items():
-            for *drawn, share in draws:
-                its, counted = period(state, (policy.s, policy.S), *drawn)
-                after[its] = after.get(its, 0.0) + chance * share
-                items = (policy.S - counted.position) * counted.orders
-                total += chance * share * (costs.setup * counted.orders + costs.unit * items
-                                           + costs.holding * counted.stock + costs.backlog * counted.owed)
-        found.append(total)
-        law = {state: chance for state, chance in after.items() if chance > 1e-14}
-    return found
 
 
 @pytest.mark.parametrize("periods", [1, 3, 40])

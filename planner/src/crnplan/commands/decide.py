@@ -17,6 +17,7 @@ from ..engine.report import Row
 from ..errors import Refused
 from ..report.pictures import picture_path
 from ..scenario import Scenario
+from .long_run import print_decision
 
 
 def pictures(rows: Sequence[Compared], base: Row, sample: tuple[int, int, float], plot: str | None,
@@ -57,14 +58,15 @@ def replications_of(asked: int | None, scenario: Scenario | None, name: str | No
 @click.option("--scenario", "scenario_path", metavar="SCENARIO.toml", help="The report's scenario.")
 @click.option("--sweep", is_flag=True, help="The report is a table of crnplan sweep, made from the scenario.")
 @click.option("--replications", type=int, metavar="R", help="How many replications the report has.")
+@click.option("--long-run", is_flag=True, help="Take the effect of the start out, by theory.")
 @click.option("--level", type=float, default=0.95, show_default=True, help="The joint level of the intervals.")
 @click.option("--all", "every", is_flag=True, help="List all policies, not the first 20.")
 @click.option("--csv", "form", flag_value="csv", help="Print all policies as CSV.")
 @click.option("--json", "form", flag_value="json", help="Print all policies as JSON.")
 @click.option("--plot", metavar="FILE.png", help="Draw the intervals, as PNG or SVG.")
 @click.option("--map", "of_costs", metavar="FILE.png", help="Draw the cost over s and S, as PNG or SVG.")
-def command(report: str, scenario_path: str | None, sweep: bool, replications: int | None, level: float, every: bool,
-            form: str | None, plot: str | None, of_costs: str | None) -> None:
+def command(report: str, scenario_path: str | None, sweep: bool, replications: int | None, long_run: bool, level: float,
+            every: bool, form: str | None, plot: str | None, of_costs: str | None) -> None:
     """Turn a report of crnsim into decimals, confidence intervals and a decision. `-` is standard input.
 
     The first policy of the report is the base. Each other policy gets a paired-t interval for its diff_mean, from low
@@ -75,16 +77,29 @@ def command(report: str, scenario_path: str | None, sweep: bool, replications: i
     The number of replications comes from the scenario or from --replications. The report must have the scenario's
     policies: the same names, s and S in the same order. With --sweep only the first one is compared. With the scenario,
     a warning says how much the cost unit favours policies that end a replication with little stock.
+
+    A report is on the coming periods from the stock initial of its scenario. With --long-run the decision is on the
+    long run, in costs of a period: by theory, what the start adds to the expected costs is taken out. That moves the
+    intervals and leaves their widths. The column effect says how much it was, in standard errors. There is no interval
+    if the rarer policy places fewer than two orders in all replications. unit is left out, since it adds the same to
+    each policy in the long run. crnplan run --long-run needs no theory, and takes longer.
     """
     for path in (plot, of_costs):
         picture_path(path or ".png")
-    if sweep and scenario_path is None:
+    if (sweep or long_run) and scenario_path is None:
         raise click.UsageError("give --scenario", click.get_current_context())
+    if long_run and (plot or of_costs):
+        raise click.UsageError("--plot and --map show the report as it is, without --long-run",
+                               click.get_current_context())
     scenario = None if scenario_path is None else Scenario.read(scenario_path)
     replications = replications_of(replications, scenario, scenario_path)
     given = read_report(report, replications)
     if scenario is not None:
         check_policies(given, scenario.policies, (report, str(scenario_path)), sweep)
+    if long_run and scenario is not None:
+        from ..decision.long_run import corrected_decision
+        print_decision(corrected_decision(given, scenario, level), form)
+        return
     rows = with_intervals(given, replications, level)
     warning = end_warning(scenario, given) if scenario else ""
     if plot or of_costs:

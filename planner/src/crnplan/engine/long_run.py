@@ -101,6 +101,12 @@ class LongRunReport:
                              "S": [it.S for it in rows],
                              **{name: pd.Series(its, dtype=object) for name, its in exact.items()}}).set_index("policy")
 
+    def decide(self, level: float = 0.95) -> pd.DataFrame:
+        """Returns all policies by rank, the cheapest first, with paired-t intervals of a period, verdicts, and the
+        figures of theory beside. `level` is above 0, below 1."""
+        from ..decision.long_run import long_run_decision
+        return long_run_decision(self, level).frame
+
 
 def keys_of(key: Sequence[str], count: int) -> list[Key]:
     """Returns the keys that follow from a scenario's key. All words of one follow from all words of the other."""

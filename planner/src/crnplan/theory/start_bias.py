@@ -40,6 +40,11 @@ def theory_of(scenario: Scenario) -> LongRun:
     return theory_on(scenario, shape, *lattice_of(scenario, shape, widest))
 
 
+def exactness(theory: LongRun) -> str:
+    """Returns how exact the figures of a theory are."""
+    return "exact but for rounding" if theory.exact else f"rounded to steps of {theory.step} items"
+
+
 class Start(NamedTuple):
     """The position after the first review: its law in cells below S, and whether an order was placed in it."""
 
@@ -171,7 +176,7 @@ class StartBias(NamedTuple):
     @property
     def exactness(self) -> str:
         """Returns how exact the figures are."""
-        return "exact but for rounding" if self.theory.exact else f"rounded to steps of {self.theory.step} items"
+        return exactness(self.theory)
 
 
 def start_bias(scenario: Scenario) -> StartBias:

@@ -1,0 +1,243 @@
+"""Compares policies in the long run, without the effect of the start, beside the figures of theory.
+
+There are two ways. `Scenario.long_run` starts each policy from a state of its own, and needs no theory: so theory's
+figures beside it are an independent check. A report on runs from one common start is corrected by theory's exact bias
+of that start, which moves the intervals and leaves their widths.
+
+Costs leave `unit` out, which adds unit times the mean net demand to every policy. Intervals are those of `intervals`.
+There is none if the rarer policy of a comparison places fewer than two orders in all replications, or if the
+difference is the same in all. Theory and all decimals are rounded and unproved; crnsim's costs are exact.
+"""
+from __future__ import annotations
+
+import math
+from collections.abc import Iterable, Sequence
+from dataclasses import asdict, dataclass, fields
+from typing import TYPE_CHECKING, Any
+
+from ..engine.long_run import LongRunReport
+from ..engine.report import Row
+from ..errors import Refused
+from ..report.tables import aligned, named
+from ..scenario import Policy, Scenario
+from ..theory.lattice import NoTheory
+from ..theory.start_bias import exactness, start_bias, theory_of
+from .intervals import checked_level, own_variance, t_quantile
+from .verdicts import MOST_ROWS, VERDICTS
+
+if TYPE_CHECKING:
+    import pandas as pd
+
+FEWEST_ORDERS = 2
+# An effect of the start above so many standard errors makes intervals too rare to hold: measured, 94% hold below.
+MOST_EFFECT = 0.25
+# Theory is said to disagree if chance alone does so once in so many tables.
+CHANCE_OF_ALARM = 0.001
+
+
+@dataclass(frozen=True)
+class LongRunRow:
+    """A policy in the long run: costs of a period in the scenario's money; None stands for no figure.
+
+    `diff` is the cost less the base's, with its joint interval `low` to `high`; `cost_low` to `cost_high` is the
+    interval of the cost by itself. `theory_cost` and `theory_diff` are theory's. `effect` is what the start adds to
+    `diff` in a run that is not corrected, in standard errors.
+    """
+
+    policy: str
+    s: int
+    S: int
+    cost: float
+    cost_low: float | None
+    cost_high: float | None
+    diff: float
+    percent: float | None
+    std_error: float | None
+    low: float | None
+    high: float | None
+    verdict: str
+    theory_cost: float | None
+    theory_diff: float | None
+    effect: float | None = None
+
+
+FIGURES = {"cost": 3, "cost_low": 3, "cost_high": 3, "diff": 3, "percent": 2, "std_error": 3, "low": 3, "high": 3,
+           "theory_cost": 3, "theory_diff": 3, "effect": 2}
+
+
+@dataclass(frozen=True)
+class LongRunDecision:
+    """Policies in the long run, the cheapest first, with what must be said of the figures."""
+
+    rows: tuple[LongRunRow, ...]
+    base: str
+    replications: int
+    level: float
+    title: str
+    theory: str
+    warnings: tuple[str, ...]
+
+    @property
+    def columns(self) -> list[str]:
+        """Returns the columns that have a figure for some policy, or are always there."""
+        empty = {name for name in ("theory_cost", "theory_diff", "effect")
+                 if all(getattr(it, name) is None for it in self.rows)}
+        return [it.name for it in fields(LongRunRow) if it.name not in empty]
+
+    @property
+    def records(self) -> list[dict[str, Any]]:
+        """Returns the rows as data, without rounding to decimals."""
+        return [{name: value for name, value in asdict(row).items() if name in self.columns} for row in self.rows]
+
+    @property
+    def frame(self) -> pd.DataFrame:
+        """Returns the rows as a table indexed by `policy`. NaN stands for no figure."""
+        import pandas as pd
+        frame = pd.DataFrame(self.records).set_index("policy")
+        return frame.astype({name: float for name in FIGURES if name in frame})
+
+    @property
+    def cells(self) -> list[list[str]]:
+        """Returns the cells of the table, its heading first; `-` stands for no figure."""
+        def spelt(name: str, value: Any) -> str:
+            """Returns a cell."""
+            return "-" if value is None else f"{value:.{FIGURES[name]}f}" if name in FIGURES else str(value)
+        return [self.columns, *([spelt(name, value) for name, value in row.items()] for row in self.records)]
+
+    @property
+    def notes(self) -> str:
+        """Returns what the columns mean, the policies by verdict, and the warnings."""
+        lines = [f"replications: {self.replications}, comparisons with {self.base}: {len(self.rows) - 1}, "
+                 f"joint level: {self.level:g}",
+                 f"cost to verdict: a period by crnsim, {self.title}; unit is left out",
+                 "low to high: the interval of diff; all hold together at the joint level",
+                 f"cost_low to cost_high: the interval of cost, each at {self.level:g} by itself",
+                 f"theory_cost, theory_diff: a period of the long run by theory, {self.theory}"
+                 if "theory_cost" in self.columns else f"theory is {self.theory}"]
+        if "effect" in self.columns:
+            lines.append("effect: what the start had added to diff, in standard errors; it is taken out")
+        for verdict, words in VERDICTS.items():
+            names = [it.policy for it in self.rows if it.verdict == verdict]
+            lines.append(f"{words.format(self.base)}: {named(names, MOST_ROWS)}")
+        return "\n".join([*lines, *(f"\nWARNING: {it}" for it in self.warnings)]) + "\n"
+
+    @property
+    def text(self) -> str:
+        """Returns the table, below the horizon that it is for, and the notes."""
+        left = {self.columns.index(name) for name in ("policy", "verdict")}
+        return f"The long run\n\n{aligned(self.cells, left)}\n{self.notes}"
+
+    @property
+    def tree(self) -> dict[str, Any]:
+        """Returns all as data, without rounding to decimals."""
+        head = {"horizon": "the long run", "base": self.base, "replications": self.replications, "level": self.level,
+                "crnsim": self.title, "theory": self.theory}
+        return {**head, "policies": self.records, "warnings": list(self.warnings)}
+
+
+class _Table:
+    """The rows of a report on the long run. `shifts` are taken from the costs of a period, `orders` None if many."""
+
+    def __init__(self, rows: Sequence[Row], size: tuple[int, int], level: float, shifts: Sequence[float],
+                 orders: Sequence[float | None]) -> None:
+        """Takes the number of replications and of the periods of each as `size`."""
+        self.rows, (self.replications, self.periods), self.orders = rows, size, orders
+        joint = (1 - checked_level(level)) / max(1, len(rows) - 1)
+        self.quantiles = t_quantile(joint, self.replications - 1), t_quantile(1 - level, self.replications - 1)
+        self.costs = [float(row.per_period) - shift for row, shift in zip(rows, shifts)]
+        self.diffs = [float(row.diff_mean) / self.periods - shift + shifts[0] for row, shift in zip(rows, shifts)]
+        self.own = [math.sqrt(own_variance(row, rows[0], self.replications) / self.replications) / self.periods
+                    for row in rows]
+        self.errors = [math.sqrt(row.diff_var or 0) / self.periods for row in rows]
+
+    def has_orders(self, *places: int) -> bool:
+        """Returns whether each of these policies places enough orders for an interval."""
+        counts = (self.orders[it] for it in places)
+        return all(count is None or count >= FEWEST_ORDERS for count in counts)
+
+    def has_interval(self, place: int) -> bool:
+        """Returns whether the difference of a policy from the base has an interval."""
+        return place > 0 and self.errors[place] > 0 and self.has_orders(0, place)
+
+    def row(self, place: int, theory: Sequence[float] | None, effect: float | None) -> LongRunRow:
+        """Returns the row of a policy."""
+        it, cost, diff, error = self.rows[place], self.costs[place], self.diffs[place], self.errors[place]
+        own = self.quantiles[1] * self.own[place] if self.has_orders(place) else None
+        half = self.quantiles[0] * error if self.has_interval(place) else None
+        verdict = "base" if place == 0 else "undecided" if half is None or abs(diff) <= half else (
+            "worse" if diff > 0 else "better")
+        return LongRunRow(it.policy, it.s, it.S, cost, *_around(cost, own), diff,
+                          100 * diff / self.costs[0] if self.costs[0] else None, None if half is None else error,
+                          *_around(diff, half), verdict, theory[place] if theory else None,
+                          theory[place] - theory[0] if theory else None, effect)
+
+    def without(self) -> Iterable[str]:
+        """Yields what must be said of policies without an interval."""
+        few = [self.rows[it].policy for it in range(1, len(self.rows)) if not self.has_orders(0, it)]
+        if few:
+            yield (f"no interval for {named(few, MOST_ROWS)}: the rarer policy places fewer than {FEWEST_ORDERS} "
+                   "orders in all replications")
+        same = [row.policy for place, row in enumerate(self.rows)
+                if place and self.errors[place] == 0 and self.has_orders(0, place)]
+        if same:
+            yield f"no interval for {named(same, MOST_ROWS)}: the difference is the same in all replications"
+
+    def disagreeing(self, theory: Sequence[float]) -> list[str]:
+        """Returns the policies whose cost, or difference from the base, is further from theory's than chance allows."""
+        quantile = t_quantile(CHANCE_OF_ALARM / (2 * len(self.rows)), self.replications - 1)
+
+        def is_off(place: int) -> bool:
+            """Returns whether a policy is too far from theory."""
+            gaps = [(self.costs[place] - theory[place], self.own[place], self.has_orders(place)),
+                    (self.diffs[place] - theory[place] + theory[0], self.errors[place], self.has_interval(place))]
+            return any(known and error > 0 and abs(gap) > quantile * error for gap, error, known in gaps)
+        return [row.policy for place, row in enumerate(self.rows) if is_off(place)]
+
+
+def _around(figure: float, half: float | None) -> tuple[float | None, float | None]:
+    """Returns both ends of an interval; None if there is none."""
+    return (None, None) if half is None else (figure - half, figure + half)
+
+
+def long_run_decision(report: LongRunReport, level: float = 0.95) -> LongRunDecision:
+    """Compares the policies of runs from own starts, with theory's figures beside. `level` is above 0, below 1."""
+    table = _Table(report.rows, (report.keys, report.periods), level, [0.0] * len(report.orders), report.orders)
+    warnings, costs = [*table.without()], None
+    try:
+        theory = theory_of(report.scenario)
+        costs, said = [theory.figures(it.s, it.S).cost for it in report.scenario.policies], exactness(theory)
+        off = table.disagreeing(costs) if theory.exact else []
+        if off:
+            warnings.append(f"crnsim and theory differ by more than chance allows for {named(off, MOST_ROWS)}: one of "
+                            "them is wrong, or an order lasts for so long that the start still matters")
+    except NoTheory as fault:
+        said = f"not known: {fault}"
+    rows = sorted((table.row(place, costs, None) for place in range(len(report.orders))), key=lambda it: it.diff)
+    title = f"each policy from a state of its own, over {report.periods:,} periods under each of {report.keys} keys"
+    return LongRunDecision(tuple(rows), report.rows[0].policy, report.keys, level, title, said, tuple(warnings))
+
+
+def corrected_decision(rows: Sequence[Row], scenario: Scenario, level: float = 0.95) -> LongRunDecision:
+    """Compares the policies of a report in the long run: theory's bias of the common start is taken out.
+
+    The report is on the scenario, perhaps with other policies. Raises Refused with one replication, and NoTheory.
+    """
+    if scenario.replications < 2:
+        raise Refused("one replication tells nothing of spread; give the report of at least 2")
+    scenario = scenario.with_policies(Policy(it.policy, it.s, it.S) for it in rows)
+    bias, (replications, periods) = start_bias(scenario), (scenario.replications, scenario.periods)
+    net = scenario.demand.mean - (scenario.returns.mean if scenario.returns else 0)
+    shifts = [its / periods + scenario.costs.unit * float(net) for its in bias.biases]
+    orders = [bias.theory.figures(it.s, it.S).orders * periods * replications for it in rows]
+    table = _Table(rows, (replications, periods), level, shifts, orders)
+    effects = [(shift - shifts[0]) / error if error else None for shift, error in zip(shifts, table.errors)]
+    strong = [row.policy for row, it in zip(rows, effects) if it is not None and abs(it) > MOST_EFFECT]
+    warnings = [*table.without()]
+    if strong:
+        warnings.append(f"without this correction the start counts too much for {named(strong, MOST_ROWS)}: its effect "
+                        f"is above {MOST_EFFECT} standard errors")
+    found = (table.row(place, bias.costs, effect) for place, effect in enumerate(effects))
+    title = (f"from a common stock of {scenario.initial:,} over {periods:,} periods, less the bias of that start by "
+             "theory, which so is no check of it")
+    return LongRunDecision(tuple(sorted(found, key=lambda it: it.diff)), rows[0].policy, replications, level, title,
+                           bias.exactness, tuple(warnings))
