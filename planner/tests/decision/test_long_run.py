@@ -13,7 +13,8 @@ import pytest
 from scipy import stats
 
 from crnplan.decision import long_run
-from crnplan.decision.long_run import LongRunDecision, LongRunRow, corrected_decision, long_run_decision
+from crnplan.decision.long_run import (LongRunDecision, LongRunRow, check_long_run, corrected_decision,
+                                       long_run_decision)
 from crnplan.engine.long_run import LongRunReport
 from crnplan.errors import Refused
 from crnplan.scenario import Costs, Policy, Scenario, Table
@@ -172,15 +173,42 @@ def test_decide_prints_the_long_run(crnplan: Command, room: Path, program: Path)
     assert sweep.output.splitlines()[0].endswith(",theory_cost,theory_diff,effect")
 
 
+def test_check_in_the_long_run(crnplan: Command, room: Path, program: Path) -> None:
+    """The pooled report of two keys is that of both reports together, with the named policy as the base."""
+    (room / "part.toml").write_text(PART.toml())
+    words = "check", "part.toml", "more", "--long-run", "--key", "00000000000000a1", "--key", "00000000000000a2"
+    found = crnplan(*words)
+    turned = PART.with_policies(sorted(PART.policies, key=lambda it: it.name != "more"))
+    keys = [(word, *KEY[1:]) for word in ("00000000000000a1", "00000000000000a2")]
+    first, second = (replace(turned, key=key).long_run(program=program) for key in keys)
+    both = replace(first, scenario=turned, costs=first.costs + second.costs)
+    assert "".join(f"--key {' '.join(key)}\n" for key in keys) + f"\n{long_run_decision(both).text}\n" in found.output
+    less = by_name(long_run_decision(both))["less"]
+    assert less.verdict == "better" and found.status == 1
+    assert found.output.endswith("On these new histories more does not hold: less, today are better.\n")
+    tree = json.loads(crnplan(*words, "--json").output)
+    assert (tree["holds"], tree["keys"], tree["replications"]) == (False, [list(key) for key in keys], 96)
+    holds = crnplan("check", "part.toml", "less", "--long-run", "--csv")
+    assert holds.status == 0 and holds.output.startswith("policy,s,S,cost,") and "less holds" in holds.errors
+
+
+def test_check_of_slow_movers_pools_orders(program: Path) -> None:
+    found = check_long_run(SLOW, "more", keys=[["00000000000000a1"], ["00000000000000a2"]], program=program)
+    assert found.decision.warnings[0].startswith("no interval for today") and found.holds
+
+
 @pytest.mark.parametrize("words, message", [
     ("run part.toml --long-run --horizon 5", "--long-run has no --horizon"),
     ("run part.toml --keys 5", "--keys and --level are those of --long-run"),
     ("run part.toml --long-run --keys 1", "--keys 1: the long run takes 2 to 256 keys"),
     ("run part.toml --long-run --level 1.5", "--level 1.5: a level is between 0 and 1"),
+    ("check part.toml more --long-run --replications 256", "--long-run has no --replications and no --out"),
+    ("check part.toml more --long-run --out it", "--long-run has no --replications and no --out"),
+    ("check part.toml more --long-run --key " + " ".join(KEY), "is the scenario's own key"),
     ("run part.toml --horizon 2000", "2000 is not from 1 to 1,024"),
     ("decide report.csv --long-run --replications 64", "give --scenario"),
     ("decide report.csv --long-run --scenario part.toml --plot it.svg", "--plot and --map show the report as it is")],
-    ids=lambda it: it.replace(" ", "_") if it.startswith(("run", "decide")) else "")
+    ids=lambda it: it.replace(" ", "_") if it.startswith(("run", "decide", "check")) else "")
 def test_refusals(words: str, message: str, crnplan: Command, room: Path) -> None:
     (room / "part.toml").write_text(PART.toml())
     found = crnplan(*words.split())

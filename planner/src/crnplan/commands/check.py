@@ -7,11 +7,13 @@ import sys
 from typing import Any
 
 import click
+from click.core import ParameterSource
 
 from .. import formats
 from ..decision.keys import check_keys
 from ..decision.verdicts import records_of, table_of
 from ..scenario import Scenario
+from .long_run import print_decision
 
 
 class Keys(click.Command):
@@ -30,6 +32,25 @@ class Keys(click.Command):
         return super().parse_args(ctx, joined)
 
 
+def check_in_long_run(scenario: str, best: str, form: str | None, replications: int, out: str | None,
+                      **options: Any) -> int:
+    """Checks in the long run, and returns the exit status."""
+    from ..decision.long_run import check_long_run
+    context = click.get_current_context()
+    if out is not None or context.get_parameter_source("replications") == ParameterSource.COMMANDLINE:
+        raise click.UsageError("--long-run has no --replications and no --out: more keys give more", context)
+    found = check_long_run(Scenario.read(scenario), best, **options)
+    if form == "csv":
+        print_decision(found.decision, form)
+        print(found.sentence, end="", file=sys.stderr)
+    elif form:
+        head = {"best": best, "holds": found.holds, "keys": found.keys}
+        print(json.dumps({**head, **found.decision.tree}, indent=2))
+    else:
+        print(found.text, end="")
+    return 0 if found.holds else 1
+
+
 @click.command(cls=Keys, epilog="Example: crnplan check suggested.toml best --keys 4 --out check")
 @click.argument("scenario", metavar="SCENARIO.toml")
 @click.argument("best", metavar="BEST")
@@ -37,12 +58,13 @@ class Keys(click.Command):
 @click.option("--keys", "count", type=int, metavar="N", help="How many keys, up to 64.")
 @click.option("--replications", type=int, default=formats.MOST_REPLICATIONS, metavar="R", show_default=True,
               help="For each key.")
+@click.option("--long-run", is_flag=True, help="Compare costs of the long run, without the effect of the start.")
 @click.option("--level", type=float, default=0.95, show_default=True, help="The joint level of the intervals.")
 @click.option("--program", metavar="PATH", help="The program crnsim.")
 @click.option("--out", metavar="FOLDER", help="Keep the scenarios and reports here.")
 @click.option("--csv", "form", flag_value="csv", help="Print the table as CSV.")
 @click.option("--json", "form", flag_value="json", help="Print the check as JSON.")
-def command(scenario: str, best: str, keys: tuple[str, ...], count: int | None, form: str | None,
+def command(scenario: str, best: str, keys: tuple[str, ...], count: int | None, form: str | None, long_run: bool,
             **options: Any) -> int:
     """Check the best policy of a scenario on new histories, against all others. `-` is standard input.
 
@@ -56,10 +78,16 @@ def command(scenario: str, best: str, keys: tuple[str, ...], count: int | None, 
     again. With --keys N there are N different keys. Each --key names one of them, and the others are drawn. All
     replications are pooled.
 
+    With --long-run the check is on the long run, as crnplan run --long-run has it, in place of the coming periods: from
+    each key follow 48 keys of runs. --replications and --out do not go with it.
+
     --out FOLDER keeps what was run: key_1.toml and key_1.csv for the first key, and pooled.csv with several keys, the
     report of all replications. FOLDER is new or empty.
     """
-    found = check_keys(Scenario.read(scenario), best, keys=[key.split() for key in keys], count=count, **options)
+    words = [key.split() for key in keys]
+    if long_run:
+        return check_in_long_run(scenario, best, form, keys=words, count=count, **options)
+    found = check_keys(Scenario.read(scenario), best, keys=words, count=count, **options)
     if form == "csv":
         csv.writer(sys.stdout, lineterminator="\n").writerows(table_of(found.rows))
         print(found.sentence, end="", file=sys.stderr)

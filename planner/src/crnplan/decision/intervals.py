@@ -15,6 +15,7 @@ import math
 from collections.abc import Iterator, Sequence
 from dataclasses import dataclass, fields
 from fractions import Fraction
+from typing import Protocol
 
 from .. import formats
 from ..engine.keys import MOST_KEYS
@@ -121,6 +122,18 @@ def with_intervals(rows: Sequence[Row], replications: int, level: float) -> list
     return sorted(compared, key=lambda it: it.diff_total)
 
 
-def with_verdict(rows: Sequence[Compared], verdict: str) -> Iterator[str]:
+class Judged(Protocol):
+    """A policy with its verdict."""
+
+    @property
+    def policy(self) -> str:
+        """Returns the name of the policy."""
+
+    @property
+    def verdict(self) -> str:
+        """Returns base, better, worse or undecided."""
+
+
+def with_verdict(rows: Sequence[Judged], verdict: str) -> Iterator[str]:
     """Yields the names of the policies that have a verdict."""
     return (row.policy for row in rows if row.verdict == verdict)

@@ -21,7 +21,7 @@ from ..engine.pooling import pooled
 from ..engine.report import report_text
 from ..errors import Refused
 from ..scenario import Policy, Scenario
-from .intervals import Compared, check_replications, checked_level, with_intervals, with_verdict
+from .intervals import Compared, Judged, check_replications, checked_level, with_intervals, with_verdict
 from .verdicts import decision_text, frame_of, table_text
 
 if TYPE_CHECKING:
@@ -53,11 +53,7 @@ class Check:
     @property
     def sentence(self) -> str:
         """Returns one sentence on what the verdicts say of the best policy."""
-        better, alike, worse = (list(with_verdict(self.rows, it)) for it in ("better", "undecided", "worse"))
-        parts = clause_of(better, "is better", "are better") or ["no policy is better"]
-        parts += clause_of(alike, *[f"can't be told apart from {self.best}"] * 2)
-        parts += clause_of(worse, "is worse", "are worse")
-        return f"On these new histories {self.best} {'holds' if self.holds else 'does not hold'}: {'; '.join(parts)}.\n"
+        return sentence_of(self.best, self.rows)
 
     @property
     def text(self) -> str:
@@ -65,6 +61,15 @@ class Check:
         keys = "".join(f"--key {' '.join(key)}\n" for key in self.keys)
         decision = decision_text(self.rows, self.best, self.replications, self.level, len(self.rows))
         return f"{keys}\n{table_text(self.rows)}{decision}\n{self.sentence}"
+
+
+def sentence_of(best: str, rows: Sequence[Judged]) -> str:
+    """Returns one sentence on what the verdicts say of the best policy."""
+    better, alike, worse = (list(with_verdict(rows, it)) for it in ("better", "undecided", "worse"))
+    parts = clause_of(better, "is better", "are better") or ["no policy is better"]
+    parts += clause_of(alike, *[f"can't be told apart from {best}"] * 2)
+    parts += clause_of(worse, "is worse", "are worse")
+    return f"On these new histories {best} {'does not hold' if better else 'holds'}: {'; '.join(parts)}.\n"
 
 
 def clause_of(names: Sequence[str], one: str, many: str) -> list[str]:

@@ -12,9 +12,11 @@ from __future__ import annotations
 
 import math
 from collections.abc import Iterable, Sequence
-from dataclasses import asdict, dataclass, fields
+from dataclasses import asdict, dataclass, fields, replace
+from pathlib import Path
 from typing import TYPE_CHECKING, Any
 
+from ..engine.keys import Key, keys_of
 from ..engine.long_run import LongRunReport
 from ..engine.report import Row
 from ..errors import Refused
@@ -22,7 +24,8 @@ from ..report.tables import aligned, named
 from ..scenario import Policy, Scenario
 from ..theory.lattice import NoTheory
 from ..theory.start_bias import exactness, start_bias, theory_of
-from .intervals import checked_level, own_variance, t_quantile
+from .intervals import checked_level, own_variance, t_quantile, with_verdict
+from .keys import policies_of, sentence_of
 from .verdicts import MOST_ROWS, VERDICTS
 
 if TYPE_CHECKING:
@@ -117,8 +120,7 @@ class LongRunDecision:
         if "effect" in self.columns:
             lines.append("effect: what the start had added to diff, in standard errors; it is taken out")
         for verdict, words in VERDICTS.items():
-            names = [it.policy for it in self.rows if it.verdict == verdict]
-            lines.append(f"{words.format(self.base)}: {named(names, MOST_ROWS)}")
+            lines.append(f"{words.format(self.base)}: {named(list(with_verdict(self.rows, verdict)), MOST_ROWS)}")
         return "\n".join([*lines, *(f"\nWARNING: {it}" for it in self.warnings)]) + "\n"
 
     @property
@@ -213,7 +215,8 @@ def long_run_decision(report: LongRunReport, level: float = 0.95) -> LongRunDeci
     except NoTheory as fault:
         said = f"not known: {fault}"
     rows = sorted((table.row(place, costs, None) for place in range(len(report.orders))), key=lambda it: it.diff)
-    title = f"each policy from a state of its own, over {report.periods:,} periods under each of {report.keys} keys"
+    title = (f"each policy from a state of its own, over {report.periods:,} periods under each of {report.keys:,} "
+             "keys")
     return LongRunDecision(tuple(rows), report.rows[0].policy, report.keys, level, title, said, tuple(warnings))
 
 
@@ -241,3 +244,44 @@ def corrected_decision(rows: Sequence[Row], scenario: Scenario, level: float = 0
              "theory, which so is no check of it")
     return LongRunDecision(tuple(sorted(found, key=lambda it: it.diff)), rows[0].policy, replications, level, title,
                            bias.exactness, tuple(warnings))
+
+
+@dataclass(frozen=True)
+class LongRunCheck:
+    """What comes of a check in the long run: the policies compared with the best one, over all keys."""
+
+    best: str
+    keys: tuple[Key, ...]
+    decision: LongRunDecision
+
+    @property
+    def holds(self) -> bool:
+        """Returns whether no policy is better than the best one."""
+        return not any(with_verdict(self.decision.rows, "better"))
+
+    @property
+    def sentence(self) -> str:
+        """Returns one sentence on what the verdicts say of the best policy."""
+        return sentence_of(self.best, self.decision.rows)
+
+    @property
+    def text(self) -> str:
+        """Returns the keys, the decision and the sentence."""
+        keys = "".join(f"--key {' '.join(key)}\n" for key in self.keys)
+        return f"{keys}\n{self.decision.text}\n{self.sentence}"
+
+
+def check_long_run(scenario: Scenario, best: str, *, keys: Sequence[Sequence[str]] = (), count: int | None = None,
+                   level: float = 0.95, program: str | Path | None = None) -> LongRunCheck:
+    """Compares each other policy with the policy named `best` in the long run, under new keys.
+
+    Keys are given and drawn as in `keys.check_keys`. From each follow 48 keys of runs, and those of all are pooled.
+    Raises Refused, also for the scenario's own key, and ProgramError if a run fails.
+    """
+    checked_level(level)
+    asked, all_keys = scenario.with_policies(policies_of(scenario, best)), keys_of(keys, count, scenario.key)
+    first, *others = (replace(asked, key=key).long_run(program=program) for key in all_keys)
+    for it in others:
+        orders = [None if one is None or two is None else one + two for one, two in zip(first.orders, it.orders)]
+        first = replace(first, costs=first.costs + it.costs, orders=tuple(orders))
+    return LongRunCheck(best, tuple(all_keys), long_run_decision(first, level))
