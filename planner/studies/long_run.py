@@ -1,7 +1,7 @@
 """Measures how often 95% intervals of the long run hold the exact saving, over items of a synthetic catalogue.
 
-    python -m planner.studies.long_run            all, about half an hour on two processors
-    python -m planner.studies.long_run --small    a small part, in half a minute
+    python -m planner.studies.long_run            all, in about half an hour
+    python -m planner.studies.long_run --small    a small part
 
 Each item has today's policy and the best by theory. The saving of the long run is exact by theory on the lattice of
 single items. Three intervals are compared with it:
@@ -38,6 +38,7 @@ from planner.studies.long_run_items import Item, items_of
 
 SEEDS = (1, 20261126, 48)
 REPLICATIONS = 24
+SMALL = 24  # items
 LEVEL = 0.95
 # Tables of the exact target are made up to this gap, and up to this many places with late orders.
 MOST_GAP = 20_000
@@ -172,12 +173,12 @@ def outcomes_of(items: Iterable[Item], seed: int, program: Path, jobs: int) -> l
 @click.command()
 @click.option("--items", type=click.IntRange(1, 3000), default=600, show_default=True, help="Of each seed.")
 @click.option("--jobs", type=click.IntRange(1), default=2, show_default=True, help="Processes.")
-@click.option("--small", is_flag=True, help="A small part: 40 items of one seed.")
+@click.option("--small", is_flag=True, help=f"A small part: {SMALL} items of one seed.")
 @click.option("--program", metavar="PATH", help="The program crnsim.")
 def command(items: int, jobs: int, small: bool, program: str | None) -> None:
     """Measure how often intervals of the long run hold the exact saving."""
     path, seeds = find_program(program), SEEDS[:1] if small else SEEDS
-    count = 40 if small else items
+    count = SMALL if small else items
     found = {seed: outcomes_of(items_of(seed, count), seed, path, 1 if small else jobs) for seed in seeds}
     print(table_of(found), end="")
 
