@@ -83,7 +83,7 @@ def test_predictive_poisson_and_geometric(numbers: Sequence[int]) -> None:
     sizes = data[data > 0] - 1
     mean = stats.gamma(data.sum() + 0.5, scale=1 / len(data))
     poisson = predictive_of("poisson", sample)
-    chance = stats.beta(len(sizes) + 0.5, sizes.sum() + 0.5)
+    chance = stats.beta(len(sizes) + 1, sizes.sum() + 1)
     geometric = predictive_of("hurdle-geometric", sample)
     sizes_mean = stats.gamma(sizes.sum() + 0.5, scale=1 / len(sizes))
     hurdle = predictive_of("hurdle-poisson", sample)
@@ -191,3 +191,16 @@ def test_guards_shares() -> None:
     assert shares.as_much == pytest.approx(expected, abs=0.1)
     assert shares.as_much + shares.as_little == pytest.approx(1, abs=0.02)
     assert shares == guard.shares_of(Sample.of(data), law)
+
+
+def test_guard_of_the_largest() -> None:
+    """The chances of the largest demand are those of drawn histories, and a bounded law is not taken for one with a
+    tail."""
+    data = Sample.of([3, 0, 12, 5, 9])
+    law = stats.geom.pmf(np.arange(1, 200), 1 / 7)
+    most = np.random.default_rng(4).geometric(1 / 7, (40_000, 5)).max(axis=1) - 1
+    assert guard.largest(data, law) == pytest.approx([np.mean(most <= 12), np.mean(most >= 12)], abs=0.01)
+    even = Sample.of(np.tile(np.arange(1, 13), 10).tolist())
+    low, high = guard.largest(even, stats.geom.pmf(np.arange(400) + 1, 1 / 7.5))
+    assert low < 0.001 and high > 0.999
+    assert guard.largest(Sample.of([0, 0]), np.array([0.5, 0.5])) == pytest.approx((0.25, 1.0))

@@ -1,6 +1,7 @@
 """Tests of fitted laws of demand: how a method chooses, caps, mixes and rounds."""
 from __future__ import annotations
 
+import math
 from collections.abc import Sequence
 from pathlib import Path
 
@@ -90,9 +91,10 @@ def test_families_far_behind_are_not_taken() -> None:
 def test_auto(numbers: list[int]) -> None:
     """The law is a mixture of the history and the capped predictive law, with the most likely weight."""
     law = fit_demand(numbers, method="auto")
-    base = predictive_of(law.family, Sample.of(numbers))[:2 * max(numbers) + 1]
-    base = np.pad(base, (0, 2 * max(numbers) + 1 - len(base))) / base.sum()
-    assert law.values[-1] <= 2 * max(numbers) == law.diagnostics["cap"]
+    times = min(max(math.log(300) / math.log(1 + np.count_nonzero(numbers)), 2), 3)
+    assert law.values[-1] <= int(times * max(numbers)) == law.diagnostics["cap"]
+    base = predictive_of(law.family, Sample.of(numbers))[:law.diagnostics["cap"] + 1]
+    base = np.pad(base, (0, law.diagnostics["cap"] + 1 - len(base))) / base.sum()
     periods, size = law.diagnostics["periods"], len(numbers)
     shares = (periods * base + np.bincount(numbers, minlength=len(base))) / (periods + size)
     got = np.zeros(len(base))
@@ -143,7 +145,7 @@ def test_any_history(numbers: list[int], method: str) -> None:
     assert 0 <= law.values[0] and law.values[-1] <= 10_000 and 1 <= sum(law.weights) <= 65_536
     assert min(law.weights) > 0 and law == fit_demand(iter(numbers), method=method)
     if method == "auto":
-        assert law.values[-1] <= 2 * max(numbers)
+        assert law.values[-1] <= 3 * max(numbers)
 
 
 def test_diagnostics() -> None:

@@ -5,6 +5,7 @@ demand may be the posterior predictive law of a family, if drawn histories of th
 """
 from __future__ import annotations
 
+import math
 from collections.abc import Iterable, Mapping, Sequence
 from dataclasses import dataclass, field
 from typing import TYPE_CHECKING, Any
@@ -24,7 +25,8 @@ FAMILIES = ("poisson", "negative-binomial", "hurdle-geometric", "hurdle-poisson"
 METHODS = ("auto", "predictive", "empirical", *FAMILIES)
 
 SHARES = (0.95, 0.99, 0.999)  # of the quantiles that are said
-TIMES_LARGEST = 2  # the cap of `auto`, in largest demands seen
+DEMANDS_OF_CAP = 300
+LEAST_TIMES, MOST_TIMES = 2.0, 3.0  # the cap of `auto`, in largest demands seen
 WORSE = 10.0  # in BIC: families further behind the best are not looked at
 LEAST_DEMANDS = 2  # periods with demand, for a fit
 
@@ -71,6 +73,17 @@ def periods_of(sample: Sample, base: Floats) -> float:
     return float(periods[np.argmax(likelihood)])
 
 
+def cap_of(sample: Sample) -> int:
+    """Returns the largest demand that `auto` allows: two to three times the largest one seen.
+
+    The largest of n sizes with an exponential tail grows as the logarithm of n (Gumbel, Statistics of Extremes, 1958,
+    section 4.2), so after few demands larger ones are to be expected: as the largest of 300.
+    """
+    demands = sample.size - sample.zeros
+    times = math.log(DEMANDS_OF_CAP) / math.log(demands + 1)
+    return int(min(max(times, LEAST_TIMES), MOST_TIMES) * sample.most)
+
+
 def mixed(sample: Sample, base: Floats, periods: float) -> Floats:
     """Returns the mixture of a law, which counts for so many periods, and the sample."""
     import numpy as np
@@ -96,13 +109,13 @@ def weights_of(chances: Floats) -> tuple[tuple[int, ...], tuple[int, ...]]:
 
 
 def figures_of(values: Sequence[int], weights: Sequence[int]) -> dict[str, Any]:
-    """Returns mean, variance and quantiles of a law."""
+    """Returns mean, variance, quantiles and the largest value of a law."""
     import numpy as np
     shares = np.array(weights) / sum(weights)
     mean = float(shares @ values)
     below = np.cumsum(weights)
     places = [int(np.searchsorted(below, np.ceil(it * below[-1] - 1e-6))) for it in SHARES]
-    return {"mean": mean, "variance": float(shares @ (np.array(values) - mean)**2),
+    return {"mean": mean, "variance": float(shares @ (np.array(values) - mean)**2), "most": values[-1],
             "quantiles": {share: values[place] for share, place in zip(SHARES, places)}}
 
 
@@ -136,7 +149,7 @@ def _family_law(numbers: Sequence[int], method: str) -> dict[str, Any]:
         return fields_of(seen["values"], seen["weights"], "empirical", numbers, **found)
     law = unpacked(predictive_of(chosen.family, packs), pack)
     if method == "auto":
-        found["cap"] = TIMES_LARGEST * sample.most
+        found["cap"] = cap_of(sample)
         law = scaled(law[:found["cap"] + 1])
         found["periods"] = periods_of(sample, law)
         law = mixed(sample, law, found["periods"])
@@ -151,8 +164,8 @@ def fit_demand(observed: Observed | Iterable[Any], *, method: str = "empirical",
     - `empirical`: each value counts as often as it was seen.
     - `predictive`: the posterior predictive law of the family with the least BIC of those whose drawn histories look
       like this one; what was seen, if there is none.
-    - `auto`: `predictive`, without demands above twice the largest one seen, mixed with what was seen by marginal
-      likelihood.
+    - `auto`: `predictive`, without demands above two to three times the largest one seen, mixed with what was seen by
+      marginal likelihood.
     - the name of a family (`FAMILIES`): its posterior predictive law, whether it fits or not.
 
     Numbers are counted in boxes of `box` items, rounded up. Raises RefusedFaults with the place of each number that is

@@ -1,4 +1,4 @@
-"""Checks whether a history looks like one of a law, by histories that are drawn from the law.
+"""Checks whether a history looks like one of a law: by histories that are drawn from the law, and by its largest demand.
 
 A check of a fitted law by the histories that it would bring is a predictive check (Gelman and others, Bayesian Data
 Analysis, third edition, section 6.3). The law was fitted to the history itself, so the shares of a right law are far
@@ -18,12 +18,14 @@ ROUNDING = 1e-12
 
 
 class Shares(NamedTuple):
-    """The shares of drawn histories that vary at least as much as the real one, at most as much, and that are at least
-    as far from the law."""
+    """The shares of histories of the law that vary at least as much as the real one, at most as much, that are at least
+    as far from the law, and whose largest demand is at most the real one, and at least."""
 
     as_much: float
     as_little: float
     as_far: float
+    as_low: float
+    as_high: float
 
     @property
     def passes(self) -> bool:
@@ -31,7 +33,7 @@ class Shares(NamedTuple):
         return all(share > least for share, least in zip(self, LEAST))
 
 
-LEAST = Shares(0.10, 0.10, 0.30)
+LEAST = Shares(0.10, 0.10, 0.30, 0.10, 0.05)
 
 
 def distances(counts: Floats, chances: Floats) -> Floats:
@@ -60,4 +62,11 @@ def shares_of(sample: Sample, chances: Floats) -> Shares:
         """Returns a share in which the history itself counts."""
         return float((count + 1) / (TIMES + 1))
     return Shares(share((variances >= sample.variance * (1 - ROUNDING)).sum()),
-                  share((variances <= sample.variance * (1 + ROUNDING)).sum()), share((far[:-1] >= far[-1]).sum()))
+                  share((variances <= sample.variance * (1 + ROUNDING)).sum()), share((far[:-1] >= far[-1]).sum()),
+                  *largest(sample, law))
+
+
+def largest(sample: Sample, law: Floats) -> tuple[float, float]:
+    """Returns the chances that the largest demand of a history of the law is at most the real one, and at least."""
+    below = np.append(np.cumsum(law), 0.0)  # the last is that of -1
+    return float(below[sample.most]**sample.size), float(1 - below[sample.most - 1]**sample.size)

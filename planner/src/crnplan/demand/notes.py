@@ -20,7 +20,7 @@ def _figures(title: str, figures: Mapping[str, Any]) -> str:
     """Returns a line with mean, variance and quantiles."""
     quantiles = ", ".join(f"{100 * share:g}% {value}" for share, value in figures["quantiles"].items())
     variance = "-" if figures["variance"] is None else f"{figures['variance']:.4g}"
-    return f"{title}: mean {figures['mean']:.4g}, variance {variance}, quantiles {quantiles}"
+    return f"{title}: mean {figures['mean']:.4g}, variance {variance}, quantiles {quantiles}, largest {figures['most']}"
 
 
 def _lead_lines(law: Law) -> Iterator[str]:
@@ -39,7 +39,7 @@ def _demand_lines(law: Law) -> Iterator[str]:
         yield "no family gives back this history, so it stays as it is"
     elif "periods" in its:
         yield (f"{law.family}, which counts for {its['periods']:.3g} periods beside the {its['observed']} seen; at most "
-               f"{its['cap']}, twice the largest demand seen")
+               f"{its['cap']}, {its['cap'] / its['history']['most']:.2g} times the largest demand seen")
     else:
         yield law.family
     least = min(its["bic"].values(), default=0.0)
@@ -47,4 +47,5 @@ def _demand_lines(law: Law) -> Iterator[str]:
         yield "BIC above the least: " + ", ".join(f"{family} {value - least:.1f}" for family, value in its["bic"].items())
     for family, shares in its["guard"].items():
         yield (f"guard: a history of {family} varies as much with chance {shares.as_much:.2f}, as little with "
-               f"{shares.as_little:.2f}, is as far off with {shares.as_far:.2f}{'' if shares.passes else ': rejected'}")
+               f"{shares.as_little:.2f}, is as far off with {shares.as_far:.2f}, has no larger demand with "
+               f"{shares.as_low:.2f}, as large a one with {shares.as_high:.2f}{'' if shares.passes else ': rejected'}")

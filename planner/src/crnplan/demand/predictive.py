@@ -1,7 +1,7 @@
 """Computes posterior predictive laws: what a family says of the next period, with the doubt about its parameters.
 
 The priors are weak: Jeffreys's for a Poisson mean (Gelman and others, Bayesian Data Analysis, third edition, section
-2.8) and for shares (section 2.4), flat in the logarithms of mean and size for a negative binomial law, flat in the mean
+2.8) and for the share of periods without demand (section 2.4), flat for the p of a geometric law, flat in the logarithms of mean and size for a negative binomial law, flat in the mean
 and in the logarithm of the deviation for lognormal sizes (section 3.2).
 """
 from __future__ import annotations
@@ -75,8 +75,8 @@ def negative_binomial(sample: Sample) -> Floats:
 
 
 def geometric(sample: Sample) -> Floats:
-    """Returns the law of a geometric number whose p has a beta law."""
-    first, second = sample.size + 0.5, sample.total + 0.5
+    """Returns the law of a geometric number whose p has a beta law, from a flat prior of p."""
+    first, second = sample.size + 1.0, sample.total + 1.0
     chances: Floats = np.exp(special.betaln(first + 1, second + CELLS) - special.betaln(first, second))
     return chances
 

@@ -1,0 +1,106 @@
+"""Measures what a short record of lead times costs: the regret of the policy that is best under the fitted law.
+
+    python laws_leads.py [--small] [--jobs N] [--records N]
+
+The demand is known: a Poisson law of mean 2, or a negative binomial law of mean 3 and variance 9. Two laws of lead times
+are taken: a rough one of 1, 2 or 4 periods, and a smooth one of 1 to 6. Records of 5, 10 and 19 lead times are drawn.
+Each method fits a law to a record, and the best policy under it is found by the theory of the package for six settings
+(an order for 2 and for 8 periods of demand; backlog 9, 19 and 99 times holding). Its regret is its exact long-run cost
+under the true law over the least possible, less 1. The figures are means over records and settings, in percent, with
+their standard errors over records. Seeds are fixed: [place of the case, lead times, number of the record].
+"""
+from __future__ import annotations
+
+import argparse
+import itertools
+import math
+from collections.abc import Mapping
+from concurrent.futures import ProcessPoolExecutor
+from functools import cache
+
+import numpy as np
+import pandas as pd
+from laws import BACKLOGS, COVERS, DESIGNED
+
+from crnplan.demand import fit_lead
+from crnplan.demand.fitting import weights_of
+from crnplan.scenario import Scenario
+from crnplan.theory.lattice import theories_of
+from crnplan.theory.long_run import LongRun
+
+DEMANDS = ("P2", "NB3_9")
+TRUE = {"rough": {1: 20, 2: 50, 4: 30}, "smooth": {1: 15, 2: 30, 3: 25, 4: 15, 5: 10, 6: 5}}
+CASES = [*itertools.product(DEMANDS, TRUE)]
+RECORDS = (5, 10, 19)
+METHODS = ("empirical", "auto")
+SETTINGS = [*itertools.product(COVERS, BACKLOGS)]
+
+
+def theory_of(demand: str, leads: Mapping[int, int]) -> LongRun:
+    """Returns the theory of a demand with a law of lead times, for orders of the larger cover."""
+    values, weights = weights_of(DESIGNED[demand])
+    scenario = Scenario.of(dict(zip(values, weights)), dict(leads), setup=order_of(demand, max(COVERS)), holding=1,
+                           backlog=BACKLOGS[0], today=(1, 2))
+    return theories_of(scenario)[0]
+
+
+def order_of(demand: str, cover: int) -> int:
+    """Returns the cost of an order that lasts for so many periods of demand, if holding costs 1."""
+    law = DESIGNED[demand]
+    return round(float(law @ np.arange(len(law))) * cover**2 / 2)
+
+
+@cache
+def policies_of(demand: str, leads: tuple[tuple[int, int], ...]) -> list[tuple[int, int]]:
+    """Returns the best policy of each setting."""
+    theory, found = theory_of(demand, dict(leads)), []
+    for cover, theory.backlog in SETTINGS:
+        theory.setup = order_of(demand, cover)
+        found.append((theory.best().point, theory.best().level))
+    return found
+
+
+def cell(job: tuple[str, str, int, int]) -> list[dict[str, object]]:
+    """Returns the figures of both methods for a case and a number of lead times."""
+    demand, name, count, records = job
+    truth, leads = theory_of(demand, TRUE[name]), TRUE[name]
+    shares = np.array([*leads.values()]) / sum(leads.values())
+    regrets = np.empty((records, len(METHODS), len(SETTINGS)))
+    for record in range(records):
+        random = np.random.default_rng([CASES.index((demand, name)), count, record])
+        drawn = sorted(int(it) for it in random.choice([*leads], count, p=shares))
+        for at, method in enumerate(METHODS):
+            law = fit_lead(drawn, method=method)
+            policies = policies_of(demand, tuple(zip(law.values, law.weights)))
+            best = policies_of(demand, tuple(leads.items()))
+            for place, (cover, truth.backlog) in enumerate(SETTINGS):
+                truth.setup = order_of(demand, cover)
+                costs = [truth.figures(*it[place]).cost for it in (policies, best)]
+                regrets[record, at, place] = 100 * (costs[0] / costs[1] - 1)
+    means = regrets.mean(axis=2)
+    gains = means[:, :1] - means
+    return [{"demand": demand, "leads": name, "seen": count, "method": method, "regret": means[:, at].mean(),
+             "regret_error": means[:, at].std(ddof=1) / math.sqrt(records), "gain": gains[:, at].mean(),
+             "gain_error": gains[:, at].std(ddof=1) / math.sqrt(records)} for at, method in enumerate(METHODS)]
+
+
+def study(records: int, counts: tuple[int, ...] = RECORDS, jobs: int = 1) -> pd.DataFrame:
+    """Returns the figures of all cells, in order."""
+    work = [(*case, count, records) for case in CASES for count in counts]
+    with ProcessPoolExecutor(jobs) as pool:
+        return pd.DataFrame([row for rows in pool.map(cell, work) for row in rows])
+
+
+def main() -> None:
+    """Runs the study and prints its table."""
+    words = argparse.ArgumentParser(description=__doc__, formatter_class=argparse.RawDescriptionHelpFormatter)
+    words.add_argument("--small", action="store_true")
+    words.add_argument("--jobs", type=int, default=1)
+    words.add_argument("--records", type=int, default=60)
+    asked = words.parse_args()
+    rows = study(4, (5,)) if asked.small else study(asked.records, jobs=asked.jobs)
+    print(rows.round(2).to_string(index=False))
+
+
+if __name__ == "__main__":
+    main()
