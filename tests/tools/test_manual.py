@@ -65,10 +65,9 @@ def test_numbered_list_keeps_its_order_and_lines_that_go_on(pages: dict[str, str
 
 
 def test_pages_of_crnplan_and_of_the_program_have_no_fault(machine: Machine, top: Path, program: Path) -> None:
-    crnplan = machine.folder / "bin" / "crnplan"
-    machine.fake("crnplan", f'exec "{top}/.venv/bin/crnplan" "$@"')
-    for it in (crnplan, program):
-        ran = machine.run(top / "tools" / "manual.py", it, machine.folder)
+    for name, path in (("crnplan", top / ".venv" / "bin" / "crnplan"), ("crnsim", program)):
+        machine.fake(name, f'exec "{path}" "$@"')
+        ran = machine.run(top / "tools" / "manual.py", machine.folder / "bin" / name, machine.folder)
         assert (ran.returncode, ran.stderr) == (0, "")
         pages = ran.stdout.splitlines()
         judged = machine.run("mandoc", "-Tlint", "-W", "style", *pages)
