@@ -1,6 +1,7 @@
 """Measures how far the chosen policy is from the best one under the true law, for each way of fitting the demand.
 
-    python laws.py [--small] [--jobs N] [--histories N] [--out FILE.csv]
+    python -m planner.studies.laws --out planner/studies/laws.csv    all, in about half an hour
+    python -m planner.studies.laws --small                           a small part, in some seconds
 
 For each law, histories of 26, 52, 104 and 208 periods are drawn. Each method fits a law of demand to a history. For
 each of twelve settings (lead time 2 and 6; an order for 2 and for 8 periods of demand; backlog 9, 19 and 99 times
@@ -14,15 +15,14 @@ The laws are in two groups: those that the methods were designed on, and others.
 """
 from __future__ import annotations
 
-import argparse
 import itertools
 import math
-import sys
 from collections.abc import Iterable, Iterator, Sequence
 from concurrent.futures import ProcessPoolExecutor
 from pathlib import Path
-from typing import NamedTuple
+from typing import Any, NamedTuple
 
+import click
 import numpy as np
 import pandas as pd
 from scipy import stats
@@ -36,7 +36,7 @@ LEADS, COVERS, BACKLOGS = (2, 6), (2, 8), (9, 19, 99)
 SETTINGS = [*itertools.product(LEADS, BACKLOGS, COVERS)]
 METHODS = ("empirical", "predictive", "auto")
 HISTORIES = 100
-SMALL = {"laws": ("NB3_9", "INT"), "periods": (26, 52), "histories": 12}  # of `study`
+SMALL: dict[str, Any] = {"laws": ("NB3_9", "INT"), "periods": (26, 52), "histories": 12}  # of `study`
 
 
 class Choice(NamedTuple):
@@ -106,12 +106,14 @@ def mixture(*parts: tuple[float, Floats]) -> Floats:
 
 def negative_binomial(mean: float, variance: float, cells: int = 2000) -> Floats:
     """Returns a negative binomial law."""
-    return np.exp(stats.nbinom.logpmf(np.arange(cells), mean * mean / (variance - mean), mean / variance))
+    law: Floats = np.exp(stats.nbinom.logpmf(np.arange(cells), mean * mean / (variance - mean), mean / variance))
+    return law
 
 
 def poisson(mean: float, cells: int = 200) -> Floats:
     """Returns a Poisson law."""
-    return np.exp(stats.poisson.logpmf(np.arange(cells), mean))
+    law: Floats = np.exp(stats.poisson.logpmf(np.arange(cells), mean))
+    return law
 
 
 def lognormal(mean: float, variation: float, cells: int = 4000) -> Floats:
@@ -244,23 +246,22 @@ def summary(rows: pd.DataFrame) -> pd.DataFrame:
     return pd.DataFrame(lines)
 
 
-def main() -> None:
-    """Runs the study and prints its tables."""
-    words = argparse.ArgumentParser(description=__doc__, formatter_class=argparse.RawDescriptionHelpFormatter)
-    words.add_argument("--small", action="store_true")
-    words.add_argument("--jobs", type=int, default=1)
-    words.add_argument("--histories", type=int, default=HISTORIES)
-    words.add_argument("--laws", nargs="+", default=[*LAWS], choices=[*LAWS])
-    words.add_argument("--methods", nargs="+", default=METHODS)
-    words.add_argument("--out", type=Path)
-    asked = words.parse_args()
-    rows = (study(**SMALL, jobs=asked.jobs) if asked.small
-            else study(asked.laws, PERIODS, asked.histories, asked.methods, asked.jobs))
-    if asked.out:
-        rows.to_csv(asked.out, index=False, float_format="%.3f")
-    with pd.option_context("display.width", 200, "display.max_columns", 20, "display.max_rows", 500):
-        print(rows.round(2).to_string(index=False), summary(rows).round(2).to_string(index=False), sep="\n\n")
+@click.command()
+@click.option("--small", is_flag=True, help="Run a small part.")
+@click.option("--jobs", type=click.IntRange(1), default=1, show_default=True)
+@click.option("--histories", type=click.IntRange(2), default=HISTORIES, show_default=True, help="Histories of a cell.")
+@click.option("--law", "names", type=click.Choice([*LAWS]), multiple=True, help="A true law; without it all.")
+@click.option("--method", "methods", multiple=True, default=METHODS, show_default=True)
+@click.option("--out", type=click.Path(dir_okay=False, path_type=Path), help="Write the rows as CSV.")
+def main(small: bool, jobs: int, histories: int, names: tuple[str, ...], methods: tuple[str, ...],
+         out: Path | None) -> None:
+    """Measure the regret of fitted laws of demand under true laws."""
+    rows = study(**SMALL, jobs=jobs) if small else study(names or LAWS, PERIODS, histories, methods, jobs)
+    if out:
+        rows.to_csv(out, index=False, float_format="%.3f")
+    for table in (rows, summary(rows)):
+        click.echo(table.round(2).to_string(index=False) + "\n")
 
 
 if __name__ == "__main__":
-    sys.exit(main())
+    main()

@@ -1,6 +1,7 @@
 """Measures what a short record of lead times costs: the regret of the policy that is best under the fitted law.
 
-    python laws_leads.py [--small] [--jobs N] [--records N]
+    python -m planner.studies.laws_leads            all, in about a quarter of an hour
+    python -m planner.studies.laws_leads --small    a small part
 
 The demand is known: a Poisson law of mean 2, or a negative binomial law of mean 3 and variance 9. Two laws of lead times
 are taken: a rough one of 1, 2 or 4 periods, and a smooth one of 1 to 6. Records of 5, 10 and 19 lead times are drawn.
@@ -11,22 +12,23 @@ their standard errors over records. Seeds are fixed: [place of the case, lead ti
 """
 from __future__ import annotations
 
-import argparse
 import itertools
 import math
 from collections.abc import Mapping
 from concurrent.futures import ProcessPoolExecutor
 from functools import cache
+from pathlib import Path
 
+import click
 import numpy as np
 import pandas as pd
-from laws import BACKLOGS, COVERS, DESIGNED
 
 from crnplan.demand import fit_lead
 from crnplan.demand.fitting import weights_of
 from crnplan.scenario import Scenario
 from crnplan.theory.lattice import theories_of
 from crnplan.theory.long_run import LongRun
+from planner.studies.laws import BACKLOGS, COVERS, DESIGNED
 
 DEMANDS = ("P2", "NB3_9")
 TRUE = {"rough": {1: 20, 2: 50, 4: 30}, "smooth": {1: 15, 2: 30, 3: 25, 4: 15, 5: 10, 6: 5}}
@@ -91,15 +93,17 @@ def study(records: int, counts: tuple[int, ...] = RECORDS, jobs: int = 1) -> pd.
         return pd.DataFrame([row for rows in pool.map(cell, work) for row in rows])
 
 
-def main() -> None:
-    """Runs the study and prints its table."""
-    words = argparse.ArgumentParser(description=__doc__, formatter_class=argparse.RawDescriptionHelpFormatter)
-    words.add_argument("--small", action="store_true")
-    words.add_argument("--jobs", type=int, default=1)
-    words.add_argument("--records", type=int, default=60)
-    asked = words.parse_args()
-    rows = study(4, (5,)) if asked.small else study(asked.records, jobs=asked.jobs)
-    print(rows.round(2).to_string(index=False))
+@click.command()
+@click.option("--small", is_flag=True, help="Run a small part.")
+@click.option("--jobs", type=click.IntRange(1), default=1, show_default=True)
+@click.option("--records", type=click.IntRange(2), default=60, show_default=True, help="Records of a cell.")
+@click.option("--out", type=click.Path(dir_okay=False, path_type=Path), help="Write the rows as CSV.")
+def main(small: bool, jobs: int, records: int, out: Path | None) -> None:
+    """Measure the regret of fitted laws of lead times under true laws."""
+    rows = study(4, (5,), jobs) if small else study(records, jobs=jobs)
+    if out:
+        rows.to_csv(out, index=False, float_format="%.3f")
+    click.echo(rows.round(2).to_string(index=False))
 
 
 if __name__ == "__main__":
