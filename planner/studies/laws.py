@@ -35,6 +35,7 @@ PERIODS = (26, 52, 104, 208)
 LEADS, COVERS, BACKLOGS = (2, 6), (2, 8), (9, 19, 99)
 SETTINGS = [*itertools.product(LEADS, BACKLOGS, COVERS)]
 METHODS = ("empirical", "predictive", "auto")
+FIGURES = ["regret", "promise", "gain"]
 HISTORIES = 100
 SMALL: dict[str, Any] = {"laws": ("NB3_9", "INT"), "periods": (26, 52), "histories": 12}  # of `study`
 
@@ -78,7 +79,8 @@ class LongRuns:
             least[gap] = sums[np.arange(len(sums)), places[gap]]
         costs = ((least[:, :, None] + orders / self.span) / self.visits[:, None, None]).reshape(len(least), -1)
         gaps = np.argmin(costs, axis=0)
-        return [Choice(int(gap), int(places[gap, at // len(COVERS)]), float(costs[gap, at])) for at, gap in enumerate(gaps)]
+        return [Choice(int(gap), int(places[gap, at // len(COVERS)]), float(costs[gap, at]))
+                for at, gap in enumerate(gaps)]
 
     def cost(self, setting: int, order: float, gap: int, level: int) -> float:
         """Returns the cost of a policy."""
@@ -190,7 +192,8 @@ class Truth:
         self.runs = LongRuns(self.law, *((1500, 6000) if large else (500, 2000)))
         self.best = self.runs.best(self.orders)
         gap, level = max(it.gap for it in self.best), max(it.level for it in self.best)
-        self.size = min(2 * gap + 60, len(self.runs.lows)), min((2 if large else 3) * level + 120, self.runs.costs.shape[1])
+        most = self.runs.costs.shape[1]
+        self.size = min(2 * gap + 60, len(self.runs.lows)), min((2 if large else 3) * level + 120, most)
 
     def history(self, periods: int, number: int) -> list[int]:
         """Draws a history."""
@@ -239,9 +242,8 @@ def summary(rows: pd.DataFrame) -> pd.DataFrame:
     lines = []
     for (group, periods, method), its in rows.groupby(["group", "periods", "method"], sort=False):
         worst = its.loc[its["gain"].idxmin()]
-        errors = {f"{it}_error": math.sqrt((its[f"{it}_error"]**2).sum()) / len(its) for it in ("regret", "promise", "gain")}
-        lines.append({"group": group, "periods": periods, "method": method,
-                      **{it: its[it].mean() for it in ("regret", "promise", "gain")}, **errors,
+        errors = {f"{it}_error": math.sqrt((its[f"{it}_error"]**2).sum()) / len(its) for it in FIGURES}
+        lines.append({"group": group, "periods": periods, "method": method, **its[FIGURES].mean(), **errors,
                       "worst": worst["law"], "worst_gain": worst["gain"], "worst_error": worst["gain_error"]})
     return pd.DataFrame(lines)
 

@@ -3,8 +3,8 @@
     python -m planner.studies.laws_leads            all, in about a quarter of an hour
     python -m planner.studies.laws_leads --small    a small part
 
-The demand is known: a Poisson law of mean 2, or a negative binomial law of mean 3 and variance 9. Two laws of lead times
-are taken: a rough one of 1, 2 or 4 periods, and a smooth one of 1 to 6. Records of 5, 10 and 19 lead times are drawn.
+The demand is known: a Poisson law of mean 2, or a negative binomial law of mean 3 and variance 9. There are two laws of
+lead times: a rough one of 1, 2 or 4 periods, and a smooth one of 1 to 6. Records of 5, 10 and 19 lead times are drawn.
 Each method fits a law to a record, and the best policy under it is found by the theory of the package for six settings
 (an order for 2 and for 8 periods of demand; backlog 9, 19 and 99 times holding). Its regret is its exact long-run cost
 under the true law over the least possible, less 1. The figures are means over records and settings, in percent, with

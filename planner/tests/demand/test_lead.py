@@ -69,5 +69,6 @@ def test_notes() -> None:
     """A note says what the kernel moves."""
     assert notes_of(fit_lead([2, 3]), "lead") == []
     law = fit_lead([2, 3, 2, 4], method="auto")
-    first = f"lead: of each of the 4 lead times seen, {law.diagnostics['side']:.1%} count one period earlier, and as much "
-    assert notes_of(law, "lead")[0] == first + "one later"
+    side = f"{law.diagnostics['side']:.1%}"
+    assert notes_of(law, "lead")[0] == (
+        f"lead: of each of the 4 lead times seen, {side} count one period earlier, and as much one later")

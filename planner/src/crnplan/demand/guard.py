@@ -1,4 +1,4 @@
-"""Checks whether a history looks like one of a law: by histories that are drawn from the law, and by its largest demand.
+"""Checks whether a history looks like one of a law: by histories drawn from the law, and by its largest demand.
 
 A check of a fitted law by the histories that it would bring is a predictive check (Gelman and others, Bayesian Data
 Analysis, third edition, section 6.3). The law was fitted to the history itself, so the shares of a right law are far

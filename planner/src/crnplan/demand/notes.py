@@ -38,13 +38,14 @@ def _demand_lines(law: Law) -> Iterator[str]:
     if law.family == "empirical":
         yield "no family gives back this history, so it stays as it is"
     elif "periods" in its:
-        yield (f"{law.family}, which counts for {its['periods']:.3g} periods beside the {its['observed']} seen; at most "
-               f"{its['cap']}, {its['cap'] / its['history']['most']:.2g} times the largest demand seen")
+        yield (f"{law.family}, which counts for {its['periods']:.3g} periods beside the {its['observed']} seen; at "
+               f"most {its['cap']}, {its['cap'] / its['history']['most']:.2g} times the largest demand seen")
     else:
         yield law.family
-    least = min(its["bic"].values(), default=0.0)
     if its["bic"]:
-        yield "BIC above the least: " + ", ".join(f"{family} {value - least:.1f}" for family, value in its["bic"].items())
+        least = min(its["bic"].values())
+        behind = (f"{family} {value - least:.1f}" for family, value in its["bic"].items())
+        yield f"BIC above the least: {', '.join(behind)}"
     for family, shares in its["guard"].items():
         yield (f"guard: a history of {family} varies as much with chance {shares.as_much:.2f}, as little with "
                f"{shares.as_little:.2f}, is as far off with {shares.as_far:.2f}, has no larger demand with "

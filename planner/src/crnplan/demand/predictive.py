@@ -1,8 +1,9 @@
 """Computes posterior predictive laws: what a family says of the next period, with the doubt about its parameters.
 
 The priors are weak: Jeffreys's for a Poisson mean (Gelman and others, Bayesian Data Analysis, third edition, section
-2.8) and for the share of periods without demand (section 2.4), flat for the p of a geometric law, flat in the logarithms of mean and size for a negative binomial law, flat in the mean
-and in the logarithm of the deviation for lognormal sizes (section 3.2).
+2.8) and for the share of periods without demand (section 2.4), flat for the p of a geometric law, flat in the
+logarithms of mean and size for a negative binomial law, flat in the mean and in the logarithm of the deviation for
+lognormal sizes (section 3.2).
 """
 from __future__ import annotations
 
