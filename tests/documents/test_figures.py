@@ -37,7 +37,7 @@ def report_of(text: str) -> dict[str, dict[str, Any]]:
 
 def test_report_in_round_numbers() -> None:
     """The guide shows the report of an example in round numbers."""
-    wanted = []
+    wanted: list[list[str]] = []
     for policy, row in report_of(text_of("examples/mail_order.csv")).items():
         means = [rounded(it) if wanted else "" for it in (row["diff_mean"], sqrt(row["diff_var"]))]
         wanted.append([policy, row["s"], row["S"], rounded(row["per_period"], 2), *means, rounded(row["cov"])])
@@ -46,7 +46,8 @@ def test_report_in_round_numbers() -> None:
 
 def test_counts_of_a_total(ask: Ask) -> None:
     """The guide says what each total is made of: the counts of what each cost is paid for."""
-    text, counts = text_of("examples/spare_part.toml"), {}
+    text = text_of("examples/spare_part.toml")
+    counts: dict[str, list[str]] = {}
     rate = re.compile(rf"^({'|'.join(formats.COSTS)}) = .*$", re.MULTILINE)
     for cost in formats.COSTS:
         only = rate.sub(lambda it: f"{it[1]} = {int(it[1] == cost)}", text)

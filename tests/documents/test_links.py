@@ -19,7 +19,7 @@ def links_of(page: str) -> list[str]:
     return [it for it in re.findall(r"\]\(([^)\s]+)\)", text_of(page)) if not it.startswith("http")]
 
 
-@pytest.mark.parametrize("page", filter(links_of, PAGES))
+@pytest.mark.parametrize("page", [it for it in PAGES if links_of(it)])
 def test_links(page: str, check_all: Any) -> None:
     """A link to a file of the repository, or to a heading, leads there."""
     def leads(link: str) -> bool:

@@ -47,7 +47,7 @@ def quotes() -> dict[str, tuple[str, list[str]]]:
     """Returns the quoted lines of the pages by a name, each with the files that the paragraph before it names."""
     reading = text_of("docs/READING.md")
     chain = reading[reading.index("## The chain"):reading.index("## What must be believed")]
-    found = {}
+    found: dict[str, tuple[str, list[str]]] = {}
     for page, text in (("READING", chain), ("CALLING", text_of("docs/CALLING.md"))):
         for before, block in re.findall(r"((?:^(?!```)[^\n]*\n)+)^```\n(.*?)^```$", text, re.MULTILINE | re.DOTALL):
             files = re.findall(r"`(crates/[^`]*\.(?:rt|antt))`", before)

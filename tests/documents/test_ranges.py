@@ -58,16 +58,19 @@ def number_ends(key: Key) -> Changed:
 def value_ends(key: Key) -> Changed:
     """Yields a list of values with an entry at an end, and lists that do not rise."""
     low, high = formats.limits(key.table, key.name)
-    for values, number in (([low - 1], 6), ([low], 0), ([high], 0), ([high + 1], 6), ([], 6), ([low, high], 0),
-                           ([low, low], 8), ([high, low], 8)):
+    ends: list[tuple[list[int], int]] = [([low - 1], 6), ([low], 0), ([high], 0), ([high + 1], 6), ([], 6),
+                                         ([low, high], 0), ([low, low], 8), ([high, low], 8)]
+    for values, number in ends:
         yield {"values": values, "weights": [1] * max(len(values), 1)}, number
 
 
 def weight_ends(key: Key) -> Changed:
     """Yields a list of weights with an entry or their sum at an end."""
     (low, high), (least, most) = formats.limits(key.table, key.name), formats.WEIGHT_SUMS
-    for weights, number in (([low - 1, least + 1], 6), ([low, least], 0), ([high], 0), ([high + 1], 6), ([], 6),
-                            ([0, least - 1], 9), ([0, most], 0), ([1, most - 1], 0), ([1, most], 9), ([1, 1, 1], 7)):
+    ends: list[tuple[list[int], int]] = [
+        ([low - 1, least + 1], 6), ([low, least], 0), ([high], 0), ([high + 1], 6), ([], 6), ([0, least - 1], 9),
+        ([0, most], 0), ([1, most - 1], 0), ([1, most], 9), ([1, 1, 1], 7)]
+    for weights, number in ends:
         yield {"values": [1, 2][:max(len(weights), 1)], "weights": weights}, number
 
 

@@ -24,10 +24,11 @@ EXAMPLE = re.compile(r"(no line |for |write |(?:a table `\w+`|`\[\w+\]`) with )?
 SCENARIO_TABLES = {FORMATS: (RULES, "examples/two_policies.toml"),
                    "a guide": (("What it says", "What it usually comes from"), "examples/spare_part.toml")}
 # What is done with the checkpoint that FORMATS shows, by the number with which it is then refused; 0 if it is accepted.
-EDITS = [(1, "resume", [("costs,7,2,1,4", "costs,07,2,1,4")]), (1, "resume", [("\n", "\r\n")]),
-         (1, "resume", [("end,-,-,-,-\n", "end,-,-,-,-")]), (1, "resume", [("state,4,35,0,0", "state,1000001,35,0,0")]),
-         (1, "migrate", [("end,-,-,-,-\n", "")]), (2, "resume", [("0000\ncosts", "0001\ncosts")]),
-         (5, "migrate", []), (0, "resume", [("state,4,35,0,0", "state,5,35,0,0")]), (0, "resume", [])]
+EDITS: list[tuple[int, str, list[tuple[str, str]]]] = [
+    (1, "resume", [("costs,7,2,1,4", "costs,07,2,1,4")]), (1, "resume", [("\n", "\r\n")]),
+    (1, "resume", [("end,-,-,-,-\n", "end,-,-,-,-")]), (1, "resume", [("state,4,35,0,0", "state,1000001,35,0,0")]),
+    (1, "migrate", [("end,-,-,-,-\n", "")]), (2, "resume", [("0000\ncosts", "0001\ncosts")]), (5, "migrate", []),
+    (0, "resume", [("state,4,35,0,0", "state,5,35,0,0")]), (0, "resume", [])]
 
 
 # ---- scenarios

@@ -261,7 +261,7 @@ def spelt(chance: Random, value: Any) -> str:
     if isinstance(value, str):
         return json.dumps(value, ensure_ascii=False).replace("\x7f", "\\u007f")
     if type(value) is int and value >= 0 and chance.random() < 0.1:
-        return chance.choice([hex, oct, bin, "{:_}".format, "+{}".format])(value)
+        return chance.choice([hex(value), oct(value), bin(value), f"{value:_}", f"+{value}"])
     return str(value).lower()
 
 

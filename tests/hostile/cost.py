@@ -9,7 +9,7 @@ import sys
 SECONDS = 60
 
 
-def main(source, errors, *words):
+def main(source: str, errors: str, *words: str) -> None:
     """Runs the program on a file, its output thrown away, and writes what it took."""
     pid = os.posix_spawn(words[0], words, os.environ, file_actions=[
         (os.POSIX_SPAWN_OPEN, 0, source, os.O_RDONLY, 0), (os.POSIX_SPAWN_OPEN, 1, "/dev/null", os.O_WRONLY, 0),

@@ -36,11 +36,11 @@ def run(program: Path, words: Sequence[str], data: bytes | int = b"", *, before:
 
     `before` has the words of a command that becomes the program. How else it is started is up to subprocess.
     """
-    how |= {"input": data} if isinstance(data, bytes) else {"stdin": data}
+    how = {"stdout": subprocess.PIPE, "stderr": subprocess.PIPE, **how}
+    how["input" if isinstance(data, bytes) else "stdin"] = data
     how |= {"env": {**os.environ, **environment}} if environment else {}
-    pipes = {"stdout": subprocess.PIPE, "stderr": subprocess.PIPE}
     try:
-        ran = subprocess.run([*before, program, *words], timeout=SECONDS, check=False, **pipes | how)
+        ran = subprocess.run([*before, program, *words], timeout=SECONDS, check=False, **how)
     except subprocess.TimeoutExpired:
         return Shown(b"", b"", None)
     return Shown(ran.stdout or b"", ran.stderr, ran.returncode)

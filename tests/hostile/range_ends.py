@@ -94,8 +94,9 @@ def damaged(text: bytes) -> Iterator[bytes]:
 def due_ends(stock: int, period: int, top: int) -> list[list[tuple[int, int]]]:
     """Returns outstanding orders that may stand beside a stock, or nearly."""
     last = period + formats.MOST_LEAD - 1
-    near = [[], [(period, 1)], [(last, 1)], [(last + 1, 1)], [(period - 1, 1)], [(period, 0)], [(period, -1)],
-            [(period, 1), (period, 1)], [(period + 1, 1), (period, 1)], [(period, 1), (last, 1)]]
+    near: list[list[tuple[int, int]]] = [
+        [], [(period, 1)], [(last, 1)], [(last + 1, 1)], [(period - 1, 1)], [(period, 0)], [(period, -1)],
+        [(period, 1), (period, 1)], [(period + 1, 1), (period, 1)], [(period, 1), (last, 1)]]
     return near + [[(period, it - stock)] for it in [*around(-MOST_A_PERIOD, MOST_ITEMS), top, top + 1]]
 
 

@@ -321,8 +321,8 @@ def start_of(scenario: Tree) -> Checkpoint:
 
 def text_of(checkpoint: Checkpoint) -> bytes:
     """Writes a checkpoint in its spelling."""
-    scenario, nothing = checkpoint.scenario, {"values": [], "weights": []}
-    lists = [scenario.get(it, nothing) for it in formats.DRAWS]
+    scenario = checkpoint.scenario
+    lists: list[Tree] = [scenario.get(it, {"values": [], "weights": []}) for it in formats.DRAWS]
     rows: list[Sequence[object]] = [
         ("checkpoint", checkpoint.spelling, checkpoint.block, scenario["periods"], scenario["replications"]),
         ("key", *scenario["key"]), ("costs", *(scenario["costs"][it] for it in formats.COSTS)),

@@ -208,9 +208,9 @@ def files() -> Iterator[object]:
 def check_cost(program: Path, room: Path, usage: str, text: Text, data: bytes) -> None:
     """Checks the fault of a text, and what the run takes."""
     (room / "input").write_bytes(data)
-    measured = [program, *words_of(usage, FILE=str(room / "FILE"), **text.values)]
-    took = subprocess.run([sys.executable, "-S", COST, room / "input", room / "errors", *measured], capture_output=True,
-                          check=True).stdout.split()
+    words = [sys.executable, "-S", str(COST), str(room / "input"), str(room / "errors"), str(program),
+             *words_of(usage, FILE=str(room / "FILE"), **text.values)]
+    took = subprocess.run(words, capture_output=True, check=True).stdout.split()
     line = f"crnsim: {text.fault}\n".encode() if text.fault else b""
     assert (int(took[2]), (room / "errors").read_bytes()) == (formats.status_of(text.fault), line)
     # The least that is seen as its megabytes are those of cost.py, some ten.

@@ -108,10 +108,10 @@ def test_input_that_is_cut_off(answer: Answer, check_all: CheckAll, command: Com
 
 def is_prefix(whole: bytes, size: int, shown: Shown, may_all_be_taken: bool) -> bool | str:
     """Returns the verdict on a run of whose output so many bytes were taken: if there are others, that is reported."""
-    ends = [WRITING[1:]] if size < len(whole) else [(b"", 0)]
+    ends = [(WRITING.errors, WRITING.status)] if size < len(whole) else [(b"", 0)]
     if may_all_be_taken:
-        ends = [WRITING[1:], (b"", 0)]
-    return (shown.output == whole[:size] and shown[1:] in ends) or unlike(shown)
+        ends = [(WRITING.errors, WRITING.status), (b"", 0)]
+    return (shown.output == whole[:size] and (shown.errors, shown.status) in ends) or unlike(shown)
 
 
 def run_to_leaver(program: Path, command: Command, room: Path, count: int) -> Shown:
