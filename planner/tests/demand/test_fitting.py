@@ -120,13 +120,15 @@ def test_weight_of_the_family() -> None:
 
 
 def test_packs() -> None:
-    """If all of at least 8 demands are packs, so are those of the law."""
+    """If all demands are packs, and not by luck, so are those of the law."""
     packs = RANDOM.poisson(0.7, 60)
     law = fit_demand((6 * packs).tolist(), method="auto")
     assert law.diagnostics["pack"] == 6 and {it % 6 for it in law.values} == {0}
     inner = fit_demand(packs.tolist(), method="auto")
     assert law.values == tuple(6 * it for it in inner.values) and law.weights == inner.weights
-    assert fit_demand([6, 12, 0, 6, 18], method="auto").diagnostics["pack"] == 1
+    for numbers, pack in (([6, 12, 0, 6, 18], 6), ([6, 12, 0, 6], 1), ([2, 4] * 4, 2), ([2, 4, 2, 4, 2, 4, 2], 1),
+                          ([40, 80], 1), ([40, 80, 40], 40), ([6, 12, 6, 18, 9], 1), ([3] * 5, 1), ([3] * 6, 3)):
+        assert fit_demand(numbers, method="auto").diagnostics["pack"] == pack
 
 
 @pytest.mark.parametrize("numbers", [[5], [0, 0, 4], [0, 0], [7] * 30, [0, 1] * 20], ids=str)

@@ -22,7 +22,8 @@ Floats = npt.NDArray[np.float64]
 Whole = npt.NDArray[np.int64]
 
 LEAST_TAIL = 1e-7  # what is cut off a law
-PACKED = 8  # demands above 0, at least, for a pack to be recognised
+# A pack is recognised after so many demands above 0, if they all have its divisor by luck with a chance of 2^-8.
+PACKED, PACK_BITS = 3, 8.0
 LEAST_CHANCE = 1e-300
 MOST_SIZE = 1e4  # of a negative binomial law, which is then all but a Poisson law
 CELLS = np.arange(MOST_DEMAND + 1)
@@ -89,8 +90,10 @@ class Sample:
 
     @property
     def pack(self) -> int:
-        """Returns the size of the pack of which all demands are multiples, if there are enough of them; else 1."""
-        return int(np.gcd.reduce(self.sizes.values)) if self.size - self.zeros >= PACKED else 1
+        """Returns the size of the pack of which all demands are multiples, if that is no luck; else 1."""
+        demands = self.size - self.zeros
+        divisor = int(np.gcd.reduce(self.sizes.values)) if demands >= PACKED else 1
+        return divisor if demands * math.log2(divisor) >= PACK_BITS else 1
 
     @property
     def law(self) -> Floats:
