@@ -83,7 +83,8 @@ def item_of(rng: np.random.Generator, number: int) -> Item | None:
     kind = str(rng.choice(KINDS, p=[.09, .36, .43, .11, .01]))
     rng.choice(4, p=[.7, .15, .1, .05])
     weeks = WEEKS if rng.random() > .07 else int(rng.integers(3, 40))
-    asked, back = map(list, zip(*quantities(rng, kind, weeks)))
+    pairs = list(quantities(rng, kind, weeks))
+    asked, back = [it for it, _ in pairs], [it for _, it in pairs]
     average, spread = max(float(np.mean(asked)), 1e-3), float(np.std(asked))
     holding = round(round(float(np.exp(rng.normal(2.5, 1.3))), 2) * .22 / 52, 4) or 0.0001
     setup = float(rng.choice([12, 25, 45, 80, 150]))

@@ -1,4 +1,4 @@
-"""Tests the study of the long run's intervals: its items, its exact targets against a Markov chain, and a small part."""
+"""Tests the study of the long run's intervals: its items, its exact targets by a Markov chain, and a small part."""
 from __future__ import annotations
 
 from pathlib import Path

@@ -51,6 +51,10 @@ def test_words_are_those_of_an_independent_cipher() -> None:
         assert stream_words(words_of_keys(keys), 70, stream).tolist() == wanted
 
 
+def test_own_streams_are_not_those_of_the_program() -> None:
+    assert len({0, 1, 2, *OWN_STREAMS, START_STREAM}) == 3 + 3 + 1
+
+
 def test_words_are_those_of_the_program(program: Path) -> None:
     ran = subprocess.run([program, "words", *KEY, "69"], capture_output=True, text=True, check=True)
     for stream, line in enumerate(ran.stdout.splitlines()):

@@ -126,10 +126,15 @@ def chain_cost(shape: Shape, step: int, gap: float) -> float:
         OTHER_PRODUCTS + (steps if steps <= FEW_STEPS else TRANSFORM_PRODUCTS))
 
 
+def has_room(shape: Shape, step: int) -> bool:
+    """Returns whether the laws of a scenario on this lattice have room."""
+    return shape.height * 4 / step <= MOST_TRANSFORM and (shape.spread + shape.gap) / step <= MOST_CELLS
+
+
 def is_small(shape: Shape, step: int, widest: int) -> bool:
     """Returns whether the tables of a scenario on this lattice can be made in time."""
     gap = shape.gap / step
-    if shape.height * 4 / step > MOST_TRANSFORM or (shape.spread + shape.gap) / step > MOST_CELLS:
+    if not has_room(shape, step):
         return False
     if shape.leads == 1:
         return shape.level / step * gap <= MOST_PRODUCTS

@@ -13,19 +13,21 @@ With `unit`, what the position has risen by since the start is paid for too. The
 from __future__ import annotations
 
 import dataclasses
+import math
 from typing import NamedTuple
 
 import numpy as np
 
 from ..scenario import Policy, Scenario, Table
 from .laws import Floats, Law, Surplus, convolved, power_of, sum_of
-from .lattice import lattice_of, shape_of, theory_on
+from .lattice import chain_cost, has_room, lattice_of, shape_of, theory_on, values_of
 from .long_run import LongRun
 from .overtaking import shortfall
 
 # A chain whose law is as close to that of the long run stays there.
 SETTLED = 1e-12
 LOOK_EVERY = 8
+MOST_PASSES = 1_000_000_000  # products of one pass over late orders for each policy
 
 
 def theory_of(scenario: Scenario) -> LongRun:
@@ -33,11 +35,15 @@ def theory_of(scenario: Scenario) -> LongRun:
 
     Raises NoTheory if there is no long run, or if the numbers of the scenario are too far apart.
     """
-    costs, widest = scenario.costs, max(it.S - it.s for it in scenario.policies)
+    costs, gaps = scenario.costs, [it.S - it.s for it in scenario.policies]
     positive = dataclasses.replace(costs, holding=max(1, costs.holding), backlog=max(1, costs.backlog))
-    # A search needs wider tables: here the gaps are known.
-    shape = dataclasses.replace(shape_of(dataclasses.replace(scenario, costs=positive)), order=widest / 3)
-    return theory_on(scenario, shape, *lattice_of(scenario, shape, widest))
+    # A search needs wider tables, and more passes over late orders: here the gaps are known.
+    shape = dataclasses.replace(shape_of(dataclasses.replace(scenario, costs=positive)), order=max(gaps) / 3)
+    base = math.gcd(*values_of(scenario))
+    passes = sum(chain_cost(shape, base, gap / base) for gap in gaps)
+    if shape.leads > 1 and has_room(shape, base) and passes <= MOST_PASSES:
+        return theory_on(scenario, shape, base, True)
+    return theory_on(scenario, shape, *lattice_of(scenario, shape, max(gaps)))
 
 
 def exactness(theory: LongRun) -> str:
