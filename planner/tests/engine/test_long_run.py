@@ -140,6 +140,16 @@ def test_more_policies_than_a_run_takes(program: Path) -> None:
     assert found.costs == tuple(tuple(its[key][0] for its in alone) for key in range(2))
 
 
+def test_reports_of_two_keys(program: Path) -> None:
+    few = SCENARIOS["few orders"]
+    one, other = (long_run_of(it, 2, program) for it in (few, replace(few, key=KEY[::-1])))
+    both = one.plus(other)
+    assert both.keys == 4 and both.costs == (*one.costs, *other.costs) and None not in one.orders
+    assert both.orders == tuple(map(lambda *its: sum(its), one.orders, other.orders))
+    many = long_run_of(PLAIN, 2, program)
+    assert many.plus(many).orders == (None,) * 3
+
+
 def test_keys_follow_from_all_words() -> None:
     keys = {key for word in range(4) for key in keys_of([*KEY[:word], "0" * 16, *KEY[word + 1:]], 48)}
     assert len(keys | set(keys_of(KEY, 48))) == 5 * 48

@@ -10,6 +10,7 @@ difference is the same in all. Theory and all decimals are rounded and unproved;
 """
 from __future__ import annotations
 
+import functools
 import math
 from collections.abc import Iterable, Sequence
 from dataclasses import asdict, dataclass, fields, replace
@@ -280,8 +281,5 @@ def check_long_run(scenario: Scenario, best: str, *, keys: Sequence[Sequence[str
     """
     checked_level(level)
     asked, all_keys = scenario.with_policies(policies_of(scenario, best)), keys_of(keys, count, scenario.key)
-    first, *others = (replace(asked, key=key).long_run(program=program) for key in all_keys)
-    for it in others:
-        orders = [None if one is None or two is None else one + two for one, two in zip(first.orders, it.orders)]
-        first = replace(first, costs=first.costs + it.costs, orders=tuple(orders))
-    return LongRunCheck(best, tuple(all_keys), long_run_decision(first, level))
+    reports = (replace(asked, key=key).long_run(program=program) for key in all_keys)
+    return LongRunCheck(best, tuple(all_keys), long_run_decision(functools.reduce(LongRunReport.plus, reports), level))

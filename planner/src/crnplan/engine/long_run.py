@@ -77,6 +77,11 @@ class LongRunReport:
         """Returns the number of keys: each is a replication."""
         return len(self.costs)
 
+    def plus(self, other: LongRunReport) -> LongRunReport:
+        """Returns the report on the keys of both. The other is of the same scenario under another key."""
+        orders = tuple(None if one is None or two is None else one + two for one, two in zip(self.orders, other.orders))
+        return replace(self, costs=self.costs + other.costs, orders=orders)
+
     @property
     def rows(self) -> list[Row]:
         """Returns the rows of a report on so many replications of so many periods, in exact figures."""
