@@ -12,9 +12,7 @@ from tests.runs import TOP
 
 # A command that takes longer fails.
 SECONDS = 120
-RUNNERS = {"sh": ["bash", "-e", "-o", "pipefail", "-c"], "python": [sys.executable, "-c"], "r": ["Rscript", "-e"]}
-# A script for a scheduler's array is run as this task of it.
-TASK = {"SLURM_ARRAY_TASK_ID": "3"}
+RUNNERS = {"sh": ["bash", "-e", "-o", "pipefail", "-c"], "python": [sys.executable, "-c"]}
 # What a sweep reports of its progress.
 PROGRESS = re.compile(r"(\r?[0-9]+ of [0-9]+ scenarios \([0-9]+ kept\))+\n")
 
@@ -51,7 +49,7 @@ class Folder:
             link.parent.mkdir(parents=True, exist_ok=True)
             link.symlink_to(program)
         search = f"{path.parent / 'bin'}:{Path(sys.executable).parent}:{os.environ['PATH']}"
-        self.environment = {**os.environ, **TASK, "PATH": search, "CRNSIM": str(program), "LC_ALL": "C.UTF-8",
+        self.environment = {**os.environ, "PATH": search, "CRNSIM": str(program), "LC_ALL": "C.UTF-8",
                             "PYTHONDONTWRITEBYTECODE": "1"}
 
     def fetch(self, command: str) -> None:

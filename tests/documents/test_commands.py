@@ -1,6 +1,6 @@
 """The commands of the pages can be copied, and print what stands there.
 
-Commands stand in blocks of the kind `sh`, `python` or `r`, and between backticks. Those of a page are run in order, in
+Commands stand in blocks of the kind `sh` or `python`, and between backticks. Those of a page are run in order, in
 a folder with a copy of `examples/`. What the commands of a block print is the next block without a kind, where a line
 `..` stands for lines that are left out. A command that ends with a status other than 0, or whose pipe does, has failed:
 a page shows a refusal with `|| echo`. What a command between backticks prints is not compared.
@@ -25,24 +25,20 @@ Case = tuple[str, object]
 RUN = ["README.md", "docs/GUIDE.md", "docs/FORMATS.md"]
 # Commands that are never run, and why. The last pattern is for those that have no reason yet: there must be none.
 NOT_RUN = {
-    r"(\.ci/run|(python3? -m |\S*/)?pytest)\b.*": "they are the gate, of which this is a part",
-    r"tools/(build|setup|install)\b.*": "they prove all crates or change the machine",
-    r"apt-get install [\w -]+": "they change the machine",
+    r"\.ci/run": "it is the gate, of which this is a part",
+    r"tools/(setup|install)\b.*": "tests/tools runs them, in folders of their own",
     r"dask-(scheduler|worker) .* &": "they do not end",
     r".* --cluster \S+( .*)?": "planner/tests runs a cluster of its own",
     r".*\b(rt|apt|apt-get|pip|pip3|git|sbatch|srun|curl|wget|sudo|ssh)\b.*": "",
 }
-# What is run in place of a command that reads all crates first.
-IN_PLACE = {"(cd crates/crnsim && rt try < ../../examples/two_policies.toml)": "crnsim < examples/two_policies.toml"}
 # Blocks without a kind that no command prints: a page and how the block begins, and what it is.
 NOT_PRINTED = {("docs/FORMATS.md", "period  t  "): "a drawing",
                ("docs/FORMATS.md", "policy,s,S,"): "the header of a report, which is compared by itself"}
 # Blocks of other kinds, and what is done with them.
 OTHER_KINDS = {"toml": "they are compared with the examples", "cpp": "not run, as it needs the headers of Random123"}
 # A span is a command if it begins with one of these and goes on, unless it only names a command's words.
-COMMAND = re.compile(r"\.ci/run|(crnsim|crnplan|(tools|crates/crnsim/out)/crnsim|bench/[\w/]+\.py"
-                     r"|apt-get|awk|cat|cd|cmp|cp|cut|diff|echo|git|grep|head|ls|mkdir|parallel|pip|printf|python3|rt"
-                     r"|sed|seq|sh|sort|tail|tr|xargs) .*")
+COMMAND = re.compile(r"\.ci/run|(crnsim|crnplan|(tools|crates/crnsim/out)/\w+|apt-get|awk|cat|cd|cmp|cp|cut|diff|echo"
+                     r"|git|grep|head|ls|mkdir|pip|printf|python3|rt|sed|seq|sh|sort|tail|tr|xargs) .*")
 USAGE = re.compile(r"(crnsim|crnplan)( [a-z]+)?( \[?-?-?[A-Z][\w.]*\]?| --[a-z-]+)*( \.\.)?")
 
 
@@ -78,7 +74,7 @@ def unlike(printed: str, shown: str) -> tuple[bool | str, int]:
 
 
 def ranks(printed: str) -> bool | str:
-    """Returns True if a table that pandas or R prints is that of the guide's report, ranked."""
+    """Returns True if a table that pandas prints is that of the guide's report, ranked."""
     rows = sorted(csv.DictReader(text_of("examples/spare_part.csv").splitlines()), key=lambda row: int(row["total"]))
     hundredths = [(row["policy"], int(100 * Fraction(row["per_period"]))) for row in rows]
     wanted = "".join(rf".*\b{policy}\b.*\s{it // 100}\.{it % 100:02}[0-9]*\b.*\n" for policy, it in hundredths)
@@ -97,8 +93,7 @@ class Page:
     def run(self, kind: str, command: str, printed: list[tuple[str, str]]) -> Iterator[Case]:
         """Runs a command, and adds it with what it prints to a list."""
         name, key = short(command), " ".join(command.split())
-        command = IN_PLACE.get(key, command)
-        reason = next((NOT_RUN[it] for it in NOT_RUN if re.fullmatch(it, key)), None) if key not in IN_PLACE else None
+        reason = next((NOT_RUN[it] for it in NOT_RUN if re.fullmatch(it, key)), None)
         if reason is not None:
             yield name, bool(reason) or "it is not to be run, and NOT_RUN does not say why"
             return
@@ -107,7 +102,7 @@ class Page:
         yield name, status == 0 or f"ends with {status}: {text[-200:].strip()!r}"
 
     def unshown(self) -> Iterator[Case]:
-        """Checks that a block printed nothing if the page shows nothing. What pandas and R print is not shown."""
+        """Checks that a block printed nothing if the page shows nothing. What pandas prints is not shown."""
         kind, printed = self.waiting
         self.waiting = "", []
         for name, text in printed:
@@ -154,6 +149,14 @@ class Page:
 def test_commands(page: str, folder: Folder, check_all: Any) -> None:
     """The commands of a page end well, and print what it shows."""
     check_all(Page(page, folder).cases())
+
+
+def test_exceptions_are_met() -> None:
+    """Each exception to what is run and compared is met by a page."""
+    lines = [line for page in RUN for line in [*text_of(page).splitlines(), *spans_of(text_of(page))]]
+    assert [it for it in NOT_RUN if NOT_RUN[it] and not any(re.fullmatch(it, line) for line in lines)] == []
+    assert [it for it in NOT_PRINTED if not any(block.startswith(it[1]) for block in blocks_of(it[0]))] == []
+    assert OTHER_KINDS.keys() <= {piece.kind for page in RUN for piece in pieces_of(page)}
 
 
 @pytest.mark.parametrize("page", [*RUN, "examples/README.md", "examples/case/README.md"])

@@ -58,6 +58,6 @@ def test_help_of_all_commands() -> None:
 
 
 def test_modules_are_commands() -> None:
-    """Each module of crnplan.commands is a command of the list."""
+    """Each command among the modules of crnplan.commands is in the list."""
     modules = (TOP / "planner/src/crnplan/commands").glob("[a-z]*.py")
-    assert sorted(it.stem for it in modules) == sorted(COMMANDS)
+    assert sorted(it.stem for it in modules if "@click.command" in it.read_text("utf-8")) == sorted(COMMANDS)
