@@ -139,7 +139,7 @@ def test_predictive_lognormal(numbers: Sequence[int]) -> None:
     law = predictive_of("hurdle-lognormal", Sample.of(numbers))
     for value in (2, 5, 10, 20):
         expected = some * student.cdf(math.log(value + 0.5))
-        assert law[1:value + 1].sum() == pytest.approx(expected, abs=0.01 if logarithms.std() < 1 else 0.02)
+        assert law[1:value + 1].sum() == pytest.approx(expected, abs=0.0015)
 
 
 @settings(max_examples=20, deadline=None)
@@ -178,6 +178,15 @@ def test_guard() -> None:
     assert not any(passes(random.negative_binomial(5, 1 / 3, 100)) for _ in range(40))
     assert not any(passes(random.binomial(13, 10 / 13, 100)) for _ in range(40))
     assert not any(passes(random.choice([7, 13], 100)) for _ in range(40))
+
+
+@pytest.mark.parametrize("place", range(5), ids=guard.Shares._fields)
+def test_each_share_decides(place: int) -> None:
+    """A history passes if no share is at most its bound: 10% of the variances, 30% of the distances, 10% and 5% of the
+    largest."""
+    bounds = [0.10, 0.10, 0.30, 0.10, 0.05]
+    assert guard.Shares(*(it + 0.001 for it in bounds)).passes
+    assert not guard.Shares(*(it + 0.001 * (at != place) for at, it in enumerate(bounds))).passes
 
 
 def test_guards_shares() -> None:

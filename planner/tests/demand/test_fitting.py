@@ -13,7 +13,7 @@ from scipy import special, stats
 
 from crnplan.demand import fit_demand, fit_lead, notes_of
 from crnplan.demand.families import Sample, fits_of
-from crnplan.demand.fitting import FAMILIES, METHODS, mixed, periods_of, weights_of
+from crnplan.demand.fitting import FAMILIES, METHODS, cap_of, mixed, periods_of, weights_of
 from crnplan.demand.predictive import predictive_of
 from crnplan.errors import Refused
 from planner.tests.conftest import Command
@@ -92,7 +92,7 @@ def test_auto(numbers: list[int]) -> None:
     """The law is a mixture of the history and the capped predictive law, with the most likely weight."""
     law = fit_demand(numbers, method="auto")
     times = min(max(math.log(300) / math.log(1 + np.count_nonzero(numbers)), 2), 3)
-    assert law.values[-1] <= int(times * max(numbers)) == law.diagnostics["cap"]
+    assert law.values[-1] <= math.ceil(times * max(numbers)) == law.diagnostics["cap"]
     base = predictive_of(law.family, Sample.of(numbers))[:law.diagnostics["cap"] + 1]
     base = np.pad(base, (0, law.diagnostics["cap"] + 1 - len(base))) / base.sum()
     periods, size = law.diagnostics["periods"], len(numbers)
@@ -109,6 +109,12 @@ def test_auto(numbers: list[int]) -> None:
         zip(alphas, [*counts[values], 0])) for it in (periods / 1.3, periods, periods * 1.3)]
     inside = 0.0101 * size < periods < 99 * size
     assert not inside or likelihoods[1] == max(likelihoods)
+
+
+@pytest.mark.parametrize("demands, cap", [(2, 30), (6, 30), (10, 24), (15, 21), (20, 20), (500, 20)])
+def test_cap(demands: int, cap: int) -> None:
+    """The cap is 3 times the largest demand after few demands, and twice after many."""
+    assert cap_of(Sample.of([0] * 40 + [3] * (demands - 1) + [10])) == cap
 
 
 def test_weight_of_the_family() -> None:

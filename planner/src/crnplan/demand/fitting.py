@@ -81,7 +81,7 @@ def cap_of(sample: Sample) -> int:
     """
     demands = sample.size - sample.zeros
     times = math.log(DEMANDS_OF_CAP) / math.log(demands + 1)
-    return int(min(max(times, LEAST_TIMES), MOST_TIMES) * sample.most)
+    return math.ceil(min(max(times, LEAST_TIMES), MOST_TIMES) * sample.most)
 
 
 def mixed(sample: Sample, base: Floats, periods: float) -> Floats:
