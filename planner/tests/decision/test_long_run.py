@@ -15,6 +15,7 @@ from scipy import stats
 from crnplan.decision import long_run
 from crnplan.decision.long_run import (LongRunDecision, LongRunRow, check_long_run, corrected_decision,
                                        long_run_decision)
+from crnplan.decision.sensitivity import sensitivity
 from crnplan.engine.long_run import LongRunReport
 from crnplan.errors import Refused
 from crnplan.scenario import Costs, Policy, Scenario, Table
@@ -195,6 +196,25 @@ def test_check_in_the_long_run(crnplan: Command, room: Path, program: Path) -> N
 def test_check_of_slow_movers_pools_orders(program: Path) -> None:
     found = check_long_run(SLOW, "more", keys=[["00000000000000a1"], ["00000000000000a2"]], program=program)
     assert found.decision.warnings[0].startswith("no interval for today") and found.holds
+
+
+def test_sensitivity_in_the_long_run(crnplan: Command, room: Path, program: Path) -> None:
+    """Each case costs what its own scenario does, also those that one run counts for two."""
+    even = replace(PART, costs=Costs(40, 3, 2, 8))
+    found = sensitivity(even, long_run=True, program=program)
+    costs = {it.name: it.costs for it in found.cases}
+    cases = {"base": even, "lead_plus_1": replace(even, lead=Table((2, 4), (2, 1))),
+             "backlog_half": replace(even, costs=Costs(40, 3, 2, 4)),
+             "backlog_double": replace(even, costs=Costs(40, 3, 2, 16))}
+    for name, scenario in cases.items():
+        assert costs[name] == tuple(it.per_period for it in scenario.long_run(program=program).rows)
+    (room / "part.toml").write_text(even.toml())
+    text = crnplan("sensitivity", "part.toml", "--long-run").output
+    assert text.startswith("The long run, each policy from a state of its own, without unit\n\npolicy ")
+    assert text == found.text
+    assert json.loads(crnplan("sensitivity", "part.toml", "--long-run", "--json").output)["horizon"] == found.horizon
+    plain = crnplan("sensitivity", "part.toml").output
+    assert plain.startswith("policy ") and plain != text.split("\n\n", 1)[1]
 
 
 @pytest.mark.parametrize("words, message", [

@@ -18,10 +18,11 @@ def spelt(value: str | int | float | None) -> str:
 
 @click.command(epilog="Example: crnplan sensitivity scenario.toml")
 @click.argument("scenario", metavar="SCENARIO.toml")
+@click.option("--long-run", is_flag=True, help="Compare costs of the long run, without the effect of the start.")
 @click.option("--program", metavar="PATH", help="The program crnsim.")
 @click.option("--csv", "form", flag_value="csv", help="Print the table as CSV.")
 @click.option("--json", "form", flag_value="json", help="Print the table as JSON.")
-def command(scenario: str, program: str | None, form: str | None) -> None:
+def command(scenario: str, long_run: bool, program: str | None, form: str | None) -> None:
     """Show how much each policy may cost too much if the scenario is not quite right. `-` is standard input.
 
     The cases are the scenario itself (base); demand 10% up and down; every lead time one period longer; the cost
@@ -36,15 +37,16 @@ def command(scenario: str, program: str | None, form: str | None) -> None:
     over 32, is left out, and a line says so.
 
     Regrets are means of one sample, without intervals, and contain the end effect of the cost unit (crnplan decide
-    warns of it).
+    warns of it). With --long-run they are those of the long run, as crnplan run --long-run has it, without unit.
     """
-    found = sensitivity(Scenario.read(scenario), program=program)
+    found = sensitivity(Scenario.read(scenario), long_run=long_run, program=program)
     records = list(found.records())
     if form == "csv":
         writer = csv.writer(sys.stdout, lineterminator="\n")
         writer.writerows([list(records[0]), *(map(spelt, record.values()) for record in records)])
         print("".join(f"crnplan: {note}\n" for note in found.notes), end="", file=sys.stderr)
     elif form:
-        print(json.dumps({"policies": records, "notes": found.notes}, indent=2))
+        head = {"horizon": found.horizon} if found.horizon else {}
+        print(json.dumps({**head, "policies": records, "notes": found.notes}, indent=2))
     else:
         print(found.text, end="")

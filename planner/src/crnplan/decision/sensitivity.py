@@ -11,7 +11,7 @@ from __future__ import annotations
 import dataclasses
 import math
 from collections import Counter
-from collections.abc import Iterator, Mapping
+from collections.abc import Iterator, Mapping, Sequence
 from dataclasses import dataclass
 from fractions import Fraction
 from functools import cached_property
@@ -58,11 +58,15 @@ class Loss:
 
 @dataclass(frozen=True)
 class Sensitivity:
-    """What each policy may cost too much: exact costs by case, and notes on cases that are not exact or left out."""
+    """What each policy may cost too much: exact costs by case, and notes on cases that are not exact or left out.
+
+    `horizon` says that the costs are of the long run. It is empty if they are of the coming periods.
+    """
 
     policies: tuple[Policy, ...]
     cases: tuple[Case, ...]
     notes: tuple[str, ...]
+    horizon: str = ""
 
     @cached_property
     def losses(self) -> list[Loss]:
@@ -98,13 +102,13 @@ class Sensitivity:
 
     @property
     def text(self) -> str:
-        """Returns the table, the cheapest policy of each case, and the notes."""
+        """Returns the table, the cheapest policy of each case, and the notes. The first line is the horizon."""
         heading = ["policy", "s", "S", *(case.name for case in self.cases), "greatest", "in"]
         cells = [[it.policy.name, str(it.policy.s), str(it.policy.S), *map(cell, (*it.regrets, it.greatest)), it.worst]
                  for it in self.losses]
         table = [[case, name, f"{float(cost):.3f}"] for case, name, cost in self.cheapest]
         notes = "".join(f"\n{note}" for note in self.notes) + "\n" * bool(self.notes)
-        return (aligned([heading, *cells], (0, len(heading) - 1))
+        return (f"{self.horizon}\n\n" * bool(self.horizon) + aligned([heading, *cells], (0, len(heading) - 1))
                 + "\nregret: cost per period above the cheapest policy of the case\n\n"
                 + aligned([["case", "cheapest", "cost_a_period"], *table], (0, 1)) + notes)
 
@@ -169,19 +173,26 @@ def lead_cases(scenario: Scenario, notes: list[str]) -> Iterator[tuple[str, Scen
         yield "lead_plus_1", dataclasses.replace(scenario, lead=lead)
 
 
-def sensitivity(scenario: Scenario, *, program: str | Path | None = None) -> Sensitivity:
+def costs_of(scenarios: Sequence[Scenario], program: str | Path | None, long_run: bool) -> list[list[Fraction]]:
+    """Returns the cost per period of each policy of each scenario."""
+    if long_run:
+        return [[row.per_period for row in it.long_run(program=program).rows] for it in scenarios]
+    totals = zip(scenarios, all_totals(find_program(program), scenarios))
+    return [[Fraction(total, it.periods * it.replications) for total in its] for it, its in totals]
+
+
+def sensitivity(scenario: Scenario, *, long_run: bool = False, program: str | Path | None = None) -> Sensitivity:
     """Runs a scenario as it is and changed, and returns what each policy costs too much in each case.
 
-    The regrets are means of one sample, without intervals, and contain the end effect of the cost `unit`. A case whose
-    numbers are out of range, a demand over 10,000 or a lead time over 32, is left out. Raises ProgramError if a run
-    fails.
+    The regrets are means of one sample, without intervals, and contain the end effect of the cost `unit`. With
+    `long_run` they are those of `Scenario.long_run`, without `unit`. A case whose numbers are out of range, a demand
+    over 10,000 or a lead time over 32, is left out. Raises ProgramError if a run fails.
     """
     notes: list[str] = []
     cases = {"base": scenario, **dict(demand_cases(scenario, notes)), **dict(lead_cases(scenario, notes))}
-    *totals, owed = all_totals(find_program(program), [*cases.values(), counting(scenario, "backlog")])
-    rate, periods = scenario.costs.backlog, scenario.periods * scenario.replications
-    costs = {name: [Fraction(total) for total in its] for name, its in zip(cases, totals)}
+    *found, owed = costs_of([*cases.values(), counting(scenario, "backlog")], program, long_run)
+    costs, rate = dict(zip(cases, found)), scenario.costs.backlog
     for name, change in (("backlog_half", Fraction(-rate, 2)), ("backlog_double", Fraction(rate))):
-        costs[name] = [total + change * items for total, items in zip(totals[0], owed)]
-    return Sensitivity(scenario.policies, tuple(Case(name, tuple(total / periods for total in its))
-                                                for name, its in costs.items()), tuple(notes))
+        costs[name] = [cost + change * items for cost, items in zip(found[0], owed)]
+    return Sensitivity(scenario.policies, tuple(Case(name, tuple(its)) for name, its in costs.items()), tuple(notes),
+                       "The long run, each policy from a state of its own, without unit" if long_run else "")
