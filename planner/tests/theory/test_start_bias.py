@@ -26,10 +26,12 @@ CASES = {"one lead time": scenario_of(DEMAND, ([2], [1])),
 STARTS = [(4, 11, 0), (4, 11, 7), (4, 11, 11), (2, 6, 15), (5, 5, 5), (0, 20, 3)]
 
 
-@pytest.mark.parametrize("periods", [1, 3, 40])
+@pytest.mark.parametrize("periods, dense", [(1, 100), (3, 100), (40, 100), (40, 0)])
 @pytest.mark.parametrize("start", STARTS, ids=lambda it: f"({it[0]},{it[1]}) from {it[2]}")
 @pytest.mark.parametrize("case", CASES)
-def test_biases_are_those_of_a_chain(case: str, start: tuple[int, int, int], periods: int) -> None:
+def test_biases_are_those_of_a_chain(case: str, start: tuple[int, int, int], periods: int, dense: int,
+                                     monkeypatch: pytest.MonkeyPatch) -> None:
+    monkeypatch.setattr("crnplan.theory.start_bias.MOST_DENSE", dense)
     s, S, initial = start
     asked = replace(CASES[case], costs=COSTS, periods=periods, initial=initial, policies=(Policy("it", s, S),))
     found = start_bias(asked)
@@ -82,6 +84,16 @@ def test_costs_of_0() -> None:
     values = [COSTS.setup, COSTS.unit, COSTS.holding, COSTS.backlog]
     assert whole.biases[0] == pytest.approx(sum(cost * it.biases[0] for cost, it in zip(values, parts)))
     assert whole.costs[0] == pytest.approx(sum(cost * it.costs[0] for cost, it in zip(values, parts)))
+
+
+@pytest.mark.parametrize("case", CASES)
+def test_many_periods(case: str, monkeypatch: pytest.MonkeyPatch) -> None:
+    """Matrices of many reviews agree with single reviews, and the bias settles as the periods grow."""
+    asked = replace(CASES[case], periods=1024, initial=30, policies=(Policy("it", 4, 11), Policy("other", 9, 9)))
+    dense, shorter = start_bias(asked), start_bias(replace(asked, periods=900))
+    monkeypatch.setattr("crnplan.theory.start_bias.MOST_DENSE", 0)
+    assert start_bias(asked).biases == pytest.approx(dense.biases, abs=1e-7)
+    assert shorter.biases == pytest.approx(dense.biases, abs=1e-7)
 
 
 def test_no_long_run() -> None:

@@ -27,6 +27,9 @@ from .overtaking import shortfall
 # A chain whose law is as close to that of the long run stays there.
 SETTLED = 1e-12
 LOOK_EVERY = 8
+# Reviews that a power of a matrix takes at once, and up to how many cells.
+AT_ONCE = 32
+MOST_DENSE = 100
 MOST_PASSES = 1_000_000_000  # products of one pass over late orders for each policy
 
 
@@ -86,39 +89,75 @@ class Reviews(NamedTuple):
     orders: float
 
 
-def moved(law: Floats, net: Law, zero: int) -> tuple[Floats, float]:
-    """Returns the law of the position after the next review, and the chance that it places an order.
+class Moves:
+    """How the position moves from one review to the next, on the cells from `low` to the gap below S.
 
-    `zero` is the place of S. What would rise above the first cell stays there.
+    What would rise above the first cell stays there. For few cells, powers of the matrix of the moves take many reviews
+    at once.
     """
-    after, count = convolved(law, net.chances), len(law)
-    if net.low < 0:
-        after[-net.low] += after[:-net.low].sum()
-        after = after[-net.low:]
-    found = np.zeros(count)
-    first = max(net.low, 0)
-    placed = float(after[max(count - first, 0):].sum())
-    found[first:] = after[:max(count - first, 0)]
-    found[zero] += placed
-    return found, placed
+
+    def __init__(self, net: Law, low: int, gap: int) -> None:
+        """Takes the net demand of a period."""
+        self.net, self.zero, self.count = net, -low, gap - low + 1
+        self.places = np.arange(self.count)
+        ends = np.concatenate([[0], np.cumsum(net.chances)])
+        # The chance that a review places an order, by the place after the review before.
+        self.placing = 1 - ends[np.clip(self.count - self.places - net.low, 0, len(net.chances))]
+        self.powers = self._powers() if self.count <= MOST_DENSE else []
+
+    def _powers(self) -> list[Floats]:
+        """Returns the matrices of 1, 2, 4, .. reviews."""
+        once = np.zeros((self.count, self.count))
+        once[:, self.zero] += self.placing
+        for cell, chance in zip(self.net.cells, self.net.chances):
+            within = self.places[self.places + cell < self.count]
+            once[within, np.maximum(within + cell, 0)] += chance
+        powers = [once]
+        while 2**len(powers) <= AT_ONCE:
+            powers.append(powers[-1] @ powers[-1])
+        return powers
+
+    def moved(self, law: Floats) -> Floats:
+        """Returns a law after the next review."""
+        if self.powers:
+            once: Floats = law @ self.powers[0]
+            return once
+        after, low = convolved(law, self.net.chances), self.net.low
+        if low < 0:
+            after[-low] += after[:-low].sum()
+            after = after[-low:]
+        found, first = np.zeros(self.count), min(max(low, 0), self.count)
+        found[first:] = after[:self.count - first]
+        found[self.zero] += law @ self.placing
+        return found
+
+    def summed(self, excess: Floats, reviews: int) -> tuple[Floats, Floats]:
+        """Returns the sum of an excess over a law that stays, over so many reviews from now, and what is left of it."""
+        total, passed = np.zeros(self.count), 0
+        if self.powers:
+            while passed + AT_ONCE <= reviews:
+                total += excess
+                excess, passed = excess @ self.powers[-1], passed + AT_ONCE
+            for power in self.powers[:-1]:
+                total = total + total @ power
+        for review in range(passed, reviews):
+            if review % LOOK_EVERY == 0 and abs(excess).sum() < SETTLED:
+                break
+            total += excess
+            excess = self.moved(excess)
+        return total, excess
 
 
 def reviews_of(theory: LongRun, start: Start, gap: int, periods: int, counted: int) -> Reviews:
-    """Follows the position over the reviews of so many periods, of which the first `counted` are summed."""
-    low, law, positions = start.law.low, start.law.chances, theory.positions(gap)
-    settled = np.zeros(len(law))
+    """Follows the position over the reviews of so many periods, of which the first `counted` are summed: not all."""
+    low, positions = start.law.low, theory.positions(gap)
+    settled = np.zeros(len(start.law.chances))
     settled[positions.low - low:positions.high - low + 1] = positions.chances
-    summed, usual = np.zeros(len(law)), 1 / theory.periods(gap)
-    orders = start.ordered - usual
-    for review in range(periods):
-        if review:
-            law, placed = moved(law, theory.net, -low)
-            orders += placed - usual
-        if review < counted:
-            summed += law - settled
-        if review % LOOK_EVERY == 0 and abs(law - settled).sum() < SETTLED:
-            break
-    return Reviews(low, settled, summed, law - settled, orders)
+    moves = Moves(theory.net, low, gap)
+    summed, excess = moves.summed(start.law.chances - settled, counted)
+    others, last = moves.summed(excess, periods - 1 - counted)
+    orders = start.ordered - 1 / theory.periods(gap) + float((summed + others) @ moves.placing)
+    return Reviews(low, settled, summed, last, orders)
 
 
 class StockCosts:
