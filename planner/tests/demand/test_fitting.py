@@ -2,6 +2,7 @@
 from __future__ import annotations
 
 import math
+from collections import Counter
 from collections.abc import Sequence
 from pathlib import Path
 
@@ -9,11 +10,11 @@ import numpy as np
 import pytest
 from hypothesis import given, settings
 from hypothesis import strategies as st
-from scipy import special, stats
+from scipy import stats
 
 from crnplan.demand import fit_demand, fit_lead, notes_of
 from crnplan.demand.families import Sample, fits_of
-from crnplan.demand.fitting import FAMILIES, METHODS, cap_of, mixed, periods_of, weights_of
+from crnplan.demand.fitting import FAMILIES, METHODS, cap_of, mixture, share_of, weights_of
 from crnplan.demand.predictive import predictive_of
 from crnplan.errors import Refused
 from planner.tests.conftest import Command
@@ -61,7 +62,7 @@ def test_named_family(family: str, numbers: list[int]) -> None:
         return
     law = fit_demand(numbers, method=family)
     base = predictive_of(family, Sample.of(numbers))
-    assert (law.family, law.diagnostics["guard"]) == (family, {})
+    assert law.family == family
     assert law.diagnostics["mean"] == pytest.approx(mean_of(law.values, law.weights))
     assert abs(law.diagnostics["mean"] - base @ np.arange(len(base))) <= len(base) * 0.5001 / 65_536
     assert {*law.diagnostics["bic"]} == {*allowed}
@@ -89,26 +90,45 @@ def test_families_far_behind_are_not_taken() -> None:
 
 @pytest.mark.parametrize("numbers", [POISSON, ERRATIC, RARE], ids=["poisson", "erratic", "rare"])
 def test_auto(numbers: list[int]) -> None:
-    """The law is a mixture of the history and the capped predictive law, with the most likely weight."""
+    """The law is the mixture of the passing families by BIC, cut at the cap, and of the history if that is likelier."""
     law = fit_demand(numbers, method="auto")
-    times = min(max(math.log(300) / math.log(1 + np.count_nonzero(numbers)), 2), 3)
-    assert law.values[-1] <= math.ceil(times * max(numbers)) == law.diagnostics["cap"]
-    base = predictive_of(law.family, Sample.of(numbers))[:law.diagnostics["cap"] + 1]
-    base = np.pad(base, (0, law.diagnostics["cap"] + 1 - len(base))) / base.sum()
-    periods, size = law.diagnostics["periods"], len(numbers)
-    shares = (periods * base + np.bincount(numbers, minlength=len(base))) / (periods + size)
-    got = np.zeros(len(base))
+    bic, cap, share = (law.diagnostics[it] for it in ("bic", "cap", "share"))
+    passing = [name for name, it in law.diagnostics["guard"].items() if it.passes]
+    likely = np.exp([(bic[law.family] - bic[name]) / 2 for name in passing])
+    assert [*law.diagnostics["families"]] == passing and law.family == passing[0]
+    assert [*law.diagnostics["families"].values()] == pytest.approx(likely / likely.sum())
+    base = np.zeros(10_001)
+    for name, weight in zip(passing, likely / likely.sum()):
+        part = predictive_of(name, Sample.of(numbers))
+        base[:len(part)] += weight * part
+    base = base[:cap + 1] / base[:cap + 1].sum()
+    expected = share * base + (1 - share) * np.bincount(numbers, minlength=cap + 1) / len(numbers)
+    got = np.zeros(cap + 1)
     got[[*law.values]] = law.weights
-    assert np.abs(np.cumsum(got / 65_536) - np.cumsum(shares)).max() <= 1 / 65_536
-    counts = np.bincount(numbers, minlength=len(base))
-    values = np.flatnonzero(counts)
-    # scipy's law of the counts of the values seen and of all others together.
-    alphas = np.append(base[values], max(1 - base[values].sum(), 1e-12))
-    likelihoods = [special.gammaln(it) - special.gammaln(it + size) + sum(
-        special.gammaln(it * alpha + count) - special.gammaln(it * alpha) for alpha, count in
-        zip(alphas, [*counts[values], 0])) for it in (periods / 1.3, periods, periods * 1.3)]
-    inside = 0.0101 * size < periods < 99 * size
-    assert not inside or likelihoods[1] == max(likelihoods)
+    assert np.abs(np.cumsum(got / 65_536) - np.cumsum(expected)).max() <= 1 / 65_536
+    times = min(max(math.log(300) / math.log(1 + np.count_nonzero(numbers)), 2), 3)
+    assert cap == math.ceil(times * max(numbers))
+
+
+@given(numbers=st.lists(st.integers(0, 6), min_size=20, max_size=60), mean=st.floats(0.5, 6))
+def test_share_of_the_law(numbers: list[int], mean: float) -> None:
+    """The share has the greatest Dirichlet-multinomial likelihood, as the sums over its urn have it."""
+    sample, base = Sample.of(numbers), stats.poisson.pmf(np.arange(30), mean)
+
+    def likelihood(periods: float) -> float:
+        """Returns the likelihood's logarithm from the chances of each draw of an urn, given those before."""
+        total, seen = 0.0, Counter[int]()
+        for place, number in enumerate(numbers):
+            total += math.log((periods * base[number] + seen[number]) / (periods + place))
+            seen[number] += 1
+        return total
+    grid = len(numbers) * np.logspace(-2, 2, 41)
+    values = [likelihood(it) for it in grid]
+    share, best = share_of(sample, base), grid[int(np.argmax(values))]
+    if max(values) - values[-1] < 0.49:
+        assert share == 1
+    elif max(values) - values[-1] > 0.51:
+        assert share == pytest.approx(best / (best + len(numbers)), rel=0.25)
 
 
 @pytest.mark.parametrize("demands, cap", [(2, 30), (6, 30), (10, 24), (15, 21), (20, 20), (500, 20)])
@@ -117,12 +137,13 @@ def test_cap(demands: int, cap: int) -> None:
     assert cap_of(Sample.of([0] * 40 + [3] * (demands - 1) + [10])) == cap
 
 
-def test_weight_of_the_family() -> None:
-    """A law like the history counts for many periods, and one unlike it for few."""
+def test_the_history_speaks_against() -> None:
+    """A law like the history stands alone, and one unlike it has a small share."""
     sample = Sample.of(np.random.default_rng(1).poisson(4, 300).tolist())
     like, unlike = stats.poisson.pmf(np.arange(40), 4), stats.poisson.pmf(np.arange(40), 9)
-    assert periods_of(sample, like) > 3 * sample.size and periods_of(sample, unlike) < sample.size / 3
-    assert mixed(sample, like, 0.0) == pytest.approx(np.pad(sample.law, (0, 40 - len(sample.law))))
+    assert share_of(sample, like) == 1 and share_of(sample, unlike) < 0.2
+    both = mixture([(0.5, like), (0.5, np.array([0, 1.0]))])
+    assert both[:3] == pytest.approx([like[0] / 2, like[1] / 2 + 0.5, like[2] / 2])
 
 
 def test_packs() -> None:
@@ -173,7 +194,8 @@ def test_notes() -> None:
     assert notes_of(fit_demand(ERRATIC), "demand") == []
     notes = notes_of(fit_demand(ERRATIC, method="auto"), "demand")
     assert all(it.startswith("demand: ") for it in notes)
-    assert "periods beside the 104 seen; at most " in notes[0] and "BIC above the least: " in notes[1]
+    assert "%; at most " in notes[0] and notes[0].endswith(" is the largest demand seen")
+    assert "BIC above the least: " in notes[1]
     assert notes[2].startswith("demand: guard: a history of ") and notes[-2].startswith("demand: seen: mean ")
     assert notes[-1].startswith("demand: law: mean ")
     text = "\n".join(notes_of(fit_demand(PROJECTS, method="auto"), "returns"))

@@ -116,9 +116,9 @@ def command(**asked: Any) -> int:
 
     By default (--fit empirical) the weight of a value is how often it was observed. --fit predictive takes the
     posterior predictive law of the family with the least BIC of those whose drawn histories look like this one; if
-    there is none, what was observed stays. --fit auto takes that law without demands above two to three times the
-    largest one seen, and mixes it with what was observed. Both blur 2 to 19 lead times. The families are poisson,
-    negative-binomial, hurdle-geometric, hurdle-poisson, hurdle-negative-binomial and hurdle-lognormal.
+    there is none, what was observed stays. --fit auto mixes such laws of all families that look like the history,
+    without demands above two to three times the largest one seen. Both blur 2 to 19 lead times. The families are
+    poisson, negative-binomial, hurdle-geometric, hurdle-poisson, hurdle-negative-binomial and hurdle-lognormal.
 
     --lead has one row for each lead time, in periods. --orders has one row for each order. An order that was placed on
     any day of period t and received on any day of period t + L has lead time L, and 1 if both fell in one period. If

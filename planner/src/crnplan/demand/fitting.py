@@ -29,37 +29,47 @@ DEMANDS_OF_CAP = 300
 LEAST_TIMES, MOST_TIMES = 2.0, 3.0  # the cap of `auto`, in largest demands seen
 WORSE = 10.0  # in BIC: families further behind the best are not looked at
 LEAST_DEMANDS = 2  # periods with demand, for a fit
+LIKELIHOOD_RATIO = 0.5  # of logarithms, by which the history must speak against a law to be mixed with it
 
 
 @dataclass(frozen=True)
 class Chosen:
-    """The family that a history allows, or None, with the BIC of each and the guard's shares of those looked at."""
+    """The families that a history allows: BIC, the least first, and the guard's shares of those not far behind."""
 
-    family: str | None
-    bic: Mapping[str, float] = field(default_factory=dict)
+    bic: Mapping[str, float]
     guard: Mapping[str, Shares] = field(default_factory=dict)
+
+    @property
+    def passing(self) -> list[str]:
+        """Returns the families that the guard lets pass, the least BIC first."""
+        return [name for name, shares in self.guard.items() if shares.passes]
+
+    @property
+    def weights(self) -> dict[str, float]:
+        """Returns the posterior chances of the passing families, all as likely beforehand.
+
+        Source: Raftery, Bayesian model selection in social research, 1995, section 4.1.
+        """
+        least = min(self.bic[name] for name in self.passing)
+        likely = {name: math.exp((least - self.bic[name]) / 2) for name in self.passing}
+        return {name: it / sum(likely.values()) for name, it in likely.items()}
 
 
 def guarded(sample: Sample, fits: Mapping[str, Fit]) -> Chosen:
-    """Returns the family with the least BIC of those that the guard lets pass."""
+    """Looks at each family that is not far behind the best."""
     from .families import cut
     from .guard import shares_of
     bic = {name: fit.bic(sample.size) for name, fit in fits.items()}
-    looked: dict[str, Shares] = {}
-    for name, value in bic.items():
-        if value > min(bic.values()) + WORSE:
-            break
-        looked[name] = shares_of(sample, cut(fits[name].chances))
-        if looked[name].passes:
-            return Chosen(name, bic, looked)
-    return Chosen(None, bic, looked)
+    near = [name for name, value in bic.items() if value <= min(bic.values()) + WORSE]
+    return Chosen(bic, {name: shares_of(sample, cut(fits[name].chances)) for name in near})
 
 
-def periods_of(sample: Sample, base: Floats) -> float:
-    """Returns how many periods of history a law counts for beside the sample: 0.01 to 100 times the sample's size.
+def share_of(sample: Sample, base: Floats) -> float:
+    """Returns the share of a law in its mixture with the sample: 1 if the sample does not speak against the law.
 
-    It has the greatest marginal likelihood of a Dirichlet process on the law (Antoniak, Mixtures of Dirichlet processes
-    with applications to Bayesian nonparametric problems, 1974; Minka, Estimating a Dirichlet distribution, 2000).
+    A Dirichlet process round the law counts for so many periods beside the sample as its marginal likelihood is
+    greatest (Antoniak, Mixtures of Dirichlet processes with applications to Bayesian nonparametric problems, 1974;
+    Minka, Estimating a Dirichlet distribution, 2000).
     """
     import numpy as np
     from scipy import special
@@ -70,7 +80,10 @@ def periods_of(sample: Sample, base: Floats) -> float:
     likelihood = special.gammaln(periods) - special.gammaln(periods + sample.size)
     weights = periods[:, None] * seen
     likelihood += (special.gammaln(weights + sample.counts) - special.gammaln(weights)).sum(axis=1)
-    return float(periods[np.argmax(likelihood)])
+    best = int(np.argmax(likelihood))
+    if likelihood[best] - likelihood[-1] < LIKELIHOOD_RATIO:
+        return 1.0
+    return float(periods[best] / (periods[best] + sample.size))
 
 
 def cap_of(sample: Sample) -> int:
@@ -84,12 +97,13 @@ def cap_of(sample: Sample) -> int:
     return math.ceil(min(max(times, LEAST_TIMES), MOST_TIMES) * sample.most)
 
 
-def mixed(sample: Sample, base: Floats, periods: float) -> Floats:
-    """Returns the mixture of a law, which counts for so many periods, and the sample."""
+def mixture(parts: Iterable[tuple[float, Floats]]) -> Floats:
+    """Returns the mixture of laws with these shares."""
     import numpy as np
-    chances = np.zeros(max(len(base), sample.most + 1))
-    chances[:len(base)] += periods / (periods + sample.size) * base
-    chances[:sample.most + 1] += sample.size / (periods + sample.size) * sample.law
+    laws = [*parts]
+    chances = np.zeros(max(len(law) for _, law in laws))
+    for share, law in laws:
+        chances[:len(law)] += share * law
     return chances
 
 
@@ -130,30 +144,37 @@ def fields_of(values: Sequence[int], weights: Sequence[int], family: str, number
 
 
 def _family_law(numbers: Sequence[int], method: str) -> dict[str, Any]:
-    """Returns the fields of the posterior predictive law of a family, by name or by the guard."""
-    from .families import Sample, fits_of, scaled, unpacked
+    """Returns the fields of a law of families: of a named one, or of those that the guard lets pass."""
+    from .families import Sample, fits_of, unpacked
     from .predictive import predictive_of
     sample = Sample.of(numbers)
     pack = sample.pack
     packs = sample.in_packs(pack)
     fits = fits_of(packs) if packs.size - packs.zeros >= LEAST_DEMANDS else {}
-    if method in FAMILIES:
-        if method not in fits:
-            raise Refused(f"the history does not allow the family {method}; it allows {', '.join(fits) or 'none'}")
-        chosen = Chosen(method, {name: fit.bic(packs.size) for name, fit in fits.items()})
-    else:
-        chosen = guarded(packs, fits)
+    if method in FAMILIES and method not in fits:
+        raise Refused(f"the history does not allow the family {method}; it allows {', '.join(fits) or 'none'}")
+    chosen = guarded(packs, fits) if fits else Chosen({})
     found: dict[str, Any] = {"bic": chosen.bic, "guard": chosen.guard, "pack": pack}
-    if chosen.family is None:
+    names = [method] if method in FAMILIES else chosen.passing
+    if not names:
         seen = empirical(numbers)
         return fields_of(seen["values"], seen["weights"], "empirical", numbers, **found)
-    law = unpacked(predictive_of(chosen.family, packs), pack)
-    if method == "auto":
-        found["cap"] = cap_of(sample)
-        law = scaled(law[:found["cap"] + 1])
-        found["periods"] = periods_of(sample, law)
-        law = mixed(sample, law, found["periods"])
-    return fields_of(*weights_of(law), chosen.family, numbers, **found)
+    if method != "auto":
+        law = unpacked(predictive_of(names[0], packs), pack)
+        return fields_of(*weights_of(law), names[0], numbers, **found)
+    laws = ((weight, unpacked(predictive_of(name, packs), pack)) for name, weight in chosen.weights.items())
+    law, more = auto_law(sample, mixture(laws))
+    found |= more | {"families": chosen.weights}
+    return fields_of(*weights_of(law), names[0], numbers, **found)
+
+
+def auto_law(sample: Sample, law: Floats) -> tuple[Floats, dict[str, Any]]:
+    """Returns a law without demands above the cap, mixed with the sample, and the diagnostics of both."""
+    from .families import scaled
+    cap = cap_of(sample)
+    law = scaled(law[:cap + 1])
+    share = share_of(sample, law)
+    return mixture([(share, law), (1 - share, sample.law)]), {"cap": cap, "share": share}
 
 
 def fit_demand(observed: Observed | Iterable[Any], *, method: str = "empirical", box: int = 1) -> DemandLaw:
@@ -164,8 +185,8 @@ def fit_demand(observed: Observed | Iterable[Any], *, method: str = "empirical",
     - `empirical`: each value counts as often as it was seen.
     - `predictive`: the posterior predictive law of the family with the least BIC of those whose drawn histories look
       like this one; what was seen, if there is none.
-    - `auto`: `predictive`, without demands above two to three times the largest one seen, mixed with what was seen by
-      marginal likelihood.
+    - `auto`: the mixture of such laws by the likelihood of their families, without demands above two to three times
+      the largest one seen. It is mixed with what was seen too, if that speaks against it.
     - the name of a family (`FAMILIES`): its posterior predictive law, whether it fits or not.
 
     Numbers are counted in boxes of `box` items, rounded up. Raises RefusedFaults with the place of each number that is

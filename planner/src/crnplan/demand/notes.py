@@ -37,9 +37,10 @@ def _demand_lines(law: Law) -> Iterator[str]:
         yield f"all demands are packs of {its['pack']}, so packs are fitted"
     if law.family == "empirical":
         yield "no family gives back this history, so it stays as it is"
-    elif "periods" in its:
-        yield (f"{law.family}, which counts for {its['periods']:.3g} periods beside the {its['observed']} seen; at "
-               f"most {its['cap']}, {its['cap'] / its['history']['most']:.2g} times the largest demand seen")
+    elif "share" in its:
+        families = ", ".join(f"{family} {weight:.0%}" for family, weight in its["families"].items() if weight >= 0.005)
+        mixed = f", mixed with {1 - its['share']:.0%} of what was seen" if its["share"] < 1 else ""
+        yield f"{families}{mixed}; at most {its['cap']}, as {its['history']['most']} is the largest demand seen"
     else:
         yield law.family
     if its["bic"]:
