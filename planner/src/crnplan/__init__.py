@@ -22,6 +22,7 @@ _HOMES = {
     "Policy": "scenario",
     "Scenario": "scenario",
     "Table": "scenario",
+    "LongRunReport": "engine.long_run",
     "Report": "engine.report",
     "find_program": "engine.program",
     "History": "history",
@@ -45,6 +46,7 @@ if TYPE_CHECKING:
     from .decision.sensitivity import sensitivity
     from .demand import DemandLaw, LeadLaw, fit_demand, fit_lead
     from .engine.program import find_program
+    from .engine.long_run import LongRunReport
     from .engine.report import Report
     from .engine.trajectory import trajectories
     from .errors import CrnplanError, Fault, ProgramError, Refused, ScenarioError

@@ -112,6 +112,10 @@ class LongRunReport:
         from ..decision.long_run import long_run_decision
         return long_run_decision(self, level).frame
 
+    def _repr_html_(self) -> str:
+        """Shows the decision in a notebook."""
+        return str(self.decide().to_html(float_format="{:,.2f}".format))
+
 
 def keys_of(key: Sequence[str], count: int) -> list[Key]:
     """Returns the keys that follow from a scenario's key. All words of one follow from all words of the other."""
