@@ -36,7 +36,7 @@ LEADS, COVERS, BACKLOGS = (2, 6), (2, 8), (9, 19, 99)
 SETTINGS = [*itertools.product(LEADS, BACKLOGS, COVERS)]
 METHODS = ("empirical", "predictive", "auto")
 FIGURES = ["regret", "promise", "gain"]
-HISTORIES = 100
+HISTORIES = 60
 SMALL: dict[str, Any] = {"laws": ("NB3_9", "INT"), "periods": (26, 52), "histories": 12}  # of `study`
 
 

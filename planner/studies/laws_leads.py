@@ -4,7 +4,7 @@
     python -m planner.studies.laws_leads --small    a small part
 
 The demand is known: a Poisson law of mean 2, or a negative binomial law of mean 3 and variance 9. There are two laws of
-lead times: a rough one of 1, 2 or 4 periods, and a smooth one of 1 to 6. Records of 5, 10 and 19 lead times are drawn.
+lead times: a rough one of 1, 2 or 4 periods, and a smooth one of 1 to 6. Records of 5, 10 and 20 lead times are drawn.
 Each method fits a law to a record, and the best policy under it is found by the theory of the package for six settings
 (an order for 2 and for 8 periods of demand; backlog 9, 19 and 99 times holding). Its regret is its exact long-run cost
 under the true law over the least possible, less 1. The figures are means over records and settings, in percent, with
@@ -33,7 +33,7 @@ from planner.studies.laws import BACKLOGS, COVERS, DESIGNED
 DEMANDS = ("P2", "NB3_9")
 TRUE = {"rough": {1: 20, 2: 50, 4: 30}, "smooth": {1: 15, 2: 30, 3: 25, 4: 15, 5: 10, 6: 5}}
 CASES = [*itertools.product(DEMANDS, TRUE)]
-RECORDS = (5, 10, 19)
+RECORDS = (5, 10, 20)
 METHODS = ("empirical", "auto")
 SETTINGS = [*itertools.product(COVERS, BACKLOGS)]
 

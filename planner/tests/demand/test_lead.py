@@ -74,6 +74,7 @@ def test_notes() -> None:
     """A note says what the kernel moves."""
     assert notes_of(fit_lead([2, 3]), "lead") == []
     law = fit_lead([2, 3, 2, 4], method="auto")
+    assert "lead: by a study, a policy chosen after few" in notes_of(fit_lead([3], method="auto"), "lead")[0]
     side = f"{law.diagnostics['side']:.1%}"
     assert notes_of(law, "lead")[0] == (
         f"lead: of each of the 4 lead times seen, {side} count one period earlier, and as much one later")

@@ -24,10 +24,13 @@ def _figures(title: str, figures: Mapping[str, Any]) -> str:
 
 
 def _lead_lines(law: Law) -> Iterator[str]:
-    """Returns the line about the blur of lead times."""
+    """Returns the lines about the blur of lead times, and about what a short record costs."""
     its = law.diagnostics
-    yield (f"of each of the {its['observed']} lead times seen, {its['side']:.1%} count one period earlier, and as much "
-           "one later")
+    if its["side"]:
+        yield (f"of each of the {its['observed']} lead times seen, {its['side']:.1%} count one period earlier, and as "
+               "much one later")
+    costs = ", ".join(f"{least:g} to {most:g}% after {count}" for count, (least, most) in its["doubt"].items())
+    yield f"by a study, a policy chosen after few lead times costs more than the best: {costs}"
 
 
 def _demand_lines(law: Law) -> Iterator[str]:
