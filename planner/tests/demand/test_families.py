@@ -202,6 +202,15 @@ def test_guards_shares() -> None:
     assert shares == guard.shares_of(Sample.of(data), law)
 
 
+def test_ties() -> None:
+    """Drawn histories with the counts of the real one are as far as it is."""
+    shares = guard.shares_of(Sample.of([0, 1] * 13), np.array([0.5, 0.5]))
+    assert shares.as_far == 1 and shares.as_much < 0.4 and shares.as_little == 1
+    one = guard.shares_of(Sample.of([0] * 9 + [1]), np.array([0.7, 0.3]))
+    exact = stats.binom(10, 0.3)  # as far are 0, 1 and 5 or more of ten
+    assert one.as_far == pytest.approx(exact.cdf(1) + exact.sf(4), abs=0.1)
+
+
 def test_guard_of_the_largest() -> None:
     """The chances of the largest demand are those of drawn histories, and a bounded law is not taken for one with a
     tail."""

@@ -14,7 +14,7 @@ from .families import Floats, Sample
 
 TIMES = 199
 SEED = 1
-ROUNDING = 1e-12
+ROUNDING = 1e-9  # Histories with the same counts are as far, however their sums are rounded.
 
 
 class Shares(NamedTuple):
@@ -62,8 +62,8 @@ def shares_of(sample: Sample, chances: Floats) -> Shares:
         """Returns a share in which the history itself counts."""
         return float((count + 1) / (TIMES + 1))
     return Shares(share((variances >= sample.variance * (1 - ROUNDING)).sum()),
-                  share((variances <= sample.variance * (1 + ROUNDING)).sum()), share((far[:-1] >= far[-1]).sum()),
-                  *largest(sample, law))
+                  share((variances <= sample.variance * (1 + ROUNDING)).sum()),
+                  share((far[:-1] >= far[-1] * (1 - ROUNDING)).sum()), *largest(sample, law))
 
 
 def largest(sample: Sample, law: Floats) -> tuple[float, float]:
