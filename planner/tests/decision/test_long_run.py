@@ -161,6 +161,11 @@ def test_run_for_a_horizon(crnplan: Command, room: Path, program: Path) -> None:
     wanted = PART.changed(periods=12, initial=3).run(program=program).text
     assert found == (0, wanted, "the coming 12 periods from a stock of 3\n")
     assert crnplan("run", "part.toml", "--stock", "25").output == PART.run(program=program).text
+    (room / "near.toml").write_text(PART.changed(periods=12, initial=3).toml())
+    for words in (["sensitivity"], ["check", "more", "--key", "00000000000000a1"]):
+        name, *rest = words
+        near = crnplan(name, "part.toml", *rest, "--horizon", "12", "--stock", "3")
+        assert near == (*crnplan(name, "near.toml", *rest)[:2], "the coming 12 periods from a stock of 3\n")
 
 
 def test_decide_prints_the_long_run(crnplan: Command, room: Path, program: Path) -> None:
@@ -219,6 +224,8 @@ def test_sensitivity_in_the_long_run(crnplan: Command, room: Path, program: Path
 
 @pytest.mark.parametrize("words, message", [
     ("run part.toml --long-run --horizon 5", "--long-run has no --horizon"),
+    ("sensitivity part.toml --long-run --stock 5", "--long-run has no --horizon"),
+    ("check part.toml more --long-run --stock 5", "--long-run has no --horizon"),
     ("run part.toml --keys 5", "--keys and --level are those of --long-run"),
     ("run part.toml --long-run --keys 1", "--keys 1: the long run takes 2 to 256 keys"),
     ("run part.toml --long-run --level 1.5", "--level 1.5: a level is between 0 and 1"),
@@ -228,7 +235,7 @@ def test_sensitivity_in_the_long_run(crnplan: Command, room: Path, program: Path
     ("run part.toml --horizon 2000", "2000 is not from 1 to 1,024"),
     ("decide report.csv --long-run --replications 64", "give --scenario"),
     ("decide report.csv --long-run --scenario part.toml --plot it.svg", "--plot and --map show the report as it is")],
-    ids=lambda it: it.replace(" ", "_") if it.startswith(("run", "decide", "check")) else "")
+    ids=lambda it: it.replace(" ", "_") if it.startswith(("run", "decide", "check", "sens")) else "")
 def test_refusals(words: str, message: str, crnplan: Command, room: Path) -> None:
     (room / "part.toml").write_text(PART.toml())
     found = crnplan(*words.split())

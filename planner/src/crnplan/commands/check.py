@@ -13,7 +13,7 @@ from .. import formats
 from ..decision.keys import check_keys
 from ..decision.verdicts import records_of, table_of
 from ..scenario import Scenario
-from .long_run import print_decision
+from .long_run import horizon_options, print_decision, read_for
 
 
 class Keys(click.Command):
@@ -32,14 +32,14 @@ class Keys(click.Command):
         return super().parse_args(ctx, joined)
 
 
-def check_in_long_run(scenario: str, best: str, form: str | None, replications: int, out: str | None,
+def check_in_long_run(scenario: Scenario, best: str, form: str | None, replications: int, out: str | None,
                       **options: Any) -> int:
     """Checks in the long run, and returns the exit status."""
     from ..decision.long_run import check_long_run
     context = click.get_current_context()
     if out is not None or context.get_parameter_source("replications") == ParameterSource.COMMANDLINE:
         raise click.UsageError("--long-run has no --replications and no --out: more keys give more", context)
-    found = check_long_run(Scenario.read(scenario), best, **options)
+    found = check_long_run(scenario, best, **options)
     if form == "csv":
         print_decision(found.decision, form)
         print(found.sentence, end="", file=sys.stderr)
@@ -58,14 +58,14 @@ def check_in_long_run(scenario: str, best: str, form: str | None, replications: 
 @click.option("--keys", "count", type=int, metavar="N", help="How many keys, up to 64.")
 @click.option("--replications", type=int, default=formats.MOST_REPLICATIONS, metavar="R", show_default=True,
               help="For each key.")
-@click.option("--long-run", is_flag=True, help="Compare costs of the long run, without the effect of the start.")
+@horizon_options
 @click.option("--level", type=float, default=0.95, show_default=True, help="The joint level of the intervals.")
 @click.option("--program", metavar="PATH", help="The program crnsim.")
 @click.option("--out", metavar="FOLDER", help="Keep the scenarios and reports here.")
 @click.option("--csv", "form", flag_value="csv", help="Print the table as CSV.")
 @click.option("--json", "form", flag_value="json", help="Print the check as JSON.")
-def command(scenario: str, best: str, keys: tuple[str, ...], count: int | None, form: str | None, long_run: bool,
-            **options: Any) -> int:
+def command(scenario: str, best: str, keys: tuple[str, ...], count: int | None, form: str | None, horizon: int | None,
+            stock: int | None, long_run: bool, **options: Any) -> int:
     """Check the best policy of a scenario on new histories, against all others. `-` is standard input.
 
     BEST is the name of a policy. It was picked because it did well on the histories of the scenario's own key, so it is
@@ -85,9 +85,10 @@ def command(scenario: str, best: str, keys: tuple[str, ...], count: int | None, 
     report of all replications. FOLDER is new or empty.
     """
     words = [key.split() for key in keys]
+    asked = read_for(scenario, horizon, stock, long_run)
     if long_run:
-        return check_in_long_run(scenario, best, form, keys=words, count=count, **options)
-    found = check_keys(Scenario.read(scenario), best, keys=words, count=count, **options)
+        return check_in_long_run(asked, best, form, keys=words, count=count, **options)
+    found = check_keys(asked, best, keys=words, count=count, **options)
     if form == "csv":
         csv.writer(sys.stdout, lineterminator="\n").writerows(table_of(found.rows))
         print(found.sentence, end="", file=sys.stderr)

@@ -8,7 +8,7 @@ import sys
 import click
 
 from ..decision.sensitivity import sensitivity
-from ..scenario import Scenario
+from .long_run import horizon_options, read_for
 
 
 def spelt(value: str | int | float | None) -> str:
@@ -18,11 +18,12 @@ def spelt(value: str | int | float | None) -> str:
 
 @click.command(epilog="Example: crnplan sensitivity scenario.toml")
 @click.argument("scenario", metavar="SCENARIO.toml")
-@click.option("--long-run", is_flag=True, help="Compare costs of the long run, without the effect of the start.")
+@horizon_options
 @click.option("--program", metavar="PATH", help="The program crnsim.")
 @click.option("--csv", "form", flag_value="csv", help="Print the table as CSV.")
 @click.option("--json", "form", flag_value="json", help="Print the table as JSON.")
-def command(scenario: str, long_run: bool, program: str | None, form: str | None) -> None:
+def command(scenario: str, horizon: int | None, stock: int | None, long_run: bool, program: str | None,
+            form: str | None) -> None:
     """Show how much each policy may cost too much if the scenario is not quite right. `-` is standard input.
 
     The cases are the scenario itself (base); demand 10% up and down; every lead time one period longer; the cost
@@ -39,7 +40,7 @@ def command(scenario: str, long_run: bool, program: str | None, form: str | None
     Regrets are means of one sample, without intervals, and contain the end effect of the cost unit (crnplan decide
     warns of it). With --long-run they are those of the long run, as crnplan run --long-run has it, without unit.
     """
-    found = sensitivity(Scenario.read(scenario), long_run=long_run, program=program)
+    found = sensitivity(read_for(scenario, horizon, stock, long_run), long_run=long_run, program=program)
     records = list(found.records())
     if form == "csv":
         writer = csv.writer(sys.stdout, lineterminator="\n")
