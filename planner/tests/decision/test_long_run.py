@@ -159,13 +159,17 @@ def test_run_for_a_horizon(crnplan: Command, room: Path, program: Path) -> None:
     (room / "part.toml").write_text(PART.toml())
     found = crnplan("run", "part.toml", "--horizon", "12", "--stock", "3")
     wanted = PART.changed(periods=12, initial=3).run(program=program).text
-    assert found == (0, wanted, "the coming 12 periods from a stock of 3\n")
+    says = "The coming 12 periods from a stock of 3\n"
+    assert found == (0, wanted, says)
     assert crnplan("run", "part.toml", "--stock", "25").output == PART.run(program=program).text
     (room / "near.toml").write_text(PART.changed(periods=12, initial=3).toml())
     for words in (["sensitivity"], ["check", "more", "--key", "00000000000000a1"]):
         name, *rest = words
         near = crnplan(name, "part.toml", *rest, "--horizon", "12", "--stock", "3")
-        assert near == (*crnplan(name, "near.toml", *rest)[:2], "the coming 12 periods from a stock of 3\n")
+        wanted = crnplan(name, "near.toml", *rest)
+        assert near == (wanted.status, f"{says}\n{wanted.output}", "")
+        table = crnplan(name, "part.toml", *rest, "--horizon", "12", "--stock", "3", "--json")
+        assert table == (wanted.status, crnplan(name, "near.toml", *rest, "--json").output, says)
 
 
 def test_decide_prints_the_long_run(crnplan: Command, room: Path, program: Path) -> None:

@@ -28,8 +28,9 @@ def horizon_options(command: Command) -> Command:
     return command
 
 
-def read_for(path: str, horizon: int | None, stock: int | None, long_run: bool) -> Scenario:
-    """Reads a scenario for its horizon. If that is named by periods or stock, a line on standard error says it."""
+def read_for(path: str, horizon: int | None, stock: int | None, long_run: bool, above: bool) -> Scenario:
+    """Reads a scenario for its horizon. If that is named by periods or stock, a line says it: `above` a table for a
+    reader, else on standard error."""
     if long_run and (horizon, stock) != (None, None):
         raise click.UsageError("--long-run has no --horizon and no --stock: give one or the other",
                                click.get_current_context())
@@ -38,7 +39,8 @@ def read_for(path: str, horizon: int | None, stock: int | None, long_run: bool) 
         return scenario
     asked = scenario.changed(periods=scenario.periods if horizon is None else horizon,
                              initial=scenario.initial if stock is None else stock)
-    print(f"the coming {asked.periods:,} periods from a stock of {asked.initial:,}", file=sys.stderr)
+    print(f"The coming {asked.periods:,} periods from a stock of {asked.initial:,}" + "\n" * above,
+          file=sys.stdout if above else sys.stderr)
     return asked
 
 

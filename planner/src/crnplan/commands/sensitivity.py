@@ -40,7 +40,8 @@ def command(scenario: str, horizon: int | None, stock: int | None, long_run: boo
     Regrets are means of one sample, without intervals, and contain the end effect of the cost unit (crnplan decide
     warns of it). With --long-run they are those of the long run, as crnplan run --long-run has it, without unit.
     """
-    found = sensitivity(read_for(scenario, horizon, stock, long_run), long_run=long_run, program=program)
+    asked = read_for(scenario, horizon, stock, long_run, above=form is None)
+    found = sensitivity(asked, long_run=long_run, program=program)
     records = list(found.records())
     if form == "csv":
         writer = csv.writer(sys.stdout, lineterminator="\n")
