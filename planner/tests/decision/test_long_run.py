@@ -122,7 +122,8 @@ def test_disagreement_with_theory_is_said(report: LongRunReport, monkeypatch: py
     assert warning.startswith("crnsim and theory differ by more than chance allows for ")
     theory.exact = False
     coarse = long_run_decision(report)
-    assert coarse.warnings == () and coarse.theory == "rounded to steps of 1 items"
+    assert coarse.warnings == ()
+    assert coarse.theory == "rounded to steps of 1 items, so not compared with the intervals"
 
 
 def test_runs_without_theory(report: LongRunReport, monkeypatch: pytest.MonkeyPatch) -> None:

@@ -33,9 +33,9 @@ if TYPE_CHECKING:
     import pandas as pd
 
 FEWEST_ORDERS = 2
-# An effect of the start above so many standard errors makes intervals too rare to hold: measured, 94% hold below.
+# In standard errors of a difference. Measured: with smaller effects 94% of uncorrected 95% intervals hold.
 MOST_EFFECT = 0.25
-# Theory is said to disagree if chance alone does so once in so many tables.
+# Runs and theory are said to differ if chance alone lets them differ so much in this share of tables.
 CHANCE_OF_ALARM = 0.001
 
 
@@ -208,7 +208,8 @@ def long_run_decision(report: LongRunReport, level: float = 0.95) -> LongRunDeci
     warnings, costs = [*table.without()], None
     try:
         theory = theory_of(report.scenario)
-        costs, said = [theory.figures(it.s, it.S).cost for it in report.scenario.policies], exactness(theory)
+        costs = [theory.figures(it.s, it.S).cost for it in report.scenario.policies]
+        said = exactness(theory) + ", so not compared with the intervals" * (not theory.exact)
         off = table.disagreeing(costs) if theory.exact else []
         if off:
             warnings.append(f"crnsim and theory differ by more than chance allows for {named(off, MOST_ROWS)}: one of "
@@ -243,8 +244,9 @@ def corrected_decision(rows: Sequence[Row], scenario: Scenario, level: float = 0
     found = (table.row(place, bias.costs, effect) for place, effect in enumerate(effects))
     title = (f"from a common stock of {scenario.initial:,} over {periods:,} periods, less the bias of that start by "
              "theory, which so is no check of it")
+    said = bias.exactness + ", and so is the bias of the start" * (not bias.theory.exact)
     return LongRunDecision(tuple(sorted(found, key=lambda it: it.diff)), rows[0].policy, replications, level, title,
-                           bias.exactness, tuple(warnings))
+                           said, tuple(warnings))
 
 
 @dataclass(frozen=True)
