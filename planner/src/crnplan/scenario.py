@@ -157,7 +157,7 @@ class Scenario:
         """
         costs, scale = scaled_costs({"setup": setup, "unit": unit, "holding": holding, "backlog": backlog})
         low, high = _levels(today, "today")
-        tree = {"version": 1 if returns is None else 2, "key": _key_words(key), "periods": whole(periods, "periods"),
+        tree = {"version": 1 if returns is None else 2, "key": key_words(key), "periods": whole(periods, "periods"),
                 "replications": whole(replications, "replications"),
                 "initial": (low + high) // 2 if initial is None else whole(initial, "initial"),
                 "ring": formats.RING_SIZES[-1],
@@ -182,7 +182,7 @@ class Scenario:
             elif name in formats.DRAWS:
                 tree[name] = None if value is None else _table(value, name).tree
             elif name == "key":
-                tree["key"] = _key_words(value)
+                tree["key"] = key_words(value)
             elif name in formats.LIMITS[""] or name == "version":
                 tree[name] = whole(value, name)
             else:
@@ -235,7 +235,7 @@ class Scenario:
         return long_run_of(self if policies is None else self._with_base(policies), keys, program)
 
 
-def _key_words(key: str | Sequence[str]) -> list[str]:
+def key_words(key: str | Sequence[str]) -> list[str]:
     """Returns the four words of a key. They follow from a text by SHA-256."""
     if not isinstance(key, str):
         return list(key)

@@ -14,7 +14,6 @@ long run it adds unit times the mean net demand to every policy.
 """
 from __future__ import annotations
 
-import hashlib
 from collections.abc import Sequence
 from dataclasses import dataclass, replace
 from fractions import Fraction
@@ -27,7 +26,7 @@ from .. import formats
 from ..document.reading import checked_tree
 from ..document.writing import plain_text
 from ..errors import ProgramError, Refused
-from ..scenario import Costs, Scenario, Table
+from ..scenario import Costs, Scenario, Table, key_words
 from .checkpoints import MOST_STOCK, PERIODS_OF_BLOCK, State, checkpoint_text, resume_all
 from .keys import Key
 from .pooling import Sums, pooled_row
@@ -119,9 +118,7 @@ class LongRunReport:
 
 def keys_of(key: Sequence[str], count: int) -> list[Key]:
     """Returns the keys that follow from a scenario's key. All words of one follow from all words of the other."""
-    width, digits = formats.DIGITS_OF_WORD, formats.DIGITS_OF_WORD * formats.WORDS_OF_KEY
-    texts = (hashlib.sha256(f"long run {number} {' '.join(key)}".encode()).hexdigest() for number in range(count))
-    return [tuple(text[place:place + width] for place in range(0, digits, width)) for text in texts]
+    return [tuple(key_words(f"long run {number} {' '.join(key)}")) for number in range(count)]
 
 
 def starts_of(scenario: Scenario, keys: Words) -> Whole:
