@@ -222,6 +222,11 @@ def long_run_decision(report: LongRunReport, level: float = 0.95) -> LongRunDeci
     return LongRunDecision(tuple(rows), report.rows[0].policy, report.keys, level, title, said, tuple(warnings))
 
 
+def with_strong_effect(rows: Iterable[LongRunRow]) -> Iterable[str]:
+    """Yields the policies for which a report is not on the long run: the start counts too much for its intervals."""
+    return (it.policy for it in rows if it.effect is not None and abs(it.effect) > MOST_EFFECT)
+
+
 def corrected_decision(rows: Sequence[Row], scenario: Scenario, level: float = 0.95) -> LongRunDecision:
     """Compares the policies of a report in the long run: theory's bias of the common start is taken out.
 
@@ -236,12 +241,12 @@ def corrected_decision(rows: Sequence[Row], scenario: Scenario, level: float = 0
     orders = [bias.theory.figures(it.s, it.S).orders * periods * replications for it in rows]
     table = _Table(rows, (replications, periods), level, shifts, orders)
     effects = [(shift - shifts[0]) / error if error else None for shift, error in zip(shifts, table.errors)]
-    strong = [row.policy for row, it in zip(rows, effects) if it is not None and abs(it) > MOST_EFFECT]
+    found = [table.row(place, bias.costs, effect) for place, effect in enumerate(effects)]
+    strong = list(with_strong_effect(found))
     warnings = [*table.without()]
     if strong:
         warnings.append(f"without this correction the start counts too much for {named(strong, MOST_ROWS)}: its effect "
                         f"is above {MOST_EFFECT} standard errors")
-    found = (table.row(place, bias.costs, effect) for place, effect in enumerate(effects))
     title = (f"from a common stock of {scenario.initial:,} over {periods:,} periods, less the bias of that start by "
              "theory, which so is no check of it")
     said = bias.exactness + ", and so is the bias of the start" * (not bias.theory.exact)
