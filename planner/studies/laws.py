@@ -240,7 +240,8 @@ def study(laws: Iterable[str], periods: Iterable[int], histories: int, methods: 
 def summary(rows: pd.DataFrame) -> pd.DataFrame:
     """Returns the means over the laws of a group, and the law on which a method loses most against `empirical`."""
     lines = []
-    for (group, periods, method), its in rows.groupby(["group", "periods", "method"], sort=False):
+    groups = rows.reset_index(drop=True).groupby(["group", "periods", "method"], sort=False)
+    for (group, periods, method), its in groups:
         worst = its.loc[its["gain"].idxmin()]
         errors = {f"{it}_error": math.sqrt((its[f"{it}_error"]**2).sum()) / len(its) for it in FIGURES}
         lines.append({"group": group, "periods": periods, "method": method, **its[FIGURES].mean(), **errors,

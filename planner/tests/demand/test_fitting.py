@@ -110,9 +110,11 @@ def test_auto(numbers: list[int]) -> None:
     assert cap == math.ceil(times * max(numbers))
 
 
-@given(numbers=st.lists(st.integers(0, 6), min_size=20, max_size=60), mean=st.floats(0.5, 6))
-def test_share_of_the_law(numbers: list[int], mean: float) -> None:
+@settings(max_examples=200, deadline=None)
+@given(seed=st.integers(0, 10**6), size=st.integers(20, 80), mean=st.floats(2, 5))
+def test_share_of_the_law(seed: int, size: int, mean: float) -> None:
     """The share has the greatest Dirichlet-multinomial likelihood, as the sums over its urn have it."""
+    numbers = np.random.default_rng(seed).poisson(3, size).tolist()
     sample, base = Sample.of(numbers), stats.poisson.pmf(np.arange(30), mean)
 
     def likelihood(periods: float) -> float:

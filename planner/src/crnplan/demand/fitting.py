@@ -24,7 +24,7 @@ FAMILIES = ("poisson", "negative-binomial", "hurdle-geometric", "hurdle-poisson"
             "hurdle-lognormal")
 METHODS = ("auto", "predictive", "empirical", *FAMILIES)
 
-SHARES = (0.95, 0.99, 0.999)  # of the quantiles that are said
+QUANTILES = (0.95, 0.99, 0.999)
 DEMANDS_OF_CAP = 300
 LEAST_TIMES, MOST_TIMES = 2.0, 3.0  # the cap of `auto`, in largest demands seen
 WORSE = 10.0  # in BIC: families further behind the best are not looked at
@@ -128,9 +128,9 @@ def figures_of(values: Sequence[int], weights: Sequence[int]) -> dict[str, Any]:
     shares = np.array(weights) / sum(weights)
     mean = float(shares @ values)
     below = np.cumsum(weights)
-    places = [int(np.searchsorted(below, np.ceil(it * below[-1] - 1e-6))) for it in SHARES]
+    places = [int(np.searchsorted(below, np.ceil(it * below[-1] - 1e-6))) for it in QUANTILES]
     return {"mean": mean, "variance": float(shares @ (np.array(values) - mean)**2), "most": values[-1],
-            "quantiles": {share: values[place] for share, place in zip(SHARES, places)}}
+            "quantiles": {share: values[place] for share, place in zip(QUANTILES, places)}}
 
 
 def fields_of(values: Sequence[int], weights: Sequence[int], family: str, numbers: Sequence[int],
