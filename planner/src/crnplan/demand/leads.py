@@ -17,7 +17,7 @@ LEAST_LEADS = 2  # one lead time is what a supplier says, not a sample
 SIDES = [(cell + 0.5) / 100 for cell in range(30)]  # the shares that the kernel may move to each neighbour
 # How much dearer than the best policy the chosen one is after so many lead times, in percent, if the demand is known:
 # the least and the most of the cases of the study planner/studies/laws_leads.py.
-DOUBT = {5: (1.7, 5.2), 10: (1.2, 2.9), 20: (0.6, 1.4)}
+DOUBT = {5: (2.3, 4.4), 10: (1.0, 3.0), 20: (0.5, 1.9)}
 ELSEWHERE = 0.05  # the chance, in the fit of the kernel, that a lead time is like none that was seen
 
 
