@@ -184,7 +184,8 @@ def fit_demand(observed: Observed | Iterable[Any], *, method: str = "empirical",
 
     - `empirical`: each value counts as often as it was seen.
     - `predictive`: the posterior predictive law of the family with the least BIC of those whose drawn histories look
-      like this one; what was seen, if there is none.
+      like this one; what was seen, if there is none. Its promised costs are nearest to the true ones. But if large
+      demands are bounded, it orders far too much (the study planner/studies/laws.py: `hump`, `rare-bulk`).
     - `auto`: the mixture of such laws by the likelihood of their families, without demands above two to three times
       the largest one seen. It is mixed with what was seen too, if that speaks against it.
     - the name of a family (`FAMILIES`): its posterior predictive law, whether it fits or not.
