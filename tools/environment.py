@@ -78,6 +78,8 @@ def wrong(prefix):
         return f"make its Python is {sys.version.split()[0]}, and crnplan requires 3.11"
     if prefix is not None and sys.base_prefix != prefix:
         return f"make it is made from the Python of {sys.base_prefix}"
+    if any(os.path.islink(f"{at}/{it}") for at, *inside in os.walk(sys.prefix) for it in sum(inside, [])):
+        return "make it has a link, for which rt refuses the repository"
     if not is_of_here("activate"):
         return "make it was made at another place"
     import tomllib

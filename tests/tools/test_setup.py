@@ -19,7 +19,7 @@ DONE = "tools/setup: done\n"
 MAKING = "tools/setup: making .venv from /usr/bin/python3 and its libraries, since {}\n"
 INSTALLING = "tools/setup: installing crnplan in .venv, since {}\n"
 MADE = MAKING.format("there is none") + INSTALLING.format("there is none") + DONE
-PIP = "python3 -m venv .venv && .venv/bin/pip install -e 'planner[cluster,test]'"
+PIP = "python3 -m venv --copies .venv && .venv/bin/pip install -e 'planner[cluster,test]' && rm -f .venv/lib64"
 OPTIONS = "apt-get -q -y -o DPkg::Lock::Timeout=900 -o APT::Update::Error-Mode=any"
 UPDATE = f"{OPTIONS} update"
 INSTALL = f"{OPTIONS} install --no-install-recommends"
@@ -204,6 +204,8 @@ STALE: dict[str, tuple[Callable[[Path], object], str]] = {
                                   "make no-such-library is missing"),
     "without the system's": (lambda it: changed(it / ".venv/pyvenv.cfg", "packages = true", "packages = false"),
                              "make [a-z-]+ is missing"),
+    "a link": (lambda it: (it / ".venv/lib64").symlink_to("lib"),
+               "make it has a link, for which rt refuses the repository"),
     "another place": (lambda it: changed(it / ".venv/bin/activate", "a copy", "a place"),
                       "make it was made at another place")}
 # What makes .venv stale so that its Python does not even run.
