@@ -1,6 +1,6 @@
 """Measures how often 95% intervals of the long run hold the exact saving, over items of a synthetic catalogue.
 
-    python -m planner.studies.long_run            all, in about half an hour
+    python -m planner.studies.long_run            all, in ten minutes: long_run.txt
     python -m planner.studies.long_run --small    a small part
 
 Each item has today's policy and the best by theory. The saving of the long run is exact by theory on the lattice of
