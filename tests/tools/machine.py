@@ -40,7 +40,7 @@ class Machine:
 
     def copy(self, top: Path, *names: str) -> None:
         """Copies files and folders of the repository."""
-        left_out = shutil.ignore_patterns("__pycache__", "*.egg-info", "tests")
+        left_out = shutil.ignore_patterns("__pycache__", "*.egg-info", "tests", ".*")
         for name in names:
             (self.top / name).parent.mkdir(parents=True, exist_ok=True)
             if (top / name).is_dir():
