@@ -202,6 +202,7 @@ def test_notes() -> None:
     assert notes[-1].startswith("demand: law: mean ")
     text = "\n".join(notes_of(fit_demand(PROJECTS, method="auto"), "returns"))
     assert "returns: no family gives back this history, so it stays as it is" in text and ": rejected" in text
+    assert "returns: seen: mean " in text and "returns: law: " not in text
     notes = notes_of(fit_demand([6 * it for it in POISSON], method="poisson"), "demand")
     assert notes[:2] == ["demand: all demands are packs of 6, so packs are fitted", "demand: poisson"]
 

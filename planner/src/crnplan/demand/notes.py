@@ -12,8 +12,8 @@ def notes_of(law: Law, name: str) -> list[str]:
     if "history" not in law.diagnostics:
         return []
     lines = _lead_lines(law) if isinstance(law, LeadLaw) else _demand_lines(law)
-    figures = (_figures(title, its) for title, its in (("seen", law.diagnostics["history"]), ("law", law.diagnostics)))
-    return [f"{name}: {line}" for line in (*lines, *figures)]
+    figures = {"seen": law.diagnostics["history"]} | ({} if law.family == "empirical" else {"law": law.diagnostics})
+    return [f"{name}: {line}" for line in (*lines, *(_figures(title, its) for title, its in figures.items()))]
 
 
 def _figures(title: str, figures: Mapping[str, Any]) -> str:
