@@ -19,6 +19,10 @@ from typing import Any
 import pytest
 from hypothesis import HealthCheck, settings
 
+# Each worker is one processor's work, so the threads of linear algebra would only wait for one another.
+for threads in ("OMP_NUM_THREADS", "OPENBLAS_NUM_THREADS"):
+    os.environ.setdefault(threads, "1")
+
 TOP = Path(__file__).resolve().parent
 PROGRAM = TOP / "crates" / "crnsim" / "out" / "crnsim"
 # The property of a test that stands for so many cases.

@@ -16,6 +16,10 @@ import click
 from .. import __version__
 from ..errors import CrnplanError
 
+# The threads of linear algebra gain nothing here. Beside other work they wait for one another, busily.
+for _threads in ("OMP_NUM_THREADS", "OPENBLAS_NUM_THREADS"):
+    os.environ.setdefault(_threads, "1")
+
 # The subcommands in the order in which a planner meets them, with one line for the list of `--help`.
 COMMANDS = {
     "item": "Plan one item: from a history and settings to a decision.",
