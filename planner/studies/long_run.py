@@ -6,7 +6,7 @@
 Each item has today's policy and the best by theory. The saving of the long run is exact by theory on the lattice of
 single items. Three intervals are compared with it:
 
-- own starts: 48 keys, each policy from a state of its own (`Scenario.long_run`);
+- own starts: 48 keys, a drawn start for each policy (`Scenario.long_run`);
 - one run of 24 replications of 1,024 periods, less the exact bias of the start (`theory.start_bias`);
 - the same run as it is.
 """

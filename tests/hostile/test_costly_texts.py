@@ -21,7 +21,7 @@ from tests.stored import CUTS, stored
 # Seconds and megabytes that a text may take.
 MOST = (1.0, 128.0)
 MOST_OF_TABLES = (5.0, 768.0)
-# Measures a run in a small process of its own, since the system counts for a run what stood in its place before it.
+# Measures a run from a separate small process: the system also counts the memory that a process had before its program.
 COST = Path(__file__).with_name("cost.py")
 RING = {"SIZE": "1024", "READERS": "16", "TOTAL": "65536"}
 GOOD = stored("tests/program/five_periods.toml")

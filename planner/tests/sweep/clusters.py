@@ -1,7 +1,7 @@
 """A Dask cluster of two workers on this machine, for the tests of crnplan sweep with --cluster.
 
-Each process knows its name from its environment, and so does a program that it runs. It has a process group of its own,
-so that it ends together with whatever it has started. Only the loopback is listened on. The processes of the cluster
+Each process reads its name from its environment, which the program that it runs inherits. It leads a process group, so
+it ends together with what it has started. It listens on the loopback interface only. The processes of the cluster
 find a package crnplan that cannot be imported: workers need the program and nothing else.
 """
 from __future__ import annotations

@@ -1,7 +1,7 @@
 """Compares policies in the long run, without the effect of the start, beside the figures of theory.
 
-There are two ways. `Scenario.long_run` starts each policy from a state of its own, and needs no theory: so theory's
-figures beside it are an independent check. A report on runs from one common start is corrected by theory's exact bias
+There are two ways. `Scenario.long_run` draws a start for each policy and uses no theory. Theory's figures beside it are
+therefore an independent check. A report on runs from one common start is corrected by theory's exact bias
 of that start, which moves the intervals and leaves their widths.
 
 Costs leave `unit` out, which adds unit times the mean net demand to every policy. Intervals are those of `intervals`.

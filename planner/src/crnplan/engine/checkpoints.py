@@ -1,6 +1,6 @@
 """Reads and writes checkpoints: the state of a run between two blocks. docs/FORMATS.md defines the text.
 
-A checkpoint need not come from the program. It may give each policy a state of its own, from which `resume` continues.
+A checkpoint need not come from the program. It may give each policy another state, and `resume` continues from there.
 What the program computes from it is exact and proved; this module is not.
 """
 from __future__ import annotations
