@@ -30,12 +30,14 @@ from scipy import stats
 from crnplan.demand import DemandLaw, fit_demand
 from crnplan.theory.ladder import with_more_lows
 from crnplan.theory.laws import Floats, Law, power_of, scaled
+from planner.studies.page import markdown
 
 PERIODS = (26, 52, 104, 208)
 LEADS, COVERS, BACKLOGS = (2, 6), (2, 8), (9, 19, 99)
 SETTINGS = [*itertools.product(LEADS, BACKLOGS, COVERS)]
 METHODS = ("empirical", "predictive", "auto")
 FIGURES = ["regret", "promise", "gain"]
+STORED = Path(__file__).with_name("laws.csv")
 HISTORIES = 60
 SMALL: dict[str, Any] = {"laws": ("NB3_9", "INT"), "periods": (26, 52), "histories": 12}  # of `study`
 
@@ -247,6 +249,19 @@ def summary(rows: pd.DataFrame) -> pd.DataFrame:
         lines.append({"group": group, "periods": periods, "method": method, **its[FIGURES].mean(), **errors,
                       "worst": worst["law"], "worst_gain": worst["gain"], "worst_error": worst["gain_error"]})
     return pd.DataFrame(lines)
+
+
+def tables() -> dict[str, str]:
+    """Returns the stored figures for the page: regret and promise by group, and the worst law of each group."""
+    lines, stored = [], summary(pd.read_csv(STORED))
+    for (group, periods), its in stored.groupby(["group", "periods"], sort=False):
+        by_method = its.set_index("method")
+        cells = {f"{figure}, {method}": f"{by_method[figure][method]:.1f} ± {by_method[f'{figure}_error'][method]:.1f}"
+                 for figure in FIGURES[:2] for method in by_method.index}
+        worst = by_method.loc["auto"]
+        lines.append({"laws": group, "periods": periods, **cells,
+                      "worst law of auto, points": f"{worst['worst_gain']:+.1f} ± {worst['worst_error']:.1f} ({worst['worst']})"})
+    return {"laws": markdown(pd.DataFrame(lines))}
 
 
 @click.command()

@@ -29,6 +29,7 @@ from crnplan.scenario import Scenario
 from crnplan.theory.lattice import theories_of
 from crnplan.theory.long_run import LongRun
 from planner.studies.laws import BACKLOGS, COVERS, DESIGNED
+from planner.studies.page import markdown
 
 DEMANDS = ("P2", "NB3_9")
 TRUE = {"rough": {1: 20, 2: 50, 4: 30}, "smooth": {1: 15, 2: 30, 3: 25, 4: 15, 5: 10, 6: 5}}
@@ -36,6 +37,7 @@ CASES = [*itertools.product(DEMANDS, TRUE)]
 RECORDS = (5, 10, 20)
 METHODS = ("empirical", "auto")
 SETTINGS = [*itertools.product(COVERS, BACKLOGS)]
+STORED = Path(__file__).with_name("laws_leads.csv")
 
 
 def theory_of(demand: str, leads: Mapping[int, int]) -> LongRun:
@@ -91,6 +93,15 @@ def study(records: int, counts: tuple[int, ...] = RECORDS, jobs: int = 1) -> pd.
     work = [(*case, count, records) for case in CASES for count in counts]
     with ProcessPoolExecutor(jobs) as pool:
         return pd.DataFrame([row for rows in pool.map(cell, work) for row in rows])
+
+
+def tables() -> dict[str, str]:
+    """Returns the stored figures for the page: the regret after so many lead times."""
+    cells = pd.read_csv(STORED).set_index(["demand", "leads", "seen", "method"])
+    lines = [{"demand": demand, "lead times": leads,
+              **{f"{method}, after {seen}": "{regret:.1f} ± {regret_error:.1f}".format(**cells.loc[demand, leads, seen, method])
+                 for seen in RECORDS for method in METHODS}} for demand, leads in CASES]
+    return {"lead-times": markdown(pd.DataFrame(lines))}
 
 
 @click.command()

@@ -36,6 +36,7 @@ from crnplan.theory.overtaking import late_amounts
 from crnplan.theory.start_bias import start_bias
 from planner.studies.long_run_items import Item, items_of
 
+STORED = Path(__file__).with_name("long_run.txt")
 SEEDS = (1, 20261126, 48)
 REPLICATIONS = 24
 SMALL = 24  # items
@@ -168,6 +169,11 @@ def outcomes_of(items: Iterable[Item], seed: int, program: Path, jobs: int) -> l
         return [it for it in map(work, items) if it]
     with ProcessPoolExecutor(jobs) as pool:
         return [it for it in pool.map(work, items, chunksize=4) if it]
+
+
+def tables() -> dict[str, str]:
+    """Returns the stored figures for the page."""
+    return {"long-run": f"```text\n{STORED.read_text(encoding='utf-8')}```\n"}
 
 
 @click.command()
