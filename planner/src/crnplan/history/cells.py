@@ -12,7 +12,7 @@ import itertools
 import re
 import sys
 from array import array
-from collections.abc import Iterator, Mapping, Sequence
+from collections.abc import Iterable, Iterator, Mapping, Sequence
 from dataclasses import dataclass, field
 from functools import cached_property
 from pathlib import Path
@@ -130,10 +130,15 @@ class Sheet:
 
     def reject_long(self, row: int) -> Reject:
         """Returns the fault of a row that has more cells than the heading."""
-        sign = "tab" if self.delimiter == "\t" else self.delimiter
-        return Reject(f"there are {self.long[row]} cells, and {len(self.heading)} columns in the heading; put a cell "
-                      f"with a {sign} in quotes, or name each column in the heading", self.name,
-                      *self.place(row, len(self.heading)), self.row_text(row))
+        reason = long_reason(self.long[row], len(self.heading), self.delimiter)
+        return Reject(reason, self.name, *self.place(row, len(self.heading)), self.row_text(row))
+
+
+def long_reason(cells: int, columns: int, delimiter: str) -> str:
+    """Returns what is wrong with a row that has more cells than the heading has columns."""
+    sign = "tab" if delimiter == "\t" else delimiter
+    return (f"there are {cells} cells, and {columns} columns in the heading; put a cell with a {sign} in quotes, or name "
+            "each column in the heading")
 
 
 def place_of(text: str, offset: int) -> tuple[int, int]:
@@ -157,14 +162,18 @@ def read_bytes(path: str | Path) -> tuple[str, bytes]:
     return name, data
 
 
+def encoding_of(data: bytes, stated: str | None) -> str:
+    """Returns the encoding of bytes: that of their byte order mark, else the stated one, else UTF-8."""
+    return next((it for mark, it in MARKS if data.startswith(mark)), stated) or "utf-8"
+
+
 def decoded(name: str, data: bytes, encoding: str | None) -> tuple[str, Fault | None]:
-    """Returns the text of a file. A byte order mark decides the encoding; without one it is the given encoding, or
-    UTF-8.
+    """Returns the text of a file in its encoding: see `encoding_of`.
 
     If nobody has stated the encoding and the bytes are not UTF-8, the text is that of the likely encoding, with a
     fault: so the rest of the file can be checked too. Raises RefusedFaults for other bytes that can't be decoded.
     """
-    known = next((it for mark, it in MARKS if data.startswith(mark)), encoding) or "utf-8"
+    known = encoding_of(data, encoding)
     fault = None
     try:
         text = data.decode(known)
@@ -186,8 +195,16 @@ def decoded(name: str, data: bytes, encoding: str | None) -> tuple[str, Fault | 
 
 
 def raw_rows(name: str, text: str, delimiter: str) -> Iterator[tuple[int, list[str]]]:
-    """Yields the line in which each row begins, and its cells. Raises RefusedFaults for quotes that can't be read."""
-    reader = csv.reader(io.StringIO(text, newline=""), delimiter=delimiter, strict=True, skipinitialspace=True)
+    """Yields the line in which each row of a text begins, and its cells: see `rows_of_lines`."""
+    return rows_of_lines(name, io.StringIO(text, newline=""), delimiter)
+
+
+def rows_of_lines(name: str, lines: Iterable[str], delimiter: str) -> Iterator[tuple[int, list[str]]]:
+    """Yields the line in which each row begins, and its cells. `lines` keep their ends.
+
+    Raises RefusedFaults for quotes that can't be read.
+    """
+    reader = csv.reader(lines, delimiter=delimiter, strict=True, skipinitialspace=True)
     line = 1
     try:
         for texts in reader:

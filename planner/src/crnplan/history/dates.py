@@ -37,6 +37,12 @@ def checked_format(pattern: str) -> str:
     return pattern
 
 
+def bare_date(text: str) -> str | None:
+    """Returns a text without its time of day if it is a date in a usual form, else None."""
+    bare = TIME.sub("", text)
+    return bare if any(form.fullmatch(bare) for form in (ISO, DOTTED, SLASHED)) else None
+
+
 class DateReader:
     """Reads the dates of a file. All its dates together decide whether a date with slashes has the day or the month
     first."""
