@@ -21,7 +21,7 @@ DOUBT = {5: (2.3, 4.4), 10: (1.0, 3.0), 20: (0.5, 1.9)}
 ELSEWHERE = 0.05  # the chance, in the fit of the kernel, that a lead time is like none that was seen
 
 
-def blurred(counts: Mapping[int, int], side: float) -> dict[int, float]:
+def blurred(counts: Mapping[int, float], side: float) -> dict[int, float]:
     """Returns the law that has the share `side` of each lead time one period earlier, and as much one later.
 
     What would be earlier than 1 or later than 32 stays where it is.
@@ -35,8 +35,8 @@ def blurred(counts: Mapping[int, int], side: float) -> dict[int, float]:
     return law
 
 
-def side_of(numbers: Sequence[int]) -> float:
-    """Returns the share that the kernel moves to each neighbour: its mean under leave-one-out likelihoods.
+def sides_of(numbers: Sequence[int]) -> dict[float, float]:
+    """Returns the chances of the shares that the kernel may move to each neighbour, by leave-one-out likelihoods.
 
     Source: Stone, Cross-validatory choice and assessment of statistical predictions, 1974. All shares from 0 to 0.3 are
     as likely beforehand. A lead time may be like none of the others with a small chance, so one outlier decides little.
@@ -48,7 +48,13 @@ def side_of(numbers: Sequence[int]) -> float:
         for side in SIDES:
             chance = blurred(others, side).get(lead, 0.0)
             likelihoods[side] *= ((1 - ELSEWHERE) * chance + ELSEWHERE / MOST_LEAD)**count
-    return sum(side * it for side, it in likelihoods.items()) / sum(likelihoods.values())
+    total = sum(likelihoods.values())
+    return {side: it / total for side, it in likelihoods.items()}
+
+
+def side_of(numbers: Sequence[int]) -> float:
+    """Returns the share that the kernel moves to each neighbour: the mean of `sides_of`."""
+    return sum(side * it for side, it in sides_of(numbers).items())
 
 
 def fit_lead(observed: Observed | Iterable[Any], *, method: str = "empirical") -> LeadLaw:
