@@ -121,7 +121,8 @@ def test_two_keys_are_all_their_replications(part: Path, room: Path, program: Pa
     words = ["--key", KEYS[0], "--key", KEYS[1], "--replications", "5", "--level", "0.85", "--out", "direct"]
     told = crnplan("check", part, "both", *words)
     rows = {row["policy"]: row for row in csv.DictReader((room / "direct/pooled.csv").read_text("utf-8").splitlines())}
-    heading, *lines = (line.split() for line in told.output.splitlines() if line and not line.startswith("--key "))
+    assert told.output.split("\n\n")[1].startswith("The coming 104 periods from a stock of 12")
+    heading, *lines = (line.split() for line in told.output.split("\n\n")[2].splitlines())
     assert list(rows) == ["both", "today", "lower", "smaller"], told.errors
     for name, row in rows.items():
         base, own = costs["both"], costs[name]

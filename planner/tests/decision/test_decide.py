@@ -89,7 +89,7 @@ def test_json_has_the_figures_of_the_table(crnplan: Command) -> None:
     words = ["decide", "examples/case/sweep.csv", "--replications", "64", "--level", "0.9"]
     heading, *rows = csv.reader(crnplan(*words, "--csv").output.splitlines())
     data = json.loads(crnplan(*words, "--json").output)
-    assert [data[it] for it in ("base", "replications", "level", "warning")] == ["today", 64, 0.9, ""]
+    assert [data[it] for it in ("base", "replications", "level", "warnings")] == ["today", 64, 0.9, []]
     for row, record in zip(rows, data["policies"], strict=True):
         assert list(record) == heading
         for text, value in zip(row, record.values()):
@@ -141,9 +141,9 @@ def test_warns_of_end_effects_as_counted(room: Path, program: Path, write_priced
 
 
 def test_does_not_warn_without_unit(crnplan: Command) -> None:
-    """Checks that there is no warning if `unit` is 0."""
+    """Checks that there is no warning of `unit` if that is 0."""
     shown = crnplan("decide", "examples/spare_part.csv", "--scenario", "examples/spare_part.toml")
-    assert shown.status == 0 and "WARNING" not in shown.output + shown.errors
+    assert shown.status == 0 and "unit" not in shown.output + shown.errors
 
 
 def test_warns_without_a_number(room: Path, write_priced: Callable[[str, str], None], crnplan: Command) -> None:

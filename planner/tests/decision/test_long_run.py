@@ -6,6 +6,7 @@ import io
 import json
 import math
 import statistics
+from collections.abc import Sequence
 from dataclasses import replace
 from pathlib import Path
 
@@ -14,9 +15,10 @@ from scipy import stats
 
 from crnplan.decision import long_run
 from crnplan.decision.long_run import (LongRunDecision, LongRunRow, check_long_run, corrected_decision,
-                                       long_run_decision)
+                                       long_run_decision, start_warning)
 from crnplan.decision.sensitivity import sensitivity
 from crnplan.engine.long_run import LongRunReport
+from crnplan.engine.report import Row
 from crnplan.errors import Refused
 from crnplan.scenario import Costs, Policy, Scenario, Table
 from crnplan.theory.lattice import NoTheory
@@ -97,6 +99,60 @@ def test_strong_effects_of_the_start_are_said(program: Path) -> None:
                               "0.25 standard errors",)
 
 
+def effects_of(scenario: Scenario, rows: Sequence[Row]) -> dict[str, float]:
+    """Returns by a chain what the start adds to each difference, in standard errors."""
+    alone = [scenario.with_policies([it]) for it in scenario.policies]
+    biases = [sum(expected(it)) - scenario.periods * by_chain(it)[0] for it in alone]
+    return {row.policy: (bias - biases[0]) / math.sqrt(row.diff_var or 0)
+            for bias, row in zip(biases[1:], rows[1:])}
+
+
+@pytest.mark.parametrize("initial", [25, 9, 3])
+@pytest.mark.parametrize("unit", [0, 5])
+def test_the_start_of_a_report_is_warned_of(initial: int, unit: int, program: Path) -> None:
+    """The warning names the policies for which the effect by a chain is strong. It leaves `unit` out."""
+    asked = replace(PART, initial=initial, costs=replace(PART.costs, unit=unit))
+    rows = asked.run(program=program).rows
+    free = replace(asked, costs=replace(asked.costs, unit=0))
+    strong = [name for name, effect in effects_of(free, rows).items() if abs(effect) > 0.25]
+    warning = start_warning(rows, asked)
+    assert warning == (f"WARNING: these verdicts are on the coming 40 periods from a stock of {initial}, not on the "
+                       "long run.\nBy theory the start adds more than 0.25 standard errors to the difference of "
+                       f"{', '.join(strong)}.\n--long-run takes that out.\n" if strong else "")
+    assert strong or initial != 25
+
+
+def test_no_warning_if_theory_cannot_tell(program: Path, monkeypatch: pytest.MonkeyPatch) -> None:
+    """Nothing is said of the start if theory is not exact or knows nothing, and with nothing to compare."""
+    rows = PART.run(program=program).rows
+    assert start_warning(rows, PART) and not start_warning(rows[:1], PART)
+    assert not start_warning(rows, replace(PART, replications=1))
+    bias = long_run.start_bias(PART)
+    bias.theory.exact = False
+    monkeypatch.setattr(long_run, "start_bias", lambda scenario: bias)
+    assert not start_warning(rows, PART)
+
+    def refuse(scenario: Scenario) -> None:
+        raise NoTheory("too far apart")
+    monkeypatch.setattr(long_run, "start_bias", refuse)
+    assert not start_warning(rows, PART)
+
+
+def test_decide_warns_of_the_start(crnplan: Command, room: Path, program: Path) -> None:
+    free = replace(PART, costs=replace(PART.costs, unit=0))
+    (room / "part.toml").write_text(free.toml())
+    rows = free.run(program=program)
+    (room / "report.csv").write_text(rows.text)
+    warning = start_warning(rows.rows, free)
+    text, table, tree = (crnplan("decide", "report.csv", "--scenario", "part.toml", *it)
+                         for it in ([], ["--csv"], ["--json"]))
+    assert text.output.startswith("The coming 40 periods from a stock of 25\n\npolicy ")
+    assert text.output.endswith(f"\n\n{warning}") and table.errors == warning
+    read = json.loads(tree.output)
+    assert read["warnings"] == [warning] and read["horizon"] == "the coming 40 periods from a stock of 25"
+    assert "WARNING" not in crnplan("decide", "report.csv", "--replications", "64").output
+
+
 @pytest.mark.parametrize("way", ["own starts", "corrected"])
 def test_no_interval_for_fewer_than_two_orders(way: str, program: Path) -> None:
     found = (long_run_decision(SLOW.long_run(keys=2, program=program)) if way == "own starts" else
@@ -168,7 +224,7 @@ def test_run_for_a_horizon(crnplan: Command, room: Path, program: Path) -> None:
         name, *rest = words
         near = crnplan(name, "part.toml", *rest, "--horizon", "12", "--stock", "3")
         wanted = crnplan(name, "near.toml", *rest)
-        assert near == (wanted.status, f"{says}\n{wanted.output}", "")
+        assert near == wanted and f"{says}\n" in near.output and not near.errors
         table = crnplan(name, "part.toml", *rest, "--horizon", "12", "--stock", "3", "--json")
         assert table == (wanted.status, crnplan(name, "near.toml", *rest, "--json").output, says)
 
@@ -224,7 +280,8 @@ def test_sensitivity_in_the_long_run(crnplan: Command, room: Path, program: Path
     assert text == found.text
     assert json.loads(crnplan("sensitivity", "part.toml", "--long-run", "--json").output)["horizon"] == found.horizon
     plain = crnplan("sensitivity", "part.toml").output
-    assert plain.startswith("policy ") and plain != text.split("\n\n", 1)[1]
+    assert plain.startswith("The coming 40 periods from a stock of 25\n\npolicy ")
+    assert plain.split("\n\n", 1)[1] != text.split("\n\n", 1)[1]
 
 
 @pytest.mark.parametrize("words, message", [

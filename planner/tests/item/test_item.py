@@ -12,15 +12,16 @@ from pathlib import Path
 import pytest
 
 from crnplan import Scenario, item
-from crnplan.engine.report import read_rows
-from crnplan.item import steps
+from crnplan.item import comparison, steps
 from planner.tests.conftest import Answer, Command
 
 HERE = Path(__file__).parent
 STEPS = ["tables", "scenario", "suggestions", "run", "decision", "check", "trajectory", "summary"]
 FILES = {"tables.toml", "demand.csv", "notes.txt", "scenario.toml", "suggested.toml", "suggested.txt", "suggested.csv",
-         "report.csv", "decision.txt", "decision.csv", "check.txt", "check.csv", "trajectory.csv", "summary.txt",
-         "summary.html", "state.json"}
+         "decision.txt", "decision.csv", "check.txt", "check.csv", "trajectory.csv", "summary.txt", "summary.html",
+         "state.json"}
+# The line of the settings that asks for a horizon, and the file of the run with it and without.
+HORIZONS = {"horizon = 12\n": "report.csv", "": "long_run.csv"}
 NOTHING = "nothing has changed since the last run; nothing was done"
 Change = Callable[[Path], object]
 Plan = Callable[..., Answer]
@@ -56,11 +57,18 @@ def edit(path: Path, old: str, new: str) -> None:
     path.write_text(text.replace(old, new))
 
 
-def test_from_nothing(room: Path, plan: Plan) -> None:
+@pytest.fixture(params=HORIZONS, ids=["a horizon", "the long run"])
+def horizon(request: pytest.FixtureRequest, room: Path) -> str:
+    """Returns the line of the settings that asks for a horizon: once it is there, once it is not."""
+    edit(room / "settings.toml", "horizon = 12\n", request.param)
+    return str(request.param)
+
+
+def test_from_nothing(room: Path, plan: Plan, horizon: str) -> None:
     """All files are there, and the summary is printed, of one screen."""
     status, output, errors = plan()
     assert status in (0, 1) and errors == f"{room / 'plan'}: done: {', '.join(STEPS)}\n"
-    assert set(bytes_of(room / "plan")) == FILES
+    assert set(bytes_of(room / "plan")) == {*FILES, HORIZONS[horizon]}
     assert output == (room / "plan/summary.txt").read_text()
     assert len(output.splitlines()) <= 24 and max(map(len, output.splitlines())) <= 80
 
@@ -135,6 +143,7 @@ CHANGES: dict[str, tuple[Change, list[str]]] = {
     "the lead times": (setting("[2, 3, 2, 4]", "[2, 3, 2, 5]"), STEPS),
     "a cost": (setting("9.00", "10.00"), STEPS[1:]),
     "the horizon": (setting("horizon = 12", "horizon = 13"), STEPS[1:]),
+    "no horizon": (setting("horizon = 12", ""), STEPS[1:]),
     "a cost that is spelt in another way": (setting("9.00", "9.0"), ["scenario", "summary"]),
     "the level": (setting("key =", "level = 0.9\nkey ="), ["scenario", "decision", "check", "summary"]),
     "the check": (setting("replications = 8", "replications = 9"), ["check", "summary"]),
@@ -159,29 +168,70 @@ def test_a_change_runs_what_depends_on_it(name: str, room: Path, plan: Plan, pro
 
 
 def test_worked_case(top: Path, tmp_path: Path, crnplan: Command, program: Path) -> None:
-    """The worked case's settings give its suggestions, its report and its check."""
+    """The worked case's settings give its suggestions, its decision in the long run and its check."""
     case, out = top / "examples/case", tmp_path / "plan"
     words = ["item", case / "history.csv", case / "settings.toml", "--out", out, "--program", program]
     status, output, _ = crnplan(*words)
     assert status == 0
-    for name in ("suggested.txt", "check.txt"):
-        assert (out / name).read_text() == (case / name).read_text()
-    wanted = Scenario.read(case / "suggested.toml")
-    assert Scenario.read(out / "suggested.toml") == wanted
-    assert (out / "report.csv").read_text() == wanted.run(program=program).text
-    told = crnplan("decide", out / "report.csv", "--scenario", out / "suggested.toml")
-    assert told.output == (out / "decision.txt").read_text()
-    assert output.startswith("Below 12, order up to 30: cheaper than today's policy (15, 30)\n")
+    for name in ("suggested.txt", "decision.txt", "check.txt"):
+        stored = "long_run.txt" if name == "decision.txt" else name
+        assert (out / name).read_text() == (case / stored).read_text()
+    assert Scenario.read(out / "suggested.toml").policies == Scenario.read(case / "suggested.toml").policies
     assert "best holds" in output
 
 
-def test_decimals_are_scaled(room: Path, plan: Plan) -> None:
+def test_a_horizon_is_that_of_the_commands(room: Path, plan: Plan, crnplan: Command, program: Path) -> None:
+    """With a horizon the report, the decision and the check are those of crnsim, decide and check."""
+    plan()
+    out = room / "plan"
+    wanted = Scenario.read(out / "suggested.toml")
+    assert (wanted.periods, wanted.initial, wanted.replications) == (12, 20, 4)
+    assert (out / "report.csv").read_text() == wanted.run(program=program).text
+    told = crnplan("decide", out / "report.csv", "--scenario", out / "suggested.toml")
+    assert told.output == (out / "decision.txt").read_text()
+    text = (out / "check.txt").read_text()
+    words = next(it for it in text.splitlines() if it.startswith("--key")).split()
+    told = crnplan("check", out / "suggested.toml", "best", *words, "--replications", "8", "--program", program)
+    assert told.output == text and "\n\nThe coming 12 periods from a stock of 20\n\n" in text
+
+
+def test_the_long_run_is_that_of_the_commands(room: Path, plan: Plan, crnplan: Command, program: Path) -> None:
+    """Without a horizon the decision and the check are those of run and check with --long-run. The costs of each key
+    are kept."""
+    edit(room / "settings.toml", "horizon = 12\n", "")
+    edit(room / "settings.toml", "replications = 8\n", "keys = 2\nreplications = 48\n")
+    plan()
+    out = room / "plan"
+    scenario = Scenario.read(out / "suggested.toml")
+    report = scenario.long_run(keys=4, program=program)
+    rows = [row.split(",") for row in (out / "long_run.csv").read_text().splitlines()]
+    assert rows[0] == ["policy", "s", "S", "periods", "orders", "cost_1", "cost_2", "cost_3", "cost_4"]
+    assert [tuple(map(int, row[5:])) for row in rows[1:]] == [*zip(*report.costs)]
+    told = crnplan("run", out / "suggested.toml", "--long-run", "--keys", "4", "--program", program)
+    assert told.output == (out / "decision.txt").read_text() and told.output.startswith("The long run\n\n")
+    text = (out / "check.txt").read_text()
+    words = [word for it in text.splitlines() if it.startswith("--key") for word in it.split()]
+    told = crnplan("check", out / "suggested.toml", "best", *words, "--long-run", "--program", program)
+    assert told.output == text and "\nreplications: 96, " in text
+    summary = (out / "summary.txt").read_text().replace("\n", " ")
+    assert "In the long run, 4 keys: best costs " in summary and "On new random numbers (96 keys)" in summary
+
+
+def test_few_orders_are_kept(program: Path) -> None:
+    """The costs of the long run are read again as they were, with the orders of policies that place few."""
+    slow = Scenario.of({0: 60_000, 1: 1}, [1], setup=40, holding=3, backlog=9, today=(1, 9), key="slow")
+    report = slow.long_run([(2, 12)], keys=2, program=program)
+    assert all(it is not None for it in report.orders)
+    assert comparison.report_of_costs(comparison.costs_text(report), report.scenario) == report
+
+
+def test_decimals_are_scaled(room: Path, plan: Plan, horizon: str) -> None:
     """Costs of 0.60 and 6 give the same decision, in tenths and in units of money."""
     plan()
     text = (room / "settings.toml").read_text()
     (room / "settings.toml").write_text(text.replace("45.00", "450").replace("0.60", "6").replace("9.00", "90"))
     plan("whole")
-    for name in ("report.csv", "decision.csv", "check.csv"):
+    for name in (HORIZONS[horizon], "decision.csv", "check.csv"):
         assert (room / "plan" / name).read_text() == (room / "whole" / name).read_text()
     tenth, whole = (next(line.split() for line in (room / it / "summary.txt").read_text().splitlines()
                          if line.startswith("today ")) for it in ("plan", "whole"))
@@ -288,7 +338,7 @@ class Page(HTMLParser):
         self.texts.append(data)
 
 
-def test_page_stands_alone(room: Path, plan: Plan) -> None:
+def test_page_stands_alone(room: Path, plan: Plan, horizon: str) -> None:
     """The page is closed in itself, links to nothing, and has the summary's words and all policies."""
     plan()
     text = (room / "plan/summary.html").read_text()
@@ -296,11 +346,13 @@ def test_page_stands_alone(room: Path, plan: Plan) -> None:
     assert not page.open and not page.links and "http" not in text and "url(" not in text and "<script" not in text
     words = " ".join(" ".join(page.texts).split())
     summary = " ".join((room / "plan/summary.txt").read_text().split())
-    parts = r"^(Below .*?) (history.csv: .*?) policy s S .* (The coming .*?[.]) (On new .*?[.]) Long run, fill"
+    parts = r"^(Below .*?) (history.csv: .*?) policy s S .* ((?:Over the|In the long run).*?[.]) (On new .*?[.]) "
     told = re.search(parts, summary)
     assert told and all(part in words for part in told.groups())
-    for row in read_rows((room / "plan/report.csv").read_text()):
-        assert words.count(f" {row.policy} ") >= 3
+    for policy in Scenario.read(room / "plan/suggested.toml").policies:
+        assert words.count(f" {policy.name} ") >= 3
+    says = f"today's policy, {'over the coming 12 weeks from a stock of 20' if horizon else 'in the long run'}"
+    assert f"Cost compared with {says}" in words
     counts = [row.split(",")[1] for row in (room / "plan/demand.csv").read_text().splitlines()[1:]]
     assert text.count('class="bar"') == len(counts) - counts.count("0")
 

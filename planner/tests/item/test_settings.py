@@ -42,7 +42,10 @@ FAULTS = {
     "a level out of range": ("S = 30", "S = 2000000", "S = 2", "2000000 is not from 0 to 1,000,000"),
     "a stock below 0": ("stock = 20", "stock = -1", "stock", "-1 is not from 0 to 1,000,000"),
     "s above S": ("s = 15", "s = 31", "s = 31", "s = 31 is above S = 30; interchange them, or raise S"),
-    "no horizon": ("horizon = 12", "horizon = 0", "horizon", "0 is not from 1 to 1,024"),
+    "no horizon": ("horizon = 12", "horizon = 0", "horizon",
+        "0 is not from 1 to 1,024; write one that is, or remove this line for the long run"),
+    "a horizon in words": ("horizon = 12", 'horizon = "long run"', "horizon",
+        "write a whole number, as 60, or remove this line for the long run"),
     "one replication": ("replications = 4", "replications = 1", "replications = 1", "1 is not from 2 to 256"),
     "a key of three words": ('key = "a text"', 'key = ["0000000000000000", "1", "2"]', "key",
         "write four texts of 16 digits"),
@@ -125,6 +128,15 @@ def test_no_document(tmp_path: Path) -> None:
     fault, = refused(tmp_path / "settings.toml", GOOD.replace("45.00", "45,00"))
     assert fault.line == GOOD[:GOOD.index("45.00")].count("\n") + 1
     assert fault.what.startswith("this is no TOML document: ")
+
+
+@pytest.mark.parametrize("horizon, run, check", [("horizon = 30", 64, 256), ("", 48, 48)])
+def test_sizes_by_horizon(tmp_path: Path, horizon: str, run: int, check: int) -> None:
+    """Without a horizon the settings are on the long run. The samples are larger with one, if none is given."""
+    text = re.sub("replications = .*", "", GOOD.replace("horizon = 12", horizon))
+    (tmp_path / "settings.toml").write_text(text)
+    read = read_settings(tmp_path / "settings.toml")
+    assert (read.is_long_run, read["run"]["replications"], read["check"]["replications"]) == (not horizon, run, check)
 
 
 def test_empty_document(tmp_path: Path) -> None:

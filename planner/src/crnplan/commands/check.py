@@ -85,7 +85,7 @@ def command(scenario: str, best: str, keys: tuple[str, ...], count: int | None, 
     report of all replications. FOLDER is new or empty.
     """
     words = [key.split() for key in keys]
-    asked = read_for(scenario, horizon, stock, long_run, above=form is None)
+    asked = read_for(scenario, horizon, stock, long_run, is_table=form is None)
     if long_run:
         return check_in_long_run(asked, best, form, keys=words, count=count, **options)
     found = check_keys(asked, best, keys=words, count=count, **options)

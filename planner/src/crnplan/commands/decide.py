@@ -12,7 +12,8 @@ import click
 
 from ..decision.intervals import Compared, with_intervals
 from ..decision.reports import check_policies, read_report
-from ..decision.verdicts import MOST_ROWS, decision_text, end_warning, listed, records_of, table_of, table_text
+from ..decision.verdicts import (MOST_ROWS, decision_text, heading_of, horizon_of, listed, records_of, table_of,
+                                 table_text)
 from ..engine.report import Row
 from ..errors import Refused
 from ..report.pictures import picture_path
@@ -32,14 +33,15 @@ def pictures(rows: Sequence[Compared], base: Row, sample: tuple[int, int, float]
         draw_map(pyplot, rows, base, of_costs)
 
 
-def print_text(rows: Sequence[Compared], head: dict[str, Any], every: bool, warning: str) -> None:
-    """Prints the table, what is left out of it, the decision and the warning."""
+def print_text(rows: Sequence[Compared], head: dict[str, Any], every: bool, heading: str,
+               warnings: Sequence[str]) -> None:
+    """Prints the heading, the table, what is left out of it, the decision and the warnings."""
     shown = listed(rows, every)
-    print(table_text(shown), end="")
+    print(heading + table_text(shown), end="")
     if len(shown) < len(rows):
         print(f"{len(rows) - len(shown)} more policies are not listed; --all lists them")
     print(decision_text(rows, **head, most_names=len(rows) if every else MOST_ROWS), end="")
-    print(f"\n{warning}" if warning else "", end="")
+    print("".join(f"\n{it}" for it in warnings), end="")
 
 
 def replications_of(asked: int | None, scenario: Scenario | None, name: str | None) -> int:
@@ -75,14 +77,18 @@ def command(report: str, scenario_path: str | None, sweep: bool, replications: i
     together. The policies are ranked by diff_total. At most 20 are listed, the base always.
 
     The number of replications comes from the scenario or from --replications. The report must have the scenario's
-    policies: the same names, s and S in the same order. With --sweep only the first one is compared. With the scenario,
-    a warning says how much the cost unit favours policies that end a replication with little stock.
+    policies: the same names, s and S in the same order. With --sweep only the first one is compared.
 
-    A report is on the coming periods from the stock initial of its scenario. With --long-run the decision is on the
-    long run, in costs of a period: by theory, what the start adds to the expected costs is taken out. That moves the
-    intervals and leaves their widths. The column effect says how much it was, in standard errors. There is no interval
-    if the rarer policy places fewer than two orders in all replications. unit is left out, since it adds the same to
-    each policy in the long run. crnplan run --long-run needs no theory, and takes longer.
+    A report is on the coming periods from the stock initial of its scenario. With the scenario, two warnings compare it
+    with the long run. One names the listed policies to whose difference the start adds more than a quarter of a
+    standard error, if theory can tell exactly. The other says how much the cost unit favours policies that end a
+    replication with little stock.
+
+    With --long-run the decision is on the long run, in costs of a period: by theory, what the start adds to the
+    expected costs is taken out. That moves the intervals and leaves their widths. The column effect says how much it
+    was, in standard errors. There is no interval if the rarer policy places fewer than two orders in all replications.
+    unit is left out, since it adds the same to each policy in the long run. crnplan run --long-run needs no theory, and
+    takes longer.
     """
     for path in (plot, of_costs):
         picture_path(path or ".png")
@@ -101,14 +107,18 @@ def command(report: str, scenario_path: str | None, sweep: bool, replications: i
         print_decision(corrected_decision(given, scenario, level), form)
         return
     rows = with_intervals(given, replications, level)
-    warning = end_warning(scenario, given) if scenario else ""
+    warnings: list[str] = []
+    if scenario is not None:
+        from ..decision.long_run import horizon_warnings
+        warnings = horizon_warnings(given, rows, scenario)
     if plot or of_costs:
         pictures(rows, given[0], (replications, len(rows) - 1, level), plot, of_costs)
     head = {"base": given[0].policy, "replications": replications, "level": level}
     if form == "csv":
         csv.writer(sys.stdout, lineterminator="\n").writerows(table_of(rows))
-        print(warning, end="", file=sys.stderr)
+        print("\n".join(warnings), end="", file=sys.stderr)
     elif form:
-        print(json.dumps({**head, "policies": records_of(rows), "warning": warning}, indent=2))
+        named = {"horizon": f"the {horizon_of(scenario)}"} if scenario else {}
+        print(json.dumps({**named, **head, "policies": records_of(rows), "warnings": warnings}, indent=2))
     else:
-        print_text(rows, head, every, warning)
+        print_text(rows, head, every, heading_of(scenario) if scenario else "", warnings)

@@ -23,6 +23,9 @@ def command(history: str, settings: str, out: str, program: str | None) -> int:
     level) and [check] (policy, keys, replications). Costs may have decimals. A key that is misspelt is reported with
     the keys that there are.
 
+    Policies are compared in the long run, without the effect of the start. With [run] horizon they are compared over so
+    many coming periods from [today] stock instead, in the check too. Only the trajectory always shows coming periods.
+
     Run again with nothing changed, it does nothing and says so. If it was interrupted, it goes on after the last
     finished step. If an input has changed, it runs what depends on that. The exit status is 1 if the chosen policy does
     not hold on new random numbers.

@@ -9,6 +9,7 @@ from typing import TYPE_CHECKING, Any, TypeVar
 
 import click
 
+from ..decision.verdicts import horizon_of
 from ..scenario import Scenario
 
 if TYPE_CHECKING:
@@ -28,19 +29,18 @@ def horizon_options(command: Command) -> Command:
     return command
 
 
-def read_for(path: str, horizon: int | None, stock: int | None, long_run: bool, above: bool) -> Scenario:
-    """Reads a scenario for its horizon. If that is named by periods or stock, a line says it: `above` a table for a
-    reader, else on standard error."""
+def read_for(path: str, horizon: int | None, stock: int | None, long_run: bool, is_table: bool) -> Scenario:
+    """Reads a scenario for its horizon. If that is named by periods or stock, a line on standard error says it, unless
+    the output is a table for a reader: which says it in its heading."""
     if long_run and (horizon, stock) != (None, None):
         raise click.UsageError("--long-run has no --horizon and no --stock: give one or the other",
                                click.get_current_context())
-    scenario = Scenario.read(path)
-    if (horizon, stock) == (None, None):
-        return scenario
-    asked = scenario.changed(periods=scenario.periods if horizon is None else horizon,
-                             initial=scenario.initial if stock is None else stock)
-    print(f"The coming {asked.periods:,} periods from a stock of {asked.initial:,}" + "\n" * above,
-          file=sys.stdout if above else sys.stderr)
+    asked = Scenario.read(path)
+    if (horizon, stock) != (None, None):
+        asked = asked.changed(periods=asked.periods if horizon is None else horizon,
+                              initial=asked.initial if stock is None else stock)
+        if not is_table:
+            print(f"The {horizon_of(asked)}", file=sys.stderr)
     return asked
 
 

@@ -39,7 +39,7 @@ def command(scenario: str, words: tuple[str, ...], horizon: int | None, stock: i
     """
     if not long_run and (keys, level) != (None, None):
         raise click.UsageError("--keys and --level are those of --long-run", click.get_current_context())
-    asked = read_for(scenario, horizon, stock, long_run, above=False)
+    asked = read_for(scenario, horizon, stock, long_run, is_table=False)
     policies = [policy for word in words for policy in read_policies(word)] if words else None
     if long_run:
         from ..decision.long_run import long_run_decision

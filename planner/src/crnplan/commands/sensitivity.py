@@ -40,7 +40,7 @@ def command(scenario: str, horizon: int | None, stock: int | None, long_run: boo
     Regrets are means of one sample, without intervals, and contain the end effect of the cost unit (crnplan decide
     warns of it). With --long-run they are those of the long run, as crnplan run --long-run has it, without unit.
     """
-    asked = read_for(scenario, horizon, stock, long_run, above=form is None)
+    asked = read_for(scenario, horizon, stock, long_run, is_table=form is None)
     found = sensitivity(asked, long_run=long_run, program=program)
     records = list(found.records())
     if form == "csv":
@@ -48,7 +48,6 @@ def command(scenario: str, horizon: int | None, stock: int | None, long_run: boo
         writer.writerows([list(records[0]), *(map(spelt, record.values()) for record in records)])
         print("".join(f"crnplan: {note}\n" for note in found.notes), end="", file=sys.stderr)
     elif form:
-        head = {"horizon": found.horizon} if found.horizon else {}
-        print(json.dumps({**head, "policies": records, "notes": found.notes}, indent=2))
+        print(json.dumps({"horizon": found.horizon, "policies": records, "notes": found.notes}, indent=2))
     else:
         print(found.text, end="")

@@ -22,7 +22,7 @@ from ..engine.report import report_text
 from ..errors import Refused
 from ..scenario import Policy, Scenario
 from .intervals import Compared, Judged, check_replications, checked_level, with_intervals, with_verdict
-from .verdicts import decision_text, frame_of, table_text
+from .verdicts import decision_text, frame_of, heading_of, table_text
 
 if TYPE_CHECKING:
     import pandas as pd
@@ -32,8 +32,12 @@ LEAST_REPLICATIONS = 2
 
 @dataclass(frozen=True)
 class Check:
-    """What comes of a check: the policies compared with the best one, by rank, over all replications of all keys."""
+    """What comes of a check: the policies compared with the best one, by rank, over all replications of all keys.
 
+    `heading` says which coming periods they are compared over.
+    """
+
+    heading: str
     best: str
     keys: tuple[Key, ...]
     replications: int
@@ -60,7 +64,7 @@ class Check:
         """Returns the keys, the table, the decision and the sentence."""
         keys = "".join(f"--key {' '.join(key)}\n" for key in self.keys)
         decision = decision_text(self.rows, self.best, self.replications, self.level, len(self.rows))
-        return f"{keys}\n{table_text(self.rows)}{decision}\n{self.sentence}"
+        return f"{keys}\n{self.heading}{table_text(self.rows)}{decision}\n{self.sentence}"
 
 
 def sentence_of(best: str, rows: Sequence[Judged]) -> str:
@@ -137,4 +141,4 @@ def check_keys(scenario: Scenario, best: str, *, keys: Sequence[Sequence[str]] =
     if folder and len(reports) > 1:
         (folder / "pooled.csv").write_text(report_text(rows), "utf-8")
     total = replications * len(reports)
-    return Check(best, tuple(all_keys), total, level, tuple(with_intervals(rows, total, level)))
+    return Check(heading_of(scenario), best, tuple(all_keys), total, level, tuple(with_intervals(rows, total, level)))

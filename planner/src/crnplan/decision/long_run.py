@@ -15,19 +15,19 @@ import math
 from collections.abc import Iterable, Sequence
 from dataclasses import asdict, dataclass, fields, replace
 from pathlib import Path
-from typing import TYPE_CHECKING, Any
+from typing import TYPE_CHECKING, Any, NamedTuple
 
 from ..engine.keys import Key, keys_of
-from ..engine.long_run import LongRunReport
+from ..engine.long_run import KEYS, LongRunReport
 from ..engine.report import Row
 from ..errors import Refused
 from ..report.tables import aligned, named
 from ..scenario import Policy, Scenario
 from ..theory.lattice import NoTheory
-from ..theory.start_bias import exactness, start_bias, theory_of
-from .intervals import checked_level, own_variance, t_quantile, with_verdict
+from ..theory.start_bias import StartBias, exactness, start_bias, theory_of
+from .intervals import Compared, checked_level, own_variance, t_quantile, with_verdict
 from .keys import policies_of, sentence_of
-from .verdicts import MOST_ROWS, VERDICTS
+from .verdicts import MOST_ROWS, VERDICTS, end_warning, horizon_of, listed
 
 if TYPE_CHECKING:
     import pandas as pd
@@ -222,9 +222,55 @@ def long_run_decision(report: LongRunReport, level: float = 0.95) -> LongRunDeci
     return LongRunDecision(tuple(rows), report.rows[0].policy, report.keys, level, title, said, tuple(warnings))
 
 
-def with_strong_effect(rows: Iterable[LongRunRow]) -> Iterable[str]:
-    """Yields the policies for which a report is not on the long run: the start counts too much for its intervals."""
-    return (it.policy for it in rows if it.effect is not None and abs(it.effect) > MOST_EFFECT)
+class _Start(NamedTuple):
+    """What the start adds to the costs of a report's policies: to a period of each, and to its difference from the
+    first one in standard errors (None if that has none)."""
+
+    bias: StartBias
+    shifts: list[float]
+    effects: list[float | None]
+
+    @classmethod
+    def of(cls, rows: Sequence[Row], scenario: Scenario) -> _Start:
+        """Computes it by theory. Raises NoTheory."""
+        scenario = scenario.with_policies(Policy(it.policy, it.s, it.S) for it in rows)
+        bias, periods = start_bias(scenario), scenario.periods
+        net = scenario.demand.mean - (scenario.returns.mean if scenario.returns else 0)
+        shifts = [its / periods + scenario.costs.unit * float(net) for its in bias.biases]
+        errors = (math.sqrt(row.diff_var or 0) / periods for row in rows)
+        return cls(bias, shifts, [(shift - shifts[0]) / error if error else None
+                                  for shift, error in zip(shifts, errors)])
+
+    def strong(self, rows: Sequence[Row]) -> list[str]:
+        """Returns the policies for which the start counts too much: their intervals are not of the long run."""
+        return [row.policy for row, effect in zip(rows, self.effects) if effect and abs(effect) > MOST_EFFECT]
+
+
+def start_warning(rows: Sequence[Row], scenario: Scenario) -> str:
+    """Returns the warning that a report on the coming periods says little of the long run, for its rows in any number,
+    the base first.
+
+    The text is empty if the start counts for no difference, or if theory is not exact and so cannot tell. `unit` is
+    left out, since `verdicts.end_warning` is about that.
+    """
+    if scenario.replications < 2 or len(rows) < 2:
+        return ""
+    try:
+        start = _Start.of(rows, replace(scenario, costs=replace(scenario.costs, unit=0)))
+    except NoTheory:
+        return ""
+    strong = start.strong(rows) if start.bias.theory.exact else []
+    return (f"WARNING: these verdicts are on the {horizon_of(scenario)}, not on the long run.\nBy theory the start "
+            f"adds more than {MOST_EFFECT} standard errors to the difference of {named(strong, MOST_ROWS)}.\n"
+            "--long-run takes that out.\n" if strong else "")
+
+
+def horizon_warnings(given: Sequence[Row], rows: Sequence[Compared], scenario: Scenario) -> list[str]:
+    """Returns what the start and the end of a replication do to the verdicts on a report: to those of policies that
+    are listed. `rows` have the verdicts."""
+    shown = {row.policy for row in listed(rows)}
+    warnings = start_warning([row for row in given if row.policy in shown], scenario), end_warning(scenario, given)
+    return [it for it in warnings if it]
 
 
 def corrected_decision(rows: Sequence[Row], scenario: Scenario, level: float = 0.95) -> LongRunDecision:
@@ -234,16 +280,12 @@ def corrected_decision(rows: Sequence[Row], scenario: Scenario, level: float = 0
     """
     if scenario.replications < 2:
         raise Refused("one replication tells nothing of spread; give the report of at least 2")
-    scenario = scenario.with_policies(Policy(it.policy, it.s, it.S) for it in rows)
-    bias, (replications, periods) = start_bias(scenario), (scenario.replications, scenario.periods)
-    net = scenario.demand.mean - (scenario.returns.mean if scenario.returns else 0)
-    shifts = [its / periods + scenario.costs.unit * float(net) for its in bias.biases]
+    start, (replications, periods) = _Start.of(rows, scenario), (scenario.replications, scenario.periods)
+    bias = start.bias
     orders = [bias.theory.figures(it.s, it.S).orders * periods * replications for it in rows]
-    table = _Table(rows, (replications, periods), level, shifts, orders)
-    effects = [(shift - shifts[0]) / error if error else None for shift, error in zip(shifts, table.errors)]
-    found = [table.row(place, bias.costs, effect) for place, effect in enumerate(effects)]
-    strong = list(with_strong_effect(found))
-    warnings = [*table.without()]
+    table = _Table(rows, (replications, periods), level, start.shifts, orders)
+    found = [table.row(place, bias.costs, effect) for place, effect in enumerate(start.effects)]
+    warnings, strong = [*table.without()], start.strong(rows)
     if strong:
         warnings.append(f"without this correction the start counts too much for {named(strong, MOST_ROWS)}: its effect "
                         f"is above {MOST_EFFECT} standard errors")
@@ -280,13 +322,13 @@ class LongRunCheck:
 
 
 def check_long_run(scenario: Scenario, best: str, *, keys: Sequence[Sequence[str]] = (), count: int | None = None,
-                   level: float = 0.95, program: str | Path | None = None) -> LongRunCheck:
+                   runs: int = KEYS, level: float = 0.95, program: str | Path | None = None) -> LongRunCheck:
     """Compares each other policy with the policy named `best` in the long run, under new keys.
 
-    Keys are given and drawn as in `keys.check_keys`. From each follow 48 keys of runs, and those of all are pooled.
-    Raises Refused, also for the scenario's own key, and ProgramError if a run fails.
+    Keys are given and drawn as in `keys.check_keys`. From each follow 48 keys of runs, or as many as `runs`, 2 to 256,
+    and those of all are pooled. Raises Refused, also for the scenario's own key, and ProgramError if a run fails.
     """
     checked_level(level)
     asked, all_keys = scenario.with_policies(policies_of(scenario, best)), keys_of(keys, count, scenario.key)
-    reports = (replace(asked, key=key).long_run(program=program) for key in all_keys)
+    reports = (replace(asked, key=key).long_run(keys=runs, program=program) for key in all_keys)
     return LongRunCheck(best, tuple(all_keys), long_run_decision(functools.reduce(LongRunReport.plus, reports), level))

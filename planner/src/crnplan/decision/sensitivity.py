@@ -23,6 +23,7 @@ from ..engine.counts import all_totals, counting
 from ..engine.program import find_program
 from ..report.tables import aligned
 from ..scenario import Policy, Scenario, Table
+from .verdicts import horizon_of
 
 if TYPE_CHECKING:
     import pandas as pd
@@ -60,13 +61,13 @@ class Loss:
 class Sensitivity:
     """What each policy may cost too much: exact costs by case, and notes on cases that are not exact or left out.
 
-    `horizon` says that the costs are of the long run. It is empty if they are of the coming periods.
+    `horizon` says whether the costs are of the long run or of the coming periods.
     """
 
     policies: tuple[Policy, ...]
     cases: tuple[Case, ...]
     notes: tuple[str, ...]
-    horizon: str = ""
+    horizon: str
 
     @cached_property
     def losses(self) -> list[Loss]:
@@ -108,7 +109,7 @@ class Sensitivity:
                  for it in self.losses]
         table = [[case, name, f"{float(cost):.3f}"] for case, name, cost in self.cheapest]
         notes = "".join(f"\n{note}" for note in self.notes) + "\n" * bool(self.notes)
-        return (f"{self.horizon}\n\n" * bool(self.horizon) + aligned([heading, *cells], (0, len(heading) - 1))
+        return (f"{self.horizon}\n\n" + aligned([heading, *cells], (0, len(heading) - 1))
                 + "\nregret: cost per period above the cheapest policy of the case\n\n"
                 + aligned([["case", "cheapest", "cost_a_period"], *table], (0, 1)) + notes)
 
@@ -195,4 +196,5 @@ def sensitivity(scenario: Scenario, *, long_run: bool = False, program: str | Pa
     for name, change in (("backlog_half", Fraction(-rate, 2)), ("backlog_double", Fraction(rate))):
         costs[name] = [cost + change * items for cost, items in zip(found[0], owed)]
     return Sensitivity(scenario.policies, tuple(Case(name, tuple(its)) for name, its in costs.items()), tuple(notes),
-                       "The long run, each policy from a state of its own, without unit" if long_run else "")
+                       "The long run, each policy from a state of its own, without unit" if long_run else
+                       f"The {horizon_of(scenario)}")

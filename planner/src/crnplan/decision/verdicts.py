@@ -23,6 +23,16 @@ MOST_ROWS = 20
 VERDICTS = {"better": "better than {}", "worse": "worse than {}", "undecided": "can't be told apart from {}"}
 
 
+def horizon_of(scenario: Scenario) -> str:
+    """Returns in words what a report on a scenario is about."""
+    return f"coming {scenario.periods:,} periods from a stock of {scenario.initial:,}"
+
+
+def heading_of(scenario: Scenario) -> str:
+    """Returns what stands above a table on the coming periods."""
+    return f"The {horizon_of(scenario)}\n\n"
+
+
 def figures_of(row: Compared) -> dict[str, float | None]:
     """Returns the figures of the table as floats, by their names. None stands for no figure."""
     exact = {"cost_a_period": row.per_period, **{name: getattr(row, name) for name in list(FIGURES)[1:]}}

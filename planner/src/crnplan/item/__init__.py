@@ -6,7 +6,7 @@ from dataclasses import dataclass
 from pathlib import Path
 
 from ..engine.program import find_program
-from . import work
+from . import comparison, work
 from .settings import TABLES, read_settings
 from .steps import Folder, Step, run_steps
 from .work import Item, rows_of
@@ -42,13 +42,20 @@ def _facts_of(*tables: str, files: tuple[str, ...] = ()) -> Callable[[Item], obj
 
 
 PROGRAM = ("program",)
+
+
+def _run_facts(item: Item) -> object:
+    """Says what a run depends on, beside its scenario."""
+    return [item.settings.is_long_run, item.digests["program"]]
+
+
 STEPS: tuple[Step[Item], ...] = (
     Step("tables", (), _facts_of("history", "lead", files=("history", "lead")), work.make_tables),
     Step("scenario", ("tables.toml",), _facts_of("costs", "today", "run"), work.make_scenario),
     Step("suggestions", ("scenario.toml",), _facts_of(), work.make_suggestions),
-    Step("run", SUGGESTED, _facts_of(files=PROGRAM), work.make_report),
-    Step("decision", (*SUGGESTED, "report.csv"), _facts_of("run"), work.make_decision),
-    Step("check", SUGGESTED, _facts_of("run", "check", files=PROGRAM), work.make_check),
+    Step("run", SUGGESTED, _run_facts, comparison.make_report),
+    Step("decision", (*SUGGESTED, "report.csv", "long_run.csv"), _facts_of("run"), comparison.make_decision),
+    Step("check", SUGGESTED, _facts_of("run", "check", files=PROGRAM), comparison.make_check),
     Step("trajectory", SUGGESTED, lambda item: [item.chosen, item.digests["program"]], work.make_trajectory),
     Step("summary", SHOWN, _facts_of(*TABLES), _make_summary))
 

@@ -7,7 +7,7 @@ from typing import Any
 
 from .. import __version__
 from ..report.page import UNITS, Scale, number, rendered
-from .summary import Figures, Row, check, comparison, facts, headline, warning
+from .summary import Figures, Row, check, comparison, facts, headline, size_of
 from .work import rows_of
 
 MARKS = 4
@@ -63,12 +63,12 @@ def range_row(figures: Figures, row: Row) -> dict[str, Any]:
             "is_marked": row["policy"] == figures.chosen, "label": f"{number(mean, 2)}{ends}"}
 
 
-def ranges_of(figures: Figures, rows: Iterable[Row], replications: int) -> dict[str, Any]:
-    """Returns the differences of all policies from the base, and their scale."""
+def ranges_of(figures: Figures, rows: Iterable[Row], size: str) -> dict[str, Any]:
+    """Returns the differences of all policies from the base in a sample of this size, and their scale."""
     drawn = [range_row(figures, row) for row in rows]
     scale = Scale.of([row[name] for row in drawn for name in ("low", "high")])
-    note = (f"A mark is the mean difference in {replications:,} replications, a line its interval; all hold together "
-            f"at {100 * figures.settings['run']['level']:g}%. Left of 0 is cheaper.")
+    note = (f"A mark is the mean difference a {figures.settings.period} {figures.horizon}, by {size}. A line is its "
+            f"interval; all hold together at {100 * figures.settings['run']['level']:g}%. Left of 0 is cheaper.")
     return {"rows": drawn, "scale": scale, "note": note}
 
 
@@ -77,7 +77,7 @@ def policy_row(figures: Figures, row: Row) -> dict[str, Any]:
     its = figures.theory[row["policy"]]
     return {"name": row["policy"], "s": int(row["s"]), "S": int(row["S"]), "cost": figures.money(its["cost"]),
             "fill": f"{float(its['fill']):.1%}", "short": f"{float(its['short']):.1%}", "stock": float(its["stock"]),
-            "orders": float(its["orders"]), "run": figures.money(row["cost_a_period"]),
+            "orders": float(its["orders"]), "run": figures.cost(row),
             "low": figures.money(row["cost_low"]), "high": figures.money(row["cost_high"]),
             "is_marked": row["policy"] == figures.chosen}
 
@@ -103,9 +103,10 @@ def page_text(figures: Figures) -> str:
     return rendered("item.html", {
         "title": f"{figures.item.history.name}, {its.path.name}", "period": its.period, "today": figures.today,
         "chosen": figures.chosen, "headline": headline(figures), "facts": facts(figures), "check": check(figures),
-        "comparison": comparison(figures), "warning": warning(figures), "notes": figures.notes,
+        "comparison": comparison(figures), "warnings": figures.warnings, "notes": figures.notes,
+        "horizon": figures.horizon, "is_long_run": its.is_long_run,
         "cards": cards_of(figures), "history": history_plot(figures), "stock": stock_plot(figures),
-        "decided": ranges_of(figures, figures.decided.values(), its["run"]["replications"]),
-        "checked": ranges_of(figures, figures.checked.values(), its["check"]["keys"] * its["check"]["replications"]),
+        "decided": ranges_of(figures, figures.decided.values(), size_of(figures, "run")),
+        "checked": ranges_of(figures, figures.checked.values(), size_of(figures, "check")),
         "policies": [policy_row(figures, row) for row in figures.decided.values()],
         "key": " ".join(figures.scenario.key), "version": __version__})

@@ -15,6 +15,7 @@ from ..document.lines import Place, places_of
 from ..document.reading import read_bytes, read_document, text_of_document
 from ..document.values import kind_of, shown
 from ..engine.keys import MOST_KEYS
+from ..engine.long_run import KEYS
 from ..errors import Fault, Refused, RefusedFaults
 from ..money import scaled_costs
 
@@ -135,6 +136,12 @@ def _limits(table: str, name: str) -> Check:
     return whole(*formats.limits(table, name))
 
 
+def horizon(value: Any) -> str:
+    """Checks how many coming periods the policies are compared over."""
+    wrong = _limits("", "periods")(value)
+    return wrong and f"{wrong}, or remove this line for the long run"
+
+
 TEXT, NO, MONEY = Rule(text), Rule(flag, default=False), Rule(money, True)
 ITEMS, REPLICATIONS = Rule(_limits("policy", "S"), True), whole(2, formats.MOST_REPLICATIONS)
 TABLES: dict[str, dict[str, Rule]] = {
@@ -149,10 +156,12 @@ TABLES: dict[str, dict[str, Rule]] = {
              "times": Rule(whole_numbers(*formats.limits("lead", "values")))},
     "costs": {"setup": MONEY, "holding": MONEY, "backlog": MONEY, "unit": Rule(money, default=0)},
     "today": {"s": ITEMS, "S": ITEMS, "stock": ITEMS},
-    "run": {"horizon": Rule(_limits("", "periods"), default=104), "replications": Rule(REPLICATIONS, default=64),
-            "key": Rule(key, default="crnplan"), "level": Rule(level, default=0.95)},
+    "run": {"horizon": Rule(horizon), "replications": Rule(REPLICATIONS), "key": Rule(key, default="crnplan"),
+            "level": Rule(level, default=0.95)},
     "check": {"policy": Rule(text, default="best"), "key": Rule(new_key), "keys": Rule(whole(1, MOST_KEYS), default=1),
-              "replications": Rule(REPLICATIONS, default=formats.MOST_REPLICATIONS)}}
+              "replications": Rule(REPLICATIONS)}}
+# The replications of a run, and those of each key of its check: in the long run, and for a horizon.
+SIZES = {False: {"run": KEYS, "check": KEYS}, True: {"run": 64, "check": formats.MOST_REPLICATIONS}}
 HOMES = {name: table for table, rules in reversed(TABLES.items()) for name in rules}
 NEED_DATE = ("net", "whole", "from", "to")
 # The ways to give lead times: the key that chooses it, and the keys that it takes beside. A file needs its column.
@@ -169,6 +178,11 @@ class Settings:
     def __getitem__(self, table: str) -> Mapping[str, Any]:
         """Returns a table."""
         return self.tables[table]
+
+    @property
+    def is_long_run(self) -> bool:
+        """Returns whether policies are compared in the long run, as no horizon is given."""
+        return self["run"]["horizon"] is None
 
     @property
     def period(self) -> str:
@@ -314,6 +328,8 @@ def read_settings(path: str | Path) -> Settings:
         raise RefusedFaults(faults)
     tables = {table: {name: tree.get(table, {}).get(name, rule.default) for name, rule in rules.items()}
               for table, rules in TABLES.items()}
+    for table, size in SIZES[tables["run"]["horizon"] is not None].items():
+        tables[table]["replications"] = tables[table]["replications"] or size
     tables["costs"] = {name: _decimal(value) for name, value in tables["costs"].items()}
     return Settings(path, tables)
 

@@ -15,6 +15,8 @@ from .settings import Settings
 from .work import Item, rows_of
 
 WIDTH, LINES = 80, 24
+# The page has all warnings; here each has some characters, and all have some lines.
+WARNED, MOST_WARNED = 150, 4
 # From here on amounts of money have no decimals.
 LARGE = 100_000
 # The columns of the table that are left out if a line is too long, in this order.
@@ -85,10 +87,31 @@ class Figures:
         """Returns a sum over some periods in the settings' money, by period; nan if there is no figure."""
         return math.nan if text == "-" else float(text) / float(self.scale) / periods
 
+    @property
+    def horizon(self) -> str:
+        """Returns in words for when policies are compared: in the long run, or for the coming periods."""
+        if self.settings.is_long_run:
+            return "in the long run"
+        stock = self.settings["today"]["stock"]
+        return f"over the coming {self.scenario.periods:,} {self.settings.period}s from a stock of {stock:,}"
+
+    def cost(self, row: Row) -> float:
+        """Returns what a policy costs in a period, by crnsim."""
+        return self.money(row["cost" if self.settings.is_long_run else "cost_a_period"])
+
     def difference(self, row: Row) -> tuple[float, float, float]:
-        """Returns what a policy costs more than the base in a period: the mean, and the ends of its interval."""
-        mean, low, high = (self.money(row[name], self.scenario.periods) for name in ("diff_mean", "low", "high"))
+        """Returns what a policy costs more than the base in a period: the mean, and the ends of its interval (nan if it
+        has none)."""
+        name, periods = ("diff", 1) if self.settings.is_long_run else ("diff_mean", self.scenario.periods)
+        mean, low, high = (self.money(row[it], periods) for it in (name, "low", "high"))
         return mean, low, high
+
+    @cached_property
+    def warnings(self) -> list[str]:
+        """Returns the warnings of the decision and of the check, each once."""
+        blocks = "\n\n".join(map(self.item.text, ("decision.txt", "check.txt"))).split("\n\n")
+        lines = (" ".join(it.split()) for it in blocks if it.startswith("WARNING: "))
+        return list(dict.fromkeys(it.replace("--long-run", "A plan without [run] horizon") for it in lines))
 
 
 def amount(value: float) -> str:
@@ -119,12 +142,12 @@ def facts(figures: Figures) -> str:
 
 def cells_of(figures: Figures, row: Row) -> dict[str, str]:
     """Returns the cells of a policy by column."""
-    its = figures.theory[row["policy"]]
-    return {"policy": row["policy"], "s": row["s"], "S": row["S"], "long run": amount(figures.money(its["cost"])),
+    its, names = figures.theory[row["policy"]], ("theory", "crnsim") if figures.settings.is_long_run else (
+        "long run", "this run")
+    return {"policy": row["policy"], "s": row["s"], "S": row["S"], names[0]: amount(figures.money(its["cost"])),
             "fill": f"{float(its['fill']):.1%}", "short": f"{float(its['short']):.1%}",
             "stock": f"{float(its['stock']):,.1f}", "orders": f"{float(its['orders']):.3f}",
-            "this run": amount(figures.money(row["cost_a_period"])), "percent": row["percent"],
-            "verdict": row["verdict"]}
+            names[1]: amount(figures.cost(row)), "percent": row["percent"], "verdict": row["verdict"]}
 
 
 def table(figures: Figures, most: int) -> str:
@@ -143,38 +166,34 @@ def table(figures: Figures, most: int) -> str:
 def spoken(figures: Figures, row: Row, base: str) -> str:
     """Returns what a policy costs more than the base, with its interval, and the verdict."""
     mean, low, high = (f"{amount(abs(it))} {'less' if it < 0 else 'more'}" for it in figures.difference(row))
-    period = figures.settings.period
-    return f"{row['policy']} costs {mean} a {period} than {base}, from {low} to {high}: {row['verdict']}."
+    ends = "without an interval" if row["low"] == "-" else f"from {low} to {high}"
+    return f"{row['policy']} costs {mean} a {figures.settings.period} than {base}, {ends}: {row['verdict']}."
 
 
 def comparison(figures: Figures) -> str:
     """Returns what the run says of the chosen policy, or of all others if it is today's."""
-    run, stock = figures.settings["run"], figures.settings["today"]["stock"]
-    sample = (f"The coming {run['horizon']:,} {figures.settings.period}s from a stock of {stock:,}, "
-              f"{run['replications']} replications")
+    horizon = f"{figures.horizon[0].upper()}{figures.horizon[1:]}, {size_of(figures, 'run')}"
     if figures.chosen != figures.today:
-        return f"{sample}: {spoken(figures, figures.decided[figures.chosen], figures.today)}"
+        return f"{horizon}: {spoken(figures, figures.decided[figures.chosen], figures.today)}"
     better = [name for name, row in figures.decided.items() if row["verdict"] == "better"]
-    return f"{sample}: {''.join(clause_of(better, 'is', 'are')) or 'no policy is'} better than {figures.today}."
+    return f"{horizon}: {''.join(clause_of(better, 'is', 'are')) or 'no policy is'} better than {figures.today}."
+
+
+def size_of(figures: Figures, table: str) -> str:
+    """Returns how large the sample of the run is, or that of the check."""
+    its = figures.settings[table]
+    return f"{its.get('keys', 1) * its['replications']:,} {'keys' if figures.settings.is_long_run else 'replications'}"
 
 
 def check(figures: Figures) -> str:
     """Returns what the check says."""
-    its, chosen = figures.settings["check"], figures.chosen
+    chosen = figures.chosen
     better = [name for name, row in figures.checked.items() if row["verdict"] == "better"]
-    text = (f"On new random numbers ({its['keys'] * its['replications']:,} replications) {chosen} "
-            f"{'does not hold' if better else 'holds'}: "
+    text = (f"On new random numbers ({size_of(figures, 'check')}) {chosen} {'does not hold' if better else 'holds'}: "
             f"{''.join(clause_of(better, 'is', 'are')) or 'no policy is'} better.")
     if chosen == figures.today:
         return text
     return f"{text} There {spoken(figures, figures.checked[figures.today], chosen)}"
-
-
-def warning(figures: Figures) -> str:
-    """Returns the warning of the decision in short."""
-    unit = figures.settings["costs"]["unit"]
-    text = f"WARNING: unit = {unit} favours policies that end with little stock; decision.txt says by how much."
-    return text if unit else ""
 
 
 def summary_text(figures: Figures) -> str:
@@ -185,9 +204,12 @@ def summary_text(figures: Figures) -> str:
 
     above = [*lines_of(headline(figures)), "", *lines_of(facts(figures)), ""]
     notes = f"notes.txt ({len(figures.notes)} on the history), " if figures.notes else ""
-    below = lines_of(comparison(figures), check(figures), warning(figures),
-                     "Long run, fill and short are theory's, rounded and unproved; this run is crnsim's, proved for "
-                     "its stream.",
-                     f"See {notes}decision.txt and check.txt (all policies) and summary.html (pictures).")
+    warnings = [line for it in figures.warnings for line in lines_of(textwrap.shorten(it, WARNED, placeholder=" .."))]
+    names = "theory" if figures.settings.is_long_run else "long run"
+    run = "crnsim is" if figures.settings.is_long_run else "this run is crnsim's,"
+    below = [*lines_of(comparison(figures), check(figures)), *warnings[:MOST_WARNED],
+             *lines_of(f"The columns {names}, fill and short are theory's, rounded and unproved; {run} proved for "
+                       "its stream.",
+                       f"See {notes}decision.txt and check.txt (all policies) and summary.html (pictures).")]
     lines = [*above, *table(figures, LINES - len(above) - len(below) - 2).splitlines(), "", *below]
     return "".join(f"{line}\n" for line in lines)

@@ -1,4 +1,4 @@
-"""Makes the files of each step of an item's plan, from the history to the check."""
+"""Makes the files of an item's plan: from the history to the suggestions, and the trajectory."""
 from __future__ import annotations
 
 import csv
@@ -136,9 +136,11 @@ def make_scenario(item: Item) -> dict[str, str]:
     laws = {name: Table.of_tree(its) for name, its in tomllib.loads(item.text("tables.toml")).items()}
     today, run, (costs, scale) = item.settings["today"], item.settings["run"], item.settings.scaled
     scenario = Scenario.of(**laws, **costs, today=(today["s"], today["S"]), initial=today["stock"],
-                           periods=run["horizon"], replications=run["replications"], key=run["key"])
+                           periods=run["horizon"] or MOST_DRAWN, replications=run["replications"], key=run["key"])
     money = "" if scale == 1 else f" Costs count {scale} for one unit of money."
     head = f"# Today's policy, from {item.history.name} and {item.settings.path.name}.{money}\n"
+    if item.settings.is_long_run:
+        head += "# The policies are compared in the long run, where periods and initial play no part.\n"
     return {"scenario.toml": head + scenario.toml()}
 
 
@@ -150,45 +152,6 @@ def make_suggestions(item: Item) -> dict[str, str]:
     rows = [[it.policy.name, it.policy.s, it.policy.S, *it.figures] for it in found.rows]
     return {"suggested.toml": found.text(), "suggested.txt": aligned(found.cells) + found.notes,
             "suggested.csv": csv_text([found.cells[0], *rows])}
-
-
-def make_report(item: Item) -> dict[str, str]:
-    """Runs the policies."""
-    return {"report.csv": item.scenario("suggested.toml").run(program=item.program).text}
-
-
-def make_decision(item: Item) -> dict[str, str]:
-    """Says which policies are better than today's by more than chance."""
-    from ..decision.intervals import with_intervals
-    from ..decision.verdicts import decision_text, end_warning, table_of, table_text
-    from ..engine.report import read_rows
-    run, given = item.settings["run"], read_rows(item.text("report.csv"), "report.csv")
-    rows = with_intervals(given, run["replications"], run["level"])
-    warning = end_warning(item.scenario("suggested.toml"), given)
-    text = table_text(rows) + decision_text(rows, "today", run["replications"], run["level"], len(rows))
-    return {"decision.txt": text + (f"\n{warning}" if warning else ""), "decision.csv": csv_text(table_of(rows))}
-
-
-def keys_of(item: Item) -> list[list[str]]:
-    """Returns the keys of the check: the one that is given first, and others that follow from it or from the run's
-    key."""
-    from ..engine.keys import key_of
-    run = item.scenario("suggested.toml").key
-    asked, count = item.settings["check"]["key"], item.settings["check"]["keys"]
-    given = [] if asked is None else [list(key_of([asked] if isinstance(asked, str) else asked, run))]
-    seed = " ".join(given[0] if given else run)
-    drawn = ([digest_of(f"{seed} {number}".encode())[place:place + 16] for place in range(0, 64, 16)]
-             for number in range(len(given), count))
-    return [*given, *drawn]
-
-
-def make_check(item: Item) -> dict[str, str]:
-    """Runs the chosen policy and all others on new random numbers."""
-    from ..decision.keys import check_keys
-    from ..decision.verdicts import table_of
-    found = check_keys(item.scenario("suggested.toml"), item.chosen, keys=keys_of(item), program=item.program,
-                       replications=item.settings["check"]["replications"], level=item.settings["run"]["level"])
-    return {"check.txt": found.text, "check.csv": csv_text(table_of(found.rows))}
 
 
 def make_trajectory(item: Item) -> dict[str, str]:
