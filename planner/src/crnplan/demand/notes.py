@@ -2,9 +2,13 @@
 from __future__ import annotations
 
 from collections.abc import Iterator, Mapping
-from typing import Any
+from typing import TYPE_CHECKING, Any
 
 from .laws import Law, LeadLaw
+
+if TYPE_CHECKING:
+    from .borrowing import Borrowed
+    from .guard import Shares
 
 
 def notes_of(law: Law, name: str) -> list[str]:
@@ -13,6 +17,8 @@ def notes_of(law: Law, name: str) -> list[str]:
         return []
     lines = _lead_lines(law) if isinstance(law, LeadLaw) else _demand_lines(law)
     figures = {"seen": law.diagnostics["history"]} | ({} if law.family == "empirical" else {"law": law.diagnostics})
+    if law.family == "borrowed" and (single := law.diagnostics["borrowed"].single):
+        figures["law of the item alone"] = single.diagnostics
     return [f"{name}: {line}" for line in (*lines, *(_figures(title, its) for title, its in figures.items()))]
 
 
@@ -34,7 +40,30 @@ def _lead_lines(law: Law) -> Iterator[str]:
 
 
 def _demand_lines(law: Law) -> Iterator[str]:
-    """Returns the lines about the family of a law of demand."""
+    """Returns the lines about what a law of demand was fitted by."""
+    if "borrowed" in law.diagnostics:
+        yield from _borrowed_lines(law.diagnostics["borrowed"])
+    if law.family != "borrowed":
+        yield from _family_lines(law)
+
+
+def _borrowed_lines(its: Borrowed) -> Iterator[str]:
+    """Returns the lines about what an item has learned from its catalogue."""
+    source = "the whole catalogue" if its.prior == "all" else f"class {its.prior}"
+    mixed = f", mixed with {1 - its.share:.0%} of what was seen" if its.share < 1 else ""
+    yield (f"{its.alone}, so the law is that of the item alone" if its.alone
+           else f"learned from {source}, with {its.demands} demand{'s' * (its.demands != 1)} seen{mixed}")
+    if its.few and not its.alone:
+        yield "with so few demands the law is all but that of the catalogue; look at it"
+    if its.log10_bayes is not None:
+        unlike = ": unlike the catalogue; look at it" if its.unlike else ""
+        yield f"the history is 10^{its.log10_bayes:.1f} times as likely under what was learned as without it{unlike}"
+    if its.guard:
+        yield _guard_line("what was learned", its.guard, not its.alone)
+
+
+def _family_lines(law: Law) -> Iterator[str]:
+    """Returns the lines about the families of a law of demand."""
     its = law.diagnostics
     if its["pack"] > 1:
         yield f"all demands are packs of {its['pack']}, so packs are fitted"
@@ -51,6 +80,11 @@ def _demand_lines(law: Law) -> Iterator[str]:
         behind = (f"{family} {value - least:.1f}" for family, value in its["bic"].items())
         yield f"BIC above the least: {', '.join(behind)}"
     for family, shares in its["guard"].items():
-        yield (f"guard: a history of {family} varies as much with chance {shares.as_much:.2f}, as little with "
-               f"{shares.as_little:.2f}, is as far off with {shares.as_far:.2f}, has no larger demand with "
-               f"{shares.as_low:.2f}, as large a one with {shares.as_high:.2f}{'' if shares.passes else ': rejected'}")
+        yield _guard_line(family, shares, shares.passes)
+
+
+def _guard_line(family: str, shares: Shares, passes: bool) -> str:
+    """Returns the line about the drawn histories of a law."""
+    return (f"guard: a history of {family} varies as much with chance {shares.as_much:.2f}, as little with "
+            f"{shares.as_little:.2f}, is as far off with {shares.as_far:.2f}, has no larger demand with "
+            f"{shares.as_low:.2f}, as large a one with {shares.as_high:.2f}{'' if passes else ': rejected'}")

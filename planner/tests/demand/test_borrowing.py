@@ -1,0 +1,433 @@
+"""Tests of what items learn from their catalogue, against scipy's laws, sums over all points, and a known catalogue."""
+from __future__ import annotations
+
+import itertools
+import json
+import math
+import pickle
+from collections.abc import Sequence
+from pathlib import Path
+
+import numpy as np
+import pytest
+from hypothesis import given, settings
+from hypothesis import strategies as st
+from scipy import special, stats
+
+from crnplan.demand import DemandLaw, fit_demand, notes_of
+from crnplan.demand.borrowing import Borrowed, Prior, borrowed_laws, em, grid, law_of, learn, learning
+from crnplan.demand.borrowing.likelihoods import Cells, Sums, marginal, of_shares, of_sizes
+from crnplan.demand.borrowing.posterior import Posterior
+from crnplan.demand.borrowing.prior import Learned
+from crnplan.demand.families import Floats, Sample
+from crnplan.demand.fitting import share_of
+from crnplan.demand.posterior import allowed_laws
+from crnplan.errors import Refused, RefusedFaults
+from crnplan.history.observed import Observed
+
+RARE = [0, 0, 0, 12, 0, 0, 0, 0, 3, 0, 0, 25, 0, 0, 0, 0, 0, 7, 0, 0, 0, 1, 0, 0, 0, 9]
+TRUE_SHARE, TRUE_MEAN, TRUE_SIZE = 0.2, 4.0, 1.6  # of the items of `known`; the mean is that of sizes less 1
+HISTORIES = st.lists(st.lists(st.integers(0, 60), min_size=1, max_size=30), min_size=2, max_size=12)
+
+
+def history(seed: int, periods: int = 52, share: float = TRUE_SHARE, mean: float = TRUE_MEAN,
+            size: float = TRUE_SIZE) -> list[int]:
+    """Draws a history of the family that the grid has."""
+    random = np.random.default_rng(seed)
+    sizes = 1 + random.negative_binomial(size, size / (size + mean), periods)
+    return [int(it) for it in np.where(random.random(periods) < share, sizes, 0)]
+
+
+@pytest.fixture(scope="module")
+def known() -> Prior:
+    """Returns what is learned from 400 items of one law."""
+    return learn([history(seed, 100) for seed in range(400)])
+
+
+@pytest.fixture(scope="module")
+def mixed() -> dict[str, list[int]]:
+    """Returns 130 items of four laws, by name."""
+    laws = itertools.cycle([(0.1, 2.0), (0.2, 8.0), (0.5, 3.0), (0.95, 12.0)])
+    return {f"item {seed}": history(seed, 40 + seed % 7, *law) for seed, law in zip(range(130), laws)}
+
+
+def chances_of(law: DemandLaw) -> Floats:
+    """Returns the chances of 0, 1, 2 and so on."""
+    chances = np.zeros(law.values[-1] + 1)
+    chances[[*law.values]] = law.weights
+    return chances / 65_536
+
+
+def borrowed(law: DemandLaw) -> Borrowed:
+    """Returns what is known of a law."""
+    found = law.diagnostics["borrowed"]
+    assert isinstance(found, Borrowed)
+    return found
+
+
+def logarithms(numbers: Sequence[int]) -> Floats:
+    """Returns the logarithms of a history's likelihoods by scipy's laws: points of the share, points of the sizes."""
+    sizes = np.array([it for it in numbers if it])[:, None, None] - 1
+    shares = stats.bernoulli.logpmf([[int(it > 0)] for it in numbers], grid.SHARES.ravel()).sum(axis=0)
+    chances = grid.SIZE_DISPERSIONS / (grid.SIZE_DISPERSIONS + grid.SIZE_MEANS)
+    its: Floats = stats.nbinom.logpmf(sizes, grid.SIZE_DISPERSIONS, chances).sum(axis=0)
+    return np.add.outer(shares, its.ravel())
+
+
+@settings(max_examples=20)
+@given(numbers=st.lists(st.integers(0, 300), min_size=1, max_size=60))
+def test_likelihoods(numbers: list[int]) -> None:
+    """The likelihoods at all points are those of scipy's laws, but for a factor."""
+    sums, expected = Sums.of([Sample.of(numbers)]), logarithms(numbers)
+    found = np.outer(of_shares(sums)[0], of_sizes(sums)[0])
+    assert found.max() == 1 and np.allclose(found, np.exp(expected - expected.max()), rtol=1e-6, atol=1e-12)
+
+
+def test_points() -> None:
+    """The points are even in the logit of the share and in the logarithm of the mean, within the ranges."""
+    steps = np.diff(special.logit(grid.SHARES).ravel())
+    assert steps == pytest.approx(12 / 240) and special.logit(grid.SHARES[0, 0]) == pytest.approx(-5.5 + 12 / 480)
+    means = np.log(grid.SIZE_MEANS[::8].ravel())
+    step = math.log(100 / 0.05) / 192
+    assert np.diff(means) == pytest.approx(step) and means[-1] == pytest.approx(math.log(100) - step / 2)
+    assert grid.SIZE_DISPERSIONS[:9, 0].tolist() == [0.4, 0.7, 1, 1.6, 3, 6, 15, 60, 0.4]
+
+
+@pytest.mark.parametrize("cell", [0, 5, 90, 188, 191])
+def test_size_laws(cell: int) -> None:
+    """The laws of sizes are negative binomial from 1 on, all but a tail."""
+    law, size = grid.size_laws()[cell], grid.SIZE_DISPERSIONS[cell, 0]
+    for row, mean in zip(law, grid.SIZE_MEANS[cell]):
+        expected = stats.nbinom.pmf(np.arange(len(row)), size, size / (size + mean))
+        assert np.allclose(row, expected, rtol=0, atol=1e-8) and 1 - expected.sum() < 1.01e-9
+
+
+@settings(max_examples=25)
+@given(histories=HISTORIES, flat=st.sampled_from([0.0, 1.0]))
+def test_each_step_raises_the_likelihood(histories: list[list[int]], flat: float) -> None:
+    """Without a blur no step makes the histories less likely, with the flat items that count beside them."""
+    cells = Cells.of([Sample.of(it) for it in histories])
+    prior, last = em.FLAT, -math.inf
+    for _ in range(15):
+        likelihood = float(np.log(marginal(cells, prior)).sum())
+        if flat:
+            likelihood += float(flat * (em.FLAT * np.log(prior)).sum())
+        assert likelihood >= last - 1e-9
+        prior, last = em.estimated(cells, prior, flat * em.FLAT, steps=1, blur=0), likelihood
+    assert prior.sum() == pytest.approx(1) and prior.min() >= 0
+
+
+@settings(max_examples=20)
+@given(seed=st.integers(0, 1000), part=st.floats(0, 0.3))
+def test_blur(seed: int, part: float) -> None:
+    """The blur is a random walk by one cell on each axis, which stays where it would leave the grid."""
+    prior = np.random.default_rng(seed).dirichlet(np.full(em.FLAT.size, 0.01)).reshape(em.FLAT.shape)
+    walks = []
+    for cells in grid.SHAPE:
+        walk = np.diag(np.full(cells, 1 - 2 * part)) + part * (np.eye(cells, k=1) + np.eye(cells, k=-1))
+        walk[0, 0] += part
+        walk[-1, -1] += part
+        walks.append(walk)
+    expected = np.einsum("abc,ai,bj,ck->ijk", prior.reshape(grid.SHAPE), *walks, optimize=True)
+    assert np.allclose(em.blurred(prior, part).reshape(grid.SHAPE), expected, rtol=0, atol=1e-14)
+
+
+def test_cells_of_histories_in_groups() -> None:
+    """Histories with as many periods and demands share a row, and each has the likelihoods that it has alone."""
+    samples = [Sample.of(it) for it in ([0, 3, 1], [2, 0, 0, 7], [5, 0, 1], [0, 0, 0], [4, 0, 0, 1])]
+    cells = Cells.of(samples)
+    assert cells.ends == [1, 3, 5] and len(cells.shares) == 3
+    prior = np.random.default_rng(3).dirichlet(np.ones(em.FLAT.size)).reshape(em.FLAT.shape)
+    alone = [float(marginal(Cells.of([samples[place]]), prior)[0]) for place in (3, 0, 2, 1, 4)]
+    assert marginal(cells, prior) == pytest.approx(alone)
+
+
+def test_many_histories_in_chunks(monkeypatch: pytest.MonkeyPatch, mixed: dict[str, list[int]]) -> None:
+    """Likelihoods are the same however many histories are in memory at once."""
+    samples = [Sample.of(it) for it in mixed.values()]
+    whole = Cells.of(samples)
+    monkeypatch.setattr("crnplan.demand.borrowing.likelihoods.CHUNK", 7)
+    assert np.array_equal(Cells.of(samples).sizes, whole.sizes)
+
+
+@pytest.mark.parametrize(("seed", "numbers"), [(1, RARE), (2, [0] * 20), (3, [0, 4] + [0] * 10), (4, [3, 8, 1, 2, 9])])
+def test_posterior_on_few_cells(seed: int, numbers: list[int]) -> None:
+    """Predictive law and Bayes factor are those of sums over all points of all cells, by scipy's laws."""
+    random, prior = np.random.default_rng(seed), np.zeros(em.FLAT.shape)
+    prior[np.ix_(random.choice(24, 3, replace=False), random.choice(192, 4, replace=False))] = random.random((3, 4))
+    prior /= prior.sum()
+    likelihoods = np.exp(logarithms(numbers))
+    weights = np.kron(prior, np.ones((grid.SHARE_POINTS, grid.MEAN_POINTS)) / 80) * likelihoods
+    law = np.zeros(4000)
+    law[0] = weights.sum(axis=1) @ (1 - grid.SHARES.ravel())
+    for point, demand in enumerate(grid.SHARES.ravel() @ weights):
+        mean, size = grid.SIZE_MEANS.ravel()[point], np.repeat(grid.SIZE_DISPERSIONS, 8)[point]
+        law[1:] += demand * np.exp(stats.nbinom.logpmf(np.arange(3999), size, size / (size + mean)))
+    found = Posterior.of(Sample.of(numbers), prior)
+    below = np.cumsum(law)[:len(found.predictive)] / weights.sum()
+    assert np.allclose(np.cumsum(found.predictive), below, rtol=0, atol=2e-7)
+    assert found.log10_bayes == pytest.approx(math.log10(weights.sum() / likelihoods.mean()))
+
+
+def test_known_law_is_learned(known: Prior) -> None:
+    """The prior is near the law that all items have: its means within three errors and the cells' width."""
+    assert known.whole
+    chances = known.whole.chances
+    share = float(chances.sum(axis=1) @ grid.SHARES.mean(axis=1))
+    mean = float(chances.sum(axis=0) @ grid.SIZE_MEANS.mean(axis=1))
+    demands = 400 * 100 * TRUE_SHARE
+    assert share == pytest.approx(TRUE_SHARE, abs=3 * math.sqrt(TRUE_SHARE * 0.8 / 40_000) + 0.01)
+    assert mean == pytest.approx(TRUE_MEAN, abs=3 * math.sqrt((TRUE_MEAN + TRUE_MEAN**2 / TRUE_SIZE) / demands) + 0.2)
+    near = chances[(np.abs(special.logit(grid.SHARES.mean(axis=1)) - special.logit(TRUE_SHARE)) < 1)]
+    assert near.sum() > 0.95
+
+
+def test_known_law_of_an_item(known: Prior) -> None:
+    """A typical item with few demands has all but the true law; its own history says far less."""
+    true = np.concatenate([[1 - TRUE_SHARE], TRUE_SHARE * stats.nbinom.pmf(
+        np.arange(200), TRUE_SIZE, TRUE_SIZE / (TRUE_SIZE + TRUE_MEAN))])
+    distances, rejected = [], 0
+    for seed in range(900, 907):
+        numbers = history(seed, 26)
+        law = law_of(known, numbers)
+        single = borrowed(law).single
+        assert single == fit_demand(numbers, method="auto")
+        rejected += law.family != "borrowed"
+        laws = [np.pad(chances_of(it), (0, 400))[:201] for it in (law, single) if it]
+        distances.append([np.abs(np.cumsum(it) - np.cumsum(true)).max() for it in laws])
+    ours, alone = np.median(distances, axis=0)
+    assert rejected <= 1 and ours < 0.03 and alone > 2 * ours
+
+
+def test_order_and_names(mixed: dict[str, list[int]]) -> None:
+    """Neither the order of items, nor their names, nor the order of periods change a byte of the prior."""
+    expected = learn(mixed).text
+    names = [*mixed]
+    np.random.default_rng(1).shuffle(names)
+    assert learn({name: mixed[name] for name in names}).text == expected
+    assert learn(np.array(mixed[name]) for name in names).text == expected
+    assert learn([mixed[name][::-1] for name in names]).text == expected
+    assert learn([Observed(tuple(mixed[name]), (None,) * len(mixed[name]), (), ()) for name in names]).text == expected
+
+
+def test_large_catalogue(monkeypatch: pytest.MonkeyPatch, mixed: dict[str, list[int]]) -> None:
+    """Of more items than are estimated on, those drawn depend on the seed alone, not on the order."""
+    monkeypatch.setattr(learning, "MOST_ITEMS", 60)
+    prior = learn(mixed)
+    assert prior.whole and (prior.items, prior.whole.items, prior.whole.sampled) == (130, 130, 60)
+    assert learn(reversed(mixed.values())).text == prior.text
+    assert learn(mixed, seed=2).text != prior.text
+
+
+@pytest.mark.parametrize("borrow", ["all", "class", "none"])
+def test_file(borrow: str, mixed: dict[str, list[int]], tmp_path: Path) -> None:
+    """A file has the same bytes once it is read and written again, and gives the same laws, as does a pickled prior."""
+    classes = {name: f"Größe {number % 2}" for number, name in enumerate(mixed)}
+    prior = learn(mixed, classes, borrow)
+    prior.write(tmp_path / "prior.json")
+    found = Prior.read(tmp_path / "prior.json")
+    found.write(tmp_path / "again.json")
+    assert (tmp_path / "again.json").read_bytes() == (tmp_path / "prior.json").read_bytes()
+    expected = law_of(prior, RARE, "Größe 1")
+    for it in (found, pickle.loads(pickle.dumps(prior))):
+        law = law_of(it, RARE, "Größe 1")
+        assert law == expected and law.diagnostics == expected.diagnostics
+
+
+DAMAGED = "the prior of crnplan is damaged; learn it anew"
+DAMAGES = [
+    (lambda tree: "{", "this is no prior of crnplan; learn one from the catalogue"),
+    (lambda tree: [1], "this is no prior of crnplan; learn one from the catalogue"),
+    (lambda tree: {**tree, "version": 7}, "this is a prior of crnplan of version 7, not 1; learn it anew"),
+    (lambda tree: {**tree, "kind": "plan"}, "this is a plan of version 1, not 1; learn it anew"),
+    (lambda tree: {**tree, "whole": {**tree["whole"], "units": [1, 2]}}, DAMAGED),
+    (lambda tree: {**tree, "whole": {**tree["whole"], "units": [0] * 4608}}, DAMAGED),
+    (lambda tree: {**tree, "whole": None}, DAMAGED), (lambda tree: {**tree, "classes": []}, DAMAGED),
+    (lambda tree: {it: tree[it] for it in tree if it != "classes"}, DAMAGED),
+    (lambda tree: {**tree, "borrow": "some"}, DAMAGED)]
+
+
+@pytest.mark.parametrize(("damage", "message"), DAMAGES)
+def test_damaged_file(damage: object, message: str, known: Prior, tmp_path: Path) -> None:
+    """A file that is no prior is refused, with what to do."""
+    assert callable(damage)
+    tree = damage(json.loads(known.text))
+    path = tmp_path / "prior.json"
+    path.write_text(tree if isinstance(tree, str) else json.dumps(tree))
+    with pytest.raises(Refused) as refused:
+        Prior.read(path)
+    assert str(refused.value).startswith(f"{path}: {message}")
+
+
+def test_refused_catalogues(mixed: dict[str, list[int]]) -> None:
+    """What cannot be learned from is refused, with what to do."""
+    few = {name: mixed[name] for name in [*mixed][:57]}
+    message = ("there are 57 items to learn from, and it takes 100; ask for it with least=57, or fit each alone "
+               'with borrow="none"')
+    with pytest.raises(Refused, match=message):
+        learn(few)
+    assert learn(few, least=57).items == 57
+    with pytest.raises(Refused, match="a law cannot be learned from 29 items; the least is 30"):
+        learn(few, least=29)
+    large = {f"large {it}": [0, 500] for it in range(4)}
+    message = r"there are 29 items to learn from \(4 more have larger sizes .*\), and it takes 30; fit each item alone,"
+    with pytest.raises(Refused, match=message):
+        learn({**{name: mixed[name] for name in [*mixed][:29]}, **large}, least=30)
+    with pytest.raises(Refused, match="there is no way to borrow 'some'; say none, class or all"):
+        learn(mixed, borrow="some")
+    with pytest.raises(Refused, match="there are no classes to borrow from"):
+        learn(mixed, borrow="class")
+    with pytest.raises(Refused, match="give classes by item if the histories are by item"):
+        learn(mixed, ["a"] * 130, "class")
+    with pytest.raises(Refused, match="there are 130 histories and 2 classes; give one for each"):
+        learn(mixed.values(), ["a", "b"], "class")
+
+
+def test_refused_histories(mixed: dict[str, list[int]]) -> None:
+    """All bad histories are named at once."""
+    bad = {"A-1": [0, -2, 3, -1], "B-2": [0, 1.5], "C-3": [], "D-4": np.array([3, -7])}
+    with pytest.raises(RefusedFaults) as refused:
+        learn({**mixed, **bad})  # type: ignore[dict-item]
+    text = "\n".join(map(str, refused.value.faults))
+    assert len(refused.value.faults) == 5
+    assert "column 'demand of A-1': entry 2, -2, is below 0; correct it" in text and "entry 4, -1, is below 0" in text
+    assert "demand of B-2: entry 2: 1.5 is not a whole number" in text
+    assert "there are 0 numbers of demand of C-3" in text
+    assert "column 'demand of D-4': entry 2, -7, is below 0" in text
+
+
+def test_outside_the_grid(mixed: dict[str, list[int]]) -> None:
+    """Items with larger sizes are counted and left out, and have the law of the item alone."""
+    large = {"large": [0, 90, 0, 180], "larger": [0, 20_000] + [1] * 400}
+    prior = learn({**mixed, **large})
+    assert prior.whole and (prior.items, prior.outside, prior.whole.items) == (132, 2, 130)
+    assert prior.whole.units.tolist() == learn(mixed).whole.units.tolist()  # type: ignore[union-attr]
+    law = law_of(prior, large["large"])
+    assert borrowed(law).alone == "the mean size of a demand is above 101" and borrowed(law).log10_bayes is None
+    assert law == fit_demand(large["large"], method="auto")
+    assert law_of(prior, [0, 101, 0, 101]).family == "borrowed"
+    boxes = law_of(prior, large["larger"], box=10)
+    assert boxes == fit_demand(large["larger"], method="auto", box=10)
+    assert borrowed(boxes).alone == "demand is counted in boxes of 10"
+    with pytest.raises(RefusedFaults, match="is above 10,000; count in larger boxes: --box 2 or more"):
+        law_of(prior, large["larger"])
+
+
+@pytest.mark.parametrize(("numbers", "alone"), [
+    ([6, 12, 0, 6, 18, 0, 6, 24], "all demands are packs of 6"),
+    ([40] * 20 + [41] * 20, "drawn histories do not look like the real one")], ids=["packs", "guard"])
+def test_law_of_the_item_alone(numbers: list[int], alone: str, known: Prior) -> None:
+    """For packs, and if drawn histories do not look like the real one, the item has the law of its own history."""
+    law, expected = law_of(known, numbers), fit_demand(numbers, method="auto")
+    found = borrowed(law)
+    assert law == expected and (found.alone, found.share, found.single) == (alone, 0, expected)
+    assert {**law.diagnostics, "borrowed": None} == {**expected.diagnostics, "borrowed": None}
+    assert borrowed_laws(known, numbers, times=3) == allowed_laws(numbers, times=3)
+    assert f"demand: {alone}, so the law is that of the item alone" in notes_of(law, "demand")
+    if found.guard:
+        assert min(found.guard) <= 0.05
+    nothing = law_of(learn([], borrow="none"), RARE)
+    assert nothing == fit_demand(RARE, method="auto") and borrowed(nothing).alone == "nothing is borrowed"
+
+
+def test_law_is_mixed_with_the_history(known: Prior) -> None:
+    """The law is the predictive law, mixed with the history by the Dirichlet weight."""
+    numbers = [*history(5, 60)[:-14], *[9] * 14]
+    sample = Sample.of(numbers)
+    assert known.whole
+    base = Posterior.of(sample, known.whole.chances).predictive
+    law, share = law_of(known, numbers, beside=False), share_of(sample, base)
+    assert 0 < share < 1 and borrowed(law).share == share and borrowed(law).single is None
+    expected, width = share * base + (1 - share) * np.bincount(numbers, minlength=len(base)) / 60, law.values[-1] + 1
+    assert np.cumsum(chances_of(law)) == pytest.approx(np.cumsum(expected)[:width], abs=1 / 65_536)
+    assert sum(law.weights) == 65_536
+    assert law.diagnostics["mean"] == pytest.approx(chances_of(law) @ np.arange(width))
+    assert law.diagnostics["history"]["mean"] == pytest.approx(np.mean(numbers))
+    assert f"mixed with {1 - share:.0%} of what was seen" in notes_of(law, "demand")[0]
+
+
+@pytest.mark.parametrize(("numbers", "few"), [([0] * 26, True), ([0] * 25 + [3], True), (RARE, False)])
+def test_items_with_few_demands(numbers: list[int], few: bool, known: Prior) -> None:
+    """Items with no or one demand have a law too, and are marked."""
+    law = law_of(known, numbers)
+    assert borrowed(law).few is few and law.family == "borrowed" and law.values[-1] > max(numbers)
+    assert any("all but that of the catalogue" in it for it in notes_of(law, "demand")) is few
+
+
+def test_items_unlike_the_catalogue(known: Prior) -> None:
+    """An item that the learned prior makes less likely than the flat one is flagged; one of the catalogue is not."""
+    like, unlike = (borrowed(law_of(known, it)) for it in (history(77, 52), history(77, 52, 0.2, 60, 15)))
+    assert like.log10_bayes and like.log10_bayes > 1 and not like.unlike
+    assert unlike.log10_bayes and unlike.log10_bayes < 0 and unlike.unlike
+    assert "unlike the catalogue" in "\n".join(notes_of(law_of(known, history(77, 52, 0.2, 60, 15)), "demand"))
+
+
+def test_classes(monkeypatch: pytest.MonkeyPatch, mixed: dict[str, list[int]]) -> None:
+    """A small class is pulled to the catalogue, a large one has a prior of its own, and an item without a class that of
+    the catalogue."""
+    classes = dict(zip(mixed, itertools.cycle(["a", "b", "a", None])))
+    prior = learn(mixed, classes, "class")
+    assert prior.whole and prior.classes
+    assert {name: it.items for name, it in prior.classes.items()} == {"a": 65, "b": 33}
+    assert np.array_equal(prior.whole.units, learn(mixed).whole.units)  # type: ignore[union-attr]
+    order = [*mixed]
+    np.random.default_rng(2).shuffle(order)
+    assert learn([mixed[it] for it in order], [classes[it] for it in order], "class").text == prior.text
+    group = [Sample.of(mixed[name]) for name in mixed if classes[name] == "b"]
+    cells = Cells.of(learning.ordered(group))
+    pulled = em.estimated(cells, prior.whole.chances, 30 * prior.whole.chances)
+    assert np.allclose(prior.classes["b"].chances, pulled, rtol=1e-5, atol=1e-9)
+    names = {it: borrowed(law_of(prior, RARE, it, beside=False)).prior for it in ("a", "b", "c", None)}
+    assert names == {"a": "a", "b": "b", "c": "all", None: "all"}
+    monkeypatch.setattr(learning, "MOST_PULLED", 64)
+    again = learn(mixed, classes, "class").classes
+    own = learn([mixed[it] for it in mixed if classes[it] == "a"], least=30).whole
+    assert again and own and np.array_equal(again["a"].units, own.units)
+    assert np.array_equal(again["b"].units, prior.classes["b"].units)
+
+
+def test_drawn_laws(known: Prior) -> None:
+    """Their mean is the law of the item within the error of the draws, and the same seed gives the same laws."""
+    for numbers in (history(3, 40), [*history(5, 60)[:-14], *[9] * 14]):
+        law, drawn = law_of(known, numbers, beside=False), borrowed_laws(known, numbers, times=1500)
+        assert drawn.families == {"borrowed": 1500} and {sum(it.weights) for it in drawn.laws} == {65_536}
+        width = max(max(it.values) for it in drawn.laws) + 1
+        below = np.array([np.cumsum(np.bincount(it.values, it.weights, width)) for it in drawn.laws]) / 65_536
+        expected = np.cumsum(np.pad(chances_of(law), (0, width))[:width])
+        errors = below.std(axis=0) / math.sqrt(1500)
+        assert (np.abs(below.mean(axis=0) - expected) < 5 * errors + 1e-4).all()
+    assert borrowed_laws(known, RARE, times=4) == borrowed_laws(known, RARE, times=4)
+    assert borrowed_laws(known, RARE, times=4) != borrowed_laws(known, RARE, times=4, seed=2)
+    with pytest.raises(Refused, match="0 is no number of laws; it is at least 1"):
+        borrowed_laws(known, RARE, times=0)
+
+
+def test_drawn_laws_spread(known: Prior) -> None:
+    """The shares of drawn laws spread as the posterior law of the share does."""
+    numbers = history(11, 30)
+    assert known.whole
+    posterior = Posterior.of(Sample.of(numbers), known.whole.chances)
+    weights = (known.whole.chances @ posterior.sizes.mean(axis=1))[:, None] * posterior.shares
+    mean = float((weights * grid.SHARES).sum() / weights.sum())
+    deviation = math.sqrt(float((weights * (grid.SHARES - mean)**2).sum() / weights.sum()))
+    shares = np.array([1 - it[0] for it in posterior.drawn(np.random.default_rng(1).random((3, 4000)))])
+    assert shares.mean() == pytest.approx(mean, abs=4 * deviation / math.sqrt(4000))
+    assert shares.std() == pytest.approx(deviation, rel=0.1)
+
+
+def test_units() -> None:
+    """A prior is kept in whole units, none of which is 0, so that no law is impossible."""
+    chances = np.zeros(em.FLAT.shape)
+    chances[3, 5] = 1.0
+    its = Learned.of(chances, 1, 1, 0.1234567)
+    assert its.units.min() == 1 and its.units.max() == 2**40 and its.gain == 0.123457
+    assert its.chances.sum() == pytest.approx(1)
+
+
+@settings(max_examples=12)
+@given(numbers=st.lists(st.integers(0, 150), min_size=1, max_size=40))
+def test_any_history(numbers: list[int], known: Prior) -> None:
+    """Each history has a law within the range of a scenario, always the same."""
+    law = law_of(known, numbers, beside=False)
+    assert 0 <= law.values[0] and law.values[-1] <= 10_000 and 1 <= sum(law.weights) <= 65_536 and min(law.weights) > 0
+    assert law == law_of(known, iter(numbers), beside=False)
