@@ -1,0 +1,115 @@
+"""Tests the long run under many laws with a Markov chain, and with the theory of one law."""
+from __future__ import annotations
+
+import dataclasses
+from collections.abc import Sequence
+
+import numpy as np
+import pytest
+from hypothesis import given, settings
+from hypothesis import strategies as st
+
+from crnplan.scenario import Costs, Policy, Scenario
+from crnplan.theory import many_laws
+from crnplan.theory.lattice import NoTheory, shape_of, theory_on
+from crnplan.theory.laws import Floats
+from crnplan.theory.many_laws import LawFigures, ManyGaps, figures_of_laws
+from planner.tests.theory.chain import by_chain
+from planner.tests.theory.scenarios import Pair, scenario_of, table
+from planner.tests.theory.test_figures import CHAINS, laws
+
+LEVELS = [(0, 0), (0, 6), (2, 5), (3, 3), (1, 8), (6, 8)]
+POLICIES = [Policy.of_levels(*it) for it in LEVELS]
+# Laws of 0 to 40 items that lie on no lattice, and two sets of lead times.
+WIDE = (range(41), [9, 3, 7, 1, 4] * 8 + [1])
+SKEWED = ([0, 1, 2, 3, 5, 8, 13, 21, 34], [900, 40, 30, 20, 10, 9, 8, 7, 6])
+
+
+def figures(scenario: Scenario, policies: Sequence[Policy] = POLICIES) -> LawFigures:
+    """Returns the figures of policies under the scenario's own laws."""
+    return figures_of_laws(scenario, [(scenario.demand, scenario.lead)], policies)
+
+
+def chain_figures(scenario: Scenario) -> Floats:
+    """Returns cost and fill of all policies by a Markov chain."""
+    return np.array([by_chain(scenario.with_policies([it]))[:2] for it in POLICIES])
+
+
+@pytest.mark.parametrize("demand, lead, back, levels", CHAINS)
+def test_figures_are_those_of_a_chain(demand: Pair, lead: Pair, back: Pair | None, levels: tuple[int, int]) -> None:
+    scenario = scenario_of(demand, lead, back, levels=levels)
+    found, expected = figures(scenario), chain_figures(scenario)
+    assert found.error is None and found.step == np.gcd.reduce(demand[0]) or back
+    assert found.cost[0] == pytest.approx(expected[:, 0], abs=1e-7)
+    assert found.fill[0] == pytest.approx(expected[:, 1], abs=1e-7)
+
+
+@settings(max_examples=15, deadline=None)
+@given(demand=laws(st.integers(0, 5), 3).filter(lambda it: max(it[0]) > 0), lead=laws(st.integers(1, 3), 2),
+       back=st.none() | laws(st.integers(0, 1), 2),
+       costs=st.builds(Costs, *[st.integers(0, 50)] * 2, *[st.integers(1, 50)] * 2))
+def test_figures_of_any_small_scenario(demand: Pair, lead: Pair, back: Pair | None, costs: Costs) -> None:
+    back = None if back and 2 * table(back).mean > table(demand).mean else back
+    scenario = scenario_of(demand, lead, back, costs)
+    policies = POLICIES[1:4]
+    found = figures(scenario, policies)
+    for place, policy in enumerate(policies):
+        cost, fill, *_ = by_chain(scenario.with_policies([policy]))
+        assert (found.cost[0, place], found.fill[0, place]) == pytest.approx((cost, fill), abs=1e-7)
+
+
+@pytest.mark.parametrize("lead", [([4], [1]), ([1, 2, 5], [2, 3, 1]), ([6, 9], [1, 3])], ids=str)
+@pytest.mark.parametrize("demand", [WIDE, SKEWED], ids=["wide", "skewed"])
+@pytest.mark.parametrize("step", [1, 3])
+def test_figures_are_those_of_the_theory_of_one_law(demand: Pair, lead: Pair, step: int) -> None:
+    """Also on a lattice that is not exact, and the best policy costs as much."""
+    scenario = scenario_of(demand, lead, costs=Costs(90, 1, 1, 9))
+    shape = shape_of(scenario)
+    theory = theory_on(scenario, shape, step, step == 1)
+    policies = [Policy.of_levels(20, 20 + gap) for gap in (0, 1, 10, 31, 55)]
+    run = ManyGaps(scenario, step, step == 1, int(2 * shape.order) // step + 60)
+    cost, fill = run.figures(policies)
+    expected = np.array([theory.figures(it.s, it.S)[:2] for it in policies])
+    assert cost == pytest.approx(expected[:, 0], rel=1e-8) and fill == pytest.approx(expected[:, 1], rel=1e-8)
+    assert run.least_cost(int(2 * shape.order) // step) == pytest.approx(theory.best().cost, rel=1e-3)
+
+
+def test_coarse_lattice(monkeypatch: pytest.MonkeyPatch) -> None:
+    """If cells are few, steps are coarser, and what they are off by is said."""
+    scenario = scenario_of(WIDE, ([1, 2, 5], [2, 3, 1]), costs=Costs(900, 1, 1, 9))
+    policies = [Policy.of_levels(60, 60 + gap) for gap in (0, 50, 80)]
+    fine = figures(scenario, policies)
+    monkeypatch.setattr(many_laws, "LEAST_ROOM", 100)
+    monkeypatch.setattr(many_laws, "MOST_WORK", 1)
+    coarse = figures(scenario, policies)
+    assert fine.step == 1 and fine.error is None and coarse.step > 2 and coarse.error is not None
+    assert 0 < np.abs(coarse.cost / fine.cost - 1).max() <= coarse.error < 0.2
+    monkeypatch.setattr(many_laws, "LEAST_ROOM", 5)
+    with pytest.raises(NoTheory, match="too far apart"):
+        many_laws.run_of(scenario, 80)
+
+
+def test_laws_in_order() -> None:
+    """Each law has a row. A law under which as much comes back as is asked for has none."""
+    back = ([0, 1], [1, 1])
+    scenario = scenario_of(([0, 2], [1, 1]), ([1], [1]), back)
+    demands = [table(([0, 2], [1, 1])), table(([0, 1], [3, 1])), table(([0, 3], [1, 2]))]
+    leads = [table(([1], [1])), table(([1], [1])), table(([1, 3], [1, 1]))]
+    found = figures_of_laws(scenario, [*zip(demands, leads)], POLICIES)
+    assert found.laws == (0, 2) and found.cost.shape == found.fill.shape == (2, 6) and found.least.shape == (2,)
+    for row, place in enumerate(found.laws):
+        own = dataclasses.replace(scenario, demand=demands[place], lead=leads[place])
+        assert found.cost[row] == pytest.approx(chain_figures(own)[:, 0], abs=1e-7)
+    with pytest.raises(NoTheory, match="no law of demand has a long run"):
+        figures_of_laws(scenario, [(demands[1], leads[1])], POLICIES)
+
+
+def test_long_lead_times() -> None:
+    """A law's own best policy is not looked for if many periods have several lead times."""
+    assert np.isnan(figures(scenario_of(([0, 1], [1, 1]), ([1, 13], [1, 1]))).least).all()
+    assert not np.isnan(figures(scenario_of(([0, 1], [1, 1]), ([13], [1]))).least).any()
+
+
+def test_no_best_policy() -> None:
+    with pytest.raises(NoTheory, match="holding"):
+        figures(scenario_of(([0, 1], [1, 1]), costs=Costs(1, 1, 0, 1)))
