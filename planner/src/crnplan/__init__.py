@@ -33,6 +33,7 @@ _HOMES = {
     "fit_demand": "demand",
     "fit_lead": "demand",
     "check_keys": "decision.keys",
+    "doubt": "decision.doubt",
     "sensitivity": "decision.sensitivity",
     "sweep": "sweep",
     "trajectories": "engine.trajectory",
@@ -42,6 +43,7 @@ _HOMES = {
 __all__ = ["__version__", *_HOMES]
 
 if TYPE_CHECKING:
+    from .decision.doubt import doubt
     from .decision.keys import check_keys
     from .decision.sensitivity import sensitivity
     from .demand import DemandLaw, LeadLaw, fit_demand, fit_lead

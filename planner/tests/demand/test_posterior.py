@@ -189,7 +189,8 @@ def test_single_lead_time() -> None:
 
 def test_refused() -> None:
     """No laws are none, and numbers are those of a fit."""
-    for function, numbers, times, text in ((allowed_laws, [1, 2], 0, "at least 1"), (allowed_leads, [1], 0, "at least 1"),
+    for function, numbers, times, text in ((allowed_laws, [1, 2], 0, "at least 1"),
+                                           (allowed_leads, [1], 0, "at least 1"),
                                            (allowed_laws, [1, -2], 5, "entry 2, -2, is below 0"),
                                            (allowed_laws, [20_000], 5, "--box 2"),
                                            (allowed_leads, [0, 3], 5, "entry 1, 0, is below 1")):

@@ -7,8 +7,6 @@ are those that the guard lets pass, by their weights. If the history speaks agai
 from a Dirichlet process round its family that has seen the history (Antoniak, Mixtures of Dirichlet processes with
 applications to Bayesian nonparametric problems, 1974). If no family passes, laws come from the history alone, by random
 weights of its periods (Rubin, The Bayesian bootstrap, 1981).
-
-How often the true law keeps within what is said from such laws was measured: planner/studies/README.md, "Doubt".
 """
 from __future__ import annotations
 
@@ -230,6 +228,13 @@ def check_times(times: int) -> None:
         raise Refused(f"{times} is no number of laws; it is at least 1")
 
 
+def random_of(seed: int, stream: int) -> np.random.Generator:
+    """Returns the generator of a seed. Each stream is independent of the others."""
+    if seed < 0:
+        raise Refused(f"{seed} is no seed; it is at least 0")
+    return np.random.default_rng([seed, stream])
+
+
 def allowed_laws(observed: Observed | Iterable[Any], *, times: int = 100, box: int = 1, seed: int = 1) -> AllowedLaws:
     """Draws laws of demand that a history allows. The same seed gives the same laws.
 
@@ -238,7 +243,7 @@ def allowed_laws(observed: Observed | Iterable[Any], *, times: int = 100, box: i
     """
     check_times(times)
     sample = sample_of(fit_demand(observed, box=box))
-    families, laws = demand_laws(sample, times, np.random.default_rng(seed))
+    families, laws = demand_laws(sample, times, random_of(seed, 0))
     return AllowedLaws(families, tuple(table_of(law, sample.most) for law in laws))
 
 
@@ -259,7 +264,7 @@ def allowed_leads(observed: Observed | Iterable[Any], *, times: int = 100, seed:
     sample = sample_of(fit_lead(observed))
     if sample.size < LEAST_LEADS:
         return AllowedLaws({FROM_HISTORY: times}, (Table((sample.most,), (MOST_WEIGHT,)),) * times)
-    random = np.random.default_rng(seed)
+    random = random_of(seed, 1)
     sides, family = np.zeros(times), FROM_HISTORY
     if sample.size < FEW:
         chances = sides_of([*Counter(dict(zip(sample.values.tolist(), sample.counts.tolist()))).elements()])
