@@ -38,11 +38,15 @@ _HOMES = {
     "sweep": "sweep",
     "trajectories": "engine.trajectory",
     "plan_item": "item",
+    "Catalogue": "catalogue",
+    "read_catalogue": "catalogue",
+    "plan": "catalogue",
 }
 
 __all__ = ["__version__", *_HOMES]
 
 if TYPE_CHECKING:
+    from .catalogue import Catalogue, plan, read_catalogue
     from .decision.doubt import doubt
     from .decision.keys import check_keys
     from .decision.sensitivity import sensitivity

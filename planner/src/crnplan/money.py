@@ -52,6 +52,28 @@ def _beyond(amounts: Mapping[str, Fraction], scale: Fraction) -> str:
     return next((name for name, it in amounts.items() if (it * scale).denominator > 1 or it * scale > most[name]), "")
 
 
+def rounded_costs(costs: Mapping[str, Fraction], exact_one: str) -> tuple[dict[str, int], Fraction, float]:
+    """Returns costs as the program's whole numbers, what one unit of money counts in them, and the greatest relative
+    error of their rounding.
+
+    If no scale makes all costs whole, it is the greatest within the program's ranges that makes `exact_one` whole, which
+    is above 0. Raises Refused if the costs are too far apart for that.
+    """
+    try:
+        return *scaled_costs(costs), 0.0
+    except Refused:
+        most = min(formats.limits("costs", name)[1] / amount for name, amount in costs.items() if amount)
+    times = int(most * costs[exact_one])
+    if times < 1:
+        named = ", ".join(f"{name} {float(amount):g}" for name, amount in costs.items())
+        raise Refused(f"costs: these are too far apart: {named}; {exact_one} would count less than 1 in the program's "
+                      "whole numbers")
+    scale = times / costs[exact_one]
+    whole_ones = {name: round(amount * scale) for name, amount in costs.items()}
+    errors = [abs(whole_ones[name] / (amount * scale) - 1) for name, amount in costs.items() if amount]
+    return whole_ones, scale, float(max(errors))
+
+
 def scaled_costs(costs: Mapping[str, Any]) -> tuple[dict[str, int], Fraction]:
     """Returns costs as the program's whole numbers, and what one unit of money counts in them: a power of ten.
 

@@ -23,6 +23,7 @@ for _threads in ("OMP_NUM_THREADS", "OPENBLAS_NUM_THREADS"):
 # The subcommands in the order in which a planner meets them, with one line for the list of `--help`.
 COMMANDS = {
     "item": "Plan one item: from a history and settings to a decision.",
+    "catalogue": "Plan all items: from two tables to a decision for each.",
     "history": "Make tables of a scenario from a history.",
     "why": "Say all that is wrong with a scenario, with line and advice.",
     "suggest": "Suggest policies from exact long-run theory.",

@@ -164,7 +164,7 @@ def read_bytes(path: str | Path) -> tuple[str, bytes]:
 
 def encoding_of(data: bytes, stated: str | None) -> str:
     """Returns the encoding of bytes: that of their byte order mark, else the stated one, else UTF-8."""
-    return next((it for mark, it in MARKS if data.startswith(mark)), stated) or "utf-8"
+    return next((it for mark, it in MARKS if data.startswith(mark)), stated or "utf-8")
 
 
 def decoded(name: str, data: bytes, encoding: str | None) -> tuple[str, Fault | None]:

@@ -1,0 +1,67 @@
+"""Learns from all items of a catalogue which laws of demand there are, once, and keeps that in the folder.
+
+What was learned is used again as it is, also if items change: otherwise each new row would change the plan of every item.
+"""
+from __future__ import annotations
+
+import json
+from collections.abc import Iterator
+from pathlib import Path
+from typing import Any
+
+from ..demand.borrowing import Prior, learn
+from ..demand.borrowing.learning import LEAST_ITEMS, LEAST_ON_REQUEST
+from ..demand.borrowing.prior import ALL, BORROW
+from ..errors import Refused
+from .store import Catalogued
+
+PRIOR = "prior.json"
+NONE = "none"
+
+
+def histories_of(read: Catalogued) -> Iterator[tuple[Any, str]]:
+    """Yields the history, as an array, and the class of each item that is not counted in boxes."""
+    import numpy as np
+    for _, facts in read.facts_of_items():
+        its = json.loads(facts)
+        if its["box"] == 1:
+            yield np.array(its["counts"], np.uint32), its["class"]
+
+
+def prior_of(folder: Path, read: Catalogued, borrow: str | None, again: bool) -> tuple[Prior, str]:
+    """Returns what the items of a catalogue learn from one another, and a note on it.
+
+    `borrow` is none, class or all; None is all if there are 100 items. What was learned before in this way is kept,
+    unless it is to be learned `again`. Raises Refused for another word, and for fewer than 30 items.
+    """
+    if borrow not in (None, *BORROW):
+        raise Refused(f"--borrow {borrow!r} is not one of {', '.join(BORROW)}")
+    path = folder / PRIOR
+    if borrow == NONE:
+        return Prior(NONE), "each item has the law of its own history (--borrow none)"
+    if path.is_file() and not again:
+        prior = Prior.read(path)
+        if prior.borrow == (borrow or ALL):
+            return prior, f"{_learned(prior)} in an earlier run (--learn-again learns anew)"
+    histories, classes = _split(read)
+    try:
+        prior = learn(histories, classes if borrow == "class" else None, borrow or ALL,
+                      least=LEAST_ITEMS if borrow is None else LEAST_ON_REQUEST)
+    except Refused as few:
+        if borrow is not None:
+            raise
+        return Prior(NONE), f"each item has the law of its own history: {str(few).split(';')[0]}"
+    prior.write(path)
+    return prior, _learned(prior)
+
+
+def _split(read: Catalogued) -> tuple[list[Any], list[str]]:
+    """Returns all histories, and their classes."""
+    pairs = list(histories_of(read))
+    return [it for it, _ in pairs], [name for _, name in pairs]
+
+
+def _learned(prior: Prior) -> str:
+    """Returns from how many items something was learned."""
+    classes = f" and {len(prior.classes):,} classes" if prior.classes else ""
+    return f"laws of demand were learned from {prior.items - prior.outside:,} items{classes}"

@@ -1,0 +1,170 @@
+"""Plans all items of a catalogue into a folder. What was planned before is not planned again, unless it has changed."""
+from __future__ import annotations
+
+import contextlib
+import dataclasses
+import itertools
+import os
+import shutil
+import sys
+from collections.abc import Iterator, Sequence
+from contextlib import AbstractContextManager
+from pathlib import Path
+from typing import TYPE_CHECKING, Any
+
+from ..demand.borrowing import Prior
+from ..errors import CrnplanError
+from ..item.steps import digest_of
+from ..sweep import program_for
+from ..sweep.progress import progress as progress_of
+from .learning import prior_of
+from .planning import Settings, plan_batch
+from .reading import Catalogue, check_folder, missing_of
+from .store import READ, Answers, Catalogued, Reject, told_of, with_advice
+from .tables import (COLUMNS, DECISIONS, EXACT, EXACT_COLUMNS, REJECTS, SUMMARY, Totals, exact_row, reject_rows, row_of,
+                     spelt, summary_text, write_rows)
+from .workers import Workers, answers_of, cluster, processes
+
+if TYPE_CHECKING:
+    import pandas as pd
+
+BATCH = 8
+
+
+class Lost(CrnplanError):
+    """Rows or items whose counts do not add up. This is a fault of crnplan."""
+
+    status = 3
+
+
+@dataclasses.dataclass(frozen=True)
+class Done:
+    """What a run has done: the folder, how many items were planned now, and kept from before, and the summary."""
+
+    folder: Path
+    planned: int
+    kept: int
+    summary: str
+    missing: tuple[str, ...]
+
+
+class Run:
+    """A run: the catalogue, the answers that are kept, and which items are left."""
+
+    def __init__(self, read: Catalogued, answers: Answers, settings: Settings, prior: Prior, program: str) -> None:
+        """Looks at which answers can be kept."""
+        self.read, self.answers, self.settings, self.prior, self.program = read, answers, settings, prior, program
+        common = settings.digest(_program_digest(program), prior)
+        kept = answers.digests()
+        self.digests = {name: Settings.digest_of(common, name, facts) for name, facts in read.facts_of_items()}
+        self.left = [name for name, digest in self.digests.items() if kept.get(name) != digest]
+
+    def batches(self, prior: Any) -> Iterator[tuple[list[tuple[str, str]], Settings, Any, str]]:
+        """Yields what is sent to a worker for each batch."""
+        names = iter(self.left)
+        while batch := list(itertools.islice(names, BATCH)):
+            yield [(name, self.read.text(name)) for name in batch], self.settings, prior, self.program
+
+    def plan(self, given: AbstractContextManager[Workers], shown: bool) -> None:
+        """Plans the items that are left. Each batch is kept as it comes."""
+        kept = done = len(self.digests) - len(self.left)
+        try:
+            with given as workers, progress_of(len(self.digests), kept, shown, "items") as show:
+                for answers in answers_of(workers, plan_batch, self.batches(workers.share(self.prior))):
+                    self.answers.keep([(name, self.digests[name], text) for name, text in answers])
+                    done += len(answers)
+                    show(done)
+        except KeyboardInterrupt:
+            if shown:
+                print(f"{done:,} of {len(self.digests):,} items are planned and kept; run again to go on",
+                      file=sys.stderr)
+            raise
+
+    def rows(self, totals: Totals, faults: list[Reject]) -> Iterator[tuple[dict[str, Any], dict[str, Any]]]:
+        """Yields the row of each planned item with its answer, in order of the names, and adds up. Items without a plan
+        become rejects."""
+        for name in self.digests:
+            answer = self.answers.answer(name)
+            if "fault" in answer:
+                totals.faults += 1
+                faults.append(Reject("item", "", 0, name, "", "", *with_advice(answer["fault"]),
+                                     self.read.item(name)[1]["rows"]))
+                continue
+            row = row_of(name, *self.read.item(name), answer)
+            totals.add(row, answer["error"])
+            yield row, answer
+
+
+def _program_digest(program: str) -> str:
+    """Returns the digest of the program; its path if it is only on the workers of a cluster."""
+    path = Path(program)
+    return digest_of(path.read_bytes()) if path.is_file() else program
+
+
+def write_tables(folder: Path, run: Run) -> Totals:
+    """Writes all tables of a folder."""
+    totals, faults, decimals = Totals(), list[Reject](), run.read.fact("decimals")
+    rows = ([spelt(name, row[name], decimals) for name in COLUMNS] for row, _ in run.rows(totals, faults))
+    write_rows(folder / DECISIONS, COLUMNS, rows)
+    exact = (exact_row(row["item"], answer, run.settings) for row, answer in run.rows(Totals(), []))
+    write_rows(folder / EXACT, EXACT_COLUMNS, exact)
+    write_rows(folder / REJECTS, Reject._fields, reject_rows(run.read.rejects(faults)))
+    return totals
+
+
+def plan_into(folder: Path, settings: Settings, *, jobs: int | None = None, address: str | None = None,
+              program: str | Path | None = None, borrow: str | None = None, again: bool = False,
+              shown: bool = False) -> Done:
+    """Plans the catalogue that was read into a folder: see `plan`."""
+    path = program_for(program, address)
+    with (told_of(folder), contextlib.closing(Catalogued(folder / READ)) as read,
+          contextlib.closing(Answers(folder)) as answers):
+        prior, note = prior_of(folder, read, borrow, again)
+        run = Run(read, answers, settings, prior, path)
+        write_rows(folder / REJECTS, Reject._fields, reject_rows(read.rejects()))
+        if run.left:
+            run.plan(cluster(address) if address else processes(jobs or os.cpu_count() or 1), shown)
+        totals = write_tables(folder, run)
+        counts = read.fact("counts")
+        text = summary_text(counts, totals, settings, read.fact("every"), read.fact("decimals"), note)
+        missing = missing_of(counts, totals.verdicts.total() + totals.faults)
+        text += "".join(f"\nLOST: {it}\n" for it in missing)
+        (folder / SUMMARY).write_text(text, "utf-8")
+        return Done(folder, len(run.left), len(run.digests) - len(run.left), text, tuple(missing))
+
+
+def plan(catalogue: Catalogue, folder: str | Path, *, jobs: int | None = None, cluster: str | None = None,
+         program: str | Path | None = None, borrow: str | None = None, again: bool = False, progress: bool = False,
+         **settings: Any) -> pd.DataFrame:
+    """Plans all items of a catalogue into a folder, and returns the decisions: a row for each planned item.
+
+    Columns (of a period in the long run; money as in the masters): item, description, class, verdict, s and S, cost and
+    saving by crnsim with the saving's paired interval, the same by theory, fill (the share of demand met at once), mean
+    stock and its value, orders by theory, and warnings. `decisions.csv`, `exact.csv`, `rejects.csv` and `summary.txt`
+    in the folder have all of it. The folder keeps each answer, with all that it depends on: begun again, only what is
+    not there or has changed is planned.
+
+    `jobs` processes work (by default one for each processor), or the workers of a Dask scheduler, whose address is
+    `cluster`; the bytes are the same. Items learn laws of demand from all others, from those of their class, or not at
+    all (`borrow`: all, class or none; by default all if there are 100). That is learned once in a folder, and then
+    `again` only if asked. `settings` are those of `Settings`: `seed`, `fit`, `level`, `periods` and
+    `replications`. Raises Refused, ProgramError, and Lost if the counts do not add up.
+    """
+    import pandas as pd
+    place, chosen = Path(folder), Settings(**settings)
+    check_folder(place)
+    if catalogue.path.resolve() != (place / READ).resolve():
+        with told_of(place):
+            shutil.copyfile(catalogue.path, place / f"{READ}.part")
+            os.replace(place / f"{READ}.part", place / READ)
+    done = plan_into(place, chosen, jobs=jobs, address=cluster, program=program, borrow=borrow, again=again,
+                     shown=progress)
+    if done.missing:
+        raise Lost("; ".join(done.missing))
+    return pd.read_csv(place / DECISIONS, dtype={it: str for it in ("item", "description", "class", "law", "warnings")},
+                       keep_default_na=False, na_values={it: [""] for it in _numbers()})
+
+
+def _numbers() -> Sequence[str]:
+    """Returns the columns that have numbers."""
+    return [it for it in COLUMNS if it not in ("item", "description", "class", "verdict", "law", "warnings")]

@@ -1,0 +1,63 @@
+"""The command `crnplan catalogue`."""
+from __future__ import annotations
+
+from pathlib import Path
+from typing import Any
+
+import click
+
+from ..demand.fitting import METHODS
+from ..history.amounts import DECIMALS
+from ..history.dates import EVERY
+
+TAKEN = ("keep", "leave-out")
+
+
+@click.command(epilog="Example: crnplan catalogue demand.csv items.csv --orders orders.csv --out plan")
+@click.argument("demand", metavar="DEMAND.csv")
+@click.argument("items", metavar="ITEMS.csv")
+@click.option("--orders", metavar="ORDERS.csv", help="Dates of orders and of their receipts, for lead times.")
+@click.option("--out", metavar="FOLDER", type=click.Path(path_type=Path), required=True, help="Keep every file here.")
+@click.option("--check", "only_read", is_flag=True, help="Only read the files, and say what was found and left out.")
+@click.option("--column", "columns", metavar="FILE.ROLE=NAME", multiple=True,
+              help="A column, as demand.quantity=Menge. May be given several times.")
+@click.option("--every", type=click.Choice(EVERY), help="The period; by default week. Weeks are ISO weeks.")
+@click.option("--from", "start", metavar="DATE", help="The first day of the record, for all items.")
+@click.option("--to", "end", metavar="DATE", help="The last day of the record, for all items.")
+@click.option("--net", is_flag=True, default=None, help="Take quantities below 0 off their period.")
+@click.option("--twice", type=click.Choice(TAKEN), help="Rows that stand twice; by default they are kept and named.")
+@click.option("--far", type=click.Choice(TAKEN),
+              help="Items with an amount far above all others; by default they are left out.")
+@click.option("--least", type=click.IntRange(1), metavar="N", help="The periods that a history needs; by default 13.")
+@click.option("--delimiter", metavar="SIGN", help="One of , ; tab. It is found from the heading and the rows.")
+@click.option("--encoding", metavar="NAME", help="For example cp1252; without it that of the byte order mark, or UTF-8.")
+@click.option("--decimal", type=click.Choice(DECIMALS), help="The decimal sign; without it each column must decide it.")
+@click.option("--date-format", "date_formats", metavar="PATTERN", multiple=True,
+              help="A pattern as %d/%m/%y in place of the usual forms. May be given several times.")
+@click.option("--fit", type=click.Choice(METHODS), metavar="METHOD",
+              help="How demand is fitted, as in crnplan history; by default auto.")
+@click.option("--borrow", type=click.Choice(("none", "class", "all")),
+              help="From which items each learns its law of demand; by default all if there are 100.")
+@click.option("--learn-again", "again", is_flag=True, help="Learn laws anew, not as in an earlier run in FOLDER.")
+@click.option("--level", type=float, metavar="SHARE", help="The level of the intervals; by default 0.95.")
+@click.option("--seed", metavar="TEXT", help="The keys of all items follow from it; by default crnplan.")
+@click.option("--config", metavar="FILE.toml", help="Settings; by default crnplan.toml, if it is here.")
+@click.option("--jobs", type=click.IntRange(min=1), metavar="N", help="Processes; by default one for each processor.")
+@click.option("--cluster", metavar="ADDRESS", help="A Dask scheduler, as tcp://host:8786. Its workers need crnplan.")
+@click.option("--program", metavar="PATH", help="The program crnsim.")
+def command(**asked: Any) -> int:
+    """Plan all items of a catalogue: from two tables to a decision for each item.
+
+    DEMAND.csv has a row for each movement: item, date, quantity, and perhaps returned. ITEMS.csv has a row for each
+    item: item, setup, holding, backlog or a wanted fill rate, lead time in periods, today's s and S, and perhaps
+    description, stock, price and class. Costs are for one item and one period. Columns are found by their names; what
+    was found is printed as lines for crnplan.toml that state it.
+
+    FOLDER gets decisions.csv (an item a row), exact.csv (crnsim's figures as fractions), rejects.csv (all that was left
+    out, with place, reason and advice) and summary.txt. Run again, only items that have changed are planned; after an
+    interruption it goes on. The bytes do not depend on how many processes or workers there are.
+
+    The exit status is 3 if the counts of rows or items do not add up.
+    """
+    from ..catalogue.commanded import commanded
+    return commanded(asked, lambda line: click.echo(line, nl=False), lambda line: click.echo(line, err=True, nl=False))

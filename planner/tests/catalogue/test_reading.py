@@ -1,0 +1,262 @@
+"""Tests that a catalogue is read without loss: every planted fault is found, and a second program has the same sums."""
+from __future__ import annotations
+
+import datetime
+import json
+from pathlib import Path
+from typing import Any
+
+import pandas as pd
+import pytest
+
+from crnplan.catalogue import Catalogue, read_catalogue
+from crnplan.catalogue.parts import Reader, far_above
+from crnplan.catalogue.reading import Words, read_into
+from crnplan.errors import Refused, RefusedFaults
+from crnplan.history.dates import period_of
+from planner.tests.catalogue.audit import Audit, audit
+from planner.tests.catalogue.conftest import FILES
+from planner.tests.catalogue.made import ITEMS, START, TITLES, TODAY, WEEKS, Made, name_of
+
+LAST = START + datetime.timedelta(days=7 * WEEKS - 3)
+
+
+@pytest.fixture(scope="module")
+def rejects(catalogue: Catalogue) -> pd.DataFrame:
+    """Returns what was left out or named."""
+    return catalogue.rejects
+
+
+@pytest.fixture(scope="module")
+def second(files: Path) -> Audit:
+    """Returns what the second program finds in the file of demand."""
+    return audit(files / FILES[0], len(TITLES) + 1, START, LAST)
+
+
+def items_of(catalogue: Catalogue) -> dict[str, tuple[dict[str, Any], dict[str, Any]]]:
+    """Returns all items that can be planned."""
+    with catalogue.opened() as read:
+        return {name: read.item(name) for name, _ in read.facts_of_items()}
+
+
+def test_planted_rows_are_rejected_or_named(planted: Made, rejects: pd.DataFrame) -> None:
+    """Finds each planted row by its line, and no other one."""
+    demand = rejects[rejects.file == FILES[0]]
+    rows = {kind: lines for kind, lines in planted.bad_lines.items() if kind != "twice"}
+    assert set(demand[demand.kind == "row"].line) == set.union(*rows.values())
+    assert set(demand[demand.kind == "suspicious"].line) == planted.bad_lines["twice"]
+    for column in ("Menge", "Buchungstag", "Artikel"):
+        found = set(demand[(demand.kind == "row") & (demand.column == column)].line)
+        assert rows[column] <= found <= rows[column] | rows["total"]
+    assert "total" in demand[demand.line.isin(rows["total"])].reason.item()
+    assert (demand[demand.kind == "row"].rows == 1).all() and (demand[demand.kind == "suspicious"].rows == 0).all()
+    assert not (rejects.advice == "").any() and not (rejects.reason == "").any()
+
+
+@pytest.mark.parametrize("kind, reason", [
+    ("far", "times"), ("no master", "no master"), ("orders alone", "no master"), ("two masters", "masters that differ"),
+    ("no demand", "no row of demand"), ("missing master", "no master"), ("short", "is short"), ("master", "")])
+def test_planted_items_are_left_out(planted: Made, rejects: pd.DataFrame, kind: str, reason: str) -> None:
+    """Finds each planted item by its name and reason."""
+    found = rejects[rejects.kind == "item"].set_index("item")
+    for name in planted.bad_items[kind]:
+        assert reason in found.reason[name]
+
+
+def test_no_other_item_is_left_out(planted: Made, catalogue: Catalogue, rejects: pd.DataFrame) -> None:
+    """Leaves out the planted items alone."""
+    assert set(rejects[rejects.kind == "item"].item) == set.union(*planted.bad_items.values())
+    named = {name_of(it) for it in range(ITEMS)} | {"A-777", "A-888", "A-900", "Summe"}
+    bad = set.union(*planted.bad_items.values())
+    assert set(items_of(catalogue)) == named - bad - {"Summe"}
+
+
+def test_columns_of_faulty_masters(rejects: pd.DataFrame) -> None:
+    """Names all faulty cells of a master."""
+    found = rejects[(rejects.kind == "item") & (rejects.file == FILES[1])].set_index("item")
+    assert list(found.column[[name_of(it) for it in range(20, 29)]]) == [
+        "Bestellkosten", "Bestellpunkt", "Lagerkosten", "Lieferzeit", "Fehlmengenkosten", "Lieferzeit",
+        "Bestellkosten", "Servicegrad", "Bestellkosten, Preis"]
+    assert found.text["A-026"] == "45,00 EUR" and "120%" in found.text["A-027"]
+
+
+def test_sums_of_a_second_program(catalogue: Catalogue, second: Audit) -> None:
+    """Has the same quantities and returns by item and week as the second program, and nothing beside."""
+    first = period_of(START, "week")
+    for name, (facts, shown) in items_of(catalogue).items():
+        weeks = [datetime.date.fromordinal(7 * (shown["first"] + it) + 1).isocalendar()[:2]
+                 for it in range(len(facts["counts"]))]
+        assert {week: it for week, it in zip(weeks, facts["counts"]) if it} == second.asked[name], name
+        back = facts["back"] or [0] * len(weeks)
+        assert {week: it for week, it in zip(weeks, back) if it} == +second.back[name], name
+        assert len(weeks) == (WEEKS if shown["first"] == first else first + WEEKS - shown["first"])
+        assert shown["rows"] == second.taken[name]
+
+
+def test_rows_reconcile_with_a_second_program(catalogue: Catalogue, rejects: pd.DataFrame, second: Audit) -> None:
+    """Rows used, rejected and left out with their item are all rows, by crnplan's counts and by the second program's."""
+    counts, ready = catalogue.counts["files"]["demand"], items_of(catalogue)
+    used = sum(count for name, count in second.taken.items() if name in ready)
+    assert (counts["read"], counts["used"]) == (second.read, used)
+    assert counts["with_item"] == second.taken.total() - used == rejects[rejects.kind == "item"].rows.sum()
+    assert counts["rejected"] == second.read - second.taken.total() == (rejects.kind.eq("row") & rejects.file.eq(
+        FILES[0])).sum()
+    assert counts["blank"] == 1 and catalogue.missing == []
+
+
+def test_record_is_that_of_the_file(catalogue: Catalogue) -> None:
+    """An item begins with the record, unless it is first seen after half a year, which is said."""
+    items = items_of(catalogue)
+    assert len(items["A-001"][0]["counts"]) == WEEKS and "begins" not in "".join(items["A-001"][1]["notes"])
+    assert len(items["A-007"][0]["counts"]) == WEEKS - 60
+    assert items["A-007"][1]["notes"] == ["begins with its first movement, in 2026-W04"]
+
+
+def test_lead_times_of_orders(files: Path, catalogue: Catalogue) -> None:
+    """Takes lead times from orders if the master has none: those of a second computation."""
+    leads = [it.split(";") for it in (files / FILES[2]).read_text("utf-8").splitlines()[1:] if it.startswith("A-004;")]
+    weeks = [[datetime.datetime.strptime(it, "%Y-%m-%d").date().toordinal() - 1 for it in row[1:]] for row in leads]
+    assert items_of(catalogue)["A-004"][0]["leads"] == [max(1, b // 7 - a // 7) for a, b in weeks]
+
+
+def test_what_was_found_is_stated(catalogue: Catalogue, files: Path) -> None:
+    """States the columns as guesses, dates and decimal signs; and the statement gives the same catalogue."""
+    import tomllib
+    found = tomllib.loads(catalogue.found)["catalogue"]
+    assert found["demand"] == {"item": "Artikel", "date": "Buchungstag", "quantity": "Menge", "returned": "Retouren"}
+    assert found["items"]["S"] == "Höchstbestand" and found["items"]["lead"] == "Lieferzeit"
+    for text in ('"Artikel"  # found by its name', "the day comes first in", "decimal sign of holding is the comma in 0,",
+                 "heading in line 3", "not used: Beleg", "the record: 2024-11-25 to"):
+        assert text in catalogue.found
+    columns = {kind: found[kind] for kind in ("demand", "items", "orders")}
+    again = read_catalogue(*(files / it for it in FILES), today=TODAY, columns=columns)
+    assert again.counts == catalogue.counts and "# found by its name" not in again.found
+    assert [*again.rejects.itertuples()] == [*catalogue.rejects.itertuples()]
+
+
+@pytest.mark.parametrize("part_bytes", [500, 20_000])
+def test_parts_change_nothing(files: Path, catalogue: Catalogue, part_bytes: int, tmp_path: Path) -> None:
+    """Reads the same from many parts as from one, and leaves no part behind."""
+    paths = dict(zip(("demand", "items", "orders"), (files / it for it in FILES)))
+    again = Catalogue(read_into(tmp_path, paths, Words(today=TODAY, part_bytes=part_bytes)))
+    assert again.counts == catalogue.counts and items_of(again) == items_of(catalogue)
+    assert [*again.rejects.itertuples()] == [*catalogue.rejects.itertuples()]
+    assert [it.name for it in again.path.parent.iterdir()] == [again.path.name]
+
+
+def test_a_lost_row_is_said(files: Path, monkeypatch: pytest.MonkeyPatch) -> None:
+    """Says how many rows and items are lost if some are, as if a part of the reader were wrong."""
+    own = Reader._item
+
+    def without(self: Reader, name: str, moves: Any, *more: Any) -> Any:
+        """Loses a row of an item."""
+        if name == "A-002":
+            self.counts.used["demand"] -= 1
+        return own(self, name, moves, *more)
+    monkeypatch.setattr(Reader, "_item", without)
+    missing = read_catalogue(*(files / it for it in FILES), today=TODAY).missing
+    assert len(missing) == 1 and missing[0].startswith("demand: ") and missing[0].endswith("+1 rows are lost")
+
+
+@pytest.mark.parametrize("words, number", [({"twice": "leave-out"}, 3), ({"far": "keep"}, 0), ({"net": True}, 0)])
+def test_ways_of_taking_rows(files: Path, catalogue: Catalogue, words: dict[str, Any], number: int) -> None:
+    """Leaves double rows out, keeps items with far amounts, and takes amounts below 0 off, if asked."""
+    its = read_catalogue(*(files / it for it in FILES), today=TODAY, **words)
+    before, after = catalogue.counts["files"]["demand"], its.counts["files"]["demand"]
+    assert its.missing == []
+    if "far" in words:
+        assert its.counts["items"]["ready"] == catalogue.counts["items"]["ready"] + 2
+    else:
+        assert after["rejected"] - before["rejected"] == (number or -1)
+
+
+@pytest.mark.parametrize("amounts, far", [
+    ([1, 2, 3, 2, 1], 0), ([3, 2, 3, 2, 1, 90], 1), ([3, 2, 3, 2, 1, 89], 0), ([2, 1, 60], 0), ([2, 1, 600], 1),
+    ([2, 1, 3, 4, 2, 4000, 3000], 2), ([5], 0), ([0, 0, 7], 0), ([1, 1, 1, 1, 40, 41, 42, 43], 0)])
+def test_far_above(amounts: list[int], far: int) -> None:
+    """An amount is far above all others if it is 30 times the next one, and of few others 300 times."""
+    assert far_above(amounts) == far
+
+
+def read_text(folder: Path, demand: str, masters: str = "", **words: Any) -> Catalogue:
+    """Reads a catalogue from texts."""
+    masters = masters or "item,setup,holding,backlog,lead,s,S\nA,10,0.5,5,2,3,9\n"
+    for name, text in (("demand.csv", demand), ("items.csv", masters)):
+        (folder / name).write_text(text, "utf-8")
+    return read_catalogue(folder / "demand.csv", folder / "items.csv", today=TODAY, least=1, **words)
+
+
+ROWS = "".join(f"A,2026-{month:02}-15,3\n" for month in range(1, 11))
+
+
+@pytest.mark.parametrize("demand, masters, said", [
+    ("item,date\n" + ROWS, "", "demand.csv:1: no column looks like the quantity; say --column demand.quantity=NAME"),
+    ("item,date,quantity,Menge\n" + ROWS, "", "the columns 'quantity' and 'Menge' may both be the quantity; say --column"),
+    ("item,date,quantity\n", "", "no row of demand has a date"), ("", "", "there is no row below the heading"),
+    ("item,date,quantity\nA,soon,3\n", "", "no row of demand has a date"),
+    ("item,date,quantity\n" + ROWS, "item,setup,holding\nA,1,1\n", "no column looks like the s;")])
+def test_refused_files(tmp_path: Path, demand: str, masters: str, said: str) -> None:
+    """Refuses files whose columns or dates are not there, with what to do."""
+    with pytest.raises(Refused) as fault:
+        read_text(tmp_path, demand, masters)
+    assert said in str(fault.value)
+
+
+def test_faults_of_all_files_at_once(tmp_path: Path) -> None:
+    """Says what is wrong with the columns of both files in one pass."""
+    with pytest.raises(RefusedFaults) as fault:
+        read_text(tmp_path, "item,when,how much\nA,2026-01-01,1\n", "item,setup\nA,3\n")
+    assert [it.file.endswith("demand.csv") for it in fault.value.faults] == [True, True, False, False, False]
+
+
+def test_bytes_that_are_no_text_far_down(tmp_path: Path) -> None:
+    """Names the line of a byte that is not UTF-8, also beyond what is looked at first."""
+    path = tmp_path / "demand.csv"
+    lines = ["item,date,quantity", *(f"A,2026-03-{1 + it % 28:02},{it % 7}" for it in range(80_000))]
+    path.write_bytes("\n".join(lines).encode() + b"\nB\xfcrste,2026-03-02,1\n")
+    (tmp_path / "items.csv").write_text("item,setup,holding,backlog,lead,s,S\nA,10,0.5,5,2,3,9\n")
+    with pytest.raises(RefusedFaults, match=r"demand.csv:80002:2: the byte 0xfc is not UTF-8; say --encoding latin-1"):
+        read_catalogue(path, tmp_path / "items.csv", today=TODAY)
+
+
+@pytest.mark.parametrize("rows, found", [
+    ("A,03/04/2026,1\n", {"03/04/2026"}), ("A,03/04/2026,1\nA,25/04/2026,1\n", set()),
+    ("A,03/04/2026,1\nA,25/04/2026,1\nA,04/25/2026,1\n", {"03/04/2026"})])
+def test_date_order_is_never_guessed(tmp_path: Path, rows: str, found: set[str]) -> None:
+    """Rejects a date that may have the day or the month first, unless one date of the file decides it."""
+    its = read_text(tmp_path, f"item,date,quantity\n{ROWS}{rows}")
+    assert set(its.rejects[its.rejects.column == "date"].text) == found
+
+
+@pytest.mark.parametrize("holdings, decimal, read", [
+    (["1.234", "0.5"], None, ["617/500", "1/2"]), (["1.234", "5"], None, [None, "5"]),
+    (["1.234", "5"], ".", ["617/500", "5"]), (["1.234", "0,5"], None, ["1234", "1/2"]),
+    (["1.234", "0,5", "0.5"], None, [None, "1/2", "1/2"]), (["1.234,50"], None, ["2469/2"])])
+def test_decimal_sign_is_never_guessed(tmp_path: Path, holdings: list[str], decimal: str | None,
+                                       read: list[str | None]) -> None:
+    """Rejects an amount that may be two numbers, unless its column decides it."""
+    names = "ABC"[:len(holdings)]
+    rows = "".join(row.replace("A", name) for name in names for row in ROWS.splitlines(True))
+    masters = "item;setup;holding;backlog;lead;s;S\n" + "".join(
+        f"{name};10;{it};5;2;3;9\n" for name, it in zip(names, holdings))
+    its = read_text(tmp_path, "item,date,quantity\n" + rows, masters, decimal=decimal)
+    found = items_of(its)
+    assert [found[name][0]["holding"] if name in found else None for name in names] == read
+
+
+def test_unused_words_are_refused(tmp_path: Path) -> None:
+    """Refuses words that can't be meant."""
+    for words, said in (({"every": "year"}, "--every 'year'"), ({"far": "drop"}, "--far 'drop'"),
+                        ({"columns": {"demand": {"amount": "x"}}}, "demand.amount: there is no such column"),
+                        ({"start": "2026-05-01", "end": "2026-01-01"}, "is after --to"), ({"start": "soon"}, "--from:")):
+        with pytest.raises(Refused, match=said):
+            read_text(tmp_path, "item,date,quantity\n" + ROWS, **words)
+
+
+def test_record_from_and_to(tmp_path: Path) -> None:
+    """Cuts the record where it is stated, and counts what is left out."""
+    its = read_text(tmp_path, "item,date,quantity\n" + ROWS, start="2026-02-01", end="2026-09-30", every="month")
+    facts, shown = items_of(its)["A"]
+    assert facts["counts"] == [3] * 8 and shown["rows"] == 8
+    assert list(its.rejects.reason) == ["2026-01-15 is before --from", "2026-10-15 is after --to"]
+    assert json.loads(json.dumps(its.counts)) == its.counts and its.missing == []
