@@ -31,8 +31,7 @@ from crnplan.errors import CrnplanError, Refused
 from crnplan.formats import MOST_ITEMS, MOST_PERIODS
 from crnplan.report.tables import aligned
 from crnplan.scenario import Costs, Policy, Scenario
-from crnplan.theory.lattice import shape_of, theories_of, theory_on, values_of
-from crnplan.theory.overtaking import late_amounts
+from crnplan.theory.lattice import late_work, shape_of, theories_of, theory_on, values_of
 from crnplan.theory.start_bias import start_bias
 from planner.studies.long_run_items import Item, items_of
 
@@ -41,9 +40,9 @@ SEEDS = (1, 20261126, 48)
 REPLICATIONS = 24
 SMALL = 24  # items
 LEVEL = 0.95
-# Tables of the exact target are made up to this gap, and up to this many places with late orders.
+# Tables of the exact target are made up to this gap, and up to this work with late orders (`overtaking.work_of`).
 MOST_GAP = 20_000
-MOST_PLACES = 4e7
+MOST_WORK = 100_000_000
 DESIGNS = ("own starts", "less the bias", "as it is")
 # Bounds of the classes: expected orders of the rarer policy in 1,024 periods.
 CLASSES = (0, 5, 10, 20, 80, math.inf)
@@ -90,8 +89,7 @@ def exact_costs(scenario: Scenario) -> list[tuple[float, float]] | None:
     theory = theory_on(scenario, replace(shape, order=widest / 3), step, True)
     if shape.leads == 1 and widest > MOST_GAP * step:
         return None
-    if shape.leads > 1 and shape.lead * (widest / step + 1) * len(
-            late_amounts(widest // step, theory.net, shape.lead)) > MOST_PLACES:
+    if shape.leads > 1 and late_work(shape, step, widest / step) > MOST_WORK:
         return None
     figures = (theory.figures(it.s, it.S) for it in scenario.policies)
     return [(it.cost, it.orders) for it in figures]

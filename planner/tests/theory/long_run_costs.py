@@ -19,11 +19,13 @@ LEAST_CHANCE = 1e-12
 
 
 class Shortfall(NamedTuple):
-    """The chances of S less the stock at the end of a period, from the least on, and the orders per period."""
+    """The chances of S less the stock at the end of a period, from the least on, and the orders per period. `before` is
+    the same just before the demand, after what came back."""
 
     least: int
     chances: np.ndarray
     orders: float
+    before: np.ndarray
 
 
 class Best(NamedTuple):
@@ -107,15 +109,28 @@ def shortfall_of(scenario: Scenario, gap: int) -> Shortfall:
     chances = np.zeros(sum(law.shape) - 1)
     for depth, row in enumerate(law):
         chances[depth:depth + len(row)] += row
-    return Shortfall(least - above, np.convolve(chances, net), orders)
+    back = chances_of(scenario.returns or Table((0,), (1,)))
+    return Shortfall(least - above, np.convolve(chances, net), orders, np.convolve(chances, back[::-1]))
+
+
+def fills_of(scenario: Scenario, short: Shortfall, levels: np.ndarray) -> np.ndarray:
+    """Returns the share of demand that is met at once with each order-up-to level S."""
+    stock = np.maximum(levels[:, None] - short.least - np.arange(len(short.before)), 0)
+    met = sum(chance * np.minimum(stock, asked) @ short.before
+              for asked, chance in enumerate(chances_of(scenario.demand)))
+    return met / float(scenario.demand.mean)
+
+
+def costs_of(scenario: Scenario, short: Shortfall, levels: np.ndarray) -> np.ndarray:
+    """Returns the cost per period of each order-up-to level S."""
+    stock, costs = levels[:, None] - short.least - np.arange(len(short.chances)), scenario.costs
+    rates = np.where(stock > 0, costs.holding * stock, -costs.backlog * stock)
+    return costs.setup * short.orders + rates @ short.chances
 
 
 def cost_of(scenario: Scenario, short: Shortfall, level: int) -> float:
     """Returns the cost per period of order-up-to level S."""
-    stock = level - short.least - np.arange(len(short.chances))
-    costs = scenario.costs
-    rates = np.where(stock > 0, costs.holding * stock, -costs.backlog * stock)
-    return costs.setup * short.orders + float(rates @ short.chances)
+    return float(costs_of(scenario, short, np.array([level]))[0])
 
 
 def best_of_gap(scenario: Scenario, gap: int) -> Best:

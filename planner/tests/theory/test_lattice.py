@@ -70,7 +70,7 @@ def test_a_scenario_without_a_theory(scenario: Scenario, path: tuple[str, ...], 
 
 
 def test_a_wide_policy_takes_a_coarser_lattice() -> None:
-    scenario, wide = (scenario_of(DEMAND, ([1, 2], [1, 1]), levels=(0, it)) for it in (99, 10**6))
+    scenario, wide = (scenario_of(DEMAND, ([1, 9], [1, 1]), levels=(0, it)) for it in (99, 10**6))
     steps = [theory.step for theory, _ in (theories_of(scenario), theories_of(scenario, 10**6), theories_of(wide))]
     assert steps[0] == 1 < steps[1] == steps[2]
 

@@ -68,8 +68,8 @@ def test_steps_of_several_items(case: str, monkeypatch: pytest.MonkeyPatch) -> N
                     policies=(Policy("low", 300, 700), Policy("high", 700, 1300)))
     exact = start_bias(asked)
     monkeypatch.setattr("crnplan.theory.lattice.MOST_PRODUCTS", 30_000)
-    monkeypatch.setattr("crnplan.theory.lattice.MOST_CHAIN", 30_000_000)
-    monkeypatch.setattr("crnplan.theory.start_bias.MOST_PASSES", 0)
+    monkeypatch.setattr("crnplan.theory.lattice.MOST_WORK", 600_000)
+    monkeypatch.setattr("crnplan.theory.start_bias.MOST_WORK", 0)
     coarse = start_bias(asked)
     assert coarse.exactness == f"rounded to steps of {coarse.theory.step} items" and coarse.theory.step > 3
     assert coarse.biases == pytest.approx(exact.biases, rel=0.02, abs=100 * 900 / 1e3)

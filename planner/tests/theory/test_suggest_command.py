@@ -71,7 +71,7 @@ def test_the_table_in_other_forms(crnplan: Command, top: Path) -> None:
     shown = [line.split() for line in crnplan("suggest", path).errors.split("\n\n")[0].splitlines()]
     status, output, notes = crnplan("suggest", "--csv", path)
     rows = list(csv.DictReader(io.StringIO(output)))
-    assert (status, notes.startswith("cost: a period in the long run")) == (0, True)
+    assert (status, notes.startswith("by this law of demand")) == (0, True)
     assert [*rows[0]] == [*shown[0], "reasons"]
     forms = {"cost": ".2f", "fill": ".2%", "short": ".2%", "stock": ".1f", "orders": ".4f"}
     assert [[it["policy"], it["s"], it["S"], *(format(float(it[name]), form) for name, form in forms.items())]
@@ -81,6 +81,42 @@ def test_the_table_in_other_forms(crnplan: Command, top: Path) -> None:
     assert (status, errors, told["error"], told["step"]) == (0, "", None, 1)
     assert [{name: str(value) for name, value in it.items()} for it in told["policies"]] == rows
     assert told["initial"] == round(told["position"])
+
+
+HISTORY = "period,demand\n" + "".join(f"{place},{it}\n" for place, it in enumerate([0, 3, 1, 0, 6, 0, 2, 0, 0, 4] * 5))
+
+
+def test_promises_of_a_history(crnplan: Command, top: Path, tmp_path: Path) -> None:
+    """Each fill rate has a policy that keeps it under a share of the laws, or the reason stands at the plain one."""
+    path, history = top / "examples/spare_part.toml", tmp_path / "demand.csv"
+    history.write_text(HISTORY, "utf-8")
+    told = crnplan("suggest", path, "--history", history, "--json")
+    rows = json.loads(told.output)["policies"]
+    assert (told.status, told.errors) == (0, "")
+    for share in ("95", "98", "99", "99.5"):
+        reason = f"the cheapest with a fill rate of at least {share}% under 80% of the laws that the history allows, for "
+        assert sum(reason in it["reasons"] for it in rows) == 1
+    wide = json.loads(crnplan("suggest", path, "--history", history, "--json", "--confidence", "0.95").output)["policies"]
+    costs = [next(it["cost"] for it in its if "at least 99.5% under" in it["reasons"]) for its in (rows, wide)]
+    assert costs[0] < costs[1]
+
+
+@pytest.mark.parametrize("words, said", [
+    (["--confidence", "0.9"], "--confidence is that of --history: give the history of demand too"),
+    (["--history", "missing.csv", "--confidence", "0"], "Invalid value for '--confidence': 0.0 is not in the range"),
+    (["--history", "missing.csv"], "missing.csv: No such file or directory"),
+    (["--history", "short.csv"], "demand")])
+def test_refused_promises(crnplan: Command, top: Path, tmp_path: Path, monkeypatch: pytest.MonkeyPatch,
+                          words: list[str], said: str) -> None:
+    monkeypatch.chdir(tmp_path)
+    (tmp_path / "short.csv").write_text("period\n1\n", "utf-8")
+    status, output, errors = crnplan("suggest", top / "examples/spare_part.toml", *words)
+    assert (status, output) == (2, "") and errors.startswith("crnplan: ") and said in errors
+
+
+def test_one_standard_input(crnplan: Command) -> None:
+    assert crnplan("suggest", "-", "--history", "-").errors == (
+        "crnplan: standard input (-) can be one file only; name the other\n")
 
 
 def test_standard_input(crnplan: Command, top: Path) -> None:

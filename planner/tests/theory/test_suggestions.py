@@ -10,6 +10,7 @@ from hypothesis import strategies as st
 
 from crnplan.engine.program import run_program
 from crnplan.scenario import Costs, Policy, Scenario
+from crnplan.theory.behaviour import Depths
 from crnplan.theory.suggestions import Suggestions, suggested, suggested_text, suggestions_of
 
 from planner.tests.theory.long_run_costs import best_of_all, cost_of, shortfall_of
@@ -32,7 +33,8 @@ def test_the_policies(found: Suggestions) -> None:
     levels, names = [(it.policy.s, it.policy.S) for it in found.rows], [it.policy.name for it in found.rows]
     assert found.rows[0].policy == found.scenario.policies[0]
     assert found.rows[0].reasons[0] == "today's policy"
-    assert len(set(levels)) == len(set(names)) == len(levels)
+    behaviours = {Depths(found.scenario).behaviour(*it) for it in levels}
+    assert len(behaviours) == len(set(names)) == len(levels)
     assert 2 <= len(levels) <= 16
     assert names[1] in ("best", "best_")
     assert all(0 <= point <= level <= 1_000_000 for point, level in levels)
@@ -67,7 +69,7 @@ def test_the_text(found: Suggestions, program: Path) -> None:
 def test_the_error(found: Suggestions) -> None:
     exact = found.scenario not in LARGE.values()
     assert ("\nerror: exact but for rounding\n" in found.notes) == exact
-    assert ("counted in steps of" in found.notes) != exact
+    assert ("rounded to steps of" in found.notes) != exact
     assert (found.error is None) == exact
 
 

@@ -15,6 +15,9 @@ import numpy as np
 from .laws import Floats, Law
 
 DIGITS = 36  # e^-36 is below the rounding of a number.
+# Chances that differ by no more are equal but for rounding. They are compared once in so many places.
+EQUAL = 1e-16
+LOOK_EVERY = 64
 
 
 def decay_of(net: Law) -> float:
@@ -69,11 +72,17 @@ def ladder(net: Law) -> tuple[Floats, Floats]:
 
 
 def with_more_lows(lows: Floats, falls: Floats, count: int) -> Floats:
-    """Returns the chances that each of the first `count` places is a low of the walk. `lows` are the first of them."""
+    """Returns the chances that each of the first `count` places is a low of the walk. `lows` are the first of them.
+
+    Each chance is a mean of as many chances before it as a fall has cells. So once these are equal, all others are.
+    """
     longer, reach = np.zeros(count), len(falls) - 1
     longer[:len(lows)] = lows
     turned = falls[:0:-1]
     for place in range(len(lows), count):
         back = min(place, reach)
         longer[place] = turned[reach - back:] @ longer[place - back:place]
+        if place % LOOK_EVERY == 0 and place >= reach and np.ptp(longer[place - reach + 1:place + 1]) <= EQUAL:
+            longer[place:] = longer[place]
+            break
     return longer

@@ -18,13 +18,13 @@ from .ladder import DIGITS, decay_of
 from .laws import law_of, reflected, sum_of
 from .long_run import LongRun, gap_grid
 from .one_lead import OneLead
-from .overtaking import FEW_STEPS, OTHER_PRODUCTS, TRANSFORM_PRODUCTS, SeveralLeads
+from .overtaking import SeveralLeads, work_of
 from .walk import Walk
 
 MOST_PRODUCTS = 300_000_000  # of cells of levels and of gaps
 MOST_CELLS = 60_000  # of a law
 MOST_TRANSFORM = 1 << 20  # cells of a transform
-MOST_CHAIN = 2_500_000_000  # products of all passes over late orders
+MOST_WORK = 40_000_000  # for late orders, by `work_of`
 CELLS_OF_SHAPE = 400  # in which a scenario's shape is looked at
 LEAST_CELLS = 8  # of the largest net demand or order
 COARSER = 1.2  # by how much a step may grow if more values then lie on the lattice
@@ -46,11 +46,11 @@ class Shape:
     mean: float
     deviation: float
     high: int
-    values: int
     lead: int
     leads: int
     order: float
     height: float
+    rise: float  # the largest net number that comes back in a period
 
     @property
     def gap(self) -> int:
@@ -112,18 +112,14 @@ def shape_of(scenario: Scenario) -> Shape:
     order = math.sqrt(rate * mean) + (rate * variance)**(1 / 3)
     leads = [value for value, weight in zip(scenario.lead.values, scenario.lead.weights) if weight]
     height = height_of(scenario, max(values)) if back else 0.0
-    return Shape(mean, math.sqrt(variance), max(values), len(set(values)) + 1, max(leads), len(leads), order, height)
+    rise = max(0, max(scenario.returns.values) - min(scenario.demand.values)) if scenario.returns else 0
+    return Shape(mean, math.sqrt(variance), max(values), max(leads), len(leads), order, height, rise)
 
 
-def chain_cost(shape: Shape, step: int, gap: float) -> float:
-    """Returns how many products a pass over late orders takes, about."""
-    high, width = shape.high / step + 1, gap + shape.height / step
-    late = gap + shape.lead * shape.mean / step + 10 * math.sqrt(shape.lead) * shape.deviation / step + 2 * high
-    orders = min(shape.lead, late / (gap + 1))
-    amounts = min(late, 1 + orders * (orders + 1) / 2 * high)
-    steps = min(high, shape.values if step == 1 else 2 * shape.values)
-    return (width + high) * amounts * shape.lead * (
-        OTHER_PRODUCTS + (steps if steps <= FEW_STEPS else TRANSFORM_PRODUCTS))
+def late_work(shape: Shape, step: int, gap: float) -> float:
+    """Returns how much work a gap has, in cells, if orders may overtake one another: see `work_of`."""
+    under_way = shape.lead * (shape.mean + shape.rise) + 9 * math.sqrt(shape.lead) * shape.deviation + 2 * shape.high
+    return work_of(gap + (under_way + shape.height) / step, shape.lead)
 
 
 def has_room(shape: Shape, step: int) -> bool:
@@ -138,8 +134,7 @@ def is_small(shape: Shape, step: int, widest: int) -> bool:
         return False
     if shape.leads == 1:
         return shape.level / step * gap <= MOST_PRODUCTS
-    passes = [chain_cost(shape, step, it) for it in [*gap_grid(int(gap)), widest / step]]
-    return 2 * sum(passes) <= MOST_CHAIN
+    return sum(late_work(shape, step, it) for it in [*gap_grid(int(gap)), widest / step]) <= MOST_WORK
 
 
 def blur(scenario: Scenario, step: int) -> float:

@@ -20,8 +20,8 @@ import numpy as np
 
 from ..scenario import Policy, Scenario, Table
 from .laws import Floats, Law, Surplus, convolved, power_of, sum_of
-from .lattice import chain_cost, has_room, lattice_of, shape_of, theory_on, values_of
-from .long_run import LongRun
+from .lattice import has_room, late_work, lattice_of, shape_of, theory_on, values_of
+from .long_run import LongRun, exactness_of
 from .overtaking import shortfall
 
 # A chain whose law is as close to that of the long run stays there.
@@ -30,7 +30,7 @@ LOOK_EVERY = 8
 # Reviews that a power of a matrix takes at once, and up to how many cells.
 AT_ONCE = 32
 MOST_DENSE = 100
-MOST_PASSES = 1_000_000_000  # products of one pass over late orders for each policy
+MOST_WORK = 40_000_000  # for late orders of all policies, by `work_of`
 
 
 def theory_of(scenario: Scenario) -> LongRun:
@@ -43,15 +43,15 @@ def theory_of(scenario: Scenario) -> LongRun:
     # A search needs wider tables, and more passes over late orders: here the gaps are known.
     shape = dataclasses.replace(shape_of(dataclasses.replace(scenario, costs=positive)), order=max(gaps) / 3)
     base = math.gcd(*values_of(scenario))
-    passes = sum(chain_cost(shape, base, gap / base) for gap in gaps)
-    if shape.leads > 1 and has_room(shape, base) and passes <= MOST_PASSES:
+    work = sum(late_work(shape, base, gap / base) for gap in gaps)
+    if shape.leads > 1 and has_room(shape, base) and work <= MOST_WORK:
         return theory_on(scenario, shape, base, True)
     return theory_on(scenario, shape, *lattice_of(scenario, shape, max(gaps)))
 
 
 def exactness(theory: LongRun) -> str:
     """Returns how exact the figures of a theory are."""
-    return "exact but for rounding" if theory.exact else f"rounded to steps of {theory.step} items"
+    return exactness_of(theory.step, theory.exact)
 
 
 class Start(NamedTuple):

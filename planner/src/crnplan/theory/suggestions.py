@@ -1,8 +1,8 @@
 """Suggests policies for a scenario: the best (s,S) by theory, and good alternatives, beside today's.
 
-The first policy of the scenario is today's. With one lead time the best is the best of all pairs with s >= 0. With
-several, and for the other policies, it is what a search over S - s finds, which gets finer around the best gap of a
-grid. Figures leave `unit` out: in the long run it adds unit times the mean net demand to every policy.
+The first policy of the scenario is today's. Of two policies that behave alike (see `behaviour.py`) the first is kept,
+with the reasons of both. What is known of the searches is `LongRun.search_text`. Figures leave `unit` out: in the long
+run it adds unit times the mean net demand to every policy.
 """
 from __future__ import annotations
 
@@ -14,14 +14,16 @@ from typing import TYPE_CHECKING, Any
 from ..document import read_document
 from ..document.writing import head_of, plain_text
 from ..formats import MOST_ITEMS, POLICIES
-from ..scenario import Policy, Scenario
+from ..scenario import Policy, Scenario, Table
+from .behaviour import Depths
+from .confidence import CONFIDENCE, Promises
 from .lattice import theories_of
-from .long_run import Candidate, Figures, LongRun
+from .long_run import Candidate, Figures, LongRun, exactness_of
 
 if TYPE_CHECKING:
     import pandas as pd
 
-FILLS = [("fill_95", 0.95), ("fill_98", 0.98), ("fill_99", 0.99), ("fill_995", 0.995)]
+FILLS = {"95": 0.95, "98": 0.98, "99": 0.99, "995": 0.995}
 ORDERS = [("fewer_orders", 1.5, "fewer orders"), ("more_orders", 0.65, "more orders, and less stock"),
           ("fewest_orders", 2.2, "far fewer orders"), ("most_orders", 0.4, "far more orders")]
 NEIGHBOURS = [(1, "higher"), (-1, "lower"), (2, "higher_2"), (-2, "lower_2"), (3, "higher_3"), (-3, "lower_3")]
@@ -31,34 +33,49 @@ SPELT = (".2f", ".2%", ".2%", ".1f", ".4f")  # how each figure is written for a 
 
 
 class Chosen:
-    """Policies in order, each pair of levels once, with the reasons for each."""
+    """Policies in order, each behaviour once, with the reasons for each. `left_out` are names without a place."""
 
-    def __init__(self, today: Policy) -> None:
+    def __init__(self, scenario: Scenario) -> None:
         """Starts with today's policy."""
-        self.names = {(today.s, today.S): today.name}
-        self.reasons = {(today.s, today.S): ["today's policy"]}
+        self.depths, today = Depths(scenario), scenario.policies[0]
+        first = self.depths.behaviour(today.s, today.S)
+        self.policies = {first: today}
+        self.reasons = {first: ["today's policy"]}
+        self.left_out: list[str] = []
 
     def add(self, name: str, found: Candidate, reason: str) -> None:
-        """Adds a policy, or only the reason if its levels are there already; nothing if no policy was found."""
-        levels = found.point, found.level
+        """Adds a policy, or only the reason if one that behaves alike is there; nothing if no policy was found."""
         if found.cost == math.inf:
             return
-        if levels in self.names:
-            self.reasons[levels].append(reason)
-        elif len(self.names) < POLICIES[1]:
-            while name in self.names.values():
+        its = self.depths.behaviour(found.point, found.level)
+        if its in self.policies:
+            self.reasons[its].append(reason)
+        elif len(self.policies) == POLICIES[1]:
+            self.left_out.append(name)
+        else:
+            while name in {it.name for it in self.policies.values()}:
                 name = f"{name[:15]}_"
-            self.names[levels], self.reasons[levels] = name, [reason]
+            self.policies[its], self.reasons[its] = Policy(name, found.point, found.level), [reason]
 
 
-def chosen_policies(theory: LongRun, best: Candidate, today: Policy) -> Chosen:
-    """Returns the suggested policies of a theory, of which the best is known."""
-    chosen = Chosen(today)
+def add_fills(chosen: Chosen, theory: LongRun, promises: Promises | None) -> None:
+    """Adds the cheapest policies with fill rates, and beside each the cheapest that promises it."""
+    for name, share in FILLS.items():
+        plain, reason = theory.best_with_fill(share), f"the cheapest with a fill rate of at least {100 * share:g}%"
+        chosen.add(f"fill_{name}", plain, reason)
+        if promises:
+            found = promises.cheapest(plain, share)
+            more = found.cost / plain.cost - 1 if plain.cost else 0.0
+            chosen.add(f"sure_{name}", found, f"{reason} {promises.condition}, for {more:.1%} more")
+
+
+def chosen_policies(scenario: Scenario, theory: LongRun, best: Candidate, promises: Promises | None) -> Chosen:
+    """Returns the suggested policies of a scenario, of which the best is known."""
+    chosen, today = Chosen(scenario), scenario.policies[0]
     chosen.add("best", best, "the best")
     chosen.add("same_s", theory.best_with_point(today.s), "today's s with its best S")
     chosen.add("same_S", theory.best_with_level(today.S), "today's S with its best s")
-    for name, share in FILLS:
-        chosen.add(name, theory.best_with_fill(share), f"the cheapest with a fill rate of at least {100 * share:g}%")
+    add_fills(chosen, theory, promises)
     gap = theory.gap_of(best.point, best.level)
     for name, factor, reason in ORDERS:
         changed = max(round(gap * factor), gap + 1) if factor > 1 else min(round(gap * factor), gap - 1)
@@ -95,7 +112,7 @@ class Suggestions:
 
     Demand is counted in steps of `step` items. `error` bounds the relative error of the costs, about; it is None if
     they are exact but for rounding. `position` is the best policy's mean inventory position at the beginning of a
-    period, and `net` the mean net demand of a period, both in items.
+    period, and `net` the mean net demand of a period, both in items. `remarks` are lines on how policies were found.
     """
 
     scenario: Scenario
@@ -104,6 +121,7 @@ class Suggestions:
     error: float | None
     position: float
     net: float
+    remarks: tuple[str, ...]
 
     @property
     def initial(self) -> int:
@@ -133,20 +151,21 @@ class Suggestions:
         """Returns the lines below the table: what its columns mean, and what is known of the error and of a run."""
         unit = self.scenario.costs.unit
         return f"""
+by this law of demand, and this law of lead times; crnplan doubt says what else a history allows
 cost: a period in the long run, without unit, which adds {unit * self.net:.2f} to each policy (unit times the mean net \
 demand)
 fill: the share of demand that is met at once; short: the share of periods that end with items owed
 stock: the mean stock at the end of a period; orders: orders a period
 error: {self._error_text()}
-{self._run_text()}"""
+{"".join(f"{it}{chr(10)}" for it in self.remarks)}{self._run_text()}"""
 
     def _error_text(self) -> str:
         """Returns what is known of the error of the figures."""
         if self.error is None:
-            return "exact but for rounding"
+            return exactness_of(self.step, True)
         rough = "; that is a rough guide, so compare the policies by runs" if self.error > ROUGH else ""
-        return (f"counted in steps of {self.step} items: costs are right to about {max(self.error, 1e-4):.2%}, by "
-                f"which steps of {2 * self.step} change them at most{rough}")
+        return (f"{exactness_of(self.step, False)}: costs are right to about {max(self.error, 1e-4):.2%}, by which steps "
+                f"of {2 * self.step} change them at most{rough}")
 
     def _run_text(self) -> str:
         """Returns the lines on the run: its start, and what `unit` charges at its end."""
@@ -180,27 +199,38 @@ def _frame(rows: Iterable[tuple[Policy, Figures]]) -> pd.DataFrame:
     return pd.DataFrame([(it.name, it.s, it.S, *figures) for it, figures in rows], columns=list(HEADING))
 
 
-def suggestions_of(scenario: Scenario) -> Suggestions:
-    """Returns the suggested policies of a scenario, at most 16 with today's. Raises NoTheory if it has no best one."""
+def suggestions_of(scenario: Scenario, laws: Sequence[Table] = (), leads: Sequence[Table] = (),
+                   confidence: float = CONFIDENCE) -> Suggestions:
+    """Returns the suggested policies of a scenario, at most 16 with today's.
+
+    With laws of demand that a history allows, and perhaps as many of lead times, policies that keep a fill rate under
+    this share of them stand beside those that have it by the scenario's law. Raises NoTheory if there is no best
+    policy, and Refused for a confidence that is not above 0 and at most 1.
+    """
     theory, coarse = theories_of(scenario)
     best = theory.best()
-    chosen = chosen_policies(theory, best, scenario.policies[0])
-    rows = tuple(Suggestion(Policy(name, *levels), tuple(chosen.reasons[levels]), theory.figures(*levels))
-                 for levels, name in chosen.names.items())
+    promises = Promises(scenario, theory, theory.gap_of(best.point, best.level), laws, leads, confidence,
+                        [*FILLS.values()]) if laws or leads else None
+    chosen = chosen_policies(scenario, theory, best, promises)
+    rows = tuple(Suggestion(it, tuple(chosen.reasons[its]), theory.figures(it.s, it.S))
+                 for its, it in chosen.policies.items())
     error = None if coarse is None else max(
         abs(coarse.figures(it.policy.s, it.policy.S).cost - it.figures.cost) / it.figures.cost for it in rows)
+    left_out = (f"left out, since a scenario has at most {POLICIES[1]} policies: {', '.join(chosen.left_out)}"
+                if chosen.left_out else "")
+    remarks = [f"search: {theory.search_text}", promises.text if promises else "", left_out]
     return Suggestions(scenario, rows, theory.step, error, theory.mean_position(best.point, best.level),
-                       theory.net.mean * theory.step)
+                       theory.net.mean * theory.step, tuple(it for it in remarks if it))
 
 
-def suggested(scenario: Scenario) -> pd.DataFrame:
-    """Returns suggested policies with figures of a period of the long run, today's first, no pair of s and S twice.
+def suggested(scenario: Scenario, **doubt: Any) -> pd.DataFrame:
+    """Returns suggested policies with figures of a period of the long run, today's first, no behaviour twice.
 
     Columns: policy, s, S, cost (without `unit`), fill (the share of demand met at once), short (the share of periods
-    that end with items owed), stock (the mean at the end of a period, in items), orders. Raises NoTheory if there is no
-    best policy, or if the numbers are too far apart.
+    that end with items owed), stock (the mean at the end of a period, in items), orders. `doubt` has the further words
+    of `suggestions_of`, which raises what this raises.
     """
-    return suggestions_of(scenario).frame
+    return suggestions_of(scenario, **doubt).frame
 
 
 def suggested_text(scenario: Scenario, *, initial: bool = False, unit_zero: bool = False) -> str:

@@ -1,0 +1,120 @@
+"""Finds policies that keep a promise: a fill rate under most of the laws that a history allows.
+
+A policy with 98% fill by one law has less if customers ask for more than that law says, and a short history allows many
+laws. So S is raised until the share of demand is met under enough of them. Costs are those of the scenario's own law,
+by which the share is met too.
+
+For each gap S - s the laws are ranked by the least S that meets the share. The S of a promise is that of the law at the
+confidence's place in this order: no smaller one keeps the promise with this gap. The gap is the cheapest of a few
+around that of the policy without a promise. For these, only laws near that place are looked at.
+"""
+from __future__ import annotations
+
+import dataclasses
+import math
+from collections.abc import Sequence
+
+from ..errors import Refused
+from ..scenario import Scenario, Table
+from .lattice import NoTheory, Shape, has_room, late_work, shape_of, theory_on
+from .long_run import NO_POLICY, Candidate, LongRun, exactness_of
+
+CONFIDENCE = 0.8
+FACTORS = tuple(1.1**it for it in range(-5, 7))  # of the gap without a promise
+BESIDE = 8  # laws on each side of the confidence's place that are looked at for other gaps
+MOST_LEVELS = 600  # cells, with one lead time, in the mean of the laws
+MOST_WORK = 150_000  # for late orders with a gap, by `work_of`, in the mean
+
+
+def shape_or_none(scenario: Scenario) -> Shape | None:
+    """Returns the shape of a scenario; None if there is nothing to order in the long run."""
+    try:
+        return shape_of(scenario)
+    except NoTheory:
+        return None
+
+
+class Promises:
+    """Policies of a scenario that meet shares of demand under enough laws."""
+
+    def __init__(self, scenario: Scenario, theory: LongRun, gap: int, laws: Sequence[Table], leads: Sequence[Table],
+                 confidence: float, shares: Sequence[float]) -> None:
+        """Takes laws of demand and, perhaps, as many of lead times, which belong together one by one.
+
+        `gap` is that of a good policy, in cells of the theory. Raises Refused if there is no law, if the numbers
+        differ, or if the confidence is not above 0 and at most 1.
+        """
+        if not 0 < confidence <= 1:
+            raise Refused(f"the confidence is {confidence:g}; it is above 0, and at most 1")
+        if not laws or len(leads) not in (0, len(laws)):
+            raise Refused(f"there are {len(laws)} laws of demand and {len(leads)} of lead times; give as many of both")
+        self.theory, self.shares, self.confidence = theory, [*shares], confidence
+        self.place = max(0, math.ceil(confidence * len(laws) - 1e-9) - 1)
+        pairs = zip(laws, leads or [scenario.lead] * len(laws))
+        scenarios = [dataclasses.replace(scenario, demand=law, lead=lead) for law, lead in pairs]
+        shapes = [*map(shape_or_none, scenarios)]
+        self.step = theory.step
+        while not self._is_quick([it for it in shapes if it], gap * theory.step):
+            self.step += theory.step
+        self.exact = theory.exact and self.step == theory.step
+        self.theories = [theory_on(its, shape, self.step, self.exact) if shape and has_room(shape, self.step) else None
+                         for its, shape in zip(scenarios, shapes)]
+        self.known: dict[tuple[int, int], list[int] | None] = {}
+
+    def _is_quick(self, shapes: Sequence[Shape], gap: int) -> bool:
+        """Returns whether levels of laws are found in time on the lattice, for a gap in items."""
+        levels = [it.level / self.step / MOST_LEVELS for it in shapes if it.leads == 1]
+        passes = [late_work(it, self.step, gap / self.step) / MOST_WORK for it in shapes if it.leads > 1]
+        return sum(levels + passes) <= len(shapes)
+
+    @property
+    def condition(self) -> str:
+        """Returns under which laws a promise is kept, for a reader."""
+        return f"under {100 * self.confidence:g}% of the laws that the history allows"
+
+    @property
+    def text(self) -> str:
+        """Returns what is known of the promises, for a reader."""
+        lacking = sum(it is None for it in self.theories)
+        return (f"sure: {self.condition}, of which {len(self.theories):,} were drawn; "
+                f"their fill rates are {exactness_of(self.step, self.exact)}"
+                + f"; {lacking} of the laws have no long run, and keep no promise" * bool(lacking))
+
+    def level(self, law: int, gap: int, share: float) -> float:
+        """Returns the least S that meets a share under a law, by its number; infinite if nothing is to be ordered."""
+        if (law, gap) not in self.known:
+            theory = self.theories[law]
+            self.known[law, gap] = None if theory is None else theory.levels_with_fill(gap, self.shares)
+        levels = self.known[law, gap]
+        return math.inf if levels is None else levels[self.shares.index(share)]
+
+    def policy(self, gap: int, level: float, share: float) -> Candidate:
+        """Returns the cheapest policy of a gap with S of at least a level that meets a share by the own law."""
+        between = gap * self.step + (0 if self.exact else (self.step - 1) // 2)
+        own = self.theory.gap_of(0, between)
+        least = self.theory.filling(own, share)
+        if max(level, least.cost) == math.inf:
+            return NO_POLICY
+        return self.theory.policy(own, max(int(level), least.level))
+
+    def kept(self, gap: int, share: float) -> Candidate:
+        """Returns the cheapest policy of a gap that meets a share under enough laws."""
+        levels = sorted(self.level(law, gap, share) for law in range(len(self.theories)))
+        return self.policy(gap, levels[self.place], share)
+
+    def cheapest(self, plain: Candidate, share: float) -> Candidate:
+        """Returns the cheapest policy found that meets a share under enough laws. `plain` is the one by the own law."""
+        if plain.cost == math.inf:
+            return NO_POLICY
+        first = (plain.level - plain.point) // self.step
+        ranked = sorted(range(len(self.theories)), key=lambda law: self.level(law, first, share))
+        low = max(0, self.place - BESIDE)
+        near = ranked[low:self.place + BESIDE + 1]
+
+        def about(gap: int) -> Candidate:
+            """Returns about what a gap keeps."""
+            levels = sorted(self.level(law, gap, share) for law in near)
+            return self.policy(gap, levels[self.place - low], share)
+        others = {round(first * factor) for factor in FACTORS} - {first}
+        best = min(sorted(others), key=about, default=first)
+        return min(self.kept(gap, share) for gap in (first, best))

@@ -1,0 +1,143 @@
+"""Tests the searches with all pairs (s,S) up to levels that cost more for sure."""
+from __future__ import annotations
+
+import math
+
+import numpy as np
+import pytest
+from hypothesis import example, given, settings
+from hypothesis import strategies as st
+
+from crnplan.scenario import Costs, Scenario
+from crnplan.theory.lattice import shape_of, theories_of, theory_on
+from crnplan.theory.long_run import Candidate, LongRun, search
+from crnplan.theory.overtaking import SEARCHED
+
+from planner.tests.theory.chain import by_chain
+from planner.tests.theory.long_run_costs import costs_of, fills_of, shortfall_of
+from planner.tests.theory.scenarios import Pair, scenario_of, table
+
+SHARES = (0.5, 0.9, 0.95, 0.98, 0.995)
+
+
+def laws(most: int, count: int) -> st.SearchStrategy[Pair]:
+    """Returns laws of up to so many values."""
+    return st.dictionaries(st.integers(0, most), st.integers(1, 9), min_size=1, max_size=count).map(
+        lambda weights: (sorted(weights), [weights[it] for it in sorted(weights)]))
+
+
+def theory_of(scenario: Scenario) -> LongRun:
+    """Returns the theory of a scenario that is counted item by item, or pack by pack."""
+    theory, coarse = theories_of(scenario)
+    assert coarse is None
+    return theory
+
+
+def all_pairs(scenario: Scenario, most: int) -> np.ndarray:
+    """Returns a row with cost, fill, s and S for each pair up to a level.
+
+    Holding costs at least s + (S - s) / 2 less the mean demand of a lead time and a period: a wider pair costs more.
+    """
+    rows = []
+    for gap in range(most + 1):
+        short, levels = shortfall_of(scenario, gap), np.arange(gap, most + 1)
+        costs, fills = costs_of(scenario, short, levels), fills_of(scenario, short, levels)
+        rows.append(np.transpose([costs, fills, levels - gap, levels]))
+    return np.concatenate(rows)
+
+
+def check(scenario: Scenario, found: Candidate, pairs: np.ndarray, share: float = 0.0) -> None:
+    """Compares a policy with the cheapest of the pairs that meet a share of demand."""
+    least = pairs[pairs[:, 1] >= share - 1e-9, 0].min(initial=math.inf)
+    short, levels = shortfall_of(scenario, found.level - found.point), np.array([found.level])
+    assert fills_of(scenario, short, levels)[0] >= share - 1e-9
+    assert found.cost == pytest.approx(costs_of(scenario, short, levels)[0], abs=1e-6)
+    assert found.cost <= least + 1e-6 * max(1, found.cost)
+
+
+@settings(max_examples=15)
+@given(demand=laws(7, 3).filter(lambda it: max(it[0]) > 0), lead=st.sampled_from([[1], [2], [3], [1, 3], [1, 2, 4]]), back=st.none() | laws(1, 2),
+       costs=st.builds(Costs, st.integers(0, 60), st.just(0), st.integers(2, 9), st.integers(1, 40)))
+@example(([0, 6], [3, 1]), [2], None, Costs(20, 0, 2, 9))
+@example(([0, 6], [3, 1]), [1, 3], None, Costs(20, 0, 2, 9))
+@example(([1], [1]), [1], None, Costs(0, 0, 2, 1))
+@example(([0, 3, 7], [5, 1, 1]), [1], None, Costs(60, 0, 2, 1))
+def test_the_cheapest_of_all_pairs(demand: Pair, lead: list[int], back: Pair | None, costs: Costs) -> None:
+    if back and 2 * table(back).mean > table(demand).mean:
+        back = None
+    scenario = scenario_of(demand, (lead, [1] * len(lead)), back, costs)
+    theory = theory_of(scenario)
+    founds = [theory.best_with_fill(share) for share in SHARES]
+    pairs = all_pairs(scenario, 1 + max([40, *(it.level for it in founds)]))
+    assert all(theory.widest(cost, int(point)) >= theory.gap_of(int(point), int(level)) for cost, _, point, level in pairs)
+    for share, found in zip(SHARES, founds):
+        check(scenario, found, pairs, share)
+    check(scenario, theory.best(), pairs)
+    for number in (0, 3, 17):
+        check(scenario, theory.best_with_point(number), pairs[pairs[:, 2] == number])
+        check(scenario, theory.best_with_level(number), pairs[pairs[:, 3] == number])
+
+
+@pytest.mark.parametrize("demand, back, levels", [(([0, 2, 5], [3, 2, 1]), None, (4, 9)),
+                                                  (([0, 3], [1, 1]), ([0, 1, 2], [4, 2, 1]), (3, 5))])
+def test_the_second_fill_is_that_of_a_chain(demand: Pair, back: Pair | None, levels: tuple[int, int]) -> None:
+    """The fill rates that the pairs above are compared by are right themselves."""
+    scenario = scenario_of(demand, ([2], [1]), back, levels=levels)
+    short = shortfall_of(scenario, levels[1] - levels[0])
+    fill, = fills_of(scenario, short, np.array([levels[1]]))
+    assert fill == pytest.approx(by_chain(scenario)[1], abs=1e-7)
+
+
+@pytest.mark.parametrize("share", (0.95, 0.995))
+@pytest.mark.parametrize("step", [1, 3, 10])
+def test_no_gap_of_a_lattice_is_cheaper(step: int, share: float) -> None:
+    """On a coarse lattice too: each gap has one cheapest policy with a fill rate, which `filling` finds by itself."""
+    scenario = scenario_of((range(41), [1 + it % 5 for it in range(41)]), ([3], [1]), costs=Costs(700, 0, 1, 5))
+    theory = theory_on(scenario, shape_of(scenario), step, step == 1)
+    found = theory.best_with_fill(share)
+    by_gap = [theory.filling(gap, share) for gap in range(600 // step)]
+    assert found.cost == pytest.approx(min(by_gap).cost, rel=1e-9)
+    gap = theory.gap_of(found.point, found.level)
+    assert theory.fill(gap, found.level) >= share - 1e-9 > theory.fill(gap, found.level - 1) - 2e-9
+
+
+def test_several_valleys() -> None:
+    """A case in which a search on a grid of gaps that gets finer around the best ends in a wrong valley."""
+    scenario = scenario_of(([3, 8], [6, 2]), ([3], [1]), costs=Costs(30, 0, 1, 9))
+    theory = theory_of(scenario)
+    by_gap = [theory.filling(gap, 0.98) for gap in range(200)]
+    found = theory.best_with_fill(0.98).cost
+    assert found == pytest.approx(min(by_gap).cost, rel=1e-12)
+    assert search(by_gap.__getitem__, 40).cost > 1.02 * found
+
+
+def test_a_point_whose_best_level_is_far_beyond_the_grid() -> None:
+    """With s = 0 and a dear backlog a cycle is far longer than that of the best policy."""
+    scenario = scenario_of(([0, 1], [1, 1]), ([8], [1]), costs=Costs(1, 0, 1, 5000))
+    theory = theory_of(scenario)
+    found = theory.best_with_point(0)
+    assert found.level > theory.most
+    costs = [theory.figures(0, level).cost for level in range(2 * found.level)]
+    assert found.cost == pytest.approx(min(costs), rel=1e-12)
+
+
+def test_several_lead_times_that_take_too_long() -> None:
+    """Then a grid of gaps is searched, and the notes say so."""
+    demands = [(range(most), [1 + it % 7 for it in range(most)]) for most in (6, 61)]
+    theories = [theory_of(scenario_of(it, ([1, 9], [1, 1]), costs=Costs(9, 0, 1, 9))) for it in demands]
+    costs = [theory.best().cost for theory in theories]
+    assert costs[0] < costs[1]
+    assert [it.search_text == SEARCHED for it in theories] == [False, True]
+
+
+@pytest.mark.parametrize("share", [0, 0.98])
+def test_the_greatest_level(share: float) -> None:
+    """If S = 1,000,000 is too little for the best gap, a policy with that S may be the best, and is."""
+    scenario = scenario_of(([9_000, 10_000], [1, 1]), ([32], [1]), costs=Costs(10**8, 0, 1, 10_000))
+    theory = theory_on(scenario, shape_of(scenario), 900, False)
+    found = theory.best_with_fill(share) if share else theory.best()
+    fills = [theory.fill(gap, 10**6) for gap in range(10**6 // 900)]
+    at_end = min(theory.policy(gap, 10**6) for gap, fill in enumerate(fills) if fill >= share)
+    below = min(theory.filling(gap, share) for gap in range(10**6 // 900))
+    assert found.level == 10**6 and found.cost == pytest.approx(at_end.cost, rel=1e-9)
+    assert found.cost < below.cost
