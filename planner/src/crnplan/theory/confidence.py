@@ -34,23 +34,19 @@ def shape_or_none(scenario: Scenario) -> Shape | None:
         return None
 
 
-class Promises:
-    """Policies of a scenario that meet shares of demand under enough laws."""
+class FillLevels:
+    """The least S that meets shares of demand at once, for each of some laws and each gap."""
 
     def __init__(self, scenario: Scenario, theory: LongRun, gap: int, laws: Sequence[Table], leads: Sequence[Table],
-                 confidence: float, shares: Sequence[float]) -> None:
+                 shares: Sequence[float]) -> None:
         """Takes laws of demand and, perhaps, as many of lead times, which belong together one by one.
 
-        `gap` is that of a good policy, in cells of the theory. Raises Refused if there is no law, if the numbers
-        differ, or if the confidence is not above 0 and at most 1.
+        `theory` is that of the scenario, and `gap` that of a good policy, in its cells. Raises Refused if there is no
+        law, or if the numbers differ.
         """
-        if not 0 < confidence <= 1:
-            raise Refused(f"the confidence is {confidence:g}; it is above 0, and at most 1")
         if not laws or len(leads) not in (0, len(laws)):
             raise Refused(f"there are {len(laws)} laws of demand and {len(leads)} of lead times; give as many of both")
-        self.theory, self.shares, self.confidence = theory, [*shares], confidence
-        self.place = max(0, math.ceil(confidence * len(laws) - 1e-9) - 1)
-        pairs = zip(laws, leads or [scenario.lead] * len(laws))
+        pairs, self.shares = zip(laws, leads or [scenario.lead] * len(laws)), [*shares]
         scenarios = [dataclasses.replace(scenario, demand=law, lead=lead) for law, lead in pairs]
         shapes = [*map(shape_or_none, scenarios)]
         self.step = theory.step
@@ -59,13 +55,38 @@ class Promises:
         self.exact = theory.exact and self.step == theory.step
         self.theories = [theory_on(its, shape, self.step, self.exact) if shape and has_room(shape, self.step) else None
                          for its, shape in zip(scenarios, shapes)]
-        self.known: dict[tuple[int, int], list[int] | None] = {}
+        self.known: dict[tuple[int, int], list[int]] = {}
 
     def _is_quick(self, shapes: Sequence[Shape], gap: int) -> bool:
         """Returns whether levels of laws are found in time on the lattice, for a gap in items."""
         levels = [it.level / self.step / MOST_LEVELS for it in shapes if it.leads == 1]
         passes = [late_work(it, self.step, gap / self.step) / MOST_WORK for it in shapes if it.leads > 1]
         return sum(levels + passes) <= len(shapes)
+
+    def items(self, gap: int) -> int:
+        """Returns S - s of a gap."""
+        return gap * self.step + (0 if self.exact else (self.step - 1) // 2)
+
+    def least(self, law: int, gap: int, share: float) -> float:
+        """Returns the least S under a law, by its number; infinite if that has no long run."""
+        theory = self.theories[law]
+        if theory is None:
+            return math.inf
+        if (law, gap) not in self.known:
+            self.known[law, gap] = theory.levels_with_fill(gap, self.shares)
+        return self.known[law, gap][self.shares.index(share)]
+
+
+class Promises:
+    """Policies of a scenario that meet shares of demand under enough laws, and by its own."""
+
+    def __init__(self, levels: FillLevels, theory: LongRun, confidence: float) -> None:
+        """Takes the scenario's theory. Raises Refused if the confidence is not above 0 and at most 1."""
+        if not 0 < confidence <= 1:
+            raise Refused(f"the confidence is {confidence:g}; it is above 0, and at most 1")
+        self.levels, self.theory, self.confidence = levels, theory, confidence
+        self.laws = range(len(levels.theories))
+        self.place = max(0, math.ceil(confidence * len(self.laws) - 1e-9) - 1)
 
     @property
     def condition(self) -> str:
@@ -75,23 +96,14 @@ class Promises:
     @property
     def text(self) -> str:
         """Returns what is known of the promises, for a reader."""
-        lacking = sum(it is None for it in self.theories)
-        return (f"sure: {self.condition}, of which {len(self.theories):,} were drawn; "
-                f"their fill rates are {exactness_of(self.step, self.exact)}"
+        lacking = sum(it is None for it in self.levels.theories)
+        return (f"sure: {self.condition}, of which {len(self.laws):,} were drawn; "
+                f"their fill rates are {exactness_of(self.levels.step, self.levels.exact)}"
                 + f"; {lacking} of the laws have no long run, and keep no promise" * bool(lacking))
-
-    def level(self, law: int, gap: int, share: float) -> float:
-        """Returns the least S that meets a share under a law, by its number; infinite if nothing is to be ordered."""
-        if (law, gap) not in self.known:
-            theory = self.theories[law]
-            self.known[law, gap] = None if theory is None else theory.levels_with_fill(gap, self.shares)
-        levels = self.known[law, gap]
-        return math.inf if levels is None else levels[self.shares.index(share)]
 
     def policy(self, gap: int, level: float, share: float) -> Candidate:
         """Returns the cheapest policy of a gap with S of at least a level that meets a share by the own law."""
-        between = gap * self.step + (0 if self.exact else (self.step - 1) // 2)
-        own = self.theory.gap_of(0, between)
+        own = self.theory.gap_of(0, self.levels.items(gap))
         least = self.theory.filling(own, share)
         if max(level, least.cost) == math.inf:
             return NO_POLICY
@@ -99,21 +111,20 @@ class Promises:
 
     def kept(self, gap: int, share: float) -> Candidate:
         """Returns the cheapest policy of a gap that meets a share under enough laws."""
-        levels = sorted(self.level(law, gap, share) for law in range(len(self.theories)))
-        return self.policy(gap, levels[self.place], share)
+        return self.policy(gap, sorted(self.levels.least(law, gap, share) for law in self.laws)[self.place], share)
 
     def cheapest(self, plain: Candidate, share: float) -> Candidate:
         """Returns the cheapest policy found that meets a share under enough laws. `plain` is the one by the own law."""
         if plain.cost == math.inf:
             return NO_POLICY
-        first = (plain.level - plain.point) // self.step
-        ranked = sorted(range(len(self.theories)), key=lambda law: self.level(law, first, share))
+        first = (plain.level - plain.point) // self.levels.step
+        ranked = sorted(self.laws, key=lambda law: self.levels.least(law, first, share))
         low = max(0, self.place - BESIDE)
         near = ranked[low:self.place + BESIDE + 1]
 
         def about(gap: int) -> Candidate:
             """Returns about what a gap keeps."""
-            levels = sorted(self.level(law, gap, share) for law in near)
+            levels = sorted(self.levels.least(law, gap, share) for law in near)
             return self.policy(gap, levels[self.place - low], share)
         others = {round(first * factor) for factor in FACTORS} - {first}
         best = min(sorted(others), key=about, default=first)

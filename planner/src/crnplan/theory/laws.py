@@ -54,7 +54,7 @@ NOTHING = Law(0, np.ones(1))
 
 def scaled(low: int, chances: Floats) -> Law:
     """Returns the law with these chances, cut where its ends are all but impossible, and scaled to a sum of 1."""
-    chances = np.clip(chances, 0, None)
+    chances = np.maximum(chances, 0)
     kept = np.flatnonzero(chances > LEAST_CHANCE * chances.sum())
     chances = chances[kept[0]:kept[-1] + 1]
     return Law(int(low + kept[0]), chances / chances.sum())

@@ -110,6 +110,15 @@ class OneLead(LongRun):
         """
         return self.one_period.lacking(levels) - self.one_before.lacking(levels)
 
+    def unmet_of(self, gap: int) -> Floats:
+        """Returns the mean demand of a period that is not met at once, in items, for each level S of 0 cells and more.
+        """
+        if gap not in self.unmet:
+            lows = self.lows_of(gap)
+            levels = self.step * np.arange(-gap, max(gap + self.after.high, 0) + 1)
+            self.unmet[gap] = convolved(lows, self.unmet_at(levels))[gap:len(levels)] / lows.sum()
+        return self.unmet[gap]
+
     def lowest(self, cost: float) -> int:
         """Returns the least low, in items, of a best policy that costs no more: see the module."""
         levels = self.step * np.arange(int(min(MOST_ITEMS, self.reach(cost))) // self.step + 2)

@@ -16,7 +16,7 @@ from ..document.writing import head_of, plain_text
 from ..formats import MOST_ITEMS, POLICIES
 from ..scenario import Policy, Scenario, Table
 from .behaviour import Depths
-from .confidence import CONFIDENCE, Promises
+from .confidence import CONFIDENCE, FillLevels, Promises
 from .lattice import theories_of
 from .long_run import Candidate, Figures, LongRun, exactness_of
 
@@ -209,8 +209,8 @@ def suggestions_of(scenario: Scenario, laws: Sequence[Table] = (), leads: Sequen
     """
     theory, coarse = theories_of(scenario)
     best = theory.best()
-    promises = Promises(scenario, theory, theory.gap_of(best.point, best.level), laws, leads, confidence,
-                        [*FILLS.values()]) if laws or leads else None
+    promises = Promises(FillLevels(scenario, theory, theory.gap_of(best.point, best.level), laws, leads,
+                                   [*FILLS.values()]), theory, confidence) if laws or leads else None
     chosen = chosen_policies(scenario, theory, best, promises)
     rows = tuple(Suggestion(it, tuple(chosen.reasons[its]), theory.figures(it.s, it.S))
                  for its, it in chosen.policies.items())
