@@ -21,7 +21,7 @@ from crnplan.scenario import Table
 @given(numbers=st.lists(st.integers(0, 120_000), min_size=1), box=st.integers(12, 1000))
 def test_empirical_law(numbers: list[int], box: int) -> None:
     """The weight of a number of boxes is how often it was observed, and values rise."""
-    law = fit_demand(numbers, box=box)
+    law = fit_demand(numbers, method="empirical", box=box)
     expected = Counter(number // box + (number % box > 0) for number in numbers)
     assert dict(zip(law.values, law.weights)) == expected and list(law.values) == sorted(expected)
     assert (law.box, law.family, law.table) == (box, "empirical", Table(law.values, law.weights))
@@ -29,9 +29,9 @@ def test_empirical_law(numbers: list[int], box: int) -> None:
 
 def test_diagnostics() -> None:
     """The empirical law knows how many numbers there were, their mean and their variance."""
-    law = fit_demand([0, 0, 2, 6])
+    law = fit_demand([0, 0, 2, 6], method="empirical")
     assert dict(law.diagnostics) == {"observed": 4, "mean": 2.0, "variance": 8.0}
-    assert fit_demand([3]).diagnostics["variance"] is None
+    assert fit_demand([3], method="empirical").diagnostics["variance"] is None
     assert law == DemandLaw((0, 2, 6), (2, 1, 1))
     assert law.toml("demand") == "[demand]\nvalues = [0, 2, 6]\nweights = [2, 1, 1]\n"
 
@@ -42,7 +42,7 @@ def test_diagnostics() -> None:
     ids=lambda it: f"{type(it).__name__}-{getattr(it, 'dtype', '')}")
 def test_whole_numbers_of_any_kind(numbers: Any) -> None:
     """Whole numbers of Python, numpy and pandas are taken, and floats that are whole."""
-    law = fit_lead(numbers)
+    law = fit_lead(numbers, method="empirical")
     assert (law.values, law.weights) == ((1, 2), (1, 2))
     assert all(type(it) is int for it in law.values)
 
@@ -67,7 +67,7 @@ def test_range_of_demand(tmp_path: Path) -> None:
         "column 'demand': entry 1, 10001, is above 10,000; count in larger boxes: --box 8 or more",
         "column 'demand': entry 3, 70001, is above 10,000; count in larger boxes: --box 8 or more",
         "column 'demand': entry 4, -1, is below 0; correct it"]
-    assert fit_demand([10_001, 3, 70_001], box=8).values == (1, 1251, 8751)
+    assert fit_demand([10_001, 3, 70_001], method="empirical", box=8).values == (1, 1251, 8751)
     (tmp_path / "file.csv").write_text("at,n\n2026-03-02,9000\n2026-03-03,9000\n")
     with pytest.raises(RefusedFaults, match=":2:12: column 'n': week 2026-W10, which comes to 18000 in 2 rows, is "):
         fit_demand(read_history(tmp_path / "file.csv", demand="n", date="at", every="week"))

@@ -177,7 +177,7 @@ def auto_law(sample: Sample, law: Floats) -> tuple[Floats, dict[str, Any]]:
     return mixture([(share, law), (1 - share, sample.law)]), {"cap": cap, "share": share}
 
 
-def fit_demand(observed: Observed | Iterable[Any], *, method: str = "empirical", box: int = 1) -> DemandLaw:
+def fit_demand(observed: Observed | Iterable[Any], *, method: str = "auto", box: int = 1) -> DemandLaw:
     """Fits the law of demand to a history, or to any whole numbers from 0, one for each period.
 
     `method` is one of these:

@@ -242,7 +242,7 @@ def allowed_laws(observed: Observed | Iterable[Any], *, times: int = 100, box: i
     what is less likely than 1 in 131,072 is left out. A law has at least one demand above 0, if the history has.
     """
     check_times(times)
-    sample = sample_of(fit_demand(observed, box=box))
+    sample = sample_of(fit_demand(observed, method="empirical", box=box))
     families, laws = demand_laws(sample, times, random_of(seed, 0))
     return AllowedLaws(families, tuple(table_of(law, sample.most) for law in laws))
 
@@ -261,7 +261,7 @@ def allowed_leads(observed: Observed | Iterable[Any], *, times: int = 100, seed:
     RefusedFaults.
     """
     check_times(times)
-    sample = sample_of(fit_lead(observed))
+    sample = sample_of(fit_lead(observed, method="empirical"))
     if sample.size < LEAST_LEADS:
         return AllowedLaws({FROM_HISTORY: times}, (Table((sample.most,), (MOST_WEIGHT,)),) * times)
     random = random_of(seed, 1)

@@ -94,7 +94,7 @@ def law_of(prior: Prior, observed: Observed | Iterable[Any], item_class: str | N
     `observed` and `box` are as in `fit_demand`, and so is what is raised. Weights add up to 65,536.
     """
     numbers: Observed | list[Any] = observed if isinstance(observed, Observed) else [*observed]
-    sample = sample_of(fit_demand(numbers, box=box))
+    sample = sample_of(fit_demand(numbers, method="empirical", box=box))
     found, posterior = looked_at(prior, sample, item_class, box)
     if posterior is None:
         single = fit_demand(numbers, method=ALONE, box=box)
@@ -116,7 +116,7 @@ def borrowed_laws(prior: Prior, observed: Observed | Iterable[Any], item_class: 
     """
     check_times(times)
     numbers: Observed | list[Any] = observed if isinstance(observed, Observed) else [*observed]
-    sample = sample_of(fit_demand(numbers, box=box))
+    sample = sample_of(fit_demand(numbers, method="empirical", box=box))
     found, posterior = looked_at(prior, sample, item_class, box)
     if posterior is None:
         return allowed_laws(numbers, times=times, box=box, seed=seed)
