@@ -27,6 +27,7 @@ COMMANDS = {
     "history": "Make tables of a scenario from a history.",
     "why": "Say all that is wrong with a scenario, with line and advice.",
     "suggest": "Suggest policies from exact long-run theory.",
+    "doubt": "Say how sure a choice is under the laws that a history allows.",
     "run": "Run a scenario on any number of policies.",
     "decide": "Rank a report's policies with intervals and verdicts.",
     "check": "Run a winner again on new keys.",

@@ -109,6 +109,11 @@ class Doubt:
         return [int(it) for it in self.columns["cost"].argsort(kind="stable")]
 
     @property
+    def regrets_shown(self) -> Floats:
+        """Returns the regrets for a picture, the cheapest policy first: of a single policy those against all."""
+        return self.regrets[:, self.order] if len(self.policies) > 1 else self.own_regrets
+
+    @property
     def records(self) -> list[dict[str, Any]]:
         """Returns the table as data, the cheapest policy first. None stands for no figure."""
         return [{"policy": self.policies[place].name, "s": self.policies[place].s, "S": self.policies[place].S,

@@ -1,0 +1,105 @@
+"""Says how sure a choice among policies is under the laws that a short history allows."""
+from __future__ import annotations
+
+import csv
+import json
+import sys
+from pathlib import Path
+from typing import Any
+
+import click
+
+from ..decision.doubt import MOST, TIMES, WITHIN, Doubt, doubt
+from ..document.lines import places_of
+from ..errors import Fault, RefusedFaults
+from ..report.pictures import picture_path
+from ..scenario import Scenario
+from .reading import Attempts, demand_option, file_options, read_files, record_options, rejects_in, rules_of
+
+DEMAND = "demand"  # the column, unless another one is named
+
+
+def doubt_of(scenario: Scenario, asked: dict[str, Any], attempts: Attempts) -> Doubt:
+    """Reads the history and the lead times, and returns the doubt. Raises RefusedFaults with all faults of the
+    files."""
+    from ..theory.lattice import NoTheory
+    history, leads = read_files(attempts, asked | {"demand": asked["demand"] or DEMAND})
+    attempts.end()
+    assert history is not None
+    words = {it: asked[it] for it in ("times", "within", "seed", "box", "runs", "program")}
+    try:
+        return doubt(scenario, history, leads, **words)
+    except NoTheory as fault:
+        place = places_of(scenario.source or "", scenario.tree).get(fault.path, (0, 0))
+        raise RefusedFaults([Fault(str(fault), asked["scenario"].removeprefix("-"), *place)]) from None
+
+
+def draw(found: Doubt, path: Path) -> None:
+    """Draws the regrets of all policies."""
+    from ..report.doubt_pictures import draw_regrets
+    from ..report.pictures import open_pyplot
+    draw_regrets(open_pyplot(), [found.policies[it] for it in found.order], found.regrets_shown, found.within, MOST, path)
+
+
+def show(found: Doubt, form: str | None) -> None:
+    """Prints the table."""
+    records = found.records
+    if form == "csv":
+        csv.writer(sys.stdout, lineterminator="\n").writerows(
+            [list(records[0]), *(["-" if it is None else it for it in row.values()] for row in records)])
+        print("".join(f"{line}\n" for line in (found.sentence, found.bounds, *found.notes)), end="", file=sys.stderr)
+    elif form == "json":
+        head = {"laws": len(found.figures.laws), "within": found.within, "families": dict(found.demand.families),
+                "lead_families": dict(found.lead.families) if found.lead else None, "step": found.figures.step,
+                "error": found.figures.error, "sentence": found.sentence, "bounds": found.bounds}
+        print(json.dumps({**head, "policies": records, "notes": found.notes}, indent=2))
+    else:
+        print(found.text, end="")
+
+
+@click.command(epilog="Example: crnplan doubt plan/suggested.toml plan/demand.csv --plot plan/doubt.png")
+@click.argument("scenario", metavar="SCENARIO.toml")
+@click.argument("file", metavar="HISTORY.csv")
+@demand_option
+@record_options
+@file_options
+@click.option("--times", type=click.IntRange(*TIMES), default=100, show_default=True, metavar="N",
+              help="How many laws are drawn.")
+@click.option("--within", type=float, default=WITHIN, show_default=True, metavar="P",
+              help="The share by which a policy may cost more than the best and still be near it.")
+@click.option("--seed", type=click.IntRange(0), default=1, show_default=True, metavar="N",
+              help="The same seed draws the same laws.")
+@click.option("--runs", is_flag=True, help="Run crnsim under each law too, for the coming periods.")
+@click.option("--program", metavar="PATH", help="The program crnsim.")
+@click.option("--plot", type=picture_path, metavar="FILE", help="Draw the regrets, as .png or .svg.")
+@click.option("--csv", "form", flag_value="csv", help="Print the table as CSV.")
+@click.option("--json", "form", flag_value="json", help="Print the table as JSON.")
+def command(**asked: Any) -> int:
+    """Say how sure a choice among the policies of a scenario is, if the demand is known from a short history alone.
+
+    HISTORY.csv is the history from which the scenario's law of demand was fitted. It has a row for each period, with
+    the demand in the column demand, as crnplan item writes it, unless --demand names another column. All words about
+    files are those of crnplan history. Without --lead or --orders the scenario's lead times hold.
+
+    Laws are drawn that the history allows, and the long run of each policy is computed under each of them. Columns:
+    cost, the mean cost of a period over the laws, which is the cost to promise, without unit; regret, how much more
+    than the best of these policies a policy costs, in the mean; regret_90, what its regret does not exceed under 90% of
+    the laws; within, the share of laws under which its regret is at most --within; is_best, the share under which it is
+    the best. own_ are the same against the best of all policies under each law. fill is the mean fill rate, fill_10
+    what it reaches under 90% of the laws. The policies are ranked by cost.
+
+    With --runs, crnsim runs the scenario under each law with the scenario's key, stock and periods. run_cost is the
+    mean cost of a period, law_spread its standard deviation over the laws, luck_spread that of one replication under
+    one law: what the coming periods will cost is as uncertain as both together.
+
+    Theory's figures are rounded and unproved; crnsim's are exact and proved for its stream, and then rounded here.
+    """
+    rules_of(asked)
+    scenario = Scenario.read(asked["scenario"])
+    with rejects_in(asked["rejects"]) as attempts:
+        found = doubt_of(scenario, asked, attempts)
+    attempts.say(())
+    if asked["plot"]:
+        draw(found, asked["plot"])
+    show(found, asked["form"])
+    return 0
