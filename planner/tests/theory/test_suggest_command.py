@@ -103,6 +103,7 @@ def test_promises_of_a_history(crnplan: Command, top: Path, tmp_path: Path) -> N
 
 @pytest.mark.parametrize("words, said", [
     (["--confidence", "0.9"], "--confidence is that of --history: give the history of demand too"),
+    (["--demand", "sold"], "--demand is that of --history: give the history of demand too"),
     (["--history", "missing.csv", "--confidence", "0"], "Invalid value for '--confidence': 0.0 is not in the range"),
     (["--history", "missing.csv"], "missing.csv: No such file or directory"),
     (["--history", "short.csv"], "demand")])
@@ -116,7 +117,20 @@ def test_refused_promises(crnplan: Command, top: Path, tmp_path: Path, monkeypat
 
 def test_one_standard_input(crnplan: Command) -> None:
     assert crnplan("suggest", "-", "--history", "-").errors == (
-        "crnplan: standard input (-) can be one file only; name the other\n")
+        "crnplan: standard input (-) can be one file only; name the others\n")
+
+
+def test_words_of_a_history(crnplan: Command, top: Path, tmp_path: Path) -> None:
+    """Columns and lead times are read as by crnplan history; what is left out is said."""
+    path, sold, leads = top / "examples/spare_part.toml", tmp_path / "sold.csv", tmp_path / "leads.csv"
+    sold.write_text(HISTORY.replace("period,demand", "week,sold") + "51,many\n", "utf-8")
+    leads.write_text("weeks\n" + "2\n3\n2\n4\n" * 3, "utf-8")
+    words = ["suggest", path, "--history", sold, "--demand", "sold", "--leave-out", "--json"]
+    plain, told = crnplan(*words), crnplan(*words, "--lead", leads, "weeks")
+    assert plain.status == told.status == 0 and "sold.csv:52" in told.errors
+    costs = [next(it["cost"] for it in json.loads(its.output)["policies"] if "at least 99.5% under" in it["reasons"])
+             for its in (plain, told)]
+    assert costs[0] != costs[1]
 
 
 def test_standard_input(crnplan: Command, top: Path) -> None:

@@ -4,27 +4,71 @@ from __future__ import annotations
 import csv
 import json
 import sys
+from typing import TYPE_CHECKING, Any
 
 import click
+from click.core import ParameterSource
 
 from ..document.lines import places_of
-from ..errors import Fault, Refused, RefusedFaults
+from ..errors import Fault, RefusedFaults
 from ..report.tables import aligned
-from ..scenario import Scenario
+from ..scenario import Scenario, Table
+from .reading import Attempts, demand_option, file_options, read_files, record_options, rejects_in, rules_of
+
+if TYPE_CHECKING:
+    from ..theory.suggestions import Suggestions
+
+# The words that need no history.
+OWN = ("scenario", "initial", "unit_zero", "file", "form")
+
+
+def check_history(asked: dict[str, Any]) -> None:
+    """Rejects words on a history that is not there."""
+    context = click.get_current_context()
+    words = [it.opts[0] for it in context.command.params if it.name and it.name not in OWN
+             and context.get_parameter_source(it.name) is not ParameterSource.DEFAULT]
+    if asked["file"] is None and words:
+        raise click.UsageError(f"{words[0]} is that of --history: give the history of demand too", context)
+
+
+def allowed(asked: dict[str, Any], attempts: Attempts) -> tuple[tuple[Table, ...], tuple[Table, ...]]:
+    """Reads the history and the lead times, and returns the laws of demand and of lead times that they allow."""
+    from ..demand.posterior import allowed_laws, allowed_leads
+    history, leads = read_files(attempts, asked | {"demand": asked["demand"] or "demand"})
+    attempts.end()
+    assert history is not None
+    return allowed_laws(history, box=asked["box"]).laws, allowed_leads(leads).laws if leads else ()
+
+
+def suggestions(asked: dict[str, Any], scenario: Scenario) -> Suggestions:
+    """Returns the suggestions for a scenario. Raises RefusedFaults with all faults of the files."""
+    from ..theory.confidence import CONFIDENCE
+    from ..theory.lattice import NoTheory
+    from ..theory.suggestions import suggestions_of
+    with rejects_in(asked["rejects"]) as attempts:
+        laws, leads = allowed(asked, attempts) if asked["file"] else ((), ())
+    attempts.say(())
+    try:
+        return suggestions_of(scenario, laws, leads, asked["confidence"] or CONFIDENCE)
+    except NoTheory as fault:
+        place = places_of(scenario.source or "", scenario.tree).get(fault.path, (0, 0))
+        raise RefusedFaults([Fault(str(fault), asked["scenario"].removeprefix("-"), *place)]) from None
 
 
 @click.command(epilog="Example: crnplan suggest my/scenario.toml > my/suggested.toml 2> my/suggested.txt")
 @click.argument("scenario", metavar="SCENARIO.toml", type=click.Path(allow_dash=True))
 @click.option("--initial", is_flag=True, help="Write the proposed initial.")
 @click.option("--unit-zero", is_flag=True, help="Write unit = 0.")
-@click.option("--history", metavar="FILE.csv", type=click.Path(allow_dash=True),
+@click.option("--csv", "form", flag_value="csv", help="Print the table as CSV, not the scenario.")
+@click.option("--json", "form", flag_value="json", help="Print the table as JSON, not the scenario.")
+@click.option("--history", "file", metavar="FILE.csv", type=click.Path(allow_dash=True),
               help="The history of demand: add policies that keep a fill rate under most laws that it allows.")
 @click.option("--confidence", type=click.FloatRange(0, 1, min_open=True), metavar="C",
               help="With --history: the share of these laws.  [default: 0.8]")
-@click.option("--csv", "as_csv", is_flag=True, help="Print the table as CSV, not the scenario.")
-@click.option("--json", "as_json", is_flag=True, help="Print the table as JSON, not the scenario.")
-def command(scenario: str, initial: bool, unit_zero: bool, history: str | None, confidence: float | None, as_csv: bool,
-            as_json: bool) -> None:
+@demand_option
+@record_options
+@file_options
+def command(**asked: Any) -> None:
     """Suggest policies for a scenario: the best (s,S) by theory, and good alternatives, beside today's. `-` is standard
     input.
 
@@ -46,7 +90,9 @@ def command(scenario: str, initial: bool, unit_zero: bool, history: str | None, 
     All figures are by the scenario's law of demand, and customers may ask for more. With --history, 100 laws are drawn
     that the history allows. Beside each policy with a fill rate then stands the cheapest found that has it under at
     least 80% of these laws (--confidence) and by the scenario's law too, and how much more it costs. FILE.csv has a row
-    for each period, with its demand in the column demand.
+    for each period with the demand in the column demand, as crnplan item writes it, unless --demand names another
+    column. All words about files are those of crnplan history. Without --lead or --orders the scenario's lead times
+    hold.
 
     Two lines on standard error are about the run. A start far from the long run biases costs by an amount that falls
     only as 1 over periods: the mean inventory position of the best policy at the beginning of a period is proposed as
@@ -56,30 +102,16 @@ def command(scenario: str, initial: bool, unit_zero: bool, history: str | None, 
 
     Nothing of this is proved; crnsim's figures are.
     """
-    from ..demand.posterior import allowed_laws
-    from ..history import read_history
-    from ..theory.confidence import CONFIDENCE
-    from ..theory.lattice import NoTheory
-    from ..theory.suggestions import suggestions_of
-    if history is None and confidence is not None:
-        raise click.UsageError("--confidence is that of --history: give the history of demand too",
-                               click.get_current_context())
-    if scenario == history == "-":
-        raise Refused("standard input (-) can be one file only; name the other")
-    asked = Scenario.read(scenario)
-    laws = () if history is None else allowed_laws(read_history(history, demand="demand")).laws
-    try:
-        found = suggestions_of(asked, laws, confidence=confidence or CONFIDENCE)
-    except NoTheory as fault:
-        place = places_of(asked.source or "", asked.tree).get(fault.path, (0, 0))
-        raise RefusedFaults([Fault(str(fault), scenario.removeprefix("-"), *place)]) from None
-    if as_csv:
+    check_history(asked)
+    rules_of(asked)
+    found = suggestions(asked, Scenario.read(asked["scenario"]))
+    if asked["form"] == "csv":
         rows = found.records
         csv.writer(sys.stdout, lineterminator="\n").writerows([rows[0], *(it.values() for it in rows)])
         print(found.notes.lstrip(), end="", file=sys.stderr)
-    elif as_json:
+    elif asked["form"] == "json":
         print(json.dumps({"initial": found.initial, "position": round(found.position, 6), "error": found.error,
                           "step": found.step, "policies": found.records}, indent=2))
     else:
         print(aligned(found.cells) + found.notes, end="", file=sys.stderr)
-        print(found.text(initial=initial, unit_zero=unit_zero), end="")
+        print(found.text(initial=asked["initial"], unit_zero=asked["unit_zero"]), end="")
