@@ -30,8 +30,9 @@ Classes = Mapping[str, str | None] | Iterable[str | None]
 
 def counted(observed: Any, name: str) -> Sample:
     """Counts the numbers of a history. Raises Refused, or RefusedFaults with the places of numbers below 0."""
-    if isinstance(observed, np.ndarray) and observed.dtype.kind in "iu" and observed.size and observed.min() >= 0:
-        return Sample.of(observed)
+    numbers: Any = observed.counts if isinstance(observed, Observed) else observed
+    if isinstance(numbers, Sequence) and numbers and {*map(type, numbers)} == {int} and min(numbers) >= 0:
+        return Sample.of(numbers)  # the usual case, which is fast
     numbers, places = numbers_of(observed, f"demand of {name}")
     check(numbers, places, lambda it: "is below 0; correct it" if it < 0 else None)
     return Sample.of(numbers)
