@@ -30,6 +30,8 @@ if TYPE_CHECKING:
     from .engine.report import Report
 
 Tree = dict[str, Any]
+# What is said of all figures of a scenario.
+BY_ITS_LAWS = "by this law of demand, and this law of lead times; crnplan doubt says what else a history allows"
 # The fields that `Scenario.changed` takes.
 CHANGEABLE = (*(it for it in formats.SHAPES[formats.VERSIONS[-1]] if it != "policy"), "policies")
 

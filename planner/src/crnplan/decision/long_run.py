@@ -22,7 +22,7 @@ from ..engine.long_run import KEYS, LongRunReport
 from ..engine.report import Row
 from ..errors import Refused
 from ..report.tables import aligned, named
-from ..scenario import Policy, Scenario
+from ..scenario import BY_ITS_LAWS, Policy, Scenario
 from ..theory.lattice import NoTheory
 from ..theory.start_bias import StartBias, exactness, start_bias, theory_of
 from .intervals import Compared, checked_level, own_variance, t_quantile, with_verdict
@@ -112,7 +112,7 @@ class LongRunDecision:
     def notes(self) -> str:
         """Returns what the columns mean, the policies by verdict, and the warnings."""
         lines = [f"replications: {self.replications}, comparisons with {self.base}: {len(self.rows) - 1}, "
-                 f"joint level: {self.level:g}",
+                 f"joint level: {self.level:g}", BY_ITS_LAWS,
                  f"cost to verdict: a period by crnsim, {self.title}; unit is left out",
                  "low to high: the interval of diff; all hold together at the joint level",
                  f"cost_low to cost_high: the interval of cost, each at {self.level:g} by itself",

@@ -9,7 +9,7 @@ from typing import TYPE_CHECKING
 
 from ..engine.report import Row
 from ..report.tables import aligned, named
-from ..scenario import Scenario
+from ..scenario import BY_ITS_LAWS, Scenario
 from .intervals import Compared, with_intervals, with_verdict
 
 if TYPE_CHECKING:
@@ -83,7 +83,8 @@ def listed(rows: Sequence[Compared], every: bool = False) -> Sequence[Compared]:
 def decision_text(rows: Sequence[Compared], base: str, replications: int, level: float, most_names: int) -> str:
     """Returns what the intervals say of each policy compared with the base, with so many names in a line at most."""
     comparisons = len(rows) - 1
-    lines = ["", f"replications: {replications}, comparisons with {base}: {comparisons}, joint level: {level:g}"]
+    lines = ["", f"replications: {replications}, comparisons with {base}: {comparisons}, joint level: {level:g}",
+             BY_ITS_LAWS]
     if replications == 1:
         lines.append("one replication tells nothing of spread, so there are no intervals")
     elif comparisons:

@@ -14,7 +14,7 @@ from typing import TYPE_CHECKING, Any
 from ..document import read_document
 from ..document.writing import head_of, plain_text
 from ..formats import MOST_ITEMS, POLICIES
-from ..scenario import Policy, Scenario, Table
+from ..scenario import BY_ITS_LAWS, Policy, Scenario, Table
 from .behaviour import Depths
 from .confidence import CONFIDENCE, FillLevels, Promises
 from .lattice import theories_of
@@ -151,7 +151,7 @@ class Suggestions:
         """Returns the lines below the table: what its columns mean, and what is known of the error and of a run."""
         unit = self.scenario.costs.unit
         return f"""
-by this law of demand, and this law of lead times; crnplan doubt says what else a history allows
+{BY_ITS_LAWS}
 cost: a period in the long run, without unit, which adds {unit * self.net:.2f} to each policy (unit times the mean net \
 demand)
 fill: the share of demand that is met at once; short: the share of periods that end with items owed
