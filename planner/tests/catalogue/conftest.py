@@ -1,17 +1,22 @@
 """Fixtures of the tests of catalogues: a made one in a folder, and a way to plan it fast."""
 from __future__ import annotations
 
+import json
 from collections.abc import Iterator
 from pathlib import Path
+from typing import Any
 
 import pytest
 
-from crnplan.catalogue import Catalogue, read_catalogue
-from planner.tests.catalogue.made import TODAY, Made, made
+from crnplan.catalogue import Catalogue, plan, read_catalogue
+from planner.tests.catalogue.made import NO_PLAN, TODAY, Made, made
 
 FILES = ("Bewegungen.csv", "Artikel.csv", "Bestellungen.csv")
+WORDS = [FILES[0], FILES[1], "--orders", FILES[2]]
+TABLES = ("decisions.csv", "exact.csv", "rejects.csv", "summary.txt")
 # Laws as they were observed, and short runs: a third of the time.
-FAST = '[catalogue]\nfit = "empirical"\nborrow = "none"\nperiods = 64\nreplications = 8\n'
+SETTINGS: dict[str, Any] = {"fit": "empirical", "borrow": "none", "periods": 64, "replications": 8}
+FAST = "[catalogue]\n" + "".join(f"{name} = {json.dumps(value)}\n" for name, value in SETTINGS.items())
 
 
 @pytest.fixture(scope="session")
@@ -30,6 +35,22 @@ def files(planted: Made, tmp_path_factory: pytest.TempPathFactory) -> Path:
 def catalogue(files: Path) -> Catalogue:
     """Returns the made catalogue as it is read."""
     return read_catalogue(*(files / it for it in FILES), today=TODAY)
+
+
+@pytest.fixture(scope="session")
+def planned(catalogue: Catalogue, tmp_path_factory: pytest.TempPathFactory, program: Path) -> Path:
+    """Returns a folder with the plan of the made catalogue, by one process, which nobody changes."""
+    path = tmp_path_factory.mktemp("planned") / "plan"
+    plan(catalogue, path, jobs=1, program=program, **SETTINGS)
+    return path
+
+
+def leave_few(folder: Path, few: int) -> None:
+    """Leaves so many masters alone, all of items that can be planned."""
+    path = folder / FILES[1]
+    heading, *rows = path.read_text("utf-8").splitlines()
+    kept = [it for it in rows if it >= "A-034" and NO_PLAN not in it][:few]
+    path.write_text("\r\n".join([heading, *kept, ""]), "utf-8")
 
 
 @pytest.fixture

@@ -28,6 +28,10 @@ BAD_MASTERS: list[dict[str, str]] = [
     {"Fehlmengenkosten": "", "Servicegrad": "120%"}, {"Preis": "teuer", "Bestellkosten": "-3"}]
 
 
+# An item that can be read, but not planned: its costs are too far apart.
+NO_PLAN = "A-042"
+
+
 @dataclass
 class Made:
     """The files of a catalogue, and what was planted: lines of the demand file by kind, and items by kind."""
@@ -76,8 +80,8 @@ def master(source: random.Random, number: int) -> dict[str, str]:
     backlog = f"{20 * float(holding.replace(',', '.')):.4f}".replace(".", ",") if number % 2 else ""
     return dict(zip(MASTERS.split(";"), [
         name_of(number), f"Teil {number}", source.choice(["12,50", "25", "80,00"]), holding, backlog,
-        "" if number % 2 else source.choice(["95%", "0,9", "97,5%"]), "" if number % 4 == 0 else source.choice(
-            ["1", "2", "2 3 3 4"]), str(s), str(s + source.randint(4, 30)), str(source.randint(0, 20)),
+        "" if number % 2 else source.choice(["95%", "0,9", "97,5%"]), {0: "", 5: "2 3 3 4"}.get(
+            number % 12, source.choice("123")), str(s), str(s + source.randint(4, 30)), str(source.randint(0, 20)),
         f"{source.randint(1, 90)},{source.randint(10, 99)}", "XYZ"[number % 3]]))
 
 
@@ -90,7 +94,7 @@ def made(seed: int = 1) -> Made:
     its.demand = [f"B{place:05};{name_of(number)};{spelt(day, number)};{quantity};{back}"
                   for place, (day, number, quantity, back) in enumerate(rows)]
     its.masters = [master(source, number) for number in range(ITEMS)]
-    for number in range(0, ITEMS, 4):
+    for number in range(0, ITEMS, 12):
         for _ in range(source.randint(3, 8)):
             placed = START + datetime.timedelta(days=source.randrange(600))
             its.orders.append(";".join([name_of(number), spelt(placed, number),
@@ -139,4 +143,6 @@ def _plant_masters(its: Made) -> None:
     its.bad_items["missing master"].add("A-033")
     its.masters = [it for it in its.masters if it["Artikel"] != "A-033"]
     its.masters[34 - 1]["Bestand"] = "-4"
+    next(it for it in its.masters if it["Artikel"] == NO_PLAN).update(
+        Lagerkosten="0,0001", Fehlmengenkosten="500", Servicegrad="")
     its.bad_items["short"].add("A-008")

@@ -94,7 +94,7 @@ def test_sums_of_a_second_program(catalogue: Catalogue, second: Audit) -> None:
 
 
 def test_rows_reconcile_with_a_second_program(catalogue: Catalogue, rejects: pd.DataFrame, second: Audit) -> None:
-    """Rows used, rejected and left out with their item are all rows, by crnplan's counts and by the second program's."""
+    """Rows used, rejected and left out with their item are all rows, by crnplan's counts and the second program's."""
     counts, ready = catalogue.counts["files"]["demand"], items_of(catalogue)
     used = sum(count for name, count in second.taken.items() if name in ready)
     assert (counts["read"], counts["used"]) == (second.read, used)
@@ -114,9 +114,9 @@ def test_record_is_that_of_the_file(catalogue: Catalogue) -> None:
 
 def test_lead_times_of_orders(files: Path, catalogue: Catalogue) -> None:
     """Takes lead times from orders if the master has none: those of a second computation."""
-    leads = [it.split(";") for it in (files / FILES[2]).read_text("utf-8").splitlines()[1:] if it.startswith("A-004;")]
+    leads = [it.split(";") for it in (files / FILES[2]).read_text("utf-8").splitlines()[1:] if it.startswith("A-012;")]
     weeks = [[datetime.datetime.strptime(it, "%Y-%m-%d").date().toordinal() - 1 for it in row[1:]] for row in leads]
-    assert items_of(catalogue)["A-004"][0]["leads"] == [max(1, b // 7 - a // 7) for a, b in weeks]
+    assert items_of(catalogue)["A-012"][0]["leads"] == [max(1, b // 7 - a // 7) for a, b in weeks]
 
 
 def test_what_was_found_is_stated(catalogue: Catalogue, files: Path) -> None:
@@ -125,8 +125,8 @@ def test_what_was_found_is_stated(catalogue: Catalogue, files: Path) -> None:
     found = tomllib.loads(catalogue.found)["catalogue"]
     assert found["demand"] == {"item": "Artikel", "date": "Buchungstag", "quantity": "Menge", "returned": "Retouren"}
     assert found["items"]["S"] == "Höchstbestand" and found["items"]["lead"] == "Lieferzeit"
-    for text in ('"Artikel"  # found by its name', "the day comes first in", "decimal sign of holding is the comma in 0,",
-                 "heading in line 3", "not used: Beleg", "the record: 2024-11-25 to"):
+    for text in ('"Artikel"  # found by its name', "the day comes first in", "heading in line 3",
+                 "decimal sign of holding is the comma in 0,", "not used: Beleg", "the record: 2024-11-25 to"):
         assert text in catalogue.found
     columns = {kind: found[kind] for kind in ("demand", "items", "orders")}
     again = read_catalogue(*(files / it for it in FILES), today=TODAY, columns=columns)
@@ -191,7 +191,7 @@ ROWS = "".join(f"A,2026-{month:02}-15,3\n" for month in range(1, 11))
 
 @pytest.mark.parametrize("demand, masters, said", [
     ("item,date\n" + ROWS, "", "demand.csv:1: no column looks like the quantity; say --column demand.quantity=NAME"),
-    ("item,date,quantity,Menge\n" + ROWS, "", "the columns 'quantity' and 'Menge' may both be the quantity; say --column"),
+    ("item,date,quantity,Menge\n" + ROWS, "", "the columns 'quantity' and 'Menge' may both be the quantity; say"),
     ("item,date,quantity\n", "", "no row of demand has a date"), ("", "", "there is no row below the heading"),
     ("item,date,quantity\nA,soon,3\n", "", "no row of demand has a date"),
     ("item,date,quantity\n" + ROWS, "item,setup,holding\nA,1,1\n", "no column looks like the s;")])
@@ -248,7 +248,8 @@ def test_unused_words_are_refused(tmp_path: Path) -> None:
     """Refuses words that can't be meant."""
     for words, said in (({"every": "year"}, "--every 'year'"), ({"far": "drop"}, "--far 'drop'"),
                         ({"columns": {"demand": {"amount": "x"}}}, "demand.amount: there is no such column"),
-                        ({"start": "2026-05-01", "end": "2026-01-01"}, "is after --to"), ({"start": "soon"}, "--from:")):
+                        ({"start": "2026-05-01", "end": "2026-01-01"}, "is after --to"),
+                        ({"start": "soon"}, "--from:")):
         with pytest.raises(Refused, match=said):
             read_text(tmp_path, "item,date,quantity\n" + ROWS, **words)
 

@@ -1,8 +1,9 @@
-"""A Dask cluster of two workers on this machine, for the tests of crnplan sweep with --cluster.
+"""A Dask cluster of two workers on this machine, for the tests of crnplan with --cluster.
 
 Each process reads its name from its environment, which the program that it runs inherits. It leads a process group, so
-it ends together with what it has started. It listens on the loopback interface only. The processes of the cluster
-find a package crnplan that cannot be imported: workers need the program and nothing else.
+it ends together with what it has started. It listens on the loopback interface only. Unless it is asked for, the
+processes of the cluster find a package crnplan that cannot be imported: workers of a sweep need the program and nothing
+else.
 """
 from __future__ import annotations
 
@@ -110,15 +111,16 @@ class Cluster:
         except (OSError, ValueError):
             return ""
 
-    def open(self) -> None:
-        """Starts the scheduler and its workers, and waits until they know each other."""
+    def open(self, hidden: bool = True) -> None:
+        """Starts the scheduler and its workers, without crnplan unless `hidden` is false, and waits until they know each
+        other."""
         here = ["--host", LOOPBACK, "--no-dashboard", "--dashboard-address", f"{LOOPBACK}:0"]
         self.start("scheduler", "-m", "distributed.cli.dask_scheduler", *here, "--port", "0", "--scheduler-file",
-                   "scheduler.json", "--idle-timeout", f"{SECONDS}s")
+                   "scheduler.json", "--idle-timeout", f"{SECONDS}s", hidden=hidden)
         self.address = self.wait_until("the scheduler's address", self.scheduler_address, "scheduler")
         for name in WORKERS:
             self.start(name, "-m", "distributed.cli.dask_worker", self.address, *here, "--no-nanny", "--nthreads", "1",
                        "--memory-limit", "0", "--local-directory", str(self.room / f"of_{name}"), "--name", name,
-                       "--death-timeout", f"{SECONDS}s", "--lifetime", f"{2 * SECONDS}s")
+                       "--death-timeout", f"{SECONDS}s", "--lifetime", f"{2 * SECONDS}s", hidden=hidden)
         self.start("asker", "-c", WAITING, self.address, str(len(WORKERS)))
         assert self.wait_for_end("asker") == 0, f"the workers did not come: {self.last_words('asker')}"

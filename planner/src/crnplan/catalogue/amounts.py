@@ -110,6 +110,6 @@ def leads_of(text: str) -> list[int]:
 def checked_lead(lead: int) -> int:
     """Returns a lead time in periods. Raises Unreadable if a scenario can't have it."""
     if not 1 <= lead <= MOST_LEAD:
-        raise Unreadable(f"the lead time {lead} is not from 1 to {MOST_LEAD} periods; correct it, or take longer periods "
-                         "(--every)")
+        raise Unreadable(f"the lead time {lead} is not from 1 to {MOST_LEAD} periods; correct it, or take longer "
+                         "periods (--every)")
     return lead

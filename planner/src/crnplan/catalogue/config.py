@@ -24,8 +24,9 @@ CONFIG = "crnplan.toml"
 CHECKS: dict[str, Check] = {
     "every": choice(*EVERY), "delimiter": choice(*DELIMITERS), "encoding": text, "decimal": choice(*DECIMALS),
     "date_formats": texts, "from": date, "to": date, "net": flag, "twice": choice(KEEP, LEAVE_OUT),
-    "far": choice(KEEP, LEAVE_OUT), "borrow": choice(*BORROW), "least": whole(1, MOST_WEIGHT), "seed": text, "fit": choice(*METHODS),
-    "level": share("0.95 for 95 of 100 samples"), "periods": whole(1, MOST_PERIODS), "replications": whole(2, MOST_REPLICATIONS)}
+    "far": choice(KEEP, LEAVE_OUT), "borrow": choice(*BORROW), "least": whole(1, MOST_WEIGHT), "seed": text,
+    "fit": choice(*METHODS), "level": share("0.95 for 95 of 100 samples"), "periods": whole(1, MOST_PERIODS),
+    "replications": whole(2, MOST_REPLICATIONS)}
 Trouble = tuple[tuple[str, ...], str]
 
 
@@ -58,7 +59,7 @@ def _column_troubles(kind: str, columns: Any) -> Iterator[Trouble]:
 
 
 def read_config(path: str | Path | None) -> dict[str, Any]:
-    """Returns the table [catalogue] of a file; by default of crnplan.toml in this folder, and nothing if it is not there.
+    """Returns the table [catalogue] of a file, by default of crnplan.toml in this folder; nothing if it is not there.
 
     Raises Refused if a named file can't be read, and RefusedFaults with all that is wrong with the table.
     """

@@ -1,6 +1,7 @@
 """Learns from all items of a catalogue which laws of demand there are, once, and keeps that in the folder.
 
-What was learned is used again as it is, also if items change: otherwise each new row would change the plan of every item.
+What was learned is used again as it is, also if items change. Otherwise each new row would change the plan of every
+item.
 """
 from __future__ import annotations
 

@@ -17,7 +17,7 @@ MONEY = ("setup", "holding", "backlog", "price")
 
 @dataclass(frozen=True)
 class Master:
-    """What a row says of an item. Amounts are exact; None stands for an empty cell. `decimals` are those of its money."""
+    """What a row says of an item. Amounts are exact, None stands for an empty cell. `decimals` are those of its money."""
 
     line: int
     description: str

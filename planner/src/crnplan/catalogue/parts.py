@@ -120,7 +120,8 @@ class Reader:
     """Reads the parts of a catalogue one by one, and writes what is in them."""
 
     def __init__(self, sources: Mapping[str, Source], dates: Mapping[str, DateReader],
-                 amounts: Mapping[str, AmountReader], record: Record, rules: tuple[Ways, str | None], writer: Writer) -> None:
+                 amounts: Mapping[str, AmountReader], record: Record, rules: tuple[Ways, str | None],
+                 writer: Writer) -> None:
         """Takes how dates and amounts are read. `rules` are the ways of taking rows, and a stated decimal sign."""
         self.sources, self.dates, self.amounts, self.record, self.writer = sources, dates, amounts, record, writer
         self.ways, self.decimal = rules
@@ -226,8 +227,8 @@ class Reader:
         self.counts.twice += 1
         self.twice[name] += 1
         is_left_out = self.ways.twice == LEAVE_OUT
-        faults = [("item", name, f"the row is the same as that of line {first}; if it was exported twice, remove it, or "
-                   "say --twice leave-out")]
+        faults = [("item", name, f"the row is the same as that of line {first}; if it was exported twice, remove it, "
+                   "or say --twice leave-out")]
         if is_left_out:
             self._reject_row(row, faults)
         else:
@@ -291,14 +292,14 @@ class Reader:
         amounts = {role: None if its is None else str(its) for role, its in (
             ("setup", master.setup), ("holding", master.holding), ("backlog", master.backlog), ("fill", master.fill))}
         levels = [round(it / box) for it in master.levels]
-        facts: dict[str, Any] = {"counts": asked, "back": back if any(back) else None, "box": box, "leads": [*master.leads],
-                 **amounts, "levels": levels, "class": master.group}
+        facts: dict[str, Any] = {"counts": asked, "back": back if any(back) else None, "box": box, **amounts,
+                                 "leads": [*master.leads], "levels": levels, "class": master.group}
         if levels[1] > MOST_ITEMS:
             raise Left("items", master.line, self._column("items", "S"), str(master.levels[1]),
                        f"S is above {MOST_ITEMS:,}; correct it")
         shown_only = {"description": master.description, "today": [*master.levels],
                       "price": None if master.price is None else str(master.price), "first": first,
-                      "rows": len(moves), "notes": notes}
+                      "rows": len(moves), "line": master.line, "notes": notes}
         return name, facts, shown_only
 
     def _master(self, name: str, rows: Sequence[PartRow], leads: Sequence[int], moves: Sequence[Move]) -> Master:
@@ -343,13 +344,13 @@ class Reader:
             raise left(str(len(asked)), f"a history of {len(asked)} {every}s is short; wait, or say --least "
                        f"{len(asked)}")
         if min(asked) < 0:
-            raise left(str(min(asked)), f"a {every} comes to less than 0; move the amount to the {every} of its sale, or "
-                       "take longer periods (--every)")
+            raise left(str(min(asked)), f"a {every} comes to less than 0; move the amount to the {every} of its sale, "
+                       "or take longer periods (--every)")
         if not sum(asked):
             raise left("0", "nothing was asked for; nothing can be said without demand")
         if sum(back) >= sum(asked):
-            raise left(str(sum(back)), f"as much comes back ({sum(back):,}) as is asked for ({sum(asked):,}), so nothing "
-                       "is ever ordered; check both columns")
+            raise left(str(sum(back)), f"as much comes back ({sum(back):,}) as is asked for ({sum(asked):,}), so "
+                       "nothing is ever ordered; check both columns")
 
     def _notes(self, master: Master, rows: Sequence[PartRow], first: int, box: int) -> Iterator[str]:
         """Yields what is to be said of an item."""

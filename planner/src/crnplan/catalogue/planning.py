@@ -1,8 +1,8 @@
 """Plans one item of a catalogue: a law of its demand, the best policy by theory, and a run of it beside today's.
 
-The run has one common start for both policies, and theory's exact bias of that start is taken out: so its figures are of
-the long run (`decision/long_run.py`). An item has a key of its own, which follows from the seed and its name alone. So
-its plan does not depend on what else is planned, nor on how many work on it.
+The run has one common start for both policies, and theory's exact bias of that start is taken out. So its figures are
+of the long run (`decision/long_run.py`). An item has a key of its own, which follows from the seed and its name alone.
+So its plan does not depend on what else is planned, nor on how many processes work on it.
 """
 from __future__ import annotations
 

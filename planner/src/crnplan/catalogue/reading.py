@@ -55,7 +55,8 @@ class Words:
             wrong = next((it for it in its if it not in roles), None)
             if kind not in FILES or wrong is not None:
                 known = ", ".join(f"{it}.{role.name}" for it in FILES for role in FILES[it])
-                raise Refused(f"--column {kind}{f'.{wrong}' if wrong else ''}: there is no such column; they are {known}")
+                raise Refused(f"--column {kind}{f'.{wrong}' if wrong else ''}: there is no such column; they are "
+                              f"{known}")
 
     @property
     def ends(self) -> tuple[Day | None, Day | None]:
@@ -128,8 +129,8 @@ def missing_of(counts: Mapping[str, Any], answered: int) -> list[str]:
     items = counts["items"]
     rest = items["named"] - answered - items["left_out"]
     if rest:
-        lines.append(f"items: {items['named']:,} are named, and {answered:,} can be planned and {items['left_out']:,} are "
-                     f"left out: {rest:+,} items are lost")
+        lines.append(f"items: {items['named']:,} are named, and {answered:,} can be planned and {items['left_out']:,} "
+                     f"are left out: {rest:+,} items are lost")
     return lines
 
 
@@ -185,15 +186,14 @@ def open_sources(paths: Mapping[str, str | Path | None], words: Words) -> dict[s
 def _writer(folder: Path) -> Iterator[tuple[Writer, Path]]:
     """Gives what writes a catalogue, and a folder for its parts, which is removed afterwards."""
     parts = folder / PARTS
-    with told_of(folder):
+    with told_of(folder), contextlib.ExitStack() as stack:
         shutil.rmtree(parts, ignore_errors=True)
+        stack.callback(shutil.rmtree, parts, ignore_errors=True)
         parts.mkdir()
         writer = Writer(folder)
-        try:
-            yield writer, parts
-        finally:
-            shutil.rmtree(parts, ignore_errors=True)
-            writer.drop()
+        stack.callback(writer.drop)
+        writer.begin()
+        yield writer, parts
 
 
 def read_into(folder: Path, paths: Mapping[str, str | Path | None], words: Words) -> Path:
@@ -213,7 +213,7 @@ def read_into(folder: Path, paths: Mapping[str, str | Path | None], words: Words
 
 
 def counts_of(sources: Mapping[str, Source], split: Split, reader: Reader) -> dict[str, Any]:
-    """Returns the counts of rows by file, and of items. Rows are counted by the first pass, what became of them later."""
+    """Returns the counts of rows by file, and of items. The first pass counts rows, the second what became of them."""
     its = reader.counts
     files = {kind: {"name": source.name, "read": split.rows[kind], "blank": split.blank[kind], "used": its.used[kind],
                     "rejected": split.rejected[kind] + its.rejected[kind], "with_item": its.with_item[kind]}

@@ -83,12 +83,14 @@ class Run:
     def rows(self, totals: Totals, faults: list[Reject]) -> Iterator[tuple[dict[str, Any], dict[str, Any]]]:
         """Yields the row of each planned item with its answer, in order of the names, and adds up. Items without a plan
         become rejects."""
+        masters = self.read.fact("counts")["files"]["items"]["name"]
         for name in self.digests:
             answer = self.answers.answer(name)
             if "fault" in answer:
+                shown = self.read.item(name)[1]
                 totals.faults += 1
-                faults.append(Reject("item", "", 0, name, "", "", *with_advice(answer["fault"]),
-                                     self.read.item(name)[1]["rows"]))
+                faults.append(Reject("item", masters, shown["line"], name, "", "", *with_advice(answer["fault"]),
+                                     shown["rows"]))
                 continue
             row = row_of(name, *self.read.item(name), answer)
             totals.add(row, answer["error"])

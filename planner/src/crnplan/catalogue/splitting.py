@@ -116,7 +116,8 @@ def split_sources(sources: Mapping[str, Source], folder: Path, writer: Writer, p
                   decimal: str | None, part_bytes: int = PART_BYTES) -> Split:
     """Splits the files into part files of a folder. Rows without an item, and with too many cells, are rejected."""
     count = min(MOST_PARTS, 1 + sum(it.size for it in sources.values()) // part_bytes)
-    split = Split([folder / f"part-{number:03}.csv" for number in range(count)], amounts={role: AmountReader(decimal) for role in AMOUNTS})
+    split = Split([folder / f"part-{number:03}.csv" for number in range(count)],
+                  amounts={role: AmountReader(decimal) for role in AMOUNTS})
     parts = _Parts(split.parts)
     try:
         for kind, source in sources.items():
@@ -171,7 +172,7 @@ def _reject(source: Source, split: Split, writer: Writer, what: tuple[int, str, 
 
 
 def rows_of_part(path: Path) -> Iterator[list[str]]:
-    """Yields the rows of a part file: the first letter of the file's kind, the line, a hash of all cells of the row, and
-    its cells by role."""
+    """Yields the rows of a part file: the first letter of the file's kind, the line, a hash of all cells of the row,
+    and its cells by role."""
     with path.open(encoding="utf-8", newline="") as file:
         yield from csv.reader(file)

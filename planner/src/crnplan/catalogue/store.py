@@ -105,15 +105,18 @@ class Writer:
     """Writes what is read of a catalogue. The file stands under its name only when `finish` is called."""
 
     def __init__(self, folder: Path) -> None:
-        """Begins a new file."""
+        """Opens a new file."""
         self.folder, self.part = folder, folder / f"{READ}.part"
         self.part.unlink(missing_ok=True)
         self.base = sqlite3.connect(self.part)
+        self.waiting: list[Reject] = []
+
+    def begin(self) -> None:
+        """Makes the tables."""
         self.base.executescript("PRAGMA journal_mode = OFF; PRAGMA synchronous = OFF;"
                                 "CREATE TABLE items (item TEXT PRIMARY KEY, facts TEXT, shown TEXT) WITHOUT ROWID;"
                                 "CREATE TABLE facts (name TEXT PRIMARY KEY, value TEXT);"
                                 f"CREATE TABLE rejects ({', '.join(Reject._fields)});")
-        self.waiting: list[Reject] = []
 
     def reject(self, reject: Reject) -> None:
         """Adds what is left out or named."""

@@ -4,7 +4,7 @@ from __future__ import annotations
 import csv
 import math
 import os
-from collections import Counter
+from collections import Counter, defaultdict
 from collections.abc import Iterable, Iterator, Mapping, Sequence
 from dataclasses import dataclass, field
 from fractions import Fraction
@@ -20,8 +20,8 @@ DECISIONS, EXACT, REJECTS, SUMMARY = "decisions.csv", "exact.csv", "rejects.csv"
 COLUMNS = ("item", "description", "class", "verdict", "s_today", "S_today", "s_chosen", "S_chosen", "cost_today",
            "cost_chosen", "saving", "saving_low", "saving_high", "theory_cost_today", "theory_cost_chosen",
            "theory_saving", "fill_wanted", "fill_today", "fill_chosen", "stock_today", "stock_chosen", "value_today",
-           "value_chosen", "orders_today", "orders_chosen", "demand", "periods", "periods_with_demand", "law", "law_share",
-           "log10_bayes", "warnings")
+           "value_chosen", "orders_today", "orders_chosen", "demand", "periods", "periods_with_demand", "law",
+           "law_share", "log10_bayes", "warnings")
 EXACT_COLUMNS = ("item", "s_today", "S_today", "s_chosen", "S_chosen", "periods", "replications", "initial", "key",
                  "units_of_money", "setup", "holding", "backlog", "total_today", "total_chosen", "cost_today",
                  "cost_chosen", "saving", "saving_variance")
@@ -44,7 +44,7 @@ class Totals:
     """What adds up over items: costs and values of a period, savings with their variance, and verdicts."""
 
     verdicts: Counter[str] = field(default_factory=Counter)
-    sums: Counter[str] = field(default_factory=Counter)
+    sums: defaultdict[str, float] = field(default_factory=lambda: defaultdict(float))
     variance: float = 0.0
     without_interval: int = 0
     faults: int = 0
@@ -53,7 +53,7 @@ class Totals:
         """Adds an item: its row, and the standard error of its saving (None if it is not known)."""
         self.verdicts[row["verdict"]] += 1
         for name in ("cost_today", "cost_chosen", "saving", "theory_saving", "value_today", "value_chosen"):
-            self.sums[name] += row[name] or 0.0  # type: ignore[assignment]
+            self.sums[name] += row[name] or 0.0
         self.variance += error**2 if error else 0.0
         self.without_interval += error is None
 
@@ -106,7 +106,7 @@ def exact_row(name: str, answer: Mapping[str, Any], settings: Settings) -> list[
 def reject_rows(rejects: Iterable[Reject]) -> Iterator[Sequence[Any]]:
     """Yields the rows of rejects.csv."""
     for it in rejects:
-        yield it._replace(line=it.line or "")  # type: ignore[arg-type]
+        yield [*it[:2], it.line or "", *it[3:]]
 
 
 def counted(counts: Mapping[str, Any]) -> Iterator[str]:
@@ -131,14 +131,15 @@ def summary_text(counts: Mapping[str, Any], totals: Totals, settings: Settings, 
         *counted(counts),
         f"items: {items['named']:,} named = {planned:,} planned + {items['left_out'] + totals.faults:,} left out "
         f"({REJECTS} says why)",
-        f"rows that stand twice: {items['twice']:,}; orders not yet received: {items['open_orders']:,}; items that begin "
-        f"with their first movement: {items['late']:,}", "",
+        f"rows that stand twice: {items['twice']:,}; orders not yet received: {items['open_orders']:,}; items that "
+        f"begin with their first movement: {items['late']:,}", "",
         f"verdicts: {verdicts or 'none'}",
         f"a {every} in the long run, all planned items: {money(totals.sums['cost_today'])} today, "
         f"{money(totals.sums['cost_chosen'])} chosen",
-        f"saved: {money(saving)} a {every}, {settings.level:g} interval {money(saving - half)} to {money(saving + half)} "
-        f"(theory: {money(totals.sums['theory_saving'])})",
-        f"stock value: {money(totals.sums['value_today'])} today, {money(totals.sums['value_chosen'])} chosen, by theory",
+        f"saved: {money(saving)} a {every}, {settings.level:g} interval {money(saving - half)} to "
+        f"{money(saving + half)} (theory: {money(totals.sums['theory_saving'])})",
+        f"stock value: {money(totals.sums['value_today'])} today, {money(totals.sums['value_chosen'])} chosen, by "
+        "theory",
         "", f"Laws: {learned}.", *NOTES]
     if totals.without_interval:
         lines.append(f"{totals.without_interval:,} items have no interval, since one of their policies hardly orders; "
@@ -149,5 +150,6 @@ def summary_text(counts: Mapping[str, Any], totals: Totals, settings: Settings, 
 NOTES = (
     "Costs and savings: by crnsim, exact and proved for its stream (exact.csv), less the bias of the start by theory.",
     "Fill, stock, orders and the policies: by theory, rounded and unproved. Fill: the share of demand met at once.",
-    "All of it holds for the laws fitted to the histories. The interval is that of the runs alone: items are independent.",
+    "All of it holds for the laws fitted to the histories. The interval is that of the runs alone, which are "
+    "independent from item to item.",
     "The greatest savings are also where a wrong master or a wrong row shows first. Look at these items first.")

@@ -17,8 +17,8 @@ from typing import Any, Protocol
 from ..errors import ProgramError, Refused
 from ..sweep import NO_DISTRIBUTED
 
-# Batches that are under way for each worker: one that runs, and one that waits.
-AHEAD = 2
+# Batches that are under way for each worker. With one, so much at most is lost if all ends by force.
+AHEAD = 1
 WATCH_SECONDS = 0.5
 
 
@@ -97,7 +97,8 @@ def cluster(address: str) -> Iterator[Workers]:
         yield Workers(pool, max(1, AHEAD * sum(client.ncores().values())),
                       lambda word: client.scatter(word, broadcast=True))
     except (OSError, futures.CancelledError, ImportError, distributed.scheduler.KilledWorker) as fault:
-        what = "a batch was cancelled (has the scheduler ended?)" if isinstance(fault, futures.CancelledError) else fault
+        is_cancelled = isinstance(fault, futures.CancelledError)
+        what = "a batch was cancelled (has the scheduler ended?)" if is_cancelled else fault
         raise Refused(f"--cluster {address}: {what}; what was planned before is kept; workers need crnplan, and crnsim "
                       "at the path of --program") from fault
     finally:

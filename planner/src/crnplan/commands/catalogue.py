@@ -30,7 +30,8 @@ TAKEN = ("keep", "leave-out")
               help="Items with an amount far above all others; by default they are left out.")
 @click.option("--least", type=click.IntRange(1), metavar="N", help="The periods that a history needs; by default 13.")
 @click.option("--delimiter", metavar="SIGN", help="One of , ; tab. It is found from the heading and the rows.")
-@click.option("--encoding", metavar="NAME", help="For example cp1252; without it that of the byte order mark, or UTF-8.")
+@click.option("--encoding", metavar="NAME",
+              help="For example cp1252; without it that of the byte order mark, or UTF-8.")
 @click.option("--decimal", type=click.Choice(DECIMALS), help="The decimal sign; without it each column must decide it.")
 @click.option("--date-format", "date_formats", metavar="PATTERN", multiple=True,
               help="A pattern as %d/%m/%y in place of the usual forms. May be given several times.")

@@ -1,0 +1,242 @@
+"""Tests the plans of a catalogue: figures against the program itself, the same bytes always, and only what changed."""
+from __future__ import annotations
+
+import csv
+import datetime
+import hashlib
+import math
+import shutil
+import subprocess
+from collections import Counter
+from fractions import Fraction
+from pathlib import Path
+from typing import Any
+
+import pandas as pd
+import pytest
+
+import crnplan as crn
+from crnplan.catalogue.planning import Settings
+from planner.tests.catalogue.audit import audit
+from planner.tests.catalogue.conftest import FILES, SETTINGS, TABLES, WORDS, leave_few
+from planner.tests.catalogue.made import NO_PLAN, START, TITLES, WEEKS, Made
+from planner.tests.conftest import Command
+
+SCENARIO = """version = 1
+key = {key}
+periods = {periods}
+replications = {replications}
+initial = {initial}
+ring = 1024
+costs = {{ setup = {setup}, unit = 0, holding = {holding}, backlog = {backlog} }}
+demand = {{ values = {values}, weights = {weights} }}
+lead = {{ values = [{lead}], weights = [1] }}
+[[policy]]
+name = "today"
+s = {s_today}
+S = {S_today}
+[[policy]]
+name = "chosen"
+s = {s_chosen}
+S = {S_chosen}
+"""
+
+
+def rows_of(path: Path) -> dict[str, dict[str, str]]:
+    """Returns the rows of a table by item."""
+    with path.open(encoding="utf-8", newline="") as file:
+        return {row["item"]: row for row in csv.DictReader(file)}
+
+
+def test_figures_are_the_programs(planned: Path, files: Path, program: Path) -> None:
+    """Has the exact figures of a scenario that is made of the second program's sums, run by the program alone."""
+    last = START + datetime.timedelta(days=7 * WEEKS)
+    sums, exact = audit(files / FILES[0], len(TITLES) + 1, START, last), rows_of(planned / "exact.csv")
+    masters = {its["Artikel"]: its for its in csv.DictReader((files / FILES[1]).open(encoding="utf-8"), delimiter=";")}
+    tested = 0
+    for name in sorted(exact):
+        its, lead = exact[name], masters[name]["Lieferzeit"]
+        if not lead.isdigit() or name == "A-007" or sums.back[name].total() or its["s_today"] == its["s_chosen"]:
+            continue
+        counts = Counter({0: WEEKS - len(+sums.asked[name])}) + Counter((+sums.asked[name]).values())
+        digest = hashlib.sha256(f"crnplan\n{name}".encode()).hexdigest()
+        key = [digest[place:place + 16] for place in range(0, 64, 16)]
+        assert its["key"].split() == key
+        text = SCENARIO.format(**{**its, "key": str(key).replace("'", '"')}, lead=lead, values=sorted(counts),
+                               weights=[counts[it] for it in sorted(counts)])
+        ran = subprocess.run([program], input=text.encode(), capture_output=True, check=True).stdout.decode()
+        today, chosen = csv.DictReader(ran.splitlines())
+        assert [today["total"], chosen["total"]] == [its["total_today"], its["total_chosen"]]
+        scale = Fraction(its["units_of_money"])
+        assert Fraction(chosen["per_period"]) == Fraction(its["cost_chosen"]) * scale
+        assert -Fraction(chosen["diff_mean"]) == Fraction(its["saving"]) * scale * int(its["periods"])
+        assert Fraction(chosen["diff_var"]) == Fraction(its["saving_variance"]) * (scale * int(its["periods"]))**2
+        tested += 1
+    assert tested > 15
+
+
+def test_rates_are_the_masters(planned: Path, files: Path) -> None:
+    """Has whole rates that are the master's costs times one scale, and a backlog rate if there is such a cost."""
+    masters = {its["Artikel"]: its for its in csv.DictReader((files / FILES[1]).open(encoding="utf-8"), delimiter=";")}
+    for name, its in rows_of(planned / "exact.csv").items():
+        for rate, column in (("setup", "Bestellkosten"), ("holding", "Lagerkosten"), ("backlog", "Fehlmengenkosten")):
+            cost = Fraction(masters[name][column].replace(",", ".") or 0)
+            assert abs(int(its[rate]) - cost * Fraction(its["units_of_money"])) <= Fraction(1, 2)
+
+
+def test_decisions(planned: Path, planted: Made) -> None:
+    """Plans each item that is not left out: wanted shares are reached, and theory's cost is at most today's."""
+    table, rejects = rows_of(planned / "decisions.csv"), rows_of(planned / "rejects.csv")
+    bad = {*set.union(*planted.bad_items.values()), NO_PLAN}
+    assert not set(table) & bad and bad <= set(rejects)
+    assert "too far apart" in rejects[NO_PLAN]["reason"] and int(rejects[NO_PLAN]["rows"]) > 0
+    for name, row in table.items():
+        its = {column: float(value) for column, value in row.items()
+               if value and column not in ("item", "description", "class", "verdict", "law", "warnings")}
+        if "fill_wanted" in its:
+            assert its["fill_chosen"] >= its["fill_wanted"] - 1e-4
+            assert row["verdict"] != "more service" or its["fill_today"] < its["fill_wanted"]
+        else:
+            assert its["theory_cost_chosen"] <= its["theory_cost_today"]
+        assert math.isclose(its["saving"], its["cost_today"] - its["cost_chosen"], abs_tol=2e-4)
+        if "saving_low" in its:
+            middle = (its["saving_low"] + its["saving_high"]) / 2
+            assert math.isclose(middle, its["saving"], abs_tol=2e-4) or row["verdict"] == "same"
+            sure = its["saving_low"] > 0 or its["saving_high"] < 0
+            assert sure == (row["verdict"] in ("cheaper", "dearer")) or row["verdict"] == "more service"
+    price, its = float(planted.masters[1]["Preis"].replace(",", ".")), table["A-001"]
+    assert math.isclose(float(its["value_today"]), price * float(its["stock_today"]), rel_tol=1e-3)
+
+
+def test_money_has_the_decimals_of_the_masters(planned: Path) -> None:
+    """Spells money with four decimals, as the finest amount of the masters has."""
+    for row in rows_of(planned / "decisions.csv").values():
+        assert {len(row[it].partition(".")[2]) for it in ("cost_today", "saving", "theory_cost_chosen")} == {4}
+
+
+def test_savings_lie_in_their_intervals(planned: Path) -> None:
+    """Has theory's saving in most of the intervals: with 95%, in at least 85% of some forty."""
+    table = pd.read_csv(planned / "decisions.csv").dropna(subset=["saving_low"])
+    table = table[table.verdict != "same"]
+    inside = (table.saving_low <= table.theory_saving) & (table.theory_saving <= table.saving_high)
+    assert len(table) > 30 and inside.mean() > 0.85
+
+
+def test_summary_adds_up(planned: Path, planted: Made) -> None:
+    """Has the sum of all savings, with an interval of the square root of the sum of squares."""
+    table, text = pd.read_csv(planned / "decisions.csv"), (planned / "summary.txt").read_text("utf-8")
+    lines = {line.partition(":")[0]: line for line in text.splitlines()}
+    words = lines["saved"].replace(",", "").split()
+    saving, low, high = float(words[1]), float(words[6]), float(words[8])
+    assert math.isclose(saving, table.saving.sum(), abs_tol=0.01)
+    # Half an interval is 2.365 standard errors with 7 degrees of freedom (Student's table), and 1.96 in the sum.
+    errors = (table.saving_high - table.saving_low) / 2 / 2.365
+    assert math.isclose(high - low, 2 * 1.96 * math.sqrt((errors**2).sum()), rel_tol=0.02)
+    bad = len({*set.union(*planted.bad_items.values()), NO_PLAN})
+    assert lines["items"].startswith(f"items: {len(table) + bad} named = {len(table)} planned + {bad} left out")
+    assert "LOST" not in text
+
+
+def test_processes_change_nothing(planned: Path, catalogue: crn.Catalogue, tmp_path: Path, program: Path) -> None:
+    """Writes the same bytes with three processes as with one."""
+    frame = crn.plan(catalogue, tmp_path / "plan", jobs=3, program=program, **SETTINGS)
+    assert {it: (tmp_path / "plan" / it).read_bytes() for it in TABLES} == {
+        it: (planned / it).read_bytes() for it in TABLES}
+    assert list(frame.item) == list(rows_of(planned / "decisions.csv")) and frame.saving.dtype == float
+
+
+def planned_now(told: Any) -> int:
+    """Returns how many items a command has planned."""
+    assert told.status == 0, told.errors
+    return int(told.errors.rpartition(" items planned")[0].split()[-1])
+
+
+@pytest.fixture
+def begun(folder: Path, planned: Path) -> Path:
+    """Returns a folder with the files, and the plan of them."""
+    shutil.copytree(planned, folder / "plan")
+    return folder
+
+
+def change(path: Path, row: str, column: int, value: str) -> None:
+    """Changes a cell of the first row with this text."""
+    lines = path.read_text("utf-8").splitlines()
+    place = next(number for number, line in enumerate(lines) if row in line)
+    cells = lines[place].split(";")
+    cells[column] = value
+    lines[place] = ";".join(cells)
+    path.write_text("\r\n".join([*lines, ""]), "utf-8")
+
+
+def test_only_what_changed_is_planned(begun: Path, crnplan: Command, program: Path, planned: Path) -> None:
+    """Plans nothing if nothing has changed, an item if its row has, and none for a price or a description."""
+    words = ["catalogue", *WORDS, "--out", "plan", "--jobs", "1", "--program", program]
+    assert planned_now(crnplan(*words)) == 0
+    assert all((begun / "plan" / it).read_bytes() == (planned / it).read_bytes() for it in TABLES)
+    change(begun / FILES[0], ";A-001;", 3, "7")
+    assert planned_now(crnplan(*words)) == 1
+    before, after = rows_of(planned / "decisions.csv"), rows_of(begun / "plan/decisions.csv")
+    assert [name for name in before if before[name] != after[name]] == ["A-001"]
+    change(begun / FILES[1], "A-002;", 10, "1234,50")
+    change(begun / FILES[1], "A-003;", 1, "neu")
+    assert planned_now(crnplan(*words)) == 0
+    after = rows_of(begun / "plan/decisions.csv")
+    assert after["A-003"]["description"] == "neu" and after["A-002"]["value_today"] != before["A-002"]["value_today"]
+    change(begun / FILES[1], "A-002;", 7, "1")
+    assert planned_now(crnplan(*words)) == 1
+    leave_few(begun, 3)
+    assert planned_now(crnplan(*words)) == 0
+    assert planned_now(crnplan(*words, "--seed", "other")) == 3
+
+
+def test_the_command_says_what_it_found(folder: Path, crnplan: Command, program: Path) -> None:
+    """Prints guessed columns, not stated ones; with --check nothing is planned."""
+    words = ["catalogue", *WORDS, "--out", "plan"]
+    told = crnplan(*words, "--check")
+    assert told.status == 0 and 'quantity = "Menge"  # found by its name' in told.errors
+    assert "rows = " in told.output and not (folder / "plan/decisions.csv").exists()
+    assert rows_of(folder / "plan/rejects.csv")
+    found = (folder / "plan/found.toml").read_text("utf-8")
+    (folder / "crnplan.toml").write_text(found, "utf-8")
+    again = crnplan(*words, "--check")
+    assert again.output == told.output and "found by its name" not in again.errors
+    told = crnplan(*words, "--check", "--column", "demand.quantity=Beleg")
+    assert told.status == 0 and " rows = 0 used + " in told.output
+
+
+def test_learning_from_others(begun: Path, files: Path, crnplan: Command, program: Path) -> None:
+    """Learns once, so that a changed row plans only its item; again if asked. Fewer than 100 items learn on request."""
+    (begun / "crnplan.toml").write_text("[catalogue]\nperiods = 64\nreplications = 8\n", "utf-8")
+    words = ["catalogue", *WORDS, "--out", "plan", "--jobs", "1", "--program", program, "--borrow", "all"]
+    leave_few(begun, 0)
+    assert "there are 0 items to learn from" in crnplan(*words).errors
+    shutil.copy(files / FILES[1], begun / FILES[1])
+    first = crnplan(*words)
+    assert planned_now(first) == len(rows_of(begun / "plan/decisions.csv")) + 1  # and the item without a plan
+    assert "laws of demand were learned from" in first.output and (begun / "plan/prior.json").is_file()
+    laws = Counter(row["law"] for row in rows_of(begun / "plan/decisions.csv").values())
+    assert laws["borrowed"] > laws.total() / 2
+    change(begun / FILES[0], ";A-001;", 3, "7")
+    assert planned_now(crnplan(*words)) == 1
+
+
+@pytest.mark.parametrize("text, said", [
+    ("[catalogue]\nevry = 'week'\n", "crnplan.toml:2:1: [catalogue] evry: there is no such key; did you mean every?"),
+    ("[catalogue]\nfit = 'best'\n", "[catalogue] fit:"),
+    ("[catalogue.demand]\namount = 'x'\n", "[catalogue.demand] amount"),
+    ("catalogue = 3\n", "write a table [catalogue]"), ("[catalogue]\nlevel = 2\n", "level"),
+    ("[catalogue\n", "crnplan.toml:1")])
+def test_refused_settings(folder: Path, crnplan: Command, text: str, said: str) -> None:
+    """Says what is wrong with crnplan.toml, and where."""
+    (folder / "crnplan.toml").write_text(text, "utf-8")
+    told = crnplan("catalogue", *WORDS, "--out", "plan")
+    assert told.status == 2 and said in told.errors and not (folder / "plan").exists()
+
+
+def test_other_folders_are_refused(folder: Path, crnplan: Command) -> None:
+    """Writes into no folder that has other files."""
+    told = crnplan("catalogue", *WORDS, "--out", ".")
+    assert told.status == 2 and "no catalogue is in it" in told.errors
+    for words in ({"level": 1.5}, {"fit": "best"}, {"periods": 0}, {"replications": 1}):
+        with pytest.raises(crn.Refused):
+            Settings(**words)  # type: ignore[arg-type]
