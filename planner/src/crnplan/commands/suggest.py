@@ -82,10 +82,10 @@ def command(**asked: Any) -> None:
     The figures are those of the long run: all demand is met in the end, and the demands, returns and lead times of the
     periods are independent and each of one law, as in crnsim. They are exact but for rounding, also if orders overtake
     one another. If numbers are so large that they are rounded to steps of some items, the table says by how much that
-    may matter. With one lead time each policy is the best of all pairs with s >= 0 that its reason allows. With several
-    it is what a search over S - s finds, and the table says how good that is. The cost unit is left out: in the long
-    run it adds unit times the mean net demand to every policy. What crnsim computes from the stock initial over some
-    periods is a sample that begins elsewhere: so run the suggested scenario.
+    may matter. Each policy is the best of all pairs with s >= 0 that its reason allows. If there are several lead times
+    and large numbers it is what a search over S - s finds, and the table says how good that is. The cost unit is left
+    out: in the long run it adds unit times the mean net demand to every policy. What crnsim computes from the stock
+    initial over some periods is a sample that begins elsewhere: so run the suggested scenario.
 
     All figures are by the scenario's law of demand, and customers may ask for more. With --history, 100 laws are drawn
     that the history allows. Beside each policy with a fill rate then stands the cheapest found that has it under at

@@ -12,7 +12,7 @@ from __future__ import annotations
 
 import dataclasses
 import math
-from collections.abc import Sequence
+from collections.abc import Iterable, Sequence
 
 from ..errors import Refused
 from ..scenario import Scenario, Table
@@ -66,6 +66,12 @@ class FillLevels:
     def items(self, gap: int) -> int:
         """Returns S - s of a gap."""
         return gap * self.step + (0 if self.exact else (self.step - 1) // 2)
+
+    def prepare(self, laws: Iterable[int], gaps: Iterable[int]) -> None:
+        """Prepares many gaps of some laws."""
+        for theory in (self.theories[law] for law in laws):
+            if theory:
+                theory.prepare(gaps)
 
     def least(self, law: int, gap: int, share: float) -> float:
         """Returns the least S under a law, by its number; infinite if that has no long run."""
@@ -126,6 +132,7 @@ class Promises:
             """Returns about what a gap keeps."""
             levels = sorted(self.levels.least(law, gap, share) for law in near)
             return self.policy(gap, levels[self.place - low], share)
-        others = {round(first * factor) for factor in FACTORS} - {first}
-        best = min(sorted(others), key=about, default=first)
+        others = sorted({round(first * factor) for factor in FACTORS} - {first})
+        self.levels.prepare(near, others)
+        best = min(others, key=about, default=first)
         return min(self.kept(gap, share) for gap in (first, best))

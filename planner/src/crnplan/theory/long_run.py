@@ -16,7 +16,7 @@ from __future__ import annotations
 
 import math
 from abc import ABC, abstractmethod
-from collections.abc import Callable, Sequence
+from collections.abc import Callable, Iterable, Sequence
 from typing import NamedTuple
 
 import numpy as np
@@ -102,6 +102,10 @@ class LongRun(Walk, ABC):
         self.bests: dict[int, Candidate] = {}
         # How far the mean stock less the mean backlog is below the mean low, in items.
         self.offset = step * (self.above_low.mean + self.net.mean * float(scenario.lead.mean + 1))
+
+    @abstractmethod
+    def prepare(self, gaps: Iterable[int]) -> None:
+        """Computes what `levels_with_fill` needs of many gaps at once, which is faster than one by one."""
 
     @abstractmethod
     def laws(self, gap: int) -> tuple[Law, Law]:

@@ -14,13 +14,14 @@ from __future__ import annotations
 
 import math
 from bisect import bisect_left
+from collections.abc import Iterable
 
 import numpy as np
 import numpy.typing as npt
 
 from ..formats import MOST_ITEMS
 from ..scenario import Scenario
-from .laws import Floats, Law, Surplus, Whole, convolved, power_of, reflected, scaled, sum_of
+from .laws import Floats, Law, Surplus, Whole, convolved, power_of, reflected, room_for, scaled, sum_of
 from .long_run import CLOSE, NEAR, NO_POLICY, Candidate, LongRun, gap_grid
 
 FEW = 4  # Of the gaps of a grid, one in so many is looked at for a first policy.
@@ -113,11 +114,25 @@ class OneLead(LongRun):
     def unmet_of(self, gap: int) -> Floats:
         """Returns the mean demand of a period that is not met at once, in items, for each level S of 0 cells and more.
         """
-        if gap not in self.unmet:
-            lows = self.lows_of(gap)
-            levels = self.step * np.arange(-gap, max(gap + self.after.high, 0) + 1)
-            self.unmet[gap] = convolved(lows, self.unmet_at(levels))[gap:len(levels)] / lows.sum()
+        self.prepare([gap])
         return self.unmet[gap]
+
+    def prepare(self, gaps: Iterable[int]) -> None:
+        """Computes the unmet demand of many gaps at once."""
+        new = [gap for gap in gaps if gap not in self.unmet]
+        if not new:
+            return
+        most = max(new)
+        lows, places = self.lows_of(most), np.arange(most + 1)
+        levels = self.step * np.arange(-most, max(most + self.after.high, 0) + 1)
+        room, unmet = room_for(len(levels) + most), self.unmet_at(levels)
+        if len(new) == 1:
+            sums = convolved(lows, unmet)[None]
+        else:
+            within = np.where(places <= np.array(new)[:, None], lows, 0.0)
+            sums = np.fft.irfft(np.fft.rfft(within, room) * np.fft.rfft(unmet, room), room)
+        for gap, row in zip(new, sums):
+            self.unmet[gap] = row[most:len(levels)] / lows[:gap + 1].sum()
 
     def lowest(self, cost: float) -> int:
         """Returns the least low, in items, of a best policy that costs no more: see the module."""
