@@ -10,8 +10,9 @@ import pytest
 
 @pytest.fixture
 def answer(crnplan: Callable[..., Any]) -> Callable[..., Any]:
-    """Returns a function that runs `crnplan history` with words, and perhaps with `data` as standard input."""
-    return lambda words, **given: crnplan("history", *words, **given)
+    """Returns a function that runs `crnplan history` with words, and perhaps with `data` as standard input. Its tables
+    are what was read."""
+    return lambda words, **given: crnplan("history", "--fit", "empirical", *words, **given)
 
 
 @pytest.fixture

@@ -34,7 +34,8 @@ def test_messy_history(case: Case, crnplan: Any, program: Path, tmp_path: Path) 
     """Each history leads to a policy that no other beats on new histories, and that costs little more than the best."""
     for name, data in case.files.items():
         (tmp_path / name).write_bytes(data)
-    status, tables, errors = crnplan("history", *(tmp_path / it if it in case.files else it for it in case.words))
+    words = (tmp_path / it if it in case.files else it for it in case.words)
+    status, tables, errors = crnplan("history", "--fit", "empirical", *words)
     assert status == 0, errors
     scenario = Scenario.parse(suggested_text(Scenario.parse(case.head + tables)))
 

@@ -27,7 +27,8 @@ def test_large_history(tmp_path: Path, time: str) -> None:
             amount = source.randrange(1, 30)
             total += amount if number else 0
             file.write(f"D{number:07},P{source.randrange(3000):05},{day}{clock},{amount if number else 'x'}\n")
-    words = ["history", path, "--demand", "amount", "--date", "at", "--every", "day", "--leave-out"]
+    words = ["history", path, "--demand", "amount", "--date", "at", "--every", "day", "--leave-out", "--fit",
+             "empirical"]
     with (tmp_path / "out").open("wb") as output:
         process = subprocess.Popen([sys.executable, "-m", "crnplan", *words], stdout=output, stderr=subprocess.STDOUT)
         _, status, usage = os.wait4(process.pid, 0)
