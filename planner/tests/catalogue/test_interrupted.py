@@ -3,7 +3,6 @@ from __future__ import annotations
 
 import contextlib
 import os
-import random
 import resource
 import signal
 import sqlite3
@@ -21,9 +20,14 @@ from planner.tests.catalogue.made import Made
 from planner.tests.conftest import Command
 from planner.tests.sweep.clusters import SECONDS, Cluster
 
-JOBS, FEW = 2, 20
-# Says that it runs, and takes a moment until it need not, so that a plan can be interrupted in its middle.
-SLOW = '#!/bin/sh\necho run >> "{folder}/runs"\n[ -e "{folder}/fast" ] || sleep 0.05\nexec "{program}"\n'
+# Two batches and a half. After so many runs of the program all others wait, so that a plan stops in its middle: one
+# batch at least is kept then, however the runs are spread.
+JOBS, FEW, PASSES = 2, 20, 17
+HOLDING = """#!/bin/sh
+echo run >> "{folder}/runs"
+[ "$(wc -l < "{folder}/runs")" -le {passes} ] || until [ -e "{folder}/go_on" ]; do sleep 0.05; done
+exec "{program}"
+"""
 Start = Callable[..., "subprocess.Popen[bytes]"]
 
 
@@ -43,22 +47,22 @@ def whole(planted: Made, tmp_path_factory: pytest.TempPathFactory, program: Path
 
 
 @pytest.fixture
-def slow(folder: Path, program: Path) -> Path:
-    """Returns a program that takes a moment."""
-    path = folder / "slow"
-    path.write_text(SLOW.format(folder=folder, program=program), "utf-8")
+def holding(folder: Path, program: Path) -> Path:
+    """Returns a program that waits after some runs."""
+    path = folder / "holding"
+    path.write_text(HOLDING.format(folder=folder, program=program, passes=PASSES), "utf-8")
     path.chmod(0o755)
     return path
 
 
 @pytest.fixture
-def start(folder: Path, slow: Path) -> Iterator[Start]:
+def start(folder: Path, holding: Path) -> Iterator[Start]:
     """Returns a function that starts a plan in a process group of its own. What is left of it at the end is ended."""
     begun: list[subprocess.Popen[bytes]] = []
 
     def starting(*words: str, before: Callable[[], None] | None = None) -> subprocess.Popen[bytes]:
         """Starts a plan."""
-        command = [sys.executable, "-m", "crnplan", "catalogue", *WORDS, "--out", "plan", "--program", str(slow)]
+        command = [sys.executable, "-m", "crnplan", "catalogue", *WORDS, "--out", "plan", "--program", str(holding)]
         begun.append(subprocess.Popen([*command, *words], cwd=folder, stdin=subprocess.DEVNULL, stdout=subprocess.DEVNULL,
                                       stderr=subprocess.PIPE, start_new_session=True, preexec_fn=before))
         return begun[-1]
@@ -97,11 +101,11 @@ def tables(folder: Path) -> dict[str, bytes]:
     return {it: (folder / it).read_bytes() for it in TABLES}
 
 
-def goes_on(folder: Path, whole: Path, crnplan: Command, slow: Path) -> tuple[int, int]:
+def goes_on(folder: Path, whole: Path, crnplan: Command, holding: Path) -> tuple[int, int]:
     """Goes on, checks that the tables are those of a plan that was never interrupted, and returns how many items were
     planned and kept."""
-    (folder / "fast").touch()
-    told = crnplan("catalogue", *WORDS, "--out", "plan", "--program", slow, "--jobs", "1")
+    (folder / "go_on").touch()
+    told = crnplan("catalogue", *WORDS, "--out", "plan", "--program", holding, "--jobs", "1")
     assert told.status == 0, told.errors
     assert tables(folder / "plan") == tables(whole)
     words = told.errors.split("plan: ")[1].split()
@@ -116,22 +120,22 @@ def living(process: "subprocess.Popen[bytes]") -> bool:
     return False
 
 
-def test_killed(folder: Path, whole: Path, crnplan: Command, slow: Path, start: Start) -> None:
-    """Kills the first process at a random batch: its workers end by themselves, and at most one batch of each is planned
-    again."""
-    process, least = start("--jobs", str(JOBS)), random.Random(1).randint(1, FEW - JOBS * running.BATCH)
-    wait_until(lambda: kept(folder) >= least)
+def test_killed(folder: Path, whole: Path, crnplan: Command, holding: Path, start: Start) -> None:
+    """Kills the first process: its workers end by themselves, and at most one batch of each is planned again."""
+    process = start("--jobs", str(JOBS))
+    wait_until(lambda: kept(folder) >= 1)
     process.kill()
     process.wait()
+    (folder / "go_on").touch()
     wait_until(lambda: not living(process))
     there, before = kept(folder), runs(folder)
-    now, from_before = goes_on(folder, whole, crnplan, slow)
-    assert from_before == there >= least and now == runs(folder) - before == FEW - there
+    now, from_before = goes_on(folder, whole, crnplan, holding)
+    assert from_before == there > 0 and now == runs(folder) - before == FEW - there
     assert before - there <= JOBS * running.BATCH
 
 
 @pytest.mark.parametrize("jobs", ["1", str(JOBS)])
-def test_interrupted(folder: Path, whole: Path, crnplan: Command, slow: Path, start: Start, jobs: str) -> None:
+def test_interrupted(folder: Path, whole: Path, crnplan: Command, holding: Path, start: Start, jobs: str) -> None:
     """Interrupts all processes, as a terminal does: one line says how much is kept."""
     process = start("--jobs", jobs)
     wait_until(lambda: kept(folder) >= 1)
@@ -140,23 +144,24 @@ def test_interrupted(folder: Path, whole: Path, crnplan: Command, slow: Path, st
     assert process.returncode == 130 and b"Traceback" not in errors
     there = kept(folder)
     assert f"{there} of {FEW} items are planned and kept; run again to go on".encode() in errors
-    assert goes_on(folder, whole, crnplan, slow)[1] == there
+    assert goes_on(folder, whole, crnplan, holding)[1] == there
 
 
-def test_full_disk(folder: Path, whole: Path, crnplan: Command, slow: Path, start: Start) -> None:
+def test_full_disk(folder: Path, whole: Path, crnplan: Command, holding: Path, start: Start) -> None:
     """Lets no file grow any more in the middle, as a full disk does: one line, and nothing is lost."""
     process = start("--jobs", "1")
     wait_until(lambda: kept(folder) >= 1)
     resource.prlimit(process.pid, resource.RLIMIT_FSIZE, (1_000, 1_000))
+    (folder / "go_on").touch()
     _, errors = process.communicate(timeout=60)
     lines = [it for it in errors.decode().splitlines() if it.startswith("crnplan:")]
     assert process.returncode == 2 and len(lines) == 1 and b"Traceback" not in errors, errors
     assert "plan: " in lines[0] and "what was planned before is kept; make room" in lines[0]
     there = kept(folder)
-    assert 0 < there == goes_on(folder, whole, crnplan, slow)[1] < FEW
+    assert 0 < there == goes_on(folder, whole, crnplan, holding)[1] < FEW
 
 
-def test_no_room_to_read(folder: Path, crnplan: Command, slow: Path, start: Start) -> None:
+def test_no_room_to_read(folder: Path, crnplan: Command, holding: Path, start: Start) -> None:
     """Lets no file grow at all: one line, no half catalogue, and no parts are left."""
     process = start(before=lambda: resource.setrlimit(resource.RLIMIT_FSIZE, (9_000, 9_000)))
     _, errors = process.communicate(timeout=60)
@@ -165,27 +170,29 @@ def test_no_room_to_read(folder: Path, crnplan: Command, slow: Path, start: Star
     assert [it.name for it in (folder / "plan").iterdir()] == []
 
 
-def test_a_worker_that_is_killed(folder: Path, whole: Path, crnplan: Command, slow: Path, start: Start) -> None:
+def test_a_worker_that_is_killed(folder: Path, whole: Path, crnplan: Command, holding: Path, start: Start) -> None:
     """Kills a process that works, as a system without memory does: one line, and the plan goes on."""
     process = start("--jobs", str(JOBS))
     wait_until(lambda: kept(folder) >= 1)
     children = Path(f"/proc/{process.pid}/task/{process.pid}/children").read_text().split()
     os.kill(int(children[0]), signal.SIGKILL)
+    (folder / "go_on").touch()
     _, errors = process.communicate(timeout=60)
     assert process.returncode == 2 and b"a worker process has ended by force" in errors and b"Traceback" not in errors
-    assert goes_on(folder, whole, crnplan, slow)[1] >= 1
+    assert goes_on(folder, whole, crnplan, holding)[1] >= 1
 
 
 @pytest.mark.timeout(2 * SECONDS)
-def test_a_cluster_that_loses_a_worker(folder: Path, whole: Path, slow: Path) -> None:
+def test_a_cluster_that_loses_a_worker(folder: Path, whole: Path, holding: Path) -> None:
     """Plans on a Dask cluster, one worker of which is killed in the middle: the same bytes."""
     cluster = Cluster(folder)
     try:
         cluster.open(hidden=False)
-        words = ["catalogue", *WORDS, "--out", "plan", "--program", str(slow), "--cluster", cluster.address]
+        words = ["catalogue", *WORDS, "--out", "plan", "--program", str(holding), "--cluster", cluster.address]
         cluster.start("plan", "-m", "crnplan", *words, hidden=False)
         cluster.wait_until("the first batch", lambda: kept(folder) >= 1, "plan")
         cluster.end("leaves")
+        (folder / "go_on").touch()
         assert cluster.wait_for_end("plan") == 0, cluster.last_words("plan")
         assert tables(folder / "plan") == tables(whole)
     finally:
