@@ -28,6 +28,8 @@ _HOMES = {
     "History": "history",
     "read_history": "history",
     "read_lead_times": "history",
+    "Checks": "demand",
+    "check_history": "demand",
     "DemandLaw": "demand",
     "LeadLaw": "demand",
     "fit_demand": "demand",
@@ -50,7 +52,7 @@ if TYPE_CHECKING:
     from .decision.doubt import doubt
     from .decision.keys import check_keys
     from .decision.sensitivity import sensitivity
-    from .demand import DemandLaw, LeadLaw, fit_demand, fit_lead
+    from .demand import Checks, DemandLaw, LeadLaw, check_history, fit_demand, fit_lead
     from .engine.program import find_program
     from .engine.long_run import LongRunReport
     from .engine.report import Report

@@ -1,0 +1,328 @@
+"""Tests of the checks of a history: planted effects, notes, what is said to be seen, and the lines for planners."""
+from __future__ import annotations
+
+import math
+import time
+from collections.abc import Callable, Sequence
+from datetime import date, timedelta
+from pathlib import Path
+from typing import Any
+
+import numpy as np
+import pytest
+from hypothesis import given, settings
+from hypothesis import strategies as st
+from scipy import optimize, stats
+
+import crnplan as crn
+from crnplan.demand import Checks, checks_of, lines_of
+from crnplan.demand.effects import Facts
+from crnplan.demand.losses import LAWS, LOSSES, loss_of
+from crnplan.demand.outliers import bound_of, outliers_of
+from crnplan.demand.permutation import Orders, p_value, statistics_of
+from crnplan.demand.permutation import bound_of as bound_of_orders
+from crnplan.demand.power import Tilted, autocorrelation_seen, least_seen, season_seen, trend_seen
+from crnplan.demand.seasons import seasons_of
+from crnplan.errors import Refused
+from planner.tests.conftest import Command
+
+RANDOM = np.random.default_rng(8)
+YEARS = np.arange(208)
+SINE = np.sin(2 * np.pi * (YEARS + 0.5) / 52)
+STEADY = RANDOM.poisson(10, 208).tolist()
+RISING = RANDOM.poisson(10 * np.linspace(0.5, 1.5, 104)).tolist()
+RAISED = RANDOM.poisson(np.where(np.arange(104) < 78, 10, 16)).tolist()
+SEASONAL = RANDOM.poisson(10 * (1 + 0.6 * SINE)).tolist()
+
+
+def chained(stay: float, periods: int) -> list[int]:
+    """Returns a Poisson chain with mean 10 and this autocorrelation."""
+    numbers = [10]
+    for new in RANDOM.poisson(10 * (1 - stay), periods - 1):
+        numbers.append(int(RANDOM.binomial(numbers[-1], stay) + new))
+    return numbers
+
+
+CHAINED = chained(0.6, 104)
+
+
+def history_of(numbers: Sequence[int], first: date, every: str, folder: Path) -> crn.History:
+    """Writes a history with a movement in each period, and reads it."""
+    days = [date(first.year + month // 12, month % 12 + 1, 1) for month in range(first.month - 1, len(numbers) + 12)]
+    if every != "month":
+        days = [first + timedelta((7 if every == "week" else 1) * it) for it in range(len(numbers))]
+    path = folder / "history.csv"
+    path.write_text("at,n\n" + "".join(f"{day},{number}\n" for day, number in zip(days, numbers)))
+    return crn.read_history(path, demand="n", date="at", every=every)
+
+
+def named(checks: Checks, name: str) -> Any:
+    """Returns a test by its name."""
+    return next(it for it in checks.tests if it.name == name)
+
+
+def test_quiet_history() -> None:
+    """A history of independent periods of one law has no warning, and says what would have been seen."""
+    checks = checks_of(STEADY, season=52)
+    assert (checks.warnings, checks.notes, checks.warned) == ((), (), ())
+    assert (checks.periods, checks.demands, checks.level) == (208, 208, 0.0125)
+    line, = lines_of(checks)
+    sizes = [named(checks, it).least_seen for it in ("autocorrelation", "trend", "season")]
+    assert line == ("demand: no warning is no proof: in 8 of 10 such histories the tests see an autocorrelation of "
+                    f"{sizes[0]}, a trend from {1 - sizes[1]:.0%} to {1 + sizes[1]:.0%} of the mean and a season of "
+                    f"±{sizes[2]:.0%}")
+
+
+def test_trend() -> None:
+    """A planted trend is named by the means of the thirds, and by its slope."""
+    checks = checks_of(RISING)
+    ratio = np.mean(RISING[-34:]) / np.mean(RISING[:34])
+    words = f"the mean of the last third is {ratio - 1:.0%} above that of the first"
+    assert checks.warnings[0].startswith(f"demand has a trend: {words} (p 0.001). Plan from the part of the record ")
+    assert "shift" in checks.warned and not any(it.startswith("the level") for it in checks.warnings)
+    slope = np.polyfit(range(104), RISING, 1)[0]
+    assert named(checks, "trend").size == pytest.approx(slope * 103 / 2 / np.mean(RISING))
+    falling = checks_of(RISING[::-1])
+    assert f"{1 - 1 / ratio:.0%} below that of the first" in falling.warnings[0] and "trend -50%" in falling.warnings[0]
+
+
+def test_shift() -> None:
+    """A planted shift is named by its first period, and by how to read the record since then."""
+    checks = checks_of(RAISED)
+    after = max(range(11, 94), key=lambda it: abs(stats.ttest_ind(RAISED[:it], RAISED[it:]).statistic))
+    ratio = np.mean(RAISED[after:]) / np.mean(RAISED[:after])
+    assert abs(after - 78) < 5 and named(checks, "shift").size == pytest.approx(ratio - 1)
+    assert checks.warnings[0].startswith(
+        f"the level of demand has changed: from period {after + 1} on the mean is {ratio - 1:.0%} above that before "
+        "(p 0.001). If that is for good, plan from the record since then (leave out the rows before period "
+        f"{after + 1}). In a study (Poisson, mean 10; shift +50%) such a plan cost ")
+    assert not any("trend" in it.split(":")[0] for it in checks.warnings)
+
+
+def test_shift_with_dates(tmp_path: Path) -> None:
+    """With dates, the period has its name and the advice the option with its first day."""
+    checks = checks_of(history_of([3] * 40 + [9, 8] * 10, date(2025, 1, 6), "week", tmp_path))
+    assert "from 2025-W42 on the mean is 183% above that before" in checks.warnings[0]
+    assert "(--from 2025-10-13)" in checks.warnings[0]
+    assert checks.unknown[-1] == "a season is tested from 104 weeks on"
+    nothing = checks_of([0] * 30 + [4, 5] * 15)
+    assert "there is no demand before period 31" in nothing.warnings[0]
+    assert named(nothing, "trend").words == "the first third has no demand"
+
+
+def test_season() -> None:
+    """A planted season is named by its fullest and its emptiest part, and its amplitude is about the true one."""
+    checks = checks_of(SEASONAL, season=52)
+    means = [np.mean([it for place, it in enumerate(SEASONAL) if place % 52 // 13 == part]) for part in range(4)]
+    first, last = (sorted(range(4), key=means.__getitem__)[it] * 13 for it in (-1, 0))
+    assert (f"{max(means) / np.mean(SEASONAL):.2g} times the mean in periods {first + 1} to {first + 13} of 52, "
+            f"{min(means) / np.mean(SEASONAL):.2g} times in periods {last + 1} to {last + 13} of 52 (p 0.001)") \
+        in checks.warnings[0]
+    assert named(checks, "season").size == pytest.approx(0.6, abs=0.1)
+    # The season raises and lowers the level within a year, but that is no shift.
+    assert checks.warned == ("autocorrelation", "season") and len(checks.warnings) == 2
+    assert checks.warnings[1].endswith("What the other warnings say may be why")
+    assert "no season was tested" in checks_of(SEASONAL).unknown[-1]
+
+
+def test_trend_beside_a_season() -> None:
+    """A trend is named beside a season."""
+    both = RANDOM.poisson(10 * (1 + 0.6 * SINE) * np.linspace(0.6, 1.4, 208)).tolist()
+    assert {"trend", "season"} <= {*checks_of(both, season=52).warned}
+
+
+def test_quarters_of_months(tmp_path: Path) -> None:
+    """Months are divided by the quarters of the calendar, whichever month comes first."""
+    numbers = [30 if month % 12 in (9, 10, 11) else 10 for month in range(2, 38)]
+    numbers = [it + place % 3 for place, it in enumerate(numbers)]
+    checks = checks_of(history_of(numbers, date(2023, 3, 1), "month", tmp_path))
+    assert "times the mean from October to December, " in checks.warnings[0]
+    parts = seasons_of(history_of(numbers, date(2023, 3, 1), "month", tmp_path), 36, None)[0][0].parts
+    assert parts[:11] == (0, 1, 1, 1, 2, 2, 2, 3, 3, 3, 0)
+
+
+def test_weekdays(tmp_path: Path) -> None:
+    """Days are divided by weekdays from two weeks on, and by quarters from two years on."""
+    numbers = [0 if it % 7 > 4 else 5 + it % 3 for it in range(70)]
+    checks = checks_of(history_of(numbers, date(2025, 1, 6), "day", tmp_path))
+    assert checks.warnings[0].startswith("demand follows the weekdays: 1.4 times the mean on ")
+    assert "0 times on Sat" in checks.warnings[0] and "Take weeks (--every week)" in checks.warnings[0]
+    assert checks.unknown[-1] == "a season is tested from 730 days on" and named(checks, "weekday").p < 0.002
+    seasons, _ = seasons_of(history_of([1, 2] * 400, date(2024, 1, 1), "day", tmp_path), 800, None)
+    assert [(it.name, it.length) for it in seasons] == [("weekday", 7), ("season", 365)]
+    assert seasons[1].parts[:92] == (0,) * 91 + (1,) and seasons[0].parts[:8] == (0, 1, 2, 3, 4, 5, 6, 0)
+    short, untested = seasons_of(history_of([1, 2] * 6, date(2024, 1, 1), "day", tmp_path), 12, None)
+    assert not short and untested[0] == "weekdays are tested from 14 days on"
+
+
+def test_weeks_belong_to_the_quarter_of_their_thursday(tmp_path: Path) -> None:
+    """The week from 2024-12-30 is in January, and that from 2024-04-29 in the second quarter."""
+    seasons, _ = seasons_of(history_of([1, 2] * 60, date(2024, 1, 1), "week", tmp_path), 120, None)
+    assert seasons[0].parts[12:14] == (0, 1) and seasons[0].parts[51:53] == (3, 0)
+
+
+def test_season_of_a_named_length(tmp_path: Path) -> None:
+    """A named length takes the place of the calendar's, counts from the first period, and needs two seasons."""
+    history = history_of([4, 1, 1, 1, 1] * 8, date(2025, 1, 6), "week", tmp_path)
+    checks = checks_of(history, season=5)
+    assert checks.warned[-1] == "season" and "2.5 times the mean in period 1 of 5" in checks.warnings[0]
+    assert checks_of([1, 2] * 10, season=11).unknown[-1] == "a season is tested from 22 periods on"
+    assert "season" in [it.name for it in checks_of([1, 2] * 11, season=11).tests]
+    for wrong, message in ((1, "a season of 1 periods is none; say 2 or more"), (2.5, "season: 2.5 ")):
+        with pytest.raises(Refused, match=message):
+            checks_of([1, 2] * 10, season=wrong)  # type: ignore[arg-type]
+
+
+def test_autocorrelation() -> None:
+    """A planted dependence is named, with advice and with what is lost by those who do not see it."""
+    checks = checks_of(CHAINED)
+    one, other = np.array(CHAINED[1:]) - np.mean(CHAINED), np.array(CHAINED[:-1]) - np.mean(CHAINED)
+    found = one @ other / (np.var(CHAINED) * 104)
+    assert named(checks, "autocorrelation").size == pytest.approx(found)
+    text = checks.warnings[-1]
+    assert text.startswith(f"periods are not independent: autocorrelation {found:.2f} at lag 1 (p 0.001). Ask what ")
+    assert "In a study (Poisson, mean 10; autocorrelation 0.6) such a plan cost " in text
+    turns = checks_of(([2, 9, 3, 8, 1, 9] * 12)[:70])
+    assert "High and low periods take turns" in turns.warnings[0] and "study" not in turns.warnings[0]
+
+
+def test_losses() -> None:
+    """The figure that is cited is the nearest by law, length of a season, and size."""
+    kinds = ("autocorrelation", "trend", "shift", "season")
+    assert {(it.kind, it.law) for it in LOSSES} == {(kind, law) for kind in kinds for law in LAWS}
+    for kind, size, variation, length, expected in (
+            ("autocorrelation", 0.33, 0.3, 0, ("steady", 30, 0)), ("autocorrelation", 0.9, 1.5, 0, ("erratic", 60, 0)),
+            ("trend", -0.4, 0.5, 0, ("steady", -50, 0)), ("shift", math.inf, 3, 0, ("erratic", 100, 0)),
+            ("season", 0.5, 0.6, 7, ("erratic", 60, 7)), ("season", 0.31, 0.1, 365, ("steady", 30, 52)),
+            ("season", 0.4, 0.1, 14, ("steady", 30, 12)), ("season", 0.31, 0, 4, ("steady", 30, 7))):
+        loss = loss_of(kind, size, variation, length)
+        assert (loss.law, loss.size, loss.length) == expected and loss.kind == kind
+
+
+@pytest.mark.parametrize("numbers, notes", [
+    ([0] * 9, ["no period has demand"]),
+    ([0] * 40 + [2, 0, 7, 1], [
+        "3 of 44 periods have demand, fewer than 10: the largest (7 in period 43) decides what a high service costs; "
+        "take a longer record if there is one"]),
+    ([6, 12, 0, 6, 18] * 6, ["all demands are multiples of 6; with --box 6 the tables count in packs"]),
+    ([4, 5, 6, 5] * 10 + [90], [
+        "far above all others (the next is 6): 90 in period 41; if that is a mistake or will not come again, correct "
+        "it or leave it out, else keep it",
+        "one period (90 in period 41) makes 97% of the variance and decides the result; plan with and without it"]),
+    ([4, 5, 6, 5] * 10 + [90, 5, 80], [
+        "far above all others (the next is 6): 90 in period 41, 80 in period 43; if that is a mistake or will not come "
+        "again, correct it or leave it out, else keep it"]),
+    ([1, 1, 1, 2, 1, 3, 0, 1, 1, 1, 1, 2, 1, 1], [])], ids=["none", "few", "packs", "far", "two far", "ones"])
+def test_notes(numbers: list[int], notes: list[str]) -> None:
+    """Few demands, packs, demands far above all others and one that decides are named."""
+    assert [it for it in checks_of(numbers).notes if "one period" not in it or it in notes] == notes
+
+
+def test_outlier_bounds() -> None:
+    """The bounds are those of the NIST/SEMATECH e-Handbook of Statistical Methods, section 1.3.5.17.3, of two sides."""
+    published = {0: 3.158794, 1: 3.151430, 2: 3.143890}
+    for above, value in published.items():
+        assert bound_of(54, above, 0.05 / 2) == pytest.approx(value, abs=2e-6)
+
+
+def test_outliers() -> None:
+    """Outliers that hide one another are found, in packs too, and none among rounded numbers."""
+    assert outliers_of([4, 5, 6, 5] * 10 + [90, 80, 85], 1) == [90, 85, 80]
+    assert outliers_of([24, 30, 36, 30] * 10 + [540], 6) == [540]
+    assert outliers_of([1] * 60 + [2], 1) == [] and outliers_of([12] * 60 + [24], 12) == []
+    assert outliers_of([1] * 8 + [900], 1) == []  # too few
+
+
+@pytest.mark.parametrize("numbers", [[5], [0, 1], [3] * 30, [0] * 30], ids=["one", "two", "constant", "zeros"])
+def test_nothing_to_test(numbers: list[int]) -> None:
+    """Without order there are no tests; a short history says so."""
+    checks = checks_of(numbers)
+    assert checks.tests == checks.warnings == () and checks.level == 0.05 and len(checks.frame) == 0
+    few = f"{len(numbers)} periods are too few to test whether they are independent and of one law"
+    assert checks.unknown == ((few,) if len(numbers) < 8 else ())
+
+
+@settings(max_examples=60)
+@given(numbers=st.lists(st.integers(0, 10_000) | st.integers(0, 2), min_size=1, max_size=50),
+       season=st.none() | st.integers(2, 30))
+def test_any_history(numbers: list[int], season: int | None) -> None:
+    """Each history has checks, always the same, with p values of 1 to 1,200 of 1,200."""
+    checks = checks_of(numbers, season=season)
+    assert checks == checks_of(iter(numbers), season=season)
+    assert all(it.p * 1200 == pytest.approx(round(it.p * 1200)) and 0 < it.p <= 1 for it in checks.tests)
+    assert all(it.startswith("demand: ") and "nan" not in it for it in lines_of(checks))
+    assert not checks.tests or len(checks.tests) == 3 + (season is not None and 2 * season <= len(numbers))
+
+
+def tilted(numbers: Sequence[int], mean: float) -> Any:
+    """Returns the chances of distinct numbers, tilted to a mean that is found by its equation."""
+    values, counts = np.unique(numbers, return_counts=True)
+
+    def chances(rate: float) -> Any:
+        """Returns the chances."""
+        powers = np.log(counts) + rate * values
+        return np.exp(powers - powers.max()) / np.exp(powers - powers.max()).sum()
+    return chances(optimize.brentq(lambda rate: chances(rate) @ values - mean, -20, 20))
+
+
+ERRATIC = RANDOM.negative_binomial(1.5, 1 / 3, 104).tolist()
+RARE = np.where(RANDOM.random(104) < 0.2, RANDOM.geometric(1 / 8, 104), 0).tolist()
+
+
+@pytest.mark.parametrize("kind, size", [("trend", 0.6), ("season", 0.7)])
+@pytest.mark.parametrize("numbers", [ERRATIC, RARE], ids=["erratic", "rare"])
+def test_power(kind: str, size: float, numbers: list[int]) -> None:
+    """The chance that an effect is seen is the share of drawn histories whose own p value is at most the level."""
+    count, parts = len(numbers), np.arange(104) % 52 // 13
+    orders, kinds, level = Orders(numbers), statistics_of({"season": parts}), 0.0125
+    law, bound = Tilted(orders), bound_of_orders(orders.statistics({kind: kinds[kind]})[kind], level)
+    stated = trend_seen(law, count, bound, size) if kind == "trend" else season_seen(law, count, 52, 4, bound, size)
+    effect = np.linspace(-1, 1, count) if kind == "trend" else np.sin(2 * np.pi * (np.arange(count) + 0.5) / 52)
+    factors, places = np.unique(np.round(1 + size * effect, 3), return_inverse=True)
+    below = np.cumsum([tilted(numbers, it * np.mean(numbers)) for it in factors], axis=1)[places]
+    random, seen = np.random.default_rng(5), []
+    for _ in range(250):
+        drawn = np.unique(numbers)[np.minimum((random.random((count, 1)) > below).sum(axis=1), below.shape[1] - 1)]
+        seen.append(p_value(Orders(drawn.tolist()).statistics({kind: kinds[kind]})[kind]) <= level)
+    assert stated == pytest.approx(np.mean(seen), abs=0.1)
+
+
+def test_power_of_autocorrelation() -> None:
+    """The chance to see an autocorrelation is that of scipy's noncentral chi-squared law."""
+    bound = stats.chi2.isf(0.0125, 3)
+    for size in (0.2, 0.5):
+        assert autocorrelation_seen(104, 0.0125, size) == pytest.approx(
+            stats.ncx2.sf(bound, 3, 104 * (size**2 + size**4 + size**6)))
+    sizes = [least_seen(lambda it, least=least: float(it >= least)) for least in (0.0, 0.32, 1.0, 1.1)]
+    assert sizes == [0.05, 0.35, 1.0, math.inf]
+
+
+def test_command(tmp_path: Path, crnplan: Command) -> None:
+    """`crnplan history` says the lines on standard error; --season names a season of a history without dates."""
+    (tmp_path / "demand.csv").write_text("n\n" + "\n".join(map(str, SEASONAL)))
+    words = ["history", tmp_path / "demand.csv", "--demand", "n", "--fit", "empirical"]
+    for more, season in (([], None), (["--season", 52], 52)):
+        told = crnplan(*words, *more)
+        assert told.errors == "".join(f"crnplan: {it}\n" for it in lines_of(checks_of(SEASONAL, season=season)))
+        assert told.status == 0 and told.output.startswith("\n[demand]\n")
+    assert crnplan(*words, "--season", 1).status == 2
+
+
+def test_public_name() -> None:
+    """The function of the public interface is the same, and its table has a row for each test."""
+    checks = crn.check_history(SEASONAL, season=52)
+    assert checks == checks_of(SEASONAL, season=52)
+    frame = checks.frame
+    assert [*frame.index] == ["autocorrelation", "trend", "shift", "season"] and frame["warns"]["season"]
+    assert [*frame.columns] == ["p", "warns", "size", "least_seen", "words"]
+
+
+@pytest.mark.serial
+def test_time() -> None:
+    """208 periods take at most 50 ms. The best of five runs counts: a busy machine is not what is tested."""
+    times = []
+    for _ in range(5):
+        start = time.perf_counter()
+        checks_of(STEADY, season=52)
+        times.append(time.perf_counter() - start)
+    assert min(times) <= 0.05

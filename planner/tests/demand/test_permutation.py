@@ -1,0 +1,133 @@
+"""Tests of the permutation tests: statistics against scipy and by their formulas, p values against all orders."""
+from __future__ import annotations
+
+import itertools
+import math
+from collections.abc import Callable, Sequence
+from typing import Any
+
+import numpy as np
+import pytest
+from hypothesis import given, settings
+from hypothesis import strategies as st
+from scipy import stats
+
+from crnplan.demand import permutation
+from crnplan.demand.permutation import Orders, bound_of, centred, p_value, statistics_of
+
+TINY = [0, 5, 2, 0, 9, 1]
+KINDS = statistics_of({"season": np.array([0, 1, 0, 1, 0, 1])})
+VARIED = st.lists(st.integers(0, 30), min_size=10, max_size=40).filter(lambda its: len({*its}) > 1)
+
+
+def of_row(kind: str, numbers: Sequence[float], parts: Sequence[int] = ()) -> float:
+    """Returns a statistic of one history."""
+    row = np.array([numbers], dtype=float)
+    kinds = statistics_of({"season": np.array(parts)} if len(parts) else {})
+    return float(kinds[kind](centred(row), centred(stats.rankdata(row, axis=1)))[0])
+
+
+@settings(max_examples=60)
+@given(numbers=VARIED)
+def test_autocorrelation(numbers: list[int]) -> None:
+    """Ljung and Box's statistic is the sum of its formula."""
+    size, mean = len(numbers), sum(numbers) / len(numbers)
+    far = [it - mean for it in numbers]
+    expected = 0.0
+    for lag in (1, 2, 3):
+        found = sum(one * other for one, other in zip(far, far[lag:])) / sum(it * it for it in far)
+        expected += size * (size + 2) * found**2 / (size - lag)
+    assert of_row("autocorrelation", numbers) == pytest.approx(expected)
+
+
+@settings(max_examples=60)
+@given(numbers=VARIED)
+def test_trend(numbers: list[int]) -> None:
+    """The statistic is the square of scipy's Spearman correlation, with ties."""
+    assert of_row("trend", numbers) == pytest.approx(stats.spearmanr(numbers, range(len(numbers)))[0]**2, abs=1e-12)
+
+
+@settings(max_examples=60)
+@given(numbers=VARIED)
+def test_shift(numbers: list[int]) -> None:
+    """The statistic is the greatest share of the squares that the means of two sides explain."""
+    size, least = len(numbers), math.ceil(len(numbers) / 10)
+    within = [sum(len(side) * np.var(side) for side in (numbers[:place], numbers[place:]))
+              for place in range(least, size - least + 1)]
+    assert of_row("shift", numbers) == pytest.approx(1 - min(within) / (size * np.var(numbers)), abs=1e-12)
+
+
+def test_shift_by_student() -> None:
+    """The statistic belongs to the largest of scipy's t between the two sides of a place."""
+    numbers = np.random.default_rng(4).normal(size=50)
+    largest = max(abs(stats.ttest_ind(numbers[:place], numbers[place:]).statistic) for place in range(5, 46))
+    assert of_row("shift", numbers) == pytest.approx(largest**2 / (48 + largest**2))
+
+
+@settings(max_examples=60)
+@given(numbers=VARIED, length=st.integers(2, 5))
+def test_season(numbers: list[int], length: int) -> None:
+    """The statistic is scipy's of Kruskal and Wallis, with ties."""
+    parts = [it % length for it in range(len(numbers))]
+    sides = [numbers[it::length] for it in range(length)]
+    assert of_row("season", numbers, parts) == pytest.approx(stats.kruskal(*sides).statistic)
+
+
+def test_published_season() -> None:
+    """The first example of Kruskal and Wallis (1952): bottle caps of three machines, H = 5.656."""
+    caps = [[340, 345, 330, 342, 338], [339, 333, 344], [347, 343, 349, 355]]
+    parts = [part for part, its in enumerate(caps) for _ in its]
+    assert of_row("season", [*itertools.chain(*caps)], parts) == pytest.approx(5.656, abs=0.0005)
+
+
+@pytest.mark.parametrize("kind", KINDS)
+def test_p_values_of_all_orders(kind: str, check_all: Callable[[Any], None]) -> None:
+    """Over all 720 orders of a history, a p value by all orders is exact; one by drawn orders is near to it.
+
+    If all orders are equally likely, the share of those with p at most a is at most a, and a itself where a is such a p
+    value.
+    """
+    orders = [*itertools.permutations(TINY)]
+    rows = np.array(orders, dtype=float)
+    every = KINDS[kind](centred(rows), centred(stats.rankdata(rows, axis=1)))
+    by_all = np.array([(every >= it * (1 - 1e-9)).mean() for it in every])
+    for attained in np.unique(by_all):
+        assert (by_all <= attained + 1e-9).mean() == pytest.approx(attained)
+    drawn = [p_value(Orders(it).statistics({kind: KINDS[kind]})[kind]) for it in orders]
+    check_all((str(order), bool(abs(p - exact) <= 5 * math.sqrt(exact * (1 - exact) / 1200) + 1 / 1200))
+              for order, p, exact in zip(orders, drawn, by_all))
+    for level in (0.05, 0.1, 0.3, 0.5):
+        assert np.mean(np.array(drawn) <= level) <= level + 0.03
+
+
+def test_p_value_counts_the_history() -> None:
+    """The history is one of the orders, and equal statistics count, also if they are rounded differently."""
+    assert p_value(np.array([3.0, 1, 2, 3])) == 0.5 and p_value(np.array([4.0, 1, 2, 3])) == 0.25
+    assert p_value(np.array([1 / 3 + 1e-15, 1 / 3, 0.1, 0.2])) == 0.5 and p_value(np.zeros(5)) == 1
+
+
+@given(statistics=st.lists(st.integers(0, 20), min_size=20, max_size=60), level=st.sampled_from([0.05, 0.1, 0.25]))
+def test_bound(statistics: list[int], level: float) -> None:
+    """A statistic has a p value of at most the level just if it is above the bound."""
+    drawn = np.array([0.0, *statistics])
+    bound = bound_of(drawn, level)
+    for value in range(22):
+        assert (p_value(np.array([value, *statistics], dtype=float)) <= level + 1e-9) == (value > bound)
+
+
+def test_orders_in_parts(monkeypatch: pytest.MonkeyPatch) -> None:
+    """Each order has all numbers, no two parts of the orders are the same, and none is lost."""
+    numbers = [*range(30)]
+    monkeypatch.setattr(permutation, "MOST_CELLS", 100)
+    drawn = np.concatenate([*Orders(numbers).drawn()])
+    assert drawn.shape == (1200, 30) and (drawn[0] == numbers).all() and (np.sort(drawn, axis=1) == numbers).all()
+    assert len(np.unique(drawn, axis=0)) == 1200
+    # Each number comes to each place about as often: the statistic has 29^2 degrees of freedom.
+    counts = np.array([np.bincount(place, minlength=30) for place in drawn[1:].T])
+    assert stats.chi2.sf(((counts - 1199 / 30)**2 / (1199 / 30)).sum(), 29**2) > 1e-4
+
+
+@pytest.mark.parametrize("kind", KINDS)
+def test_constant_history(kind: str) -> None:
+    """A history of equal numbers looks like each of its orders."""
+    assert p_value(Orders([7] * 6).statistics({kind: KINDS[kind]})[kind]) == 1
