@@ -63,8 +63,9 @@ def spelt(day: datetime.date, number: int) -> str:
 
 
 def movements(source: random.Random, number: int) -> list[tuple[datetime.date, int, int]]:
-    """Returns the movements of an item: day, quantity and returns. Item 7 is new, item 8 much too new."""
-    first = {7: 60, 8: 96}.get(number, 0)
+    """Returns the movements of an item: day, quantity and returns. Item 7 is new, item 8 much too new, and item 9 is
+    first seen after some weeks."""
+    first = {7: 60, 8: 96, 9: 20}.get(number, 0)
     chance, most = (0.9, 12) if number % 3 == 0 else (0.35, 6) if number % 3 == 1 else (0.12, 9)
     found = [(START + datetime.timedelta(days=7 * first + number % 5), 2, 0)]
     for week in range(first, WEEKS):

@@ -42,10 +42,10 @@ S = {S_chosen}
 """
 
 
-def rows_of(path: Path) -> dict[str, dict[str, str]]:
-    """Returns the rows of a table by item."""
+def rows_of(path: Path, kind: str = "") -> dict[str, dict[str, str]]:
+    """Returns the rows of a table by item, of one kind if the table has several."""
     with path.open(encoding="utf-8", newline="") as file:
-        return {row["item"]: row for row in csv.DictReader(file)}
+        return {row["item"]: row for row in csv.DictReader(file) if row.get("kind", "") == kind}
 
 
 def test_figures_are_the_programs(planned: Path, files: Path, program: Path) -> None:
@@ -86,7 +86,7 @@ def test_rates_are_the_masters(planned: Path, files: Path) -> None:
 
 def test_decisions(planned: Path, planted: Made) -> None:
     """Plans each item that is not left out: wanted shares are reached, and theory's cost is at most today's."""
-    table, rejects = rows_of(planned / "decisions.csv"), rows_of(planned / "rejects.csv")
+    table, rejects = rows_of(planned / "decisions.csv"), rows_of(planned / "rejects.csv", "item")
     bad = {*set.union(*planted.bad_items.values()), NO_PLAN}
     assert not set(table) & bad and bad <= set(rejects)
     assert "too far apart" in rejects[NO_PLAN]["reason"] and int(rejects[NO_PLAN]["rows"]) > 0
@@ -195,7 +195,7 @@ def test_the_command_says_what_it_found(folder: Path, crnplan: Command, program:
     told = crnplan(*words, "--check")
     assert told.status == 0 and 'quantity = "Menge"  # found by its name' in told.errors
     assert "rows = " in told.output and not (folder / "plan/decisions.csv").exists()
-    assert rows_of(folder / "plan/rejects.csv")
+    assert rows_of(folder / "plan/rejects.csv", "item")
     found = (folder / "plan/found.toml").read_text("utf-8")
     (folder / "crnplan.toml").write_text(found, "utf-8")
     again = crnplan(*words, "--check")
@@ -237,6 +237,9 @@ def test_other_folders_are_refused(folder: Path, crnplan: Command) -> None:
     """Writes into no folder that has other files."""
     told = crnplan("catalogue", *WORDS, "--out", ".")
     assert told.status == 2 and "no catalogue is in it" in told.errors
+    (folder / "crnplan.toml").write_text("[catalogue]\nfit = 'empirical'\n", "utf-8")
+    told = crnplan("catalogue", *WORDS, "--out", "plan", "--borrow", "all")
+    assert told.status == 2 and "--fit empirical fits each item alone" in told.errors
     for words in ({"level": 1.5}, {"fit": "best"}, {"periods": 0}, {"replications": 1}):
         with pytest.raises(crn.Refused):
             Settings(**words)  # type: ignore[arg-type]

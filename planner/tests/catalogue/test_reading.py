@@ -108,6 +108,7 @@ def test_record_is_that_of_the_file(catalogue: Catalogue) -> None:
     """An item begins with the record, unless it is first seen after half a year, which is said."""
     items = items_of(catalogue)
     assert len(items["A-001"][0]["counts"]) == WEEKS and "begins" not in "".join(items["A-001"][1]["notes"])
+    assert len(items["A-009"][0]["counts"]) == WEEKS and not any(items["A-009"][0]["counts"][:20])
     assert len(items["A-007"][0]["counts"]) == WEEKS - 60
     assert items["A-007"][1]["notes"] == ["begins with its first movement, in 2026-W04"]
 

@@ -29,15 +29,20 @@ def histories_of(read: Catalogued) -> Iterator[tuple[Any, str]]:
             yield np.array(its["counts"], np.uint32), its["class"]
 
 
-def prior_of(folder: Path, read: Catalogued, borrow: str | None, again: bool) -> tuple[Prior, str]:
+def prior_of(folder: Path, read: Catalogued, borrow: str | None, again: bool, fit: str) -> tuple[Prior, str]:
     """Returns what the items of a catalogue learn from one another, and a note on it.
 
-    `borrow` is none, class or all; None is all if there are 100 items. What was learned before in this way is kept,
-    unless it is to be learned `again`. Raises Refused for another word, and for fewer than 30 items.
+    `borrow` is none, class or all; None is all if there are 100 items, unless a way to `fit` each alone is asked for.
+    What was learned before in this way is kept, unless it is to be learned `again`. Raises Refused for another word, and
+    for fewer than 30 items.
     """
     if borrow not in (None, *BORROW):
         raise Refused(f"--borrow {borrow!r} is not one of {', '.join(BORROW)}")
+    if fit != "auto" and borrow not in (None, NONE):
+        raise Refused(f"--fit {fit} fits each item alone, and --borrow {borrow} learns from others; leave one out")
     path = folder / PRIOR
+    if fit != "auto":
+        return Prior(NONE), f"each item has the law of its own history (--fit {fit})"
     if borrow == NONE:
         return Prior(NONE), "each item has the law of its own history (--borrow none)"
     if path.is_file() and not again:

@@ -121,7 +121,7 @@ def plan_into(folder: Path, settings: Settings, *, jobs: int | None = None, addr
     path = program_for(program, address)
     with (told_of(folder), contextlib.closing(Catalogued(folder / READ)) as read,
           contextlib.closing(Answers(folder)) as answers):
-        prior, note = prior_of(folder, read, borrow, again)
+        prior, note = prior_of(folder, read, borrow, again, settings.fit)
         run = Run(read, answers, settings, prior, path)
         write_rows(folder / REJECTS, Reject._fields, reject_rows(read.rejects()))
         if run.left:
