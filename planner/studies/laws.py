@@ -11,7 +11,8 @@ have s of at least 0. The figures are means over histories and settings, in perc
 histories. Seeds are fixed: [place of the law, periods, number of the history]. A history has at least two periods with
 demand; others are drawn anew.
 
-The laws are in two groups: those that the methods were designed on, and others. `--small` runs a part of it.
+The laws are in three groups: those that the methods were designed on, others on which they were compared, and some
+that were looked at only once the methods stood. `--small` runs a part of it.
 """
 from __future__ import annotations
 
@@ -137,6 +138,12 @@ def even(low: int, high: int) -> Floats:
     return np.concatenate([np.zeros(low), np.full(high - low + 1, 1 / (high - low + 1))])
 
 
+def weibull(scale: float, shape: float, cells: int = 200) -> Floats:
+    """Returns a rounded Weibull law."""
+    law: Floats = np.diff(stats.weibull_min(shape, scale=scale).cdf(np.arange(cells) + 0.5), prepend=0.0)
+    return law
+
+
 def packed(law: Floats, pack: int) -> Floats:
     """Returns the law of the items in packs."""
     items = np.zeros((len(law) - 1) * pack + 1)
@@ -170,13 +177,17 @@ OTHERS = {
     "boxes": orders_of(1.5, mixture((0.5, even(1, 1)), (0.5, even(6, 6)))),
     "NB1_4": negative_binomial(1, 4), "two": mixture((0.5, poisson(2)), (0.5, poisson(12))),
     "cut": mixture((0.4, NOTHING), (0.6, geometric(6, 12))), "prices": orders_of(0.4, SPIKES),
-    "LN20": lognormal(20, 1.2)}
-# Laws that were looked at only once the methods stood.
-UNSEEN = {
-    "even": even(0, 12), "inflated": mixture((0.3, NOTHING), (0.7, poisson(6))),
+    "LN20": lognormal(20, 1.2), "even": even(0, 12), "inflated": mixture((0.3, NOTHING), (0.7, poisson(6))),
     "gamma": np.diff(stats.gamma(4, scale=4).cdf(np.arange(200) + 0.5), prepend=0.0),
     "rare-bulk": mixture((0.95, poisson(0.5)), (0.05, even(10, 20))),
     "dozens": mixture((0.7, poisson(2)), (0.3, packed(geometric(1.5, 20), 12)))}
+# Laws that were looked at only once the methods stood.
+UNSEEN = {
+    "contracts": orders_of(0.5, even(4, 10)), "cut-NB": negative_binomial(4, 16)[:16],
+    "two-packs": mixture((0.5, NOTHING), (0.3, packed(geometric(1.5, 12), 4)), (0.2, packed(geometric(2, 10), 10))),
+    "weibull": mixture((0.4, NOTHING), (0.6, weibull(12, 1.8))),
+    "promotions": np.convolve(poisson(6, 60), mixture((0.96, NOTHING), (0.04, even(15, 25)))),
+    "inflated-LN": mixture((0.5, NOTHING), (0.5, lognormal(12, 0.8)))}
 LAWS = DESIGNED | OTHERS | UNSEEN
 GROUPS = {name: group for group, laws in (("designed", DESIGNED), ("others", OTHERS), ("unseen", UNSEEN))
           for name in laws}

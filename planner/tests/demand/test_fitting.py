@@ -24,6 +24,7 @@ POISSON = RANDOM.poisson(4, 80).tolist()
 ERRATIC = RANDOM.negative_binomial(1.5, 1 / 3, 104).tolist()
 RARE = np.where(RANDOM.random(104) < 0.15, RANDOM.geometric(1 / 8, 104), 0).tolist()
 PROJECTS = (RANDOM.poisson(3, 104) + 30 * (RANDOM.random(104) < 0.05)).tolist()  # two humps
+TWO_SIZES = [7, 13, 7, 7, 13, 13, 7, 13] * 13  # no family has such a law
 
 
 def mean_of(values: Sequence[int], weights: Sequence[int]) -> float:
@@ -51,6 +52,19 @@ def test_weights_within_range() -> None:
     assert weights_of(law) == ((3, 10_000), (32_768, 32_768))
 
 
+def test_bulks() -> None:
+    """Projects beside steady demand are bulks, and the notes say which demands these are."""
+    for pack in (1, 5):
+        law = fit_demand([pack * it for it in PROJECTS], method="auto")
+        bulks = [pack * it for it in PROJECTS if it >= 25]
+        assert law.family == "bulk" and law.diagnostics["bulks"] == (len(bulks), min(bulks))
+        text = f"demand: for the family bulk, the {len(bulks)} demands of at least {min(bulks)} are bulks"
+        assert text in notes_of(law, "demand")
+        assert law.diagnostics["mean"] == pytest.approx(pack * np.mean(PROJECTS), rel=0.1)
+    assert fit_demand(PROJECTS, method="predictive").family == "bulk"
+    assert "bulks" not in fit_demand(TWO_SIZES, method="auto").diagnostics
+
+
 @pytest.mark.parametrize("numbers", [POISSON, ERRATIC, RARE], ids=["poisson", "erratic", "rare"])
 @pytest.mark.parametrize("family", FAMILIES)
 def test_named_family(family: str, numbers: list[int]) -> None:
@@ -73,9 +87,9 @@ def test_the_guard_decides() -> None:
     law = fit_demand(ERRATIC, method="predictive")
     least = min(law.diagnostics["bic"], key=law.diagnostics["bic"].__getitem__)
     assert law.family == least and law.diagnostics["guard"][least].passes
-    seen = fit_demand(PROJECTS, method="empirical")
+    seen = fit_demand(TWO_SIZES, method="empirical")
     for method in ("predictive", "auto"):
-        law = fit_demand(PROJECTS, method=method)
+        law = fit_demand(TWO_SIZES, method=method)
         assert (law.family, law.values, law.weights) == ("empirical", seen.values, seen.weights)
         assert law.diagnostics["guard"] and not any(it.passes for it in law.diagnostics["guard"].values())
     assert fit_demand(POISSON, method="predictive").family == "poisson"
@@ -200,7 +214,7 @@ def test_notes() -> None:
     assert "BIC above the least: " in notes[1]
     assert notes[2].startswith("demand: guard: a history of ") and notes[-2].startswith("demand: seen: mean ")
     assert notes[-1].startswith("demand: law: mean ")
-    text = "\n".join(notes_of(fit_demand(PROJECTS, method="auto"), "returns"))
+    text = "\n".join(notes_of(fit_demand(TWO_SIZES, method="auto"), "returns"))
     assert "returns: no family gives back this history, so it stays as it is" in text and ": rejected" in text
     assert "returns: seen: mean " in text and "returns: law: " not in text
     notes = notes_of(fit_demand([6 * it for it in POISSON], method="poisson"), "demand")

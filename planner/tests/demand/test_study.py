@@ -32,7 +32,9 @@ def test_laws() -> None:
     """The true laws have the moments that their names say."""
     for name, (mean, variance) in {"P2": (2, 2), "NB3_9": (3, 9), "NB10_60": (10, 60), "INT": (0.8, 0.1 * 120 - 0.64),
                                    "LN100": (100, 3600), "PACK6": (3, 18), "PROJ": (4.5, 3 + 900 * 0.05 * 0.95),
-                                   "NB1_4": (1, 4), "binomial": (9, 2.25), "even": (6, 14)}.items():
+                                   "NB1_4": (1, 4), "binomial": (9, 2.25), "even": (6, 14),
+                                   "contracts": (3.5, 0.5 * (49 + 4)), "promotions": (6.8, 6 + 0.04 * 410 - 0.64),
+                                   }.items():
         law = laws.LAWS[name] / laws.LAWS[name].sum()
         cells = np.arange(len(law))
         assert law @ cells == pytest.approx(mean, rel=0.002)

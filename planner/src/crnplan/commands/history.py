@@ -50,8 +50,8 @@ def command(**asked: Any) -> int:
     above two to three times the largest one seen, and with what was observed if that speaks against them. --fit
     predictive takes the law of the family with the least BIC. If no family looks like the history, both take what was
     observed. Both blur 2 to 19 lead times. With --fit empirical the weight of a value is how often it was observed. The
-    families are poisson, negative-binomial, hurdle-geometric, hurdle-poisson, hurdle-negative-binomial and
-    hurdle-lognormal.
+    families are poisson, negative-binomial, hurdle-geometric, hurdle-poisson, hurdle-negative-binomial,
+    hurdle-lognormal and bulk.
 
     Notes warn of demand that is not independent from period to period, or not of one law: a table forgets the order.
     They say what to do, and which effects the tests would have missed. False alarms come in less than 5% of histories.

@@ -26,6 +26,9 @@ LEAST_TAIL = 1e-7  # what is cut off a law
 PACKED, PACK_BITS = 3, 8.0
 LEAST_CHANCE = 1e-300
 MOST_SIZE = 1e4  # of a negative binomial law, which is then all but a Poisson law
+MOST_BULKS = 0.5  # the largest share of bulks
+# Beforehand, the deviation of a bulk is about a quarter of its mean, as two more bulks would say.
+BULK_VARIATION, BULK_FREEDOM = 0.25, 2.0
 CELLS = np.arange(MOST_DEMAND + 1)
 
 
@@ -222,10 +225,93 @@ def hurdle(sizes: Fitting) -> Fitting:
     return fitted
 
 
+class Bulks(NamedTuple):
+    """The sizes of bulks: how many, their mean, and the sum of the squared distances from it with that of the prior."""
+
+    size: float
+    mean: float
+    squares: float
+
+    @classmethod
+    def of(cls, sizes: Sample, counted: float = 1.0) -> Bulks:
+        """Sums up sizes. Each counts as `counted` sizes."""
+        prior = BULK_FREEDOM * (BULK_VARIATION * sizes.mean)**2
+        return cls(counted * sizes.size, sizes.mean, counted * sizes.squares + prior)
+
+
+def ordinary_likelihoods(values: Floats, counts: Floats) -> Floats:
+    """Returns, for each place but the last, the likelihood's logarithm of the values up to there.
+
+    The law is negative binomial, with the moments of these values; Poisson if they vary no more.
+    """
+    periods, sums, squares = (np.cumsum(counts * values**power)[:-1, None] for power in range(3))
+    means = np.maximum(sums / periods, LEAST_CHANCE)
+    over = squares / periods - means**2 - means
+    sizes = np.where(over > means**2 / MOST_SIZE, means**2 / np.maximum(over, LEAST_CHANCE), MOST_SIZE)
+    ways = special.gammaln(values + sizes) - special.gammaln(sizes) - special.gammaln(values + 1)
+    logarithms = ways + sizes * np.log(sizes / (sizes + means)) + values * np.log(means / (sizes + means))
+    return np.tril(logarithms) @ counts
+
+
+def bulk_likelihoods(values: Floats, counts: Floats) -> Floats:
+    """Returns, for each place but the last, the likelihood's logarithm of the values beyond, under a normal law."""
+    bulks, sums, squares = (np.cumsum((counts * values**power)[:0:-1])[::-1] for power in range(3))
+    means = sums / bulks
+    distances = np.maximum(squares - bulks * means**2, 0)
+    variances = (distances + BULK_FREEDOM * (BULK_VARIATION * means)**2) / (bulks + BULK_FREEDOM)
+    likelihoods: Floats = -0.5 * (bulks * np.log(2 * math.pi * variances) + distances / variances)
+    return likelihoods
+
+
+def parts_of(sample: Sample) -> tuple[Sample, Sample] | None:
+    """Returns ordinary numbers and bulks, which are larger: the most likely parts (Scott and Symons, Clustering methods
+    based on likelihood ratio criteria, 1971). None if there is no ordinary number above 0 below at most half of all.
+    """
+    values, counts = sample.values.astype(float), sample.counts.astype(float)
+    bulks = sample.size - np.cumsum(counts)[:-1]
+    allowed = (bulks <= MOST_BULKS * sample.size) & (values[:-1] > 0)
+    if not allowed.any():
+        return None
+    shares = special.xlogy(bulks, bulks / sample.size) + special.xlog1py(sample.size - bulks, -bulks / sample.size)
+    likelihoods = ordinary_likelihoods(values, counts) + bulk_likelihoods(values, counts) + shares
+    place = int(np.argmax(np.where(allowed, likelihoods, -np.inf))) + 1
+    return Sample(sample.values[:place], sample.counts[:place]), Sample(sample.values[place:], sample.counts[place:])
+
+
+def bulk_cells(mean: float, deviation: float, below: Callable[[Floats], Floats] = special.ndtr) -> Floats:
+    """Returns the chances of 0, 1, 2 and so on for a rounded bulk; what is below 1.5 counts as 1.
+
+    `below` is the distribution function of a bulk less the mean, over the deviation.
+    """
+    return np.append(0.0, np.diff(below((CELLS[1:] + 0.5 - mean) / deviation), prepend=0.0))
+
+
+def ordinary_of(ordinary: Sample) -> tuple[str, Fit]:
+    """Returns the family of ordinary demand, Poisson or negative binomial, and its fit. The sample has one above 0."""
+    fits = {"poisson": poisson(ordinary), "negative-binomial": negative_binomial(ordinary)}
+    return min(((name, fit) for name, fit in fits.items() if fit), key=lambda it: it[1].bic(ordinary.size))
+
+
+def bulk(sample: Sample) -> Fit | None:
+    """Fits ordinary demand, and in some periods a bulk in its place, whose size has a normal law.
+
+    The parts are fitted each for itself, and the likelihood is that of their mixture. None if there are no two parts.
+    """
+    parts = parts_of(sample)
+    if parts is None:
+        return None
+    (_, ordinary), bulks = ordinary_of(parts[0]), Bulks.of(parts[1])
+    share = bulks.size / sample.size
+    chances = share * bulk_cells(bulks.mean, math.sqrt(bulks.squares / (bulks.size + BULK_FREEDOM)))
+    chances += (1 - share) * ordinary.chances
+    likelihood = float(sample.counts @ np.log(np.maximum(chances[sample.values], LEAST_CHANCE)))
+    return Fit(likelihood, ordinary.parameters + 3, chances)
+
+
 FAMILIES: dict[str, Fitting] = {
     "poisson": poisson, "negative-binomial": negative_binomial, "hurdle-geometric": hurdle(geometric),
     "hurdle-poisson": hurdle(poisson), "hurdle-negative-binomial": hurdle(negative_binomial),
-    "hurdle-lognormal": hurdle(lognormal)}
+    "hurdle-lognormal": hurdle(lognormal), "bulk": bulk}
 
 
 def fits_of(sample: Sample) -> dict[str, Fit]:

@@ -21,7 +21,7 @@ if TYPE_CHECKING:
 
 # The families, with the names in families.py, which is loaded only if one is fitted.
 FAMILIES = ("poisson", "negative-binomial", "hurdle-geometric", "hurdle-poisson", "hurdle-negative-binomial",
-            "hurdle-lognormal")
+            "hurdle-lognormal", "bulk")
 METHODS = ("auto", "predictive", "empirical", *FAMILIES)
 
 QUANTILES = (0.95, 0.99, 0.999)
@@ -145,7 +145,7 @@ def fields_of(values: Sequence[int], weights: Sequence[int], family: str, number
 
 def _family_law(numbers: Sequence[int], method: str) -> dict[str, Any]:
     """Returns the fields of a law of families: of a named one, or of those that the guard lets pass."""
-    from .families import Sample, fits_of, unpacked
+    from .families import Sample, fits_of, parts_of, unpacked
     from .predictive import predictive_of
     sample = Sample.of(numbers)
     pack = sample.pack
@@ -162,6 +162,8 @@ def _family_law(numbers: Sequence[int], method: str) -> dict[str, Any]:
     if method != "auto":
         law = unpacked(predictive_of(names[0], packs), pack)
         return fields_of(*weights_of(law), names[0], numbers, **found)
+    if "bulk" in names and (parts := parts_of(packs)):
+        found["bulks"] = parts[1].size, pack * int(parts[1].values[0])
     laws = ((weight, unpacked(predictive_of(name, packs), pack)) for name, weight in chosen.weights.items())
     law, more = auto_law(sample, mixture(laws))
     found |= more | {"families": chosen.weights}

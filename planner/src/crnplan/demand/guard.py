@@ -33,7 +33,7 @@ class Shares(NamedTuple):
         return all(share > least for share, least in zip(self, LEAST))
 
 
-LEAST = Shares(0.10, 0.10, 0.30, 0.10, 0.05)
+LEAST = Shares(0.05, 0.05, 0.30, 0.10, 0.05)
 
 
 def distances(counts: Floats, chances: Floats) -> Floats:

@@ -70,9 +70,13 @@ def _family_lines(law: Law) -> Iterator[str]:
     if law.family == "empirical":
         yield "no family gives back this history, so it stays as it is"
     elif "share" in its:
-        families = ", ".join(f"{family} {weight:.0%}" for family, weight in its["families"].items() if weight >= 0.005)
+        families = {family: weight for family, weight in its["families"].items() if weight >= 0.005}
         mixed = f", mixed with {1 - its['share']:.0%} of what was seen" if its["share"] < 1 else ""
-        yield f"{families}{mixed}; at most {its['cap']}, as {its['history']['most']} is the largest demand seen"
+        yield (f"{', '.join(f'{family} {weight:.0%}' for family, weight in families.items())}{mixed}; at most "
+               f"{its['cap']}, as {its['history']['most']} is the largest demand seen")
+        if "bulk" in families:
+            count, least = its["bulks"]
+            yield f"for the family bulk, the {count} demand{'s' * (count != 1)} of at least {least} are bulks"
     else:
         yield law.family
     if its["bic"]:

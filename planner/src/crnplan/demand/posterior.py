@@ -24,14 +24,15 @@ from ..formats import MOST_DEMAND, MOST_LEAD, MOST_WEIGHT
 from ..history.observed import Observed
 from ..scenario import Table
 from . import predictive
-from .families import CELLS, LEAST_TAIL, Floats, Sample, Whole, cut, fits_of, lognormal_moments, scaled, unpacked
+from .families import (BULK_FREEDOM, CELLS, LEAST_TAIL, Bulks, Floats, Sample, Whole, cut, fits_of, lognormal_moments,
+                       ordinary_of, parts_of, scaled, unpacked)
 from .fitting import LEAST_DEMANDS, Chosen, cap_of, fit_demand, guarded, mixture, share_of, weights_of
 from .laws import Law
 from .leads import FEW, LEAST_LEADS, blurred, fit_lead, sides_of
 from .predictive import predictive_of
 
 FROM_HISTORY = "history"  # the name of the Bayesian bootstrap among the families
-ROWS = 4  # of uniform numbers for a law: the family, and up to three parameters
+ROWS = 6  # of uniform numbers for a law: the family, and up to five parameters
 FIRST_CELLS = 128  # of drawn laws; ever more until all but a tail is there
 Parameters = tuple[Floats, ...]  # of a family, each with one number for each law
 
@@ -142,11 +143,35 @@ def hurdle(sizes: Family) -> Family:
 
 NEGATIVE_BINOMIAL, POISSON = (Family(drawn_negative_binomial, negative_binomial_chances),
                               Family(drawn_poisson, poisson_chances))
-DRAWN: dict[str, Family] = {
-    "poisson": POISSON, "negative-binomial": NEGATIVE_BINOMIAL,
+
+
+def drawn_bulk(sample: Sample, uniform: Floats) -> Parameters:
+    """Draws the share of bulks, their mean and deviation, and the parameters of ordinary demand."""
+    parts = parts_of(sample)
+    assert parts is not None
+    (name, _), bulks = ordinary_of(parts[0]), Bulks.of(parts[1])
+    share = special.betaincinv(bulks.size, sample.size - bulks.size + 1, uniform[-1])
+    freedom = bulks.size - 1 + BULK_FREEDOM
+    deviation = np.sqrt(bulks.squares / (2 * special.gammaincinv(freedom / 2, uniform[-2])))
+    mean = bulks.mean + deviation / math.sqrt(bulks.size) * special.ndtri(uniform[-3])
+    return share, mean, deviation, *ORDINARY[name].drawn(parts[0], uniform[:-3])
+
+
+def bulk_chances(parameters: Parameters, values: Whole) -> Floats:
+    """Returns the chances of demands, bulks or not; a bulk below 1.5 counts as 1."""
+    share, mean, deviation = (it[:, None] for it in parameters[:3])
+    above = special.ndtr((values + 0.5 - mean) / deviation)
+    sizes = above - np.where(values > 1, special.ndtr((values - 0.5 - mean) / deviation), 0.0)
+    ordinary = ORDINARY["poisson" if len(parameters) == 4 else "negative-binomial"].chances(parameters[3:], values)
+    chances: Floats = share * np.where(values > 0, sizes, 0.0) + (1 - share) * ordinary
+    return chances
+
+
+ORDINARY = {"poisson": POISSON, "negative-binomial": NEGATIVE_BINOMIAL}
+DRAWN: dict[str, Family] = ORDINARY | {
     "hurdle-geometric": hurdle(Family(drawn_geometric, geometric_chances)), "hurdle-poisson": hurdle(POISSON),
     "hurdle-negative-binomial": hurdle(NEGATIVE_BINOMIAL),
-    "hurdle-lognormal": hurdle(Family(drawn_lognormal, lognormal_chances))}
+    "hurdle-lognormal": hurdle(Family(drawn_lognormal, lognormal_chances)), "bulk": Family(drawn_bulk, bulk_chances)}
 
 
 def stratified(random: np.random.Generator, rows: int, times: int) -> Floats:

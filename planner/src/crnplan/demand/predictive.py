@@ -3,7 +3,8 @@
 The priors are weak: Jeffreys's for a Poisson mean (Gelman and others, Bayesian Data Analysis, third edition, section
 2.8) and for the share of periods without demand (section 2.4), flat for the p of a geometric law, flat in the
 logarithms of mean and size for a negative binomial law, flat in the mean and in the logarithm of the deviation for
-lognormal sizes (section 3.2).
+lognormal sizes (section 3.2). For bulks, it is flat in the logarithm of their share, which may have any order of
+magnitude, and in the mean, and the variance has a scaled inverse chi-square law (section 3.3).
 """
 from __future__ import annotations
 
@@ -14,7 +15,8 @@ import numpy as np
 from scipy import special, stats
 
 from ..formats import MOST_DEMAND
-from .families import CELLS, Floats, Sample, cut, lognormal_cells, lognormal_moments, scaled
+from .families import (BULK_FREEDOM, CELLS, Bulks, Floats, Sample, bulk_cells, cut, lognormal_cells, lognormal_moments,
+                       ordinary_of, parts_of, scaled)
 
 Predicting = Callable[[Sample], Floats]
 
@@ -106,10 +108,23 @@ def hurdle(sizes: Predicting) -> Predicting:
     return predicted
 
 
+def bulk(sample: Sample) -> Floats:
+    """Returns the predictive law of ordinary demand and of bulks, whose size has Student's law."""
+    parts = parts_of(sample)
+    assert parts is not None
+    (name, _), bulks = ordinary_of(parts[0]), Bulks.of(parts[1])
+    freedom = bulks.size - 1 + BULK_FREEDOM
+    deviation = math.sqrt(bulks.squares / freedom * (1 + 1 / bulks.size))
+    share = bulks.size / (sample.size + 1)
+    sizes = bulk_cells(bulks.mean, deviation, stats.t(freedom).cdf)
+    chances: Floats = share * sizes + (1 - share) * scaled(PREDICTIVE[name](parts[0]))
+    return chances
+
+
 PREDICTIVE: dict[str, Predicting] = {
     "poisson": poisson, "negative-binomial": negative_binomial, "hurdle-geometric": hurdle(geometric),
     "hurdle-poisson": hurdle(poisson), "hurdle-negative-binomial": hurdle(negative_binomial),
-    "hurdle-lognormal": hurdle(lognormal)}
+    "hurdle-lognormal": hurdle(lognormal), "bulk": bulk}
 
 
 def predictive_of(family: str, sample: Sample) -> Floats:
