@@ -22,7 +22,7 @@ from tests.documents.page_folder import RUNNERS, Folder, commands_of
 from tests.runs import TOP
 
 Case = tuple[str, object]
-RUN = ["README.md", "docs/GUIDE.md", "docs/FORMATS.md"]
+RUN = ["README.md", "docs/GUIDE.md", "docs/FORMATS.md", "examples/README.md"]
 # Commands that are never run, and why. The last pattern is for those that have no reason yet: there must be none.
 NOT_RUN = {
     r"\.ci/run": "it is the gate, of which this is a part",
@@ -159,7 +159,7 @@ def test_exceptions_are_met() -> None:
     assert OTHER_KINDS.keys() <= {piece.kind for page in RUN for piece in pieces_of(page)}
 
 
-@pytest.mark.parametrize("page", [*RUN, "examples/README.md", "examples/case/README.md"])
+@pytest.mark.parametrize("page", [*RUN, "examples/case/README.md"])
 def test_options(page: str) -> None:
     """An option that a page for planners names is one that a command takes."""
     patterns = ("planner/src/**/*.py", "tests/theory/*.py", "tools/*", "conftest.py")

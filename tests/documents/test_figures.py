@@ -15,7 +15,7 @@ from tests.documents.conftest import Ask
 from tests.documents.markdown import blocks_of, rows_of, text_of
 from tests.program import oracle
 
-GUIDE = "docs/GUIDE.md"
+EXAMPLES = "examples/README.md"
 
 
 def rounded(number: Fraction | int | float | str, places: int = 0) -> str:
@@ -36,16 +36,16 @@ def report_of(text: str) -> dict[str, dict[str, Any]]:
 
 
 def test_report_in_round_numbers() -> None:
-    """The guide shows the report of an example in round numbers."""
+    """A page shows the report of an example in round numbers."""
     wanted: list[list[str]] = []
     for policy, row in report_of(text_of("examples/mail_order.csv")).items():
         means = [rounded(it) if wanted else "" for it in (row["diff_mean"], sqrt(row["diff_var"]))]
         wanted.append([policy, row["s"], row["S"], rounded(row["per_period"], 2), *means, rounded(row["cov"])])
-    assert rows_of(GUIDE, "policy", "s", "S", "cost a day", "`diff_mean`", "its standard error", "`cov`") == wanted
+    assert rows_of(EXAMPLES, "policy", "s", "S", "cost a day", "`diff_mean`", "its standard error", "`cov`") == wanted
 
 
 def test_counts_of_a_total(ask: Ask) -> None:
-    """The guide says what each total is made of: the counts of what each cost is paid for."""
+    """A page says what each total is made of: the counts of what each cost is paid for."""
     text = text_of("examples/spare_part.toml")
     counts: dict[str, list[str]] = {}
     rate = re.compile(rf"^({'|'.join(formats.COSTS)}) = .*$", re.MULTILINE)
@@ -53,7 +53,7 @@ def test_counts_of_a_total(ask: Ask) -> None:
         only = rate.sub(lambda it: f"{it[1]} = {int(it[1] == cost)}", text)
         for policy, row in report_of(ask("", only).output).items():
             counts.setdefault(policy, [policy]).append(rounded(row["total"]))
-    assert rows_of(GUIDE, "policy", "orders (`setup`)", "items ordered (`unit`)", "item-weeks in stock (`holding`)",
+    assert rows_of(EXAMPLES, "policy", "orders (`setup`)", "items ordered (`unit`)", "item-weeks in stock (`holding`)",
                    "items owed at weeks' ends (`backlog`)") == list(counts.values())
 
 

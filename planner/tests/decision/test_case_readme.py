@@ -9,8 +9,8 @@ from pathlib import Path
 
 import pytest
 
-STORED = ["scenario.toml", "report.csv", "decision.txt", "sweep.csv", "why.txt", "suggested.toml", "suggested.txt",
-          "long_run.txt", "check.txt"]
+STORED = ["scenario.toml", "notes.txt", "report.csv", "decision.txt", "sweep.csv", "why.txt", "suggested.toml", "suggested.txt",
+          "long_run.txt", "check.txt", "doubt.txt"]
 # The page whose blocks of `sh` are run, if it is not the one in place.
 PAGE = "CASE_README"
 
@@ -32,7 +32,7 @@ def test_the_case_is_as_its_page_says(top: Path, tmp_path: Path, environment: di
     page = Path(os.environ.get(PAGE, top / "examples/case/README.md")).read_text("utf-8")
     blocks = [block.split("```")[0].splitlines() for block in page.split("```sh\n")[1:]]
     commands = [line for block in blocks for line in block]
-    assert len(commands) == 10
+    assert len(commands) == 11
     for command in commands:
         ran = subprocess.run(["sh", "-c", command], cwd=tmp_path, env=environment, capture_output=True, text=True)
         # `why` answers no: the scenario has faults.

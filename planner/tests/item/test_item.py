@@ -12,14 +12,19 @@ from pathlib import Path
 import pytest
 
 from crnplan import Scenario, item
+from crnplan.decision.doubt import doubt
+from crnplan.demand import checks_of, fit_demand, fit_lead, lines_of
+from crnplan.demand.posterior import allowed_laws, allowed_leads
 from crnplan.item import comparison, steps
+from crnplan.item.work import as_settings
+from crnplan.theory.suggestions import suggestions_of
 from planner.tests.conftest import Answer, Command
 
 HERE = Path(__file__).parent
-STEPS = ["tables", "scenario", "suggestions", "run", "decision", "check", "trajectory", "summary"]
-FILES = {"tables.toml", "demand.csv", "notes.txt", "scenario.toml", "suggested.toml", "suggested.txt", "suggested.csv",
-         "decision.txt", "decision.csv", "check.txt", "check.csv", "trajectory.csv", "summary.txt", "summary.html",
-         "state.json"}
+STEPS = ["tables", "scenario", "suggestions", "doubt", "run", "decision", "check", "trajectory", "summary"]
+FILES = {"tables.toml", "demand.csv", "lead_times.csv", "laws.csv", "laws.txt", "notes.txt", "scenario.toml",
+         "suggested.toml", "suggested.txt", "suggested.csv", "doubt.txt", "doubt.csv", "decision.txt", "decision.csv",
+         "check.txt", "check.csv", "trajectory.csv", "summary.txt", "summary.html", "state.json"}
 # The line of the settings that asks for a horizon, and the file of the run with it and without.
 HORIZONS = {"horizon = 12\n": "report.csv", "": "long_run.csv"}
 NOTHING = "nothing has changed since the last run; nothing was done"
@@ -27,19 +32,33 @@ Change = Callable[[Path], object]
 Plan = Callable[..., Answer]
 
 
-@pytest.fixture
-def room(tmp_path: Path, top: Path) -> Path:
-    """Returns a folder with a history, lead times and small settings."""
-    shutil.copy(top / "examples/case/history.csv", tmp_path)
-    shutil.copy(top / "examples/case/lead_times.csv", tmp_path)
-    shutil.copy(HERE / "settings.toml", tmp_path)
-    return tmp_path
+def furnished(folder: Path, top: Path, program: Path) -> Path:
+    """Puts a history, lead times, small settings, and a script that runs the program, into a folder."""
+    shutil.copy(top / "examples/case/history.csv", folder)
+    shutil.copy(top / "examples/case/lead_times.csv", folder)
+    shutil.copy(HERE / "settings.toml", folder)
+    (folder / "program").write_text(f'#!/bin/sh\nexec {program} "$@"\n')
+    (folder / "program").chmod(0o755)
+    return folder
 
 
 @pytest.fixture
-def plan(room: Path, crnplan: Command, program: Path) -> Plan:
+def room(tmp_path: Path, top: Path, program: Path) -> Path:
+    """Returns a folder with all that a plan needs."""
+    return furnished(tmp_path, top, program)
+
+
+@pytest.fixture(scope="module")
+def whole(tmp_path_factory: pytest.TempPathFactory, top: Path, program: Path) -> Path:
+    """Returns the folder of a plan that was made by the script at once. It is to be copied, not changed."""
+    room = furnished(tmp_path_factory.mktemp("whole"), top, program)
+    return item.plan_item(room / "history.csv", room / "settings.toml", room / "plan", program=room / "program").folder
+
+
+@pytest.fixture
+def plan(room: Path, crnplan: Command) -> Plan:
     """Returns a function that plans the item of the folder."""
-    def run(out: str = "plan", used: Path = program) -> Answer:
+    def run(out: str = "plan", used: Path = room / "program") -> Answer:
         """Plans it into a folder of the folder."""
         return crnplan("item", room / "history.csv", room / "settings.toml", "--out", room / out, "--program", used)
     return run
@@ -82,20 +101,17 @@ def test_again_nothing_is_done(room: Path, plan: Plan) -> None:
     assert before == {it.name: (it.stat().st_mtime_ns, it.stat().st_ino) for it in (room / "plan").iterdir()}
 
 
-def test_same_bytes_elsewhere(room: Path, plan: Plan, crnplan: Command, program: Path,
-                              monkeypatch: pytest.MonkeyPatch) -> None:
+def test_same_bytes_elsewhere(room: Path, whole: Path, crnplan: Command, monkeypatch: pytest.MonkeyPatch) -> None:
     """Another folder, and another way to name the files, give the same bytes."""
-    plan()
     monkeypatch.chdir(room)
-    crnplan("item", "history.csv", "./settings.toml", "--out", "other/plan", "--program", program)
-    assert bytes_of(room / "plan") == bytes_of(room / "other/plan")
+    crnplan("item", "history.csv", "./settings.toml", "--out", "other/plan", "--program", "./program")
+    assert bytes_of(whole) == bytes_of(room / "other/plan")
 
 
 @pytest.mark.parametrize("name", STEPS)
-def test_interrupted_in_a_step(name: str, room: Path, plan: Plan, monkeypatch: pytest.MonkeyPatch) -> None:
+def test_interrupted_in_a_step(name: str, room: Path, whole: Path, plan: Plan,
+                               monkeypatch: pytest.MonkeyPatch) -> None:
     """After an interruption it goes on with the step that was not finished, to the same bytes."""
-    plan("whole")
-
     def interrupted(*_: object) -> None:
         raise KeyboardInterrupt
 
@@ -105,13 +121,13 @@ def test_interrupted_in_a_step(name: str, room: Path, plan: Plan, monkeypatch: p
         patched.setattr(item, "STEPS", cut)
         assert plan() == (130, "", "\ncrnplan: interrupted\n")
     assert plan().errors == f"{room / 'plan'}: done: {', '.join(STEPS[place:])}\n"
-    assert bytes_of(room / "plan") == bytes_of(room / "whole")
+    assert bytes_of(room / "plan") == bytes_of(whole)
 
 
 @pytest.mark.parametrize("writes", [0, 1, 2, 4, 6, 9, 13, 20, 28])
-def test_interrupted_at_a_write(writes: int, room: Path, plan: Plan, monkeypatch: pytest.MonkeyPatch) -> None:
+def test_interrupted_at_a_write(writes: int, room: Path, whole: Path, plan: Plan,
+                                monkeypatch: pytest.MonkeyPatch) -> None:
     """If it is interrupted between two files, no file is there in part, and the next run goes on to the same bytes."""
-    plan("whole")
     replace, left = os.replace, [writes]
 
     def counted(*words: str) -> None:
@@ -123,11 +139,10 @@ def test_interrupted_at_a_write(writes: int, room: Path, plan: Plan, monkeypatch
     with monkeypatch.context() as patched:
         patched.setattr(os, "replace", counted)
         assert plan().status == 130
-    whole = bytes_of(room / "whole")
-    cut = bytes_of(room / "plan")
-    assert all(whole[name] == data for name, data in cut.items() if name != "state.json" and ".part" not in name)
+    wanted, cut = bytes_of(whole), bytes_of(room / "plan")
+    assert all(wanted[name] == data for name, data in cut.items() if name != "state.json" and ".part" not in name)
     plan()
-    assert bytes_of(room / "plan") == whole
+    assert bytes_of(room / "plan") == wanted
 
 
 def setting(old: str, new: str) -> Change:
@@ -140,7 +155,9 @@ CHANGES: dict[str, tuple[Change, list[str]]] = {
     "the program": (lambda room: edit(room / "program", "exec", "\nexec"), ["run", "check", "trajectory"]),
     "a later week": (lambda room: edit(room / "history.csv", "2023-W02,4", "2023-W02,5"), STEPS),
     "the name of a week": (lambda room: edit(room / "history.csv", "2023-W02,4", "2023-W2,4"), ["tables"]),
-    "the lead times": (setting("[2, 3, 2, 4]", "[2, 3, 2, 5]"), STEPS),
+    "the lead times": (setting("[2]", "[3]"), STEPS),
+    "the fit": (setting('demand = "demand"', 'demand = "demand"\nfit = "empirical"'), STEPS),
+    "the confidence": (setting("laws = 10", "laws = 10\nconfidence = 0.5"), STEPS[1:]),
     "a cost": (setting("9.00", "10.00"), STEPS[1:]),
     "the horizon": (setting("horizon = 12", "horizon = 13"), STEPS[1:]),
     "no horizon": (setting("horizon = 12", ""), STEPS[1:]),
@@ -153,17 +170,14 @@ CHANGES: dict[str, tuple[Change, list[str]]] = {
 
 
 @pytest.mark.parametrize("name", CHANGES)
-def test_a_change_runs_what_depends_on_it(name: str, room: Path, plan: Plan, program: Path) -> None:
+def test_a_change_runs_what_depends_on_it(name: str, room: Path, whole: Path, plan: Plan) -> None:
     """A changed input runs the steps that depend on it, to the same bytes as from nothing."""
-    own = room / "program"
-    own.write_text(f'#!/bin/sh\nexec {program} "$@"\n')
-    own.chmod(0o755)
-    plan(used=own)
+    shutil.copytree(whole, room / "plan")
     change, wanted = CHANGES[name]
     change(room)
     done = f"done: {', '.join(wanted)}" if wanted else NOTHING
-    assert plan(used=own).errors == f"{room / 'plan'}: {done}\n"
-    plan("anew", own)
+    assert plan().errors == f"{room / 'plan'}: {done}\n"
+    plan("anew")
     assert bytes_of(room / "plan") == bytes_of(room / "anew")
 
 
@@ -173,7 +187,7 @@ def test_worked_case(top: Path, tmp_path: Path, crnplan: Command, program: Path)
     words = ["item", case / "history.csv", case / "settings.toml", "--out", out, "--program", program]
     status, output, _ = crnplan(*words)
     assert status == 0
-    for name in ("suggested.txt", "decision.txt", "check.txt"):
+    for name in ("suggested.txt", "doubt.txt", "decision.txt", "check.txt"):
         stored = "long_run.txt" if name == "decision.txt" else name
         assert (out / name).read_text() == (case / stored).read_text()
     assert Scenario.read(out / "suggested.toml").policies == Scenario.read(case / "suggested.toml").policies
@@ -217,6 +231,56 @@ def test_the_long_run_is_that_of_the_commands(room: Path, plan: Plan, crnplan: C
     assert "In the long run, 4 keys: best costs " in summary and "On new random numbers (96 keys)" in summary
 
 
+def test_laws_that_the_history_allows(room: Path, plan: Plan) -> None:
+    """Policies are suggested, and the choice is doubted, by the laws that the history and the lead times allow."""
+    edit(room / "settings.toml", "laws = 10", "laws = 12\nconfidence = 0.7")
+    edit(room / "settings.toml", "times = [2]", "times = [2, 3, 2, 4]")
+    output = plan().output.replace("\n", " ")
+    out = room / "plan"
+    counts = [int(line.split(",")[1]) for line in (room / "history.csv").read_text().splitlines()[1:]]
+    leads = [2, 3, 2, 4]
+    wanted = suggestions_of(Scenario.read(out / "scenario.toml"), allowed_laws(counts, times=12).laws,
+                            allowed_leads(leads, times=12).laws, 0.7)
+    suggested = Scenario.read(out / "suggested.toml")
+    assert suggested.policies == tuple(it.policy for it in wanted.rows)
+    assert any(it.name.startswith("sure_") for it in suggested.policies)
+    found = doubt(suggested, counts, leads, times=12)
+    assert (out / "doubt.txt").read_text() == found.text
+    row = found.frame.loc["best"]
+    assert (f"best is within 3% of the best of these {len(suggested.policies)} policies under {row['within']:.0%} of "
+            f"the laws that this history allows. The cost to promise is {row['cost'] / 10:,.2f} a week") in output
+    said = "".join(f"{as_settings(it)}\n" for it in lines_of(checks_of(counts)))
+    assert (out / "notes.txt").read_text().endswith(said)
+
+
+@pytest.mark.parametrize("fit", ["auto", "empirical", "hurdle-geometric"])
+def test_a_page_says_by_which_law(fit: str, room: Path, plan: Plan) -> None:
+    """The tables are those of the fit that is asked for, and the summary and the page name it."""
+    edit(room / "settings.toml", 'demand = "demand"', f'demand = "demand"\nfit = "{fit}"')
+    edit(room / "settings.toml", "times = [2]", "times = [2, 3, 2, 4]")
+    output = plan().output
+    counts = [int(line.split(",")[1]) for line in (room / "history.csv").read_text().splitlines()[1:]]
+    law, lead = fit_demand(counts, method=fit), fit_lead([2, 3, 2, 4], method="auto")
+    scenario = Scenario.read(room / "plan/scenario.toml")
+    assert (scenario.demand, scenario.lead) == (law.table, lead.table)
+    words = {"empirical": "this history.", "hurdle-geometric": "the law fitted to this history (hurdle-geometric)."}
+    page = " ".join(" ".join(Page((room / "plan/summary.html").read_text()).texts).split())
+    for text in (output.replace("\n", " "), page):
+        assert words.get(fit, "the law fitted to this history (auto: ") in text
+
+
+def test_warnings_on_the_history(room: Path, plan: Plan) -> None:
+    """A history with a trend is warned of on the page and in the summary."""
+    rows = [f"{week},{3 + week // 4 + week % 3}" for week in range(60)]
+    (room / "history.csv").write_text("week,demand\n" + "\n".join(rows))
+    output = plan().output
+    warnings = [line for line in (room / "plan/notes.txt").read_text().splitlines() if ": warning: " in line]
+    assert warnings and f"\nWARNING: {warnings[0].removeprefix('demand: warning: ')[:40]}" in output
+    page = (room / "plan/summary.html").read_text()
+    assert page.count('<p class="warn">WARNING on the history: ') == len(warnings)
+    assert "({} warnings)".format(page.count('<p class="warn">')) in output
+
+
 def test_few_orders_are_kept(program: Path) -> None:
     """The costs of the long run are read again as they were, with the orders of policies that place few."""
     slow = Scenario.of({0: 60_000, 1: 1}, [1], setup=40, holding=3, backlog=9, today=(1, 9), key="slow")
@@ -250,10 +314,10 @@ def test_today_is_the_best(room: Path, plan: Plan) -> None:
 
 def test_policy_that_does_not_hold(room: Path, plan: Plan) -> None:
     """The exit status is 1 if a policy is better than the chosen one on new random numbers."""
-    edit(room / "settings.toml", "[check]\nreplications = 8", '[check]\nreplications = 64\npolicy = "fewest_orders"')
+    edit(room / "settings.toml", "[check]\nreplications = 8", '[check]\nreplications = 64\npolicy = "sure_995"')
     status, output, _ = plan()
     verdicts = (room / "plan/check.csv").read_text()
-    assert status == 1 and ",better\n" in verdicts and "fewest_orders does not hold" in output.replace("\n", " ")
+    assert status == 1 and ",better\n" in verdicts and "sure_995 does not hold" in output.replace("\n", " ")
     assert plan().status == 1
 
 
@@ -271,8 +335,8 @@ def test_dates_returns_and_orders(room: Path, plan: Plan) -> None:
     (room / "history.csv").write_text("Datum;Menge;Retour\n02.03.2026;3,0;0\n05.03.2026;2,0;1\n24.03.2026;4,0;0\n")
     (room / "orders.csv").write_text("ordered;received\n12.01.2026;20.01.2026\n09.02.2026;02.03.2026\n23.03.2026;\n")
     edit(room / "settings.toml", 'demand = "demand"', 'demand = "Menge"\ndate = "Datum"\nreturns = "Retour"\n'
-         'decimal = ","\nto = 2026-03-31')
-    edit(room / "settings.toml", "times = [2, 3, 2, 4]", 'orders = "orders.csv"')
+         'decimal = ","\nto = 2026-03-31\nfit = "empirical"')
+    edit(room / "settings.toml", "times = [2]", 'orders = "orders.csv"\nfit = "empirical"')
     told = plan()
     assert told.status in (0, 1), told.errors
     scenario = Scenario.read(room / "plan/scenario.toml")
@@ -287,7 +351,7 @@ def test_dates_returns_and_orders(room: Path, plan: Plan) -> None:
 
 def test_boxes(room: Path, plan: Plan) -> None:
     """Demand is counted in boxes."""
-    edit(room / "settings.toml", 'demand = "demand"', 'demand = "demand"\nbox = 5')
+    edit(room / "settings.toml", 'demand = "demand"', 'demand = "demand"\nfit = "empirical"\nbox = 5')
     plan()
     assert Scenario.read(room / "plan/scenario.toml").demand.values == (0, 1, 2)
 
@@ -412,5 +476,5 @@ def test_program_that_fails(script: str, part: str, room: Path, plan: Plan) -> N
     bad.chmod(0o755)
     status, output, errors = plan(used=bad)
     assert (status, output) == (2, "") and part in errors
-    assert list(json.loads((room / "plan/state.json").read_text())["steps"]) == sorted(STEPS[:3])
-    assert plan().errors == f"{room / 'plan'}: done: {', '.join(STEPS[3:])}\n"
+    assert list(json.loads((room / "plan/state.json").read_text())["steps"]) == sorted(STEPS[:4])
+    assert plan().errors == f"{room / 'plan'}: done: {', '.join(STEPS[4:])}\n"

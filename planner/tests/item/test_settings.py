@@ -51,6 +51,15 @@ FAULTS = {
         "write four texts of 16 digits"),
     "a level in percent": ('key = "a text"', "level = 95", "level", "95 is not between 0 and 1; write 0.95"),
     "no period of that name": ('every = "week"', 'every = "weekly"', "every", 'did you mean "week"?'),
+    "no fit of that name": ('every = "week"', 'fit = "auot"', "fit", 'did you mean "auto"?'),
+    "a fit that nobody knows": ('every = "week"', 'fit = "zebra"', "fit",
+        " more; write \"auto\" or \"predictive\" or \"empirical\""),
+    "a fit of lead times": ("times =", 'fit = "poisson"\ntimes =', "fit",
+        "'poisson' is none of auto, empirical; write \"auto\" or \"empirical\""),
+    "a season of a period": ('every = "week"', "season = 1", "season", "1 is not from 2 to 65,536"),
+    "one law": ("laws = 10", "laws = 1", "laws", "1 is not from 10 to 2,000"),
+    "a confidence in percent": ("laws = 10", "confidence = 80", "confidence",
+        "80 is not between 0 and 1; write 0.8 for 80 of 100 laws"),
     "no decimal sign": ('every = "week"', 'decimal = ";"', "decimal", 'write "." or ","'),
     "net without dates": ('every = "week"', 'net = true', "net",
         "this key needs the column of dates; write date and every too"),
@@ -61,19 +70,19 @@ FAULTS = {
     "formats that are no list": ('every = "week"', 'date_formats = "%d"', "date_formats",
         'write texts in a list, as ["%d.%m.%Y"]'),
     "an item that is no table": ('every = "week"', 'item = "4711"', "item =", 'write it as { COLUMN = "VALUE" }'),
-    "no lead times": ("times = [2, 3, 2, 4]", "", "[lead]",
+    "no lead times": ("times = [2]", "", "[lead]",
         "there are no lead times; write file and column, or orders"),
-    "an empty list of lead times": ("[2, 3, 2, 4]", "[]", "times", "[] is empty; write a list, as [2, 3, 2]"),
-    "a lead time out of range": ("[2, 3, 2, 4]", "[2, 33]", "times", "33 is not from 1 to 32"),
+    "an empty list of lead times": ("[2]", "[]", "times", "[] is empty; write a list, as [2, 3, 2]"),
+    "a lead time out of range": ("[2]", "[2, 33]", "times", "33 is not from 1 to 32"),
     "two ways of lead times": ("times =", 'file = "settings.toml"\ntimes =', "[lead]",
         "file and times are there; keep one"),
-    "lead times without a column": ("times = [2, 3, 2, 4]", 'file = "settings.toml"', "file",
+    "lead times without a column": ("times = [2]", 'file = "settings.toml"', "file",
         "the key column is missing"),
     "a key of another way": ("times =", 'column = "x"\ntimes =', "column",
         "this key is not used with times; remove it"),
-    "no file of lead times": ("times = [2, 3, 2, 4]", 'file = "none.csv"\ncolumn = "weeks"', "file",
+    "no file of lead times": ("times = [2]", 'file = "none.csv"\ncolumn = "weeks"', "file",
         "there is no file"),
-    "no file of orders": ("times = [2, 3, 2, 4]", 'orders = "none.csv"', "orders", "there is no file"),
+    "no file of orders": ("times = [2]", 'orders = "none.csv"', "orders", "there is no file"),
     "a check on no key": ("replications = 8", "keys = 0", "keys", "0 is not from 1 to 64"),
     "a check on a text": ("replications = 8", 'key = "new"', 'key = "new"',
         "'new' is no word of a key; write 16 digits of 0-9a-f"),
@@ -154,6 +163,7 @@ def test_good_settings(tmp_path: Path) -> None:
     assert read["costs"] == {"setup": 45, "holding": Decimal("0.60"), "backlog": 9, "unit": 0}
     assert read.scaled == ({"setup": 450, "holding": 6, "backlog": 90, "unit": 0}, 10)
     assert (read["run"]["level"], read["check"]["policy"], read.period, read.lead_path) == (0.95, "best", "week", None)
+    assert (read["history"]["fit"], read["lead"]["fit"], read["run"]["confidence"]) == ("auto", "auto", 0.8)
 
 
 @given(st.lists(st.tuples(st.integers(0, len(GOOD)), st.sampled_from('[]=" \n1éx{,')), max_size=4))

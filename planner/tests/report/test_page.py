@@ -1,13 +1,14 @@
 """Tests the scales and numbers of a page."""
 from __future__ import annotations
 
+import itertools
 import math
 
 import pytest
 from hypothesis import given
 from hypothesis import strategies as st
 
-from crnplan.report.page import UNITS, Scale, number, tick
+from crnplan.report.page import UNITS, Chances, Scale, number, tick
 
 VALUES = st.lists(st.floats(-1e9, 1e9).filter(lambda it: it == 0 or abs(it) > 1e-6), min_size=1, max_size=5)
 
@@ -21,6 +22,18 @@ def test_scale_has_all_values_and_zero(values: list[float], is_whole: bool) -> N
     assert 0 <= places[0] and places[-1] <= UNITS and places == sorted(places)
     assert 0 in scale.ticks and all(0 <= scale.at(it) <= UNITS for it in scale.ticks) and len(scale.ticks) <= 7
     assert not is_whole or all(it == int(it) for it in scale.ticks)
+
+
+@given(st.lists(st.floats(1e-6, 1), min_size=1, max_size=5))
+def test_chances_stand_in_their_order(chances: list[float]) -> None:
+    """Each chance stands within the picture, ten times as large a one always as far above it, and 1 at the top."""
+    scale = Chances.of(min(chances))
+    places = [scale.at(it) for it in sorted(chances)]
+    assert 0 <= places[0] and places[-1] <= UNITS == scale.at(1) and places == sorted(places) and scale.at(0) == 0
+    heights = scale.heights
+    assert [text for _, text, _ in heights[-2:]] == ["1 in 10", "1 in 1"] and heights[0][0] == 0
+    steps = [after - before for (before, *_), (after, *_) in itertools.pairwise(heights)]
+    assert steps == pytest.approx([UNITS / len(steps)] * len(steps), abs=0.11)
 
 
 def test_scale_of_nothing() -> None:

@@ -266,10 +266,10 @@ def start_warning(rows: Sequence[Row], scenario: Scenario) -> str:
 
 
 def horizon_warnings(given: Sequence[Row], rows: Sequence[Compared], scenario: Scenario) -> list[str]:
-    """Returns what the start and the end of a replication do to the verdicts on a report: to those of policies that
+    """Returns what the end and the start of a replication do to the verdicts on a report: to those of policies that
     are listed. `rows` have the verdicts."""
     shown = {row.policy for row in listed(rows)}
-    warnings = start_warning([row for row in given if row.policy in shown], scenario), end_warning(scenario, given)
+    warnings = end_warning(scenario, given), start_warning([row for row in given if row.policy in shown], scenario)
     return [it for it in warnings if it]
 
 

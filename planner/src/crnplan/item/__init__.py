@@ -30,9 +30,10 @@ def _make_summary(item: Item) -> dict[str, str]:
     return {"summary.txt": summary_text(figures), "summary.html": page_text(figures)}
 
 
+SEEN = ("demand.csv", "lead_times.csv")
 SUGGESTED = ("suggested.toml",)
-SHOWN = ("tables.toml", "demand.csv", "notes.txt", *SUGGESTED, "suggested.csv", "decision.csv", "check.csv",
-         "trajectory.csv")
+SHOWN = ("tables.toml", *SEEN, "laws.csv", "notes.txt", *SUGGESTED, "suggested.txt", "suggested.csv", "doubt.csv",
+         "decision.txt", "decision.csv", "check.txt", "check.csv", "trajectory.csv")
 
 
 def _facts_of(*tables: str, files: tuple[str, ...] = ()) -> Callable[[Item], object]:
@@ -49,10 +50,16 @@ def _run_facts(item: Item) -> object:
     return [item.settings.is_long_run, item.digests["program"]]
 
 
+def _promise_facts(item: Item) -> object:
+    """Says what the laws that a history allows depend on, beside the history, and what is promised by them."""
+    return [item.settings["history"]["box"], *(item.settings["run"][name] for name in ("laws", "confidence"))]
+
+
 STEPS: tuple[Step[Item], ...] = (
     Step("tables", (), _facts_of("history", "lead", files=("history", "lead")), work.make_tables),
     Step("scenario", ("tables.toml",), _facts_of("costs", "today", "run"), work.make_scenario),
-    Step("suggestions", ("scenario.toml",), _facts_of(), work.make_suggestions),
+    Step("suggestions", ("scenario.toml", *SEEN), _promise_facts, work.make_suggestions),
+    Step("doubt", (*SUGGESTED, *SEEN), _promise_facts, work.make_doubt),
     Step("run", SUGGESTED, _run_facts, comparison.make_report),
     Step("decision", (*SUGGESTED, "report.csv", "long_run.csv"), _facts_of("run"), comparison.make_decision),
     Step("check", SUGGESTED, _facts_of("run", "check", files=PROGRAM), comparison.make_check),

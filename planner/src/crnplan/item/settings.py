@@ -13,13 +13,18 @@ from typing import Any
 from .. import formats
 from ..document.lines import Place, places_of
 from ..document.reading import read_bytes, read_document, text_of_document
+from ..decision.doubt import TIMES
+from ..demand.fitting import METHODS
+from ..demand.leads import LEAD_METHODS
 from ..document.values import kind_of, shown
 from ..engine.keys import MOST_KEYS
 from ..engine.long_run import KEYS
 from ..errors import Fault, Refused, RefusedFaults
 from ..money import scaled_costs
+from ..report.tables import named
 
 NOWHERE = Place(0, 0)
+MOST_NAMED = 3  # of the texts that may stand at a key
 WORD = formats.WORD.fullmatch
 # A check: it returns what is wrong with a value and what to do, or the empty text.
 Check = Callable[[Any], str]
@@ -72,10 +77,12 @@ def money(value: Any) -> str:
     return "" if 0 <= value < float("inf") else f"{shown(value)} is no cost; write 0 or more"
 
 
-def level(value: Any) -> str:
-    """Checks the level of intervals."""
-    is_level = isinstance(value, float) and 0 < value < 1
-    return "" if is_level else f"{shown(value)} is not between 0 and 1; write 0.95 for 95 of 100 samples"
+def share(advice: str) -> Check:
+    """Returns the check of a share between 0 and 1."""
+    def check(value: Any) -> str:
+        is_share = isinstance(value, float) and 0 < value < 1
+        return "" if is_share else f"{shown(value)} is not between 0 and 1; write {advice}"
+    return check
 
 
 def text(value: Any) -> str:
@@ -121,13 +128,14 @@ def new_key(value: Any) -> str:
 
 
 def choice(*values: str) -> Check:
-    """Returns the check of one of some texts."""
+    """Returns the check of one of some texts. If they are many, the first ones are named."""
     def check(value: Any) -> str:
         if value in values:
             return ""
         close = get_close_matches(str(value), values, 1)
-        advice = f'did you mean "{close[0]}"?' if close else "write " + " or ".join(f'"{it}"' for it in values)
-        return f"{shown(value)} is none of {', '.join(values)}; {advice}"
+        advice = " or ".join(f'"{it}"' for it in values[:MOST_NAMED])
+        advice = f'did you mean "{close[0]}"?' if close else f"write {advice}"
+        return f"{shown(value)} is none of {named(values, MOST_NAMED)}; {advice}"
     return check
 
 
@@ -150,14 +158,18 @@ TABLES: dict[str, dict[str, Rule]] = {
                 "delimiter": Rule(choice(",", ";", "tab")), "encoding": TEXT,
                 "date_formats": Rule(texts, default=[]), "net": NO, "whole": NO, "leave_out": NO,
                 "box": Rule(whole(1, formats.MOST_ITEMS), default=1), "item": Rule(cells, default={}),
-                "from": Rule(date), "to": Rule(date)},
+                "from": Rule(date), "to": Rule(date), "fit": Rule(choice(*METHODS), default="auto"),
+            "season": Rule(whole(2, formats.MOST_WEIGHT))},
     "lead": {"file": TEXT, "column": TEXT, "orders": TEXT, "ordered": Rule(text, default="ordered"),
              "received": Rule(text, default="received"),
-             "times": Rule(whole_numbers(*formats.limits("lead", "values")))},
+             "times": Rule(whole_numbers(*formats.limits("lead", "values"))),
+             "fit": Rule(choice(*LEAD_METHODS), default="auto")},
     "costs": {"setup": MONEY, "holding": MONEY, "backlog": MONEY, "unit": Rule(money, default=0)},
     "today": {"s": ITEMS, "S": ITEMS, "stock": ITEMS},
     "run": {"horizon": Rule(horizon), "replications": Rule(REPLICATIONS), "key": Rule(key, default="crnplan"),
-            "level": Rule(level, default=0.95)},
+            "level": Rule(share("0.95 for 95 of 100 samples"), default=0.95),
+            "laws": Rule(whole(*TIMES), default=100),
+            "confidence": Rule(share("0.8 for 80 of 100 laws"), default=0.8)},
     "check": {"policy": Rule(text, default="best"), "key": Rule(new_key), "keys": Rule(whole(1, MOST_KEYS), default=1),
               "replications": Rule(REPLICATIONS)}}
 # The replications of a run, and those of each key of its check: in the long run, and for a horizon.
@@ -271,7 +283,7 @@ def _lead_troubles(lead: Mapping[str, Any], folder: Path) -> Iterator[Trouble]:
         return
     if ways == ["file"] and "column" not in lead:
         yield ("lead", "file"), "the key column is missing; write the name of the column of lead times in the file"
-    for name in lead.keys() - {ways[0], *LEADS[ways[0]]}:
+    for name in lead.keys() - {ways[0], *LEADS[ways[0]], "fit"}:
         yield ("lead", name), f"this key is not used with {ways[0]}; remove it"
     if ways != ["times"] and not (folder / lead[ways[0]]).is_file():
         yield ("lead", ways[0]), f"there is no file {folder / lead[ways[0]]}; name one, from the folder of this file"

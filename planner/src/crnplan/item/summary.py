@@ -3,11 +3,11 @@ from __future__ import annotations
 
 import math
 import textwrap
-import tomllib
 from dataclasses import dataclass
 from fractions import Fraction
 from functools import cached_property
 
+from ..decision.doubt import WITHIN
 from ..decision.keys import clause_of
 from ..report.tables import aligned
 from ..scenario import Scenario
@@ -15,10 +15,15 @@ from .settings import Settings
 from .work import Item, rows_of
 
 WIDTH, LINES = 80, 24
-# The page has all warnings; here each has some characters, and all have some lines.
-WARNED, MOST_WARNED = 150, 4
+# How a line of notes.txt begins that is a warning.
+ALARM = "demand: warning: "
+LEAST_TABLE = 4  # lines: the heading, two policies, and a blank one below
+# The page has all warnings; here each is cut to one or two lines.
+MOST_WARNED, TWO_LINES = 4, 150
 # From here on amounts of money have no decimals.
 LARGE = 100_000
+# The columns of costs: by theory, and by crnsim. Both are of the long run, or the second is of the coming periods.
+COLUMNS_OF = {True: ("theory", "crnsim"), False: ("long run", "this run")}
 # The columns of the table that are left out if a line is too long, in this order.
 OPTIONAL = ("orders", "stock", "short", "fill", "percent")
 # What a verdict on today's policy, beside the chosen one, says of the chosen one.
@@ -68,6 +73,11 @@ class Figures:
         return {row["policy"]: row for row in rows_of(self.item.text("check.csv"))}
 
     @cached_property
+    def doubted(self) -> dict[str, Row]:
+        """Returns the rows of doubt.csv by policy, the least mean cost first."""
+        return {row["policy"]: row for row in rows_of(self.item.text("doubt.csv"))}
+
+    @cached_property
     def demand(self) -> dict[str, list[str]]:
         """Returns the columns of demand.csv: the names of the periods, the demand, and the returns if there are any."""
         rows = rows_of(self.item.text("demand.csv"))
@@ -75,8 +85,25 @@ class Figures:
 
     @cached_property
     def notes(self) -> list[str]:
-        """Returns what is to be said of the history."""
-        return self.item.text("notes.txt").splitlines()
+        """Returns what is to be said of the history, without its warnings."""
+        return [line for line in self.item.text("notes.txt").splitlines() if not line.startswith(ALARM)]
+
+    @cached_property
+    def alarms(self) -> list[str]:
+        """Returns the warnings of the checks of the history."""
+        lines = self.item.text("notes.txt").splitlines()
+        return [line.removeprefix(ALARM) for line in lines if line.startswith(ALARM)]
+
+    @property
+    def law(self) -> str:
+        """Returns in words by which law of demand the figures are."""
+        return [row["law"] for row in rows_of(self.item.text("laws.csv")) if row["table"] == "demand"][-1]
+
+    @property
+    def exactness(self) -> str:
+        """Returns how exact the figures of theory are."""
+        lines = self.item.text("suggested.txt").splitlines()
+        return next(line.removeprefix("error: ") for line in lines if line.startswith("error: "))
 
     @cached_property
     def scale(self) -> Fraction:
@@ -131,19 +158,19 @@ def headline(figures: Figures) -> str:
 
 def facts(figures: Figures) -> str:
     """Returns what is known of the history and of the lead times."""
-    periods, lead = f"{figures.settings.period}s", tomllib.loads(figures.item.text("tables.toml"))["lead"]
+    periods = f"{figures.settings.period}s"
     counts = {name: list(map(int, its)) for name, its in figures.demand.items() if name != "period"}
-    demand, least, most = counts["demand"], lead["values"][0], lead["values"][-1]
+    leads = [int(row["lead time"]) for row in rows_of(figures.item.text("lead_times.csv"))]
+    demand, least, most = counts["demand"], min(leads), max(leads)
     returned = f", {sum(counts['returns']):,} returned" if "returns" in counts else ""
     return (f"{figures.item.history.name}: {len(demand):,} {periods}, {sum(demand):,} items{returned}, "
-            f"{demand.count(0):,} {periods} without demand. Lead times: {sum(lead['weights']):,}, of "
+            f"{demand.count(0):,} {periods} without demand. Lead times: {len(leads):,}, of "
             f"{least if least == most else f'{least} to {most}'} {periods}.")
 
 
 def cells_of(figures: Figures, row: Row) -> dict[str, str]:
     """Returns the cells of a policy by column."""
-    its, names = figures.theory[row["policy"]], ("theory", "crnsim") if figures.settings.is_long_run else (
-        "long run", "this run")
+    its, names = figures.theory[row["policy"]], COLUMNS_OF[figures.settings.is_long_run]
     return {"policy": row["policy"], "s": row["s"], "S": row["S"], names[0]: amount(figures.money(its["cost"])),
             "fill": f"{float(its['fill']):.1%}", "short": f"{float(its['short']):.1%}",
             "stock": f"{float(its['stock']):,.1f}", "orders": f"{float(its['orders']):.3f}",
@@ -153,7 +180,7 @@ def cells_of(figures: Figures, row: Row) -> dict[str, str]:
 def table(figures: Figures, most: int) -> str:
     """Returns the cheapest policies, today's and the chosen one, with as many columns as fit the screen."""
     must = {figures.today, figures.chosen}
-    others = [name for name in figures.decided if name not in must][:most - len(must)]
+    others = [name for name in figures.decided if name not in must][:max(most - len(must), 0)]
     rows = [cells_of(figures, row) for name, row in figures.decided.items() if name in must.union(others)]
     for left_out in range(len(OPTIONAL) + 1):
         names = [name for name in rows[0] if name not in OPTIONAL[:left_out]]
@@ -196,6 +223,22 @@ def check(figures: Figures) -> str:
     return f"{text} There {spoken(figures, figures.checked[figures.today], chosen)}"
 
 
+def provenance(figures: Figures) -> str:
+    """Returns where the figures come from, and how exact they are."""
+    theory, run = COLUMNS_OF[figures.settings.is_long_run]
+    return (f"All by {figures.law}. Columns {theory}, fill, short: by theory, {figures.exactness.split(':')[0]}, "
+            f"unproved. Column {run}: by runs, proved for their stream.")
+
+
+def promise(figures: Figures) -> str:
+    """Returns how sure the choice is under the laws that the history allows, and what to promise of its cost."""
+    row = figures.doubted[figures.chosen]
+    return (f"{figures.chosen} is within {100 * WITHIN:g}% of the best of these {len(figures.doubted)} policies under "
+            f"{float(row['within']):.0%} of the laws that this history allows. The cost to promise is "
+            f"{amount(figures.money(row['cost']))} a {figures.settings.period} in the long run, the mean over these "
+            "laws.")
+
+
 def summary_text(figures: Figures) -> str:
     """Returns the summary, of at most 24 lines of 80 characters."""
     def lines_of(*texts: str) -> list[str]:
@@ -203,13 +246,12 @@ def summary_text(figures: Figures) -> str:
         return [line for text in texts for line in textwrap.wrap(text, WIDTH, break_on_hyphens=False)]
 
     above = [*lines_of(headline(figures)), "", *lines_of(facts(figures)), ""]
-    notes = f"notes.txt ({len(figures.notes)} on the history), " if figures.notes else ""
-    warnings = [line for it in figures.warnings for line in lines_of(textwrap.shorten(it, WARNED, placeholder=" .."))]
-    names = "theory" if figures.settings.is_long_run else "long run"
-    run = "crnsim is" if figures.settings.is_long_run else "this run is crnsim's,"
-    below = [*lines_of(comparison(figures), check(figures)), *warnings[:MOST_WARNED],
-             *lines_of(f"The columns {names}, fill and short are theory's, rounded and unproved; {run} proved for "
-                       "its stream.",
-                       f"See {notes}decision.txt and check.txt (all policies) and summary.html (pictures).")]
-    lines = [*above, *table(figures, LINES - len(above) - len(below) - 2).splitlines(), "", *below]
-    return "".join(f"{line}\n" for line in lines)
+    warned = [*(f"WARNING: {it}" for it in figures.alarms), *figures.warnings]
+    count = f" ({len(warned)} warning{'s' * (len(warned) > 1)})" if warned else ""
+    below = lines_of(provenance(figures), f"See notes.txt, decision.txt, check.txt, doubt.txt and summary.html{count}.")
+    said = lines_of(comparison(figures), check(figures), promise(figures))
+    room = min(LINES - LEAST_TABLE - len([*above, *said, *below]), MOST_WARNED)
+    width = TWO_LINES if 2 * len(warned) <= room else WIDTH
+    said += lines_of(*(textwrap.shorten(it, width, placeholder=" ..") for it in warned))[:max(room, 0)]
+    rows = table(figures, LINES - len([*above, *said, *below]) - 2).splitlines()
+    return "".join(f"{line}\n" for line in [*above, *rows, "", *said, *below])

@@ -13,11 +13,13 @@ from typing import TYPE_CHECKING, Any
 
 from ..errors import Refused, RefusedFaults
 from ..scenario import Scenario, Table
+from .laws import rows_of_laws
 from .settings import HOMES, Settings, need_file
 from .steps import Folder, digest_of
 
 if TYPE_CHECKING:
     from ..history import History, LeadTimes
+    from ..history.observed import Observed
 
 RULES = ("delimiter", "encoding", "decimal", "item", "leave_out")
 MOST_DRAWN = 104
@@ -51,6 +53,13 @@ class Item:
         for path in (self.history, self.settings.lead_path):
             line = line.replace(str(path), path.name) if path else line
         return line
+
+    @property
+    def seen(self) -> tuple[list[int], list[int]]:
+        """Returns the demand by period and the lead times that were seen."""
+        demand, leads = ([int(row[name]) for row in rows_of(self.text(file))]
+                         for name, file in (("demand", "demand.csv"), ("lead time", "lead_times.csv")))
+        return demand, leads
 
     @cached_property
     def chosen(self) -> str:
@@ -107,22 +116,34 @@ def as_settings(text: str) -> str:
     return re.sub("--([a-z]+(?:-[a-z]+)*)", key, text)
 
 
+def _laws_of(item: Item, columns: Mapping[str, Observed], leads: LeadTimes | list[int]) -> dict[str, str]:
+    """Fits the laws, and returns the files about them."""
+    from ..demand import Law, fit_demand, fit_lead, notes_of
+    asked = item.settings["history"]
+    methods = {**dict.fromkeys(columns, asked["fit"]), "lead": item.settings["lead"]["fit"]}
+    laws: dict[str, Law] = {name: fit_demand(its, method=methods[name], box=asked["box"])
+                            for name, its in columns.items()}
+    laws["lead"] = fit_lead(leads, method=methods["lead"])
+    lines = (line for name, law in laws.items() for line in notes_of(law, name))
+    return {"tables.toml": "\n".join(law.toml(name) for name, law in laws.items()),
+            "laws.csv": csv_text(rows_of_laws(laws, methods)), "laws.txt": "".join(f"{line}\n" for line in lines)}
+
+
 def _make_tables(item: Item) -> dict[str, str]:
     """Does what `make_tables` does. Messages are those of `crnplan history`."""
-    from ..demand import Law, fit_demand, fit_lead
-    history, leads, box = _read_history(item), _read_leads(item), item.settings["history"]["box"]
+    from ..demand import checks_of, lines_of
+    history, leads = _read_history(item), _read_leads(item)
     columns = {"demand": history, **({"returns": history.returns} if history.returns else {})}
-    laws: dict[str, Law] = {name: fit_demand(its, method="empirical", box=box) for name, its in columns.items()}
-    laws["lead"] = fit_lead(leads)
     rows = zip(history.periods, *(its.counts for its in columns.values()))
-    notes = [*history.notes, *(leads.notes if not isinstance(leads, list) else ())]
-    return {"tables.toml": "\n".join(law.toml(name) for name, law in laws.items()),
-            "demand.csv": csv_text([["period", *columns], *rows]),
+    seen, said = (leads, ()) if isinstance(leads, list) else (leads.counts, leads.notes)
+    notes = [*history.notes, *said, *lines_of(checks_of(history, season=item.settings["history"]["season"]))]
+    return {**_laws_of(item, columns, leads), "demand.csv": csv_text([["period", *columns], *rows]),
+            "lead_times.csv": csv_text([["lead time"], *([it] for it in seen)]),
             "notes.txt": "".join(as_settings(item.named(line)) + "\n" for line in notes)}
 
 
 def make_tables(item: Item) -> dict[str, str]:
-    """Reads the history and the lead times: the laws, the demand by period, and what is to be said of the files."""
+    """Reads the history and the lead times: laws, the demand by period, and what is to be said of the files."""
     try:
         return _make_tables(item)
     except RefusedFaults as refusal:
@@ -146,12 +167,25 @@ def make_scenario(item: Item) -> dict[str, str]:
 
 def make_suggestions(item: Item) -> dict[str, str]:
     """Finds policies worth comparing with today's, by theory."""
+    from ..demand.posterior import allowed_laws, allowed_leads
     from ..report.tables import aligned
     from ..theory.suggestions import suggestions_of
-    found = suggestions_of(item.scenario("scenario.toml"))
+    (demand, leads), run = item.seen, item.settings["run"]
+    laws = allowed_laws(demand, times=run["laws"], box=item.settings["history"]["box"]).laws
+    found = suggestions_of(item.scenario("scenario.toml"), laws, allowed_leads(leads, times=run["laws"]).laws,
+                           run["confidence"])
     rows = [[it.policy.name, it.policy.s, it.policy.S, *it.figures] for it in found.rows]
     return {"suggested.toml": found.text(), "suggested.txt": aligned(found.cells) + found.notes,
             "suggested.csv": csv_text([found.cells[0], *rows])}
+
+
+def make_doubt(item: Item) -> dict[str, str]:
+    """Says how sure the choice is among the policies, by the laws that the history allows."""
+    from ..decision.doubt import doubt
+    found = doubt(item.scenario("suggested.toml"), *item.seen, times=item.settings["run"]["laws"],
+                  box=item.settings["history"]["box"])
+    rows = (["-" if it is None else it for it in row.values()] for row in found.records)
+    return {"doubt.txt": found.text, "doubt.csv": csv_text([list(found.records[0]), *rows])}
 
 
 def make_trajectory(item: Item) -> dict[str, str]:

@@ -5,6 +5,7 @@ they stay readable if the picture is narrow.
 """
 from __future__ import annotations
 
+import math
 from collections.abc import Mapping, Sequence
 from dataclasses import dataclass
 from typing import Any
@@ -33,6 +34,32 @@ class Scale:
     def at(self, value: float) -> float:
         """Returns the place of a value, from 0 to 1,000."""
         return round(UNITS * (value - self.low) / (self.high - self.low), 1)
+
+    @property
+    def heights(self) -> list[tuple[float, str, str]]:
+        """Returns the places at an axis, their texts and the class of their lines."""
+        return [(self.at(it), tick(it), "gridline" if it else "zero") for it in self.ticks]
+
+
+@dataclass(frozen=True)
+class Chances:
+    """A scale of chances in powers of ten, from 1 at the top to the power of ten with this exponent."""
+
+    exponent: int
+
+    @classmethod
+    def of(cls, least: float) -> Chances:
+        """Returns the scale of chances from the least one, which is above 0, to 1."""
+        return cls(min(math.floor(math.log10(least)), -1))
+
+    def at(self, chance: float) -> float:
+        """Returns the place of a chance, from 0 to 1,000; 0 for none."""
+        return round(UNITS * (1 - math.log10(chance) / self.exponent), 1) if chance > 0 else 0.0
+
+    @property
+    def heights(self) -> list[tuple[float, str, str]]:
+        """Returns the places at an axis, their texts and the class of their lines."""
+        return [(self.at(10.0**power), f"1 in {10**-power:,}", "gridline") for power in range(self.exponent, 1)]
 
 
 def number(value: float, digits: int = 0) -> str:
