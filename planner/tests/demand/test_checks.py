@@ -17,7 +17,7 @@ from scipy import optimize, stats
 import crnplan as crn
 from crnplan.demand import Checks, checks_of, lines_of
 from crnplan.demand.effects import Facts
-from crnplan.demand.losses import LAWS, LOSSES, loss_of
+from crnplan.demand.losses import LAWS, LOSSES, Loss, loss_of, loss_text
 from crnplan.demand.outliers import bound_of, outliers_of
 from crnplan.demand.permutation import Orders, p_value, statistics_of
 from crnplan.demand.permutation import bound_of as bound_of_orders
@@ -197,6 +197,18 @@ def test_losses() -> None:
             ("season", 0.4, 0.1, 14, ("steady", 30, 12)), ("season", 0.31, 0, 4, ("steady", 30, 7))):
         loss = loss_of(kind, size, variation, length)
         assert (loss.law, loss.size, loss.length) == expected and loss.kind == kind
+
+
+def test_loss_text() -> None:
+    """A sentence has the figures of a loss in their places, with their signs in words."""
+    assert loss_text(Loss("season", "steady", 60, 52, 29.3, -31.1, 12.6)) == (
+        "In a study (Poisson, mean 10; season of ±60% in 52 periods) such a plan cost 29% more than the best policy, "
+        "whose S was 13% higher, and promised a cost 31% too low")
+    assert loss_text(Loss("shift", "erratic", -25, 0, 6.4, 4.5, -13.8)) == (
+        "In a study (negative binomial, mean 3, variance 9; shift -25%) such a plan cost 6.4% more than the best "
+        "policy, whose S was 14% lower, and promised a cost 4.5% too high")
+    assert "trend +25%" in loss_text(loss_of("trend", 0.3, 1)) and "(Poisson, mean 10; autocorrelation 0.45)" in \
+        loss_text(loss_of("autocorrelation", 0.41, 0.3))
 
 
 @pytest.mark.parametrize("numbers, notes", [

@@ -68,6 +68,6 @@ def loss_text(loss: Loss) -> str:
     effect = f"autocorrelation {loss.size / 100:g}" if loss.kind == "autocorrelation" else f"{loss.kind} {loss.size:+}%"
     effect = f"season of ±{loss.size}% in {loss.length} periods" if loss.kind == "season" else effect
     side, error = "higher" if loss.level >= 0 else "lower", "low" if loss.promise < 0 else "high"
-    regret, level, promise = (f"{abs(it):.{int(abs(it) < 10)}f}%" for it in loss[4:])
+    regret, promise, level = (f"{abs(it):.{int(abs(it) < 10)}f}%" for it in (loss.regret, loss.promise, loss.level))
     return (f"In a study ({LAWS[loss.law][0]}; {effect}) such a plan cost {regret} more than the best policy, whose S "
             f"was {level} {side}, and promised a cost {promise} too {error}")

@@ -135,20 +135,21 @@ class Orders:
         self.ranks = np.cumsum(self.counts) - self.counts / 2 - len(numbers) / 2
 
     def drawn(self) -> Iterator[Whole]:
-        """Yields the history, and then drawn orders of it, some in each array: the place of each number in `values`."""
-        yield self.codes[None]
+        """Yields the order of the history, and then drawn orders, some in each array: places in the history."""
         size = len(self.codes)
+        yield np.arange(size)[None]
         many = max(1, MOST_CELLS // size)
         for first in range(0, TIMES, many):
-            yield self.codes[drawn_orders(size, first, min(many, TIMES - first))]
+            yield drawn_orders(size, first, min(many, TIMES - first))
 
     def statistics(self, kinds: Mapping[str, Statistic]) -> dict[str, Floats]:
         """Returns each statistic of the history and, after it, of the drawn orders. The same history has the same."""
         found: dict[str, list[Floats]] = {name: [] for name in kinds}
-        for codes in self.drawn():
-            far, ranks = self.far[codes], self.ranks[codes]
+        far, ranks = self.far[self.codes], self.ranks[self.codes]
+        for order in self.drawn():
+            far_rows, rank_rows = far[order], ranks[order]
             for name, kind in kinds.items():
-                found[name].append(kind(far, ranks))
+                found[name].append(kind(far_rows, rank_rows))
         return {name: np.concatenate(its) for name, its in found.items()}
 
 
