@@ -16,7 +16,7 @@ from scipy import special, stats
 
 from crnplan.demand import DemandLaw, fit_demand, notes_of
 from crnplan.demand.borrowing import Borrowed, Prior, borrowed_laws, em, grid, law_of, learn, learning
-from crnplan.demand.borrowing.likelihoods import Cells, Sums, marginal, of_shares, of_sizes
+from crnplan.demand.borrowing.likelihoods import Cells, Sums, chunks_of, marginal, of_shares, of_sizes
 from crnplan.demand.borrowing.posterior import Posterior
 from crnplan.demand.borrowing.prior import Learned
 from crnplan.demand.families import Floats, Sample
@@ -106,14 +106,14 @@ def test_size_laws(cell: int) -> None:
 @given(histories=HISTORIES, flat=st.sampled_from([0.0, 1.0]))
 def test_each_step_raises_the_likelihood(histories: list[list[int]], flat: float) -> None:
     """Without a blur no step makes the histories less likely, with the flat items that count beside them."""
-    cells = Cells.of([Sample.of(it) for it in histories])
+    chunks = chunks_of(Sample.of(it) for it in histories)
     prior, last = em.FLAT, -math.inf
     for _ in range(15):
-        likelihood = float(np.log(marginal(cells, prior)).sum())
+        likelihood = float(np.log(marginal(chunks, prior)).sum())
         if flat:
             likelihood += float(flat * (em.FLAT * np.log(prior)).sum())
         assert likelihood >= last - 1e-9
-        prior, last = em.estimated(cells, prior, flat * em.FLAT, steps=1, blur=0), likelihood
+        prior, last = em.estimated(chunks, prior, flat * em.FLAT, steps=1, blur=0), likelihood
     assert prior.sum() == pytest.approx(1) and prior.min() >= 0
 
 
@@ -135,19 +135,23 @@ def test_blur(seed: int, part: float) -> None:
 def test_cells_of_histories_in_groups() -> None:
     """Histories with as many periods and demands share a row, and each has the likelihoods that it has alone."""
     samples = [Sample.of(it) for it in ([0, 3, 1], [2, 0, 0, 7], [5, 0, 1], [0, 0, 0], [4, 0, 0, 1])]
-    cells = Cells.of(samples)
-    assert cells.ends == [1, 3, 5] and len(cells.shares) == 3
+    cells, = chunks_of(samples)
+    assert cells.starts.tolist() == [0, 1, 3] and cells.groups.tolist() == [0, 1, 1, 2, 2] and len(cells.shares) == 3
     prior = np.random.default_rng(3).dirichlet(np.ones(em.FLAT.size)).reshape(em.FLAT.shape)
-    alone = [float(marginal(Cells.of([samples[place]]), prior)[0]) for place in (3, 0, 2, 1, 4)]
-    assert marginal(cells, prior) == pytest.approx(alone)
+    alone = [float(Cells.of([samples[place]]).marginal(prior)[0]) for place in (3, 0, 2, 1, 4)]
+    assert cells.marginal(prior) == pytest.approx(alone)
 
 
 def test_many_histories_in_chunks(monkeypatch: pytest.MonkeyPatch, mixed: dict[str, list[int]]) -> None:
-    """Likelihoods are the same however many histories are in memory at once."""
+    """Likelihoods and steps are the same however many histories are computed with at once."""
     samples = [Sample.of(it) for it in mixed.values()]
-    whole = Cells.of(samples)
+    whole = chunks_of(samples)
     monkeypatch.setattr("crnplan.demand.borrowing.likelihoods.CHUNK", 7)
-    assert np.array_equal(Cells.of(samples).sizes, whole.sizes)
+    parts = chunks_of(samples)
+    assert (len(whole), len(parts)) == (1, 19)
+    prior = em.step(whole, em.FLAT, em.FLAT)
+    assert np.allclose(em.step(parts, em.FLAT, em.FLAT), prior, rtol=1e-9, atol=0)
+    assert marginal(parts, prior) == pytest.approx(marginal(whole, prior))
 
 
 @pytest.mark.parametrize(("seed", "numbers"), [(1, RARE), (2, [0] * 20), (3, [0, 4] + [0] * 10), (4, [3, 8, 1, 2, 9])])
@@ -160,9 +164,10 @@ def test_posterior_on_few_cells(seed: int, numbers: list[int]) -> None:
     weights = np.kron(prior, np.ones((grid.SHARE_POINTS, grid.MEAN_POINTS)) / 80) * likelihoods
     law = np.zeros(4000)
     law[0] = weights.sum(axis=1) @ (1 - grid.SHARES.ravel())
-    for point, demand in enumerate(grid.SHARES.ravel() @ weights):
+    demands = grid.SHARES.ravel() @ weights
+    for point in np.flatnonzero(demands):
         mean, size = grid.SIZE_MEANS.ravel()[point], np.repeat(grid.SIZE_DISPERSIONS, 8)[point]
-        law[1:] += demand * np.exp(stats.nbinom.logpmf(np.arange(3999), size, size / (size + mean)))
+        law[1:] += demands[point] * np.exp(stats.nbinom.logpmf(np.arange(3999), size, size / (size + mean)))
     found = Posterior.of(Sample.of(numbers), prior)
     below = np.cumsum(law)[:len(found.predictive)] / weights.sum()
     assert np.allclose(np.cumsum(found.predictive), below, rtol=0, atol=2e-7)
@@ -187,11 +192,9 @@ def test_known_law_of_an_item(known: Prior) -> None:
     true = np.concatenate([[1 - TRUE_SHARE], TRUE_SHARE * stats.nbinom.pmf(
         np.arange(200), TRUE_SIZE, TRUE_SIZE / (TRUE_SIZE + TRUE_MEAN))])
     distances, rejected = [], 0
-    for seed in range(900, 907):
-        numbers = history(seed, 26)
-        law = law_of(known, numbers)
+    for seed in range(900, 905):
+        law = law_of(known, history(seed, 26))
         single = borrowed(law).single
-        assert single == fit_demand(numbers, method="auto")
         rejected += law.family != "borrowed"
         laws = [np.pad(chances_of(it), (0, 400))[:201] for it in (law, single) if it]
         distances.append([np.abs(np.cumsum(it) - np.cumsum(true)).max() for it in laws])
@@ -374,8 +377,7 @@ def test_classes(monkeypatch: pytest.MonkeyPatch, mixed: dict[str, list[int]]) -
     np.random.default_rng(2).shuffle(order)
     assert learn([mixed[it] for it in order], [classes[it] for it in order], "class").text == prior.text
     group = [Sample.of(mixed[name]) for name in mixed if classes[name] == "b"]
-    cells = Cells.of(learning.ordered(group))
-    pulled = em.estimated(cells, prior.whole.chances, 30 * prior.whole.chances)
+    pulled = em.estimated(chunks_of(group), prior.whole.chances, 30 * prior.whole.chances)
     assert np.allclose(prior.classes["b"].chances, pulled, rtol=1e-5, atol=1e-9)
     names = {it: borrowed(law_of(prior, RARE, it, beside=False)).prior for it in ("a", "b", "c", None)}
     assert names == {"a": "a", "b": "b", "c": "all", None: "all"}

@@ -9,6 +9,8 @@ Wilson and Nychka, A smoothed EM approach to indirect estimation problems, 1990)
 """
 from __future__ import annotations
 
+from collections.abc import Iterable, Sequence
+
 import numpy as np
 
 from ..families import Floats
@@ -30,21 +32,23 @@ def blurred(prior: Floats, part: float) -> Floats:
     return cells.reshape(prior.shape)
 
 
-def step(cells: Cells, prior: Floats, pull: Floats) -> Floats:
+def step(chunks: Iterable[Cells], prior: Floats, pull: Floats) -> Floats:
     """Returns the mean of the posterior laws of all histories, in which `pull` counts as further items."""
-    rows = cells.shares @ prior
-    likely = np.array([(1 / (sizes @ row)) @ sizes for sizes, row in zip(cells.groups, rows)])
-    expected = prior * (cells.shares.T @ likely) + pull
+    expected = pull.copy()
+    for cells in chunks:
+        likely = np.add.reduceat(cells.sizes / cells.marginal(prior)[:, None], cells.starts)
+        expected += prior * (cells.shares.T @ likely)
     updated: Floats = expected / expected.sum()
     return updated
 
 
-def estimated(cells: Cells, start: Floats, pull: Floats, *, steps: int = STEPS, blur: float = BLUR) -> Floats:
+def estimated(chunks: Sequence[Cells], start: Floats, pull: Floats, *, steps: int = STEPS,
+              blur: float = BLUR) -> Floats:
     """Returns the prior after so many steps.
 
     `pull` is a prior times the number of items that it counts for. No cell that has some of it gets the chance 0.
     """
     prior = start
     for _ in range(steps):
-        prior = blurred(step(cells, prior, pull), blur)
+        prior = blurred(step(chunks, prior, pull), blur)
     return prior

@@ -14,7 +14,7 @@ from ..families import Floats, Sample
 from ..laws import check, numbers_of
 from . import grid
 from .em import FLAT, estimated
-from .likelihoods import Cells, marginal
+from .likelihoods import chunks_of, group_of, marginal
 from .prior import BORROW, Learned, Prior
 
 LEAST_ITEMS, LEAST_ON_REQUEST = 100, 30
@@ -82,8 +82,7 @@ def ordered(samples: Iterable[Sample]) -> list[Sample]:
     """Returns histories in an order of their own, whatever order they come in."""
     def key(sample: Sample) -> tuple[int, int, bytes, bytes]:
         """Returns what tells two histories apart."""
-        return (sample.size, sample.size - sample.zeros, sample.values.astype(">i8").tobytes(),
-                sample.counts.astype(">i8").tobytes())
+        return (*group_of(sample), sample.values.astype(">i8").tobytes(), sample.counts.astype(">i8").tobytes())
     return sorted(samples, key=key)
 
 
@@ -98,12 +97,12 @@ def drawn(samples: Iterable[Sample], seed: int) -> list[Sample]:
 
 def learned(samples: Sequence[Sample], seed: int, above: Floats | None = None) -> Learned:
     """Estimates the prior of a catalogue, or of a class from that of the catalogue, `above`."""
-    cells = Cells.of(drawn(samples, seed))
+    chunks = chunks_of(drawn(samples, seed))
     pulled = above is not None and len(samples) <= MOST_PULLED
     start, items = (above, CLASS_ITEMS) if above is not None and pulled else (FLAT, FLAT_ITEMS)
-    chances = estimated(cells, start, items * start)
-    gains = np.log10(marginal(cells, chances) / marginal(cells, FLAT))
-    return Learned.of(chances, len(samples), len(cells.sizes), float(gains.mean()))
+    chances = estimated(chunks, start, items * start)
+    gains = np.log10(marginal(chunks, chances) / marginal(chunks, FLAT))
+    return Learned.of(chances, len(samples), len(gains), float(gains.mean()))
 
 
 def check_words(borrow: str, least: int) -> None:

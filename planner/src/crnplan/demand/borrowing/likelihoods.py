@@ -4,17 +4,18 @@ The likelihood of a history is the product of one of the share and one of the la
 """
 from __future__ import annotations
 
-from collections.abc import Iterator, Sequence
+from collections.abc import Iterable, Sequence
 from dataclasses import dataclass
-from itertools import groupby, pairwise
+from itertools import groupby
 from typing import NamedTuple
 
 import numpy as np
 
-from ..families import Floats, Sample
+from ..families import Floats, Sample, Whole
 from . import grid
 
-CHUNK = 500  # histories whose likelihoods are in memory at all points at once
+CHUNK = 250  # histories that are computed with at once: as many as a processor's cache has room for
+LEAST_LIKELIHOOD = 1e-100  # Products of smaller ones are denormal numbers, which are slow.
 
 
 @dataclass(frozen=True, eq=False)
@@ -40,8 +41,9 @@ class Sums:
 
 
 def scaled(logarithms: Floats) -> Floats:
-    """Returns likelihoods of which the greatest of each history is 1."""
+    """Returns likelihoods of which the greatest of each history is 1. All but impossible points have 0."""
     likelihoods: Floats = np.exp(logarithms - logarithms.max(axis=(1, 2), keepdims=True))
+    likelihoods[likelihoods < LEAST_LIKELIHOOD] = 0.0
     return likelihoods
 
 
@@ -61,36 +63,41 @@ class Cells(NamedTuple):
     """Likelihoods of cells, the means over their points.
 
     Histories with as many periods and demands are a group, since they have the same likelihoods of the share. `shares`
-    has a row for each group, `sizes` one for each history, and `ends` says how many histories the groups up to each
-    have.
+    has a row for each group, `sizes` one for each history. `starts` has the row of `sizes` that each group starts at,
+    `groups` the group of each history.
     """
 
     shares: Floats
     sizes: Floats
-    ends: list[int]
+    starts: Whole
+    groups: Whole
 
     @classmethod
     def of(cls, samples: Sequence[Sample]) -> Cells:
-        """Computes the likelihoods of histories, in the order of groups, and within a group in theirs."""
-        def group_of(sample: Sample) -> tuple[int, int]:
-            """Returns periods and demands."""
-            return sample.size, sample.size - sample.zeros
-        ordered = sorted(samples, key=group_of)
-        groups = [[*its] for _, its in groupby(ordered, group_of)]
-        chunks = (ordered[start:start + CHUNK] for start in range(0, len(ordered), CHUNK))
-        sizes = np.concatenate([of_sizes(Sums.of(chunk)).mean(axis=2) for chunk in chunks])
-        return cls(of_shares(Sums.of([its[0] for its in groups])).mean(axis=2), sizes,
-                   np.cumsum([len(its) for its in groups]).tolist())
+        """Computes the likelihoods of histories, of which those of a group stand together."""
+        groups = [[*its] for _, its in groupby(samples, group_of)]
+        counts = np.array([len(its) for its in groups])
+        return cls(of_shares(Sums.of([its[0] for its in groups])).mean(axis=2), of_sizes(Sums.of(samples)).mean(axis=2),
+                   np.cumsum(counts) - counts, np.repeat(np.arange(len(counts)), counts))
 
-    @property
-    def groups(self) -> Iterator[Floats]:
-        """Yields the likelihoods of sizes of each group."""
-        for start, end in pairwise([0, *self.ends]):
-            yield self.sizes[start:end]
+    def marginal(self, prior: Floats) -> Floats:
+        """Returns the likelihood of each history under a prior (cells of the share, cells of sizes)."""
+        rows = self.shares @ prior
+        likelihoods: Floats = np.einsum("ij,ij->i", rows[self.groups], self.sizes)
+        return likelihoods
 
 
-def marginal(cells: Cells, prior: Floats) -> Floats:
-    """Returns the likelihood of each history under a prior (cells of the share, cells of sizes), in the order of
-    `cells`."""
-    rows = cells.shares @ prior
-    return np.concatenate([sizes @ row for sizes, row in zip(cells.groups, rows)])
+def group_of(sample: Sample) -> tuple[int, int]:
+    """Returns the periods of a history, and those with demand."""
+    return sample.size, sample.size - sample.zeros
+
+
+def chunks_of(samples: Iterable[Sample]) -> list[Cells]:
+    """Computes the likelihoods of histories by group, and within a group in their order."""
+    every = sorted(samples, key=group_of)
+    return [Cells.of(every[start:start + CHUNK]) for start in range(0, len(every), CHUNK)]
+
+
+def marginal(chunks: Iterable[Cells], prior: Floats) -> Floats:
+    """Returns the likelihood of each history under a prior (cells of the share, cells of sizes)."""
+    return np.concatenate([cells.marginal(prior) for cells in chunks])
