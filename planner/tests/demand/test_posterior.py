@@ -9,9 +9,11 @@ from hypothesis import given, settings
 from hypothesis import strategies as st
 from scipy import stats
 
-from crnplan.demand import fit_demand, fit_lead, posterior
+from crnplan.demand import fit_demand, fit_lead, members, posterior
 from crnplan.demand.families import Floats, Sample, fits_of
-from crnplan.demand.posterior import DRAWN, allowed_laws, allowed_leads, laws_of_family, round_history, stratified
+from crnplan.demand.fitting import mixture
+from crnplan.demand.members import DRAWN, laws_of
+from crnplan.demand.posterior import allowed_laws, allowed_leads, demand_laws, members_of, round_history, stratified
 from crnplan.demand.predictive import PREDICTIVE, greatest_mean, predictive_of
 from crnplan.errors import Refused
 from crnplan.scenario import Table
@@ -20,14 +22,14 @@ ERRATIC = [0, 3, 1, 9, 0, 0, 2, 5, 14, 1, 0, 4, 2, 2, 7, 0, 1, 3, 21, 0, 6, 1]
 SMOOTH = [9, 11, 7, 10, 14, 8, 12, 6, 10, 9, 13, 11, 10, 8, 9, 12]
 RARE = [0, 0, 0, 12, 0, 0, 0, 0, 3, 0, 0, 25, 0, 0, 0, 0, 0, 7, 0, 0, 0, 1, 0, 0, 0, 9]
 SHORT = [0, 0, 0, 2, 8]  # its posterior laws are cut at the greatest mean
-NO_FAMILY = [0, 12, 12, 12, 0, 12, 12, 12, 12, 12, 0, 12, 12, 12, 12, 12]  # packs that vary too little for any
+SINGLE = [0, 0, 7, 0, 0]  # no family has a single demand
 HISTORIES = pytest.mark.parametrize("numbers", [ERRATIC, SMOOTH, RARE], ids=["erratic", "smooth", "rare"])
 SURELY = 5.0  # standard errors
 
 
 def uniform(times: int, seed: int = 1) -> Floats:
     """Returns uniform numbers, independent of one another, for so many laws."""
-    return np.random.default_rng(seed).random((posterior.ROWS - 1, times))
+    return np.random.default_rng(seed).random((members.UNIFORMS, times))
 
 
 def shares(table: Table, size: int) -> Floats:
@@ -46,8 +48,8 @@ FITS = [pytest.param(family, numbers, id=f"{family}-{max(numbers)}") for numbers
 def test_mean_of_drawn_laws(family: str, numbers: Sequence[int]) -> None:
     """It is the posterior predictive law, within the error of the draws."""
     sample = Sample.of(numbers)
-    members, cells = DRAWN[family], np.arange(100)
-    below = np.cumsum(members.chances(members.drawn(sample, uniform(3000)), cells), axis=1)
+    its, cells = DRAWN[family], np.arange(100)
+    below = np.cumsum(its.chances(its.drawn(sample, uniform(3000), 1.0), cells), axis=1)
     expected = np.zeros(10_001)
     law = predictive_of(family, sample)
     expected[:len(law)] = law
@@ -58,11 +60,22 @@ def test_mean_of_drawn_laws(family: str, numbers: Sequence[int]) -> None:
 @HISTORIES
 def test_laws_of_a_family(numbers: Sequence[int]) -> None:
     """They are scaled, and only the end of their tail is left out."""
-    sample, columns = Sample.of(numbers), uniform(20)
-    laws = laws_of_family("hurdle-lognormal", sample, columns)
-    members = DRAWN["hurdle-lognormal"]
-    more = members.chances(members.drawn(sample, columns), np.arange(10_001))
+    its = DRAWN["hurdle-lognormal"]
+    parameters = its.drawn(Sample.of(numbers), uniform(20), 1.0)
+    laws, more = laws_of(its, parameters, max(numbers)), its.chances(parameters, np.arange(10_001))
     assert laws.sum(axis=1) == pytest.approx(1) and np.allclose(laws, more[:, :laws.shape[1]], rtol=1e-3)
+
+
+@pytest.mark.parametrize("family", [it for it in DRAWN if it != "bulk"])  # Twice the numbers have other bulks.
+def test_coarsened_posterior(family: str) -> None:
+    """If each number counts half, the posterior of a history is that of its half."""
+    half, whole = Sample.of(ERRATIC), Sample.of([*ERRATIC, *ERRATIC])
+    columns = uniform(200)
+    found = DRAWN[family].drawn(whole, columns, 0.5)
+    expected = DRAWN[family].drawn(half, columns, 1.0)
+    for one, other in zip(found, expected):  # The greatest mean and the unbiased deviation are of all numbers.
+        assert np.median(one / np.maximum(other, 1e-300)) == pytest.approx(1, rel=0.05)
+        assert one.std() == pytest.approx(other.std(), rel=0.15)
 
 
 def test_families_are_those_of_the_predictive_laws() -> None:
@@ -78,12 +91,12 @@ def test_drawn_parameters(numbers: Sequence[int]) -> None:
     def far(drawn: Floats, law: object) -> bool:
         """Returns whether draws are surely not of a law."""
         return bool(stats.kstest(drawn, law.cdf).pvalue < 1e-4)  # type: ignore[attr-defined]
-    mean, = DRAWN["poisson"].drawn(sample, uniform(2000))
+    mean, = DRAWN["poisson"].drawn(sample, uniform(2000), 1.0)
     assert not far(mean, stats.gamma(sum(numbers) + 0.5, scale=1 / len(numbers)))
-    share, chance = DRAWN["hurdle-geometric"].drawn(sample, uniform(2000))
+    share, chance = DRAWN["hurdle-geometric"].drawn(sample, uniform(2000), 1.0)
     assert not far(chance, stats.beta(seen + 1, demands.sum() - seen + 1))
     assert not share.any() if not zeros else not far(share, stats.beta(zeros + 0.5, seen + 0.5))
-    _, mean, deviation = DRAWN["hurdle-lognormal"].drawn(sample, uniform(2000))
+    _, mean, deviation = DRAWN["hurdle-lognormal"].drawn(sample, uniform(2000), 1.0)
     logarithms = np.log(demands)
     assert not far(np.sqrt(seen) * (mean - logarithms.mean()) / deviation, stats.norm())
     squares = (seen - 1) * logarithms.var(ddof=1) / deviation**2
@@ -98,7 +111,7 @@ def test_drawn_negative_binomial() -> None:
     sizes = np.geomspace(sample.mean / 50, sample.mean / 0.02, 100)
     chances = np.exp(sum(stats.nbinom.logpmf(value, sizes, sizes / (sizes + means[:, None])) for value in ERRATIC))
     below = np.cumsum(chances.sum(axis=1)) / chances.sum()
-    size, rest = DRAWN["negative-binomial"].drawn(sample, uniform(4000))
+    size, rest = DRAWN["negative-binomial"].drawn(sample, uniform(4000), 1.0)
     drawn = size * rest / (1 - rest)
     for share in (0.05, 0.25, 0.5, 0.75, 0.95):
         mean = means[np.searchsorted(below, share)]
@@ -119,24 +132,70 @@ def test_round_history(share: float) -> None:
 
 
 def test_bootstrap_alone() -> None:
-    """If no family passes the guard, the weights of what was seen have a Dirichlet law, by the counts."""
-    found = allowed_laws(NO_FAMILY, times=2000)
-    assert found.families == {"history": 2000} and {it.values for it in found.laws} == {(0, 12)}
-    drawn = np.array([it.weights[1] for it in found.laws]) / 65_536
-    assert stats.kstest(drawn, stats.beta(13, 3).cdf).pvalue > 1e-4
+    """Without a family, the weights of what was seen have a Dirichlet law, in which each number counts less."""
+    found = allowed_laws(SINGLE, times=2000)
+    assert found.families == {"history": 2000} and {*found.laws[0].values} == {0, 7}
+    drawn = np.array([dict(zip(it.values, it.weights)).get(7, 0) for it in found.laws]) / 65_536
+    assert stats.kstest(drawn, stats.beta(posterior.COUNTED, 4 * posterior.COUNTED).cdf).pvalue > 1e-4
+
+
+def test_concentrations(monkeypatch: pytest.MonkeyPatch) -> None:
+    """They have the marginal likelihoods of Dirichlet processes round Poisson laws, by sums over a grid of means."""
+    monkeypatch.setattr(posterior, "COUNTED", 1.0)
+    monkeypatch.setattr(posterior, "MEMBERS", 4000)
+    sample, means = Sample.of(ERRATIC), np.linspace(0.5, 12, 400)
+    found = members_of("poisson", fits_of(sample)["poisson"], sample, np.random.default_rng(1)).weights
+    found -= found.max()
+    shares = np.exp(found).mean(axis=1)
+    chances = stats.poisson.pmf(sample.values, means[:, None])
+    expected = []
+    for periods in len(ERRATIC) * posterior.CONCENTRATIONS:
+        # Of a Dirichlet-multinomial law (scipy's has no density for sums of weights below 1), and Jeffreys's prior.
+        risen = [[np.prod(periods * chance + np.arange(count)) for chance, count in zip(row, sample.counts)]
+                 for row in chances]
+        divisor = np.exp(np.log(periods + np.arange(len(ERRATIC))).sum())
+        expected.append((np.prod(risen, axis=1) / divisor / np.sqrt(means)).sum())
+    assert shares / shares.sum() == pytest.approx(np.array(expected) / sum(expected), rel=0.1, abs=1e-3)
+
+
+def test_families_without_a_doubt(monkeypatch: pytest.MonkeyPatch) -> None:
+    """If laws are those of families, and no end is drawn, their mean is that of the predictive laws by BIC."""
+    monkeypatch.setattr(posterior, "COUNTED", 1.0)
+    monkeypatch.setattr(posterior, "PROPOSED", 1.0)
+    monkeypatch.setattr(posterior, "MEMBERS", 2000)
+    monkeypatch.setattr(posterior, "CONCENTRATIONS", np.array([1e9]))
+    monkeypatch.setattr(posterior, "SHARES", [1.0])
+    monkeypatch.setattr(posterior, "LARGEST", 1e4)
+    sample = Sample.of(RARE)
+    families, laws = demand_laws(sample, 2000, np.random.default_rng(2))
+    bic = {name: fit.bic(sample.size) for name, fit in fits_of(sample).items()}
+    weights = {name: np.exp((min(bic.values()) - it) / 2) for name, it in bic.items() if it <= min(bic.values()) + 10}
+    total = sum(weights.values())
+    assert {name: it / 2000 for name, it in families.items()} == pytest.approx(
+        {name: weights[name] / total for name in families}, abs=2e-3)
+    expected = mixture((it / total, predictive_of(name, sample)) for name, it in weights.items())[:60]
+    below = np.cumsum([np.pad(it, (0, 60))[:60] for it in laws], axis=1)
+    errors = below.std(axis=0) / np.sqrt(len(below))
+    assert (np.abs(below.mean(axis=0) - np.cumsum(expected)) <= SURELY * errors + 3e-3).all()
 
 
 @HISTORIES
 def test_allowed_laws(numbers: Sequence[int]) -> None:
-    """Weights add up, the same seed gives the same laws, and the families have their weights."""
+    """Weights add up, the same seed gives the same laws, and each ends within its range."""
     found = allowed_laws(numbers, times=200)
     assert found == allowed_laws(numbers, times=200) != allowed_laws(numbers, times=200, seed=2)
     assert len(found.laws) == sum(found.families.values()) == 200
     for law in found.laws:
         assert sum(law.weights) == 65_536 and min(law.weights) > 0 and [*law.values] == sorted({*law.values})
-    weights = fit_demand(numbers, method="auto").diagnostics["families"]
-    assert {name: count / 200 for name, count in found.families.items()} == pytest.approx(
-        {name: weights[name] for name in found.families}, abs=1 / 200)
+        assert law.values[-1] <= posterior.LARGEST * max(numbers)
+    assert np.mean([float(law.mean) for law in found.laws]) == pytest.approx(np.mean(numbers), rel=0.25)
+
+
+def test_history_unlike_all_families() -> None:
+    """Two sizes in turn stay two sizes in most laws, since these are drawn round the history."""
+    laws = allowed_laws([3, 40] * 40).laws
+    between = [sum(weight for value, weight in zip(law.values, law.weights) if 8 < value < 35) for law in laws]
+    assert np.median(between) < 0.05 * 65_536
 
 
 def test_packs_and_boxes() -> None:
