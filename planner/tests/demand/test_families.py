@@ -226,9 +226,14 @@ def test_distances() -> None:
     """The distance of Cramer and von Mises agrees with scipy's where the law is all but continuous."""
     law = np.full(5000, 1 / 5000)
     data = np.random.default_rng(5).integers(0, 5000, (3, 40))
-    found = guard.distances(np.stack([np.bincount(it, minlength=5000) for it in data]).astype(float), law)
+    found = guard.distances(np.stack([np.bincount(it, minlength=5000) for it in data]), law)
     expected = [stats.cramervonmises((it + 0.5) / 5000, "uniform").statistic for it in data]
     assert found == pytest.approx(expected, rel=0.02)
+    chances, counts = np.array([0.1, 0.4, 0.2, 0.2, 0.1]), np.array([[0, 3, 0, 1, 0], [2, 0, 0, 2, 0]])
+    below = [[0, 0.75, 0.75, 1, 1], [0.5, 0.5, 0.5, 1, 1]]
+    expected = [4 * sum(chance * (one - other)**2 for one, other, chance in zip(row, np.cumsum(chances), chances))
+                for row in below]
+    assert guard.distances(counts, chances) == pytest.approx(expected)
 
 
 def test_guard() -> None:

@@ -10,7 +10,7 @@ from typing import NamedTuple
 
 import numpy as np
 
-from .families import Floats, Sample
+from .families import Floats, Sample, Whole
 
 TIMES = 199
 SEED = 1
@@ -36,14 +36,16 @@ class Shares(NamedTuple):
 LEAST = Shares(0.05, 0.05, 0.30, 0.10, 0.05)
 
 
-def distances(counts: Floats, chances: Floats) -> Floats:
+def distances(counts: Whole, chances: Floats) -> Floats:
     """Returns how far histories are from a law, by Cramer and von Mises. Each row has the counts of 0, 1, 2 and so on.
 
     Source: Choulakian, Lockhart and Stephens, Cramer-von Mises statistics for discrete distributions, 1994.
     """
-    size = counts.sum(axis=1)
-    below = np.cumsum(counts, axis=1) / size[:, None]
-    far: Floats = size * ((below - np.cumsum(chances))**2 @ chances)
+    size, below = counts.sum(axis=1), np.cumsum(chances)
+    starts = np.flatnonzero(np.append(True, counts[:, 1:].any(axis=0)))  # from there on, histories have the same share
+    shares = np.cumsum(counts[:, starts], axis=1) / size[:, None]
+    chance, mean, square = (np.add.reduceat(chances * below**power, starts) for power in range(3))
+    far: Floats = size * (shares**2 @ chance - 2 * shares @ mean + square.sum())
     return far
 
 
@@ -56,7 +58,7 @@ def shares_of(sample: Sample, chances: Floats) -> Shares:
     drawn = np.minimum(drawn, len(chances) - 1)
     variances = drawn.var(axis=1, ddof=1)
     counts = np.stack([np.bincount(it, minlength=width) for it in [*drawn, np.repeat(sample.values, sample.counts)]])
-    far = distances(counts.astype(float), law)
+    far = distances(counts, law)
 
     def share(count: np.int64) -> float:
         """Returns a share in which the history itself counts."""
