@@ -12,11 +12,15 @@ from pathlib import Path
 import pytest
 
 from crnplan import Scenario, item
+from crnplan.decision import long_run
 from crnplan.decision.doubt import doubt
+from crnplan.decision.long_run import check_long_run
 from crnplan.demand import checks_of, fit_demand, fit_lead, lines_of
 from crnplan.demand.posterior import allowed_laws, allowed_leads
 from crnplan.item import comparison, steps
 from crnplan.item.work import as_settings
+from crnplan.theory.long_run import LongRun
+from crnplan.theory.start_bias import theory_of
 from crnplan.theory.suggestions import suggestions_of
 from planner.tests.conftest import Answer, Command
 
@@ -210,10 +214,10 @@ def test_a_horizon_is_that_of_the_commands(room: Path, plan: Plan, crnplan: Comm
 
 
 def test_the_long_run_is_that_of_the_commands(room: Path, plan: Plan, crnplan: Command, program: Path) -> None:
-    """Without a horizon the decision and the check are those of run and check with --long-run. The costs of each key
-    are kept."""
+    """Without a horizon the decision is that of run with --long-run, and so is the check. The costs of each key are
+    kept."""
     edit(room / "settings.toml", "horizon = 12\n", "")
-    edit(room / "settings.toml", "replications = 8\n", "keys = 2\nreplications = 48\n")
+    edit(room / "settings.toml", "replications = 8\n", "replications = 8\nkeys = 2\n")
     plan()
     out = room / "plan"
     scenario = Scenario.read(out / "suggested.toml")
@@ -224,11 +228,10 @@ def test_the_long_run_is_that_of_the_commands(room: Path, plan: Plan, crnplan: C
     told = crnplan("run", out / "suggested.toml", "--long-run", "--keys", "4", "--program", program)
     assert told.output == (out / "decision.txt").read_text() and told.output.startswith("The long run\n\n")
     text = (out / "check.txt").read_text()
-    words = [word for it in text.splitlines() if it.startswith("--key") for word in it.split()]
-    told = crnplan("check", out / "suggested.toml", "best", *words, "--long-run", "--program", program)
-    assert told.output == text and "\nreplications: 96, " in text
+    keys = [it.split()[1:] for it in text.splitlines() if it.startswith("--key")]
+    assert check_long_run(scenario, "best", keys=keys, runs=8, program=program).text == text
     summary = (out / "summary.txt").read_text().replace("\n", " ")
-    assert "In the long run, 4 keys: best costs " in summary and "On new random numbers (96 keys)" in summary
+    assert "In the long run, 4 keys: best costs " in summary and "On new random numbers (16 keys)" in summary
 
 
 def test_laws_that_the_history_allows(room: Path, plan: Plan) -> None:
@@ -279,6 +282,21 @@ def test_warnings_on_the_history(room: Path, plan: Plan) -> None:
     page = (room / "plan/summary.html").read_text()
     assert page.count('<p class="warn">WARNING on the history: ') == len(warnings)
     assert "({} warnings)".format(page.count('<p class="warn">')) in output
+
+
+def test_theory_and_runs_that_disagree(room: Path, plan: Plan, monkeypatch: pytest.MonkeyPatch) -> None:
+    """If theory beside the runs is wrong, by a fifth of setup, the summary and the page say so loudly."""
+    def wrong(scenario: Scenario) -> LongRun:
+        theory = theory_of(scenario)
+        theory.setup = theory.setup * 6 // 5
+        return theory
+    edit(room / "settings.toml", "horizon = 12\nreplications = 4\n", "replications = 32\n")
+    says = "WARNING: crnsim and theory differ by more than chance allows for "
+    assert says not in plan().output
+    monkeypatch.setattr(long_run, "theory_of", wrong)
+    (room / "plan/decision.txt").unlink()
+    assert f"\n{says}" in plan().output
+    assert f'<p class="warn">{says}' in (room / "plan/summary.html").read_text()
 
 
 def test_few_orders_are_kept(program: Path) -> None:

@@ -14,14 +14,18 @@ import click
 def command(history: str, settings: str, out: str, program: str | None) -> int:
     """Plan one item: the whole way from a history and settings to a checked decision.
 
-    HISTORY.csv has a row for each period, or for each dated movement. The steps are tables, scenario, suggestions, run,
-    decision, check on new random numbers, trajectory and summary. FOLDER keeps what each has made; summary.html is the
-    page to read.
+    HISTORY.csv has a row for each period, or for each dated movement. The steps are tables, scenario, suggestions,
+    doubt, run, decision, check on new random numbers, trajectory and summary. FOLDER keeps what each has made;
+    summary.html is the page to read.
 
-    SETTINGS.toml has the tables [history] (demand, and perhaps date, every, decimal), [lead] (file and column, or
+    SETTINGS.toml has the tables [history] (demand, and perhaps date, every, decimal, fit), [lead] (file and column, or
     orders, or times), [costs] (setup, holding, backlog), [today] (s, S, stock), [run] (horizon, replications, key,
-    level) and [check] (policy, keys, replications). Costs may have decimals. A key that is misspelt is reported with
-    the keys that there are.
+    level, laws, confidence) and [check] (policy, keys, replications). Costs may have decimals. A key that is misspelt is
+    reported with the keys that there are.
+
+    Laws of demand and of lead times are fitted as by crnplan history --fit auto, unless fit says otherwise. As many laws
+    as [run] laws are drawn that the history allows: the doubt is about these, and policies that keep a fill rate under
+    the share [run] confidence of them are suggested too.
 
     Policies are compared in the long run, without the effect of the start. With [run] horizon they are compared over so
     many coming periods from [today] stock instead, in the check too. Only the trajectory always shows coming periods.

@@ -9,6 +9,7 @@ from typing import Any
 
 from .. import __version__
 from ..report.page import UNITS, Chances, Scale, number, rendered, tick
+from ..theory.long_run import exactness_of
 from .summary import Figures, Row, check, comparison, facts, headline, promise, size_of
 from .work import rows_of
 
@@ -156,7 +157,7 @@ def page_text(figures: Figures) -> str:
         "chosen": figures.chosen, "headline": headline(figures), "facts": facts(figures), "check": check(figures),
         "comparison": comparison(figures), "warnings": figures.warnings, "alarms": figures.alarms,
         "notes": figures.notes, "horizon": figures.horizon, "is_long_run": its.is_long_run, "by": figures.law,
-        "exactness": figures.exactness, "cards": cards_of(figures), "history": history_plot(figures),
+        "exactness": figures.exactness, "is_exact": figures.exactness == exactness_of(1, True), "cards": cards_of(figures), "history": history_plot(figures),
         "laws": [{**row, "law": row["law"].partition(" fitted")[0]} for row in rows_of(figures.item.text("laws.csv"))],
         "law": law_plot(figures), "stock": stock_plot(figures),
         "decided": ranges_of(figures, figures.decided.values(), figures.today, size_of(figures, "run")),
