@@ -78,6 +78,7 @@ def test_coarse_lattice(monkeypatch: pytest.MonkeyPatch) -> None:
     """If cells are few, steps are coarser, and what they are off by is said."""
     scenario = scenario_of(WIDE, ([1, 2, 5], [2, 3, 1]), costs=Costs(900, 1, 1, 9))
     policies = [Policy.of_levels(60, 60 + gap) for gap in (0, 50, 80)]
+    monkeypatch.setattr(many_laws, "MOST_WORK", 1e9)
     fine = figures(scenario, policies)
     monkeypatch.setattr(many_laws, "LEAST_ROOM", 100)
     monkeypatch.setattr(many_laws, "MOST_WORK", 1)

@@ -35,7 +35,7 @@ Transforms = npt.NDArray[np.complex128]
 DEVIATIONS = 8  # of the net demand of the lead time, which have room
 # What a law may take: cells, times what each takes (a constant, for each period of the lead time, for each pair of
 # them). With fewer cells than the least, no time is worth it.
-MOST_WORK, OF_CELL, OF_PERIOD, OF_PAIR = 500_000, 50, 42, 5
+MOST_WORK, OF_CELL, OF_PERIOD, OF_PAIR = 250_000, 50, 42, 5
 LEAST_ROOM = 512
 LONG_LEAD = 12  # periods: beyond, a law's own best policy is not looked for if there are several lead times
 GAPS = (12, 6, 6)  # that the search for a law's own best policy looks at in each round
