@@ -17,7 +17,7 @@ from crnplan.decision.doubt import doubt
 from crnplan.decision.long_run import check_long_run
 from crnplan.demand import checks_of, fit_demand, fit_lead, lines_of
 from crnplan.demand.posterior import allowed_laws, allowed_leads
-from crnplan.item import comparison, steps
+from crnplan.item import comparison, steps, summary
 from crnplan.item.work import as_settings
 from crnplan.theory.long_run import LongRun
 from crnplan.theory.start_bias import theory_of
@@ -230,8 +230,8 @@ def test_the_long_run_is_that_of_the_commands(room: Path, plan: Plan, crnplan: C
     text = (out / "check.txt").read_text()
     keys = [it.split()[1:] for it in text.splitlines() if it.startswith("--key")]
     assert check_long_run(scenario, "best", keys=keys, runs=8, program=program).text == text
-    summary = (out / "summary.txt").read_text().replace("\n", " ")
-    assert "In the long run, 4 keys: best costs " in summary and "On new random numbers (16 keys)" in summary
+    text = (out / "summary.txt").read_text().replace("\n", " ")
+    assert "In the long run, 4 keys: best costs " in text and "On new random numbers (16 keys)" in text
 
 
 def test_laws_that_the_history_allows(room: Path, plan: Plan) -> None:
@@ -319,6 +319,12 @@ def test_decimals_are_scaled(room: Path, plan: Plan, horizon: str) -> None:
                          if line.startswith("today ")) for it in ("plan", "whole"))
     for place in (3, 8):
         assert abs(10 * float(tenth[place].replace(",", "")) - float(whole[place].replace(",", ""))) <= 0.05
+
+
+@pytest.mark.parametrize("share, text", [("-1e-17", "0.0%"), ("0.98449", "98.4%"), ("1", "100.0%")])
+def test_percent(share: str, text: str) -> None:
+    """A share that rounding made less than none is none."""
+    assert summary.percent(share) == text
 
 
 def test_today_is_the_best(room: Path, plan: Plan) -> None:
@@ -427,9 +433,9 @@ def test_page_stands_alone(room: Path, plan: Plan, horizon: str) -> None:
     page = Page(text)
     assert not page.open and not page.links and "http" not in text and "url(" not in text and "<script" not in text
     words = " ".join(" ".join(page.texts).split())
-    summary = " ".join((room / "plan/summary.txt").read_text().split())
+    wanted = " ".join((room / "plan/summary.txt").read_text().split())
     parts = r"^(Below .*?) (history.csv: .*?) policy s S .* ((?:Over the|In the long run).*?[.]) (On new .*?[.]) "
-    told = re.search(parts, summary)
+    told = re.search(parts, wanted)
     assert told and all(part in words for part in told.groups())
     for policy in Scenario.read(room / "plan/suggested.toml").policies:
         assert words.count(f" {policy.name} ") >= 3

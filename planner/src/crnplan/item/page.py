@@ -10,7 +10,7 @@ from typing import Any
 from .. import __version__
 from ..report.page import UNITS, Chances, Scale, number, rendered, tick
 from ..theory.long_run import exactness_of
-from .summary import Figures, Row, check, comparison, facts, headline, promise, size_of
+from .summary import Figures, Row, check, comparison, facts, headline, percent, promise, size_of
 from .work import rows_of
 
 MARKS = 4
@@ -105,7 +105,7 @@ def regrets_of(figures: Figures) -> dict[str, Any]:
                 "low": 0.0, "high": bound, "is_marked": row["policy"] == figures.chosen, "value": f"{mean:.1f}%",
                 "below": f"{bound:.1f}% at most", "label": f"{mean:.1f}%, under 90% of the laws at most {bound:.1f}%",
                 "cost": figures.money(row["cost"]), "within": f"{float(row['within']):.0%}",
-                "fill": f"{float(row['fill']):.1%}", "least_fill": f"{float(row['fill_10']):.1%}"}
+                "fill": percent(row["fill"]), "least_fill": percent(row["fill_10"])}
     rows = [drawn(row) for row in [*figures.doubted.values()][:MOST_DOUBTED]]
     its = drawn(figures.doubted[figures.chosen])
     text = (f"Under 90% of the laws {figures.chosen} costs at most {its['high']:.1f}% more than the best of these "
@@ -128,7 +128,7 @@ def policy_row(figures: Figures, row: Row) -> dict[str, Any]:
     """Returns a policy's figures of the long run and of the run."""
     its = figures.theory[row["policy"]]
     return {"name": row["policy"], "s": int(row["s"]), "S": int(row["S"]), "cost": figures.money(its["cost"]),
-            "fill": f"{float(its['fill']):.1%}", "short": f"{float(its['short']):.1%}", "stock": float(its["stock"]),
+            "fill": percent(its["fill"]), "short": percent(its["short"]), "stock": float(its["stock"]),
             "orders": float(its["orders"]), "run": figures.cost(row),
             "low": figures.money(row["cost_low"]), "high": figures.money(row["cost_high"]),
             "is_marked": row["policy"] == figures.chosen}

@@ -146,6 +146,11 @@ def amount(value: float) -> str:
     return f"{value:,.{2 if abs(value) < LARGE else 0}f}"
 
 
+def percent(share: str) -> str:
+    """Returns a share in percent: not -0.0%, if rounding has made it less than none."""
+    return f"{max(float(share), 0.0):.1%}"
+
+
 def headline(figures: Figures) -> str:
     """Returns the decision in a sentence, by the verdict on new random numbers."""
     today, row = figures.scenario.policies[0], figures.checked[figures.chosen]
@@ -172,7 +177,7 @@ def cells_of(figures: Figures, row: Row) -> dict[str, str]:
     """Returns the cells of a policy by column."""
     its, names = figures.theory[row["policy"]], COLUMNS_OF[figures.settings.is_long_run]
     return {"policy": row["policy"], "s": row["s"], "S": row["S"], names[0]: amount(figures.money(its["cost"])),
-            "fill": f"{float(its['fill']):.1%}", "short": f"{float(its['short']):.1%}",
+            "fill": percent(its["fill"]), "short": percent(its["short"]),
             "stock": f"{float(its['stock']):,.1f}", "orders": f"{float(its['orders']):.3f}",
             names[1]: amount(figures.cost(row)), "percent": row["percent"], "verdict": row["verdict"]}
 
