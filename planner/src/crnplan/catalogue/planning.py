@@ -198,7 +198,9 @@ def warnings_of(question: Question, theory: LongRun, decision: LongRunDecision, 
     if demands < FEW_DEMANDS:
         yield f"demand in {demands} period{'s' * (demands != 1)} alone, so its law is hardly known"
     borrowed = question.demand.diagnostics.get("borrowed")
-    if borrowed is not None and borrowed.unlike:
+    if borrowed is not None and borrowed.alone:
+        yield f"its law is learned from no others: {borrowed.alone}"
+    elif borrowed is not None and borrowed.unlike:
         yield "unlike the catalogue from which laws are learned: see --borrow none"
     if not theory.exact:
         yield f"theory counts in steps of {theory.step * question.box} items"
