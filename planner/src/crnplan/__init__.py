@@ -34,6 +34,8 @@ _HOMES = {
     "LeadLaw": "demand",
     "fit_demand": "demand",
     "fit_lead": "demand",
+    "Prior": "demand.borrowing",
+    "learn": "demand.borrowing",
     "check_keys": "decision.keys",
     "doubt": "decision.doubt",
     "sensitivity": "decision.sensitivity",
@@ -53,6 +55,7 @@ if TYPE_CHECKING:
     from .decision.keys import check_keys
     from .decision.sensitivity import sensitivity
     from .demand import Checks, DemandLaw, LeadLaw, check_history, fit_demand, fit_lead
+    from .demand.borrowing import Prior, learn
     from .engine.program import find_program
     from .engine.long_run import LongRunReport
     from .engine.report import Report
