@@ -165,7 +165,8 @@ def test_families_without_a_doubt(monkeypatch: pytest.MonkeyPatch) -> None:
     monkeypatch.setattr(posterior, "MEMBERS", 2000)
     monkeypatch.setattr(posterior, "CONCENTRATIONS", np.array([1e9]))
     monkeypatch.setattr(posterior, "SHARES", [1.0])
-    monkeypatch.setattr(posterior, "LARGEST", 1e4)
+    monkeypatch.setattr(posterior, "DEMANDS_OF_END", 1e30)
+    monkeypatch.setattr(posterior, "LEAST_END", 1e4)
     sample = Sample.of(RARE)
     families, laws = demand_laws(sample, 2000, np.random.default_rng(2))
     bic = {name: fit.bic(sample.size) for name, fit in fits_of(sample).items()}
@@ -187,8 +188,14 @@ def test_allowed_laws(numbers: Sequence[int]) -> None:
     assert len(found.laws) == sum(found.families.values()) == 200
     for law in found.laws:
         assert sum(law.weights) == 65_536 and min(law.weights) > 0 and [*law.values] == sorted({*law.values})
-        assert law.values[-1] <= posterior.LARGEST * max(numbers)
+        assert law.values[-1] <= posterior.end_of(Sample.of(numbers)) * max(numbers)
     assert np.mean([float(law.mean) for law in found.laws]) == pytest.approx(np.mean(numbers), rel=0.25)
+
+
+def test_ends() -> None:
+    """Laws end at the largest of 30,000 demands, if sizes have an exponential tail, or before."""
+    for demands, times in ((2, 9.4), (12, 4.0), (172, 2.0), (5000, 1.5)):
+        assert posterior.end_of(Sample.of([0] * 3 + [4] * demands)) == pytest.approx(times, abs=0.05)
 
 
 def test_history_unlike_all_families() -> None:

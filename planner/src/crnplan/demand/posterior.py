@@ -7,17 +7,19 @@ family, or as unlike it as the history is. Drawn are, one after the other,
 
 - the family, for how many periods it counts beside the history (the concentration), and its parameters, with the
   priors of `predictive.py`, by their joint likelihood;
-- where the law ends, which no history shows: between the largest demand seen and `LARGEST` times it;
+- where the law ends, which no history shows: from the largest demand seen to `end_of` times it, evenly in the
+  logarithm;
 - the law, from the Dirichlet process round this member, which has seen the history. If no family fits at all, it is
   that of the Bayesian bootstrap: random weights of the periods (Rubin, The Bayesian bootstrap, 1981).
 
 No family is quite right, so a period of the history counts less than one (`COUNTED`): a coarsened posterior (Miller and
-Dunson, Robust Bayesian inference via coarsening, 2019). `COUNTED` and `LARGEST` were chosen on some laws such that what
+Dunson, Robust Bayesian inference via coarsening, 2019). `COUNTED` and the ends were chosen on some laws such that what
 is said of the doubt holds about as often as it says. How often it does is on the page planner/studies/README.md,
 "Doubt".
 """
 from __future__ import annotations
 
+import math
 from collections import Counter
 from collections.abc import Iterable, Iterator, Mapping, Sequence
 from dataclasses import dataclass
@@ -44,7 +46,8 @@ SHARES = [*(CONCENTRATIONS[:-1] / (1 + CONCENTRATIONS[:-1])).tolist(), 1.0]  # o
 LEAST_SEEN = 1e-12
 PROPOSED = 0.3  # what a number counts for the draws of members
 COUNTED = 0.5  # what a number counts in the posterior
-LARGEST = 4.0  # times the largest demand seen: where laws end at most. Ends are even in the logarithm.
+# Laws end at the largest demand seen, at the largest of so many demands, at least so many times the former, or between.
+DEMANDS_OF_END, LEAST_END = 30_000, 1.5
 
 
 @dataclass(frozen=True)
@@ -118,6 +121,15 @@ def picked(members: Sequence[Members], times: int, random: np.random.Generator) 
     yield from zip(*(column.tolist() for column in np.unravel_index(random.permutation(places), weights.shape)))
 
 
+def end_of(sample: Sample) -> float:
+    """Returns where laws end at most, in largest demands seen.
+
+    The largest of n sizes with an exponential tail grows as the logarithm of n (Gumbel, Statistics of Extremes, 1958,
+    section 4.2), so after few demands the largest one possible may be many times the largest one seen.
+    """
+    return max(math.log(DEMANDS_OF_END) / math.log(sample.size - sample.zeros + 1), LEAST_END)
+
+
 def demand_laws(sample: Sample, times: int, random: np.random.Generator) -> tuple[dict[str, int], list[Floats]]:
     """Draws laws of demand: how many each family gave, and their chances."""
     pack, nothing = sample.pack, np.zeros(1)
@@ -126,9 +138,10 @@ def demand_laws(sample: Sample, times: int, random: np.random.Generator) -> tupl
     if not fits:
         laws = (round_history(nothing, sample, 0.0, random, COUNTED) for _ in range(times))
         return {FROM_HISTORY: times}, [*laws]
-    least = min(fit.bic(packs.size) for fit in fits.values())
-    members = [members_of(name, fit, packs, random) for name, fit in fits.items() if fit.bic(packs.size) <= least + WORSE]
-    most = sample.most * LARGEST**stratified(random, 1, times)[0]
+    bic = {name: fit.bic(packs.size) for name, fit in fits.items()}
+    members = [members_of(name, fits[name], packs, random) for name, its in bic.items()
+               if its <= min(bic.values()) + WORSE]
+    most = sample.most * end_of(sample)**stratified(random, 1, times)[0]
     counts: Counter[str] = Counter()
     drawn: list[Floats] = []
     for end, (family, periods, member) in zip(most, picked(members, times, random)):
@@ -161,9 +174,9 @@ def random_of(seed: int, stream: int) -> np.random.Generator:
 def allowed_laws(observed: Observed | Iterable[Any], *, times: int = 100, box: int = 1, seed: int = 1) -> AllowedLaws:
     """Draws laws of demand that a history allows. The same seed gives the same laws.
 
-    `observed` and `box` are as in `fit_demand`, and so is what is raised. No law has demands above 4 times the largest
-    one seen (`LARGEST`), those above 10,000 count as 10,000, and what is less likely than 1 in 131,072 is left out. A
-    law has at least one demand above 0, if the history has.
+    `observed` and `box` are as in `fit_demand`, and so is what is raised. No law has demands above some times the
+    largest one seen (`end_of`: 9 times after 2 demands, 4 after 12, 2 after 172), those above 10,000 count as 10,000,
+    and what is less likely than 1 in 131,072 is left out. A law has at least one demand above 0, if the history has.
     """
     check_times(times)
     sample = sample_of(fit_demand(observed, method="empirical", box=box))
