@@ -186,11 +186,14 @@ def fit_demand(observed: Observed | Iterable[Any], *, method: str = "auto", box:
 
     - `empirical`: each value counts as often as it was seen.
     - `predictive`: the posterior predictive law of the family with the least BIC of those whose drawn histories look
-      like this one; what was seen, if there is none. Its promised costs are nearest to the true ones. But if large
-      demands are bounded, it orders far too much (the study planner/studies/laws.py: `hump`, `rare-bulk`).
+      like this one; what was seen, if there is none. Its promised costs are nearest to the true ones. But after few
+      periods it orders too much if sizes are bounded or those of a price list (`rare-bulk` and `prices` in the study
+      planner/studies/laws.py).
     - `auto`: the mixture of such laws by the likelihood of their families, without demands above two to three times
-      the largest one seen. It is mixed with what was seen too, if that speaks against it.
-    - the name of a family (`FAMILIES`): its posterior predictive law, whether it fits or not.
+      the largest one seen. It is mixed with what was seen too, if that speaks against it. It costs more than what was
+      seen most where a law ends abruptly (`cut-NB` in the study).
+    - the name of a family (`FAMILIES`): its posterior predictive law, whether it fits or not. In `bulk`, ordinary
+      demand is Poisson or negative binomial, and in some periods a much larger bulk comes in its place.
 
     Numbers are counted in boxes of `box` items, rounded up. Raises RefusedFaults with the place of each number that is
     too large for a scenario, and Refused if a named family does not fit at all.
