@@ -62,6 +62,7 @@ def check(scenario: Scenario, found: Candidate, pairs: np.ndarray, share: float 
 @example(([0, 6], [3, 1]), [1, 3], None, Costs(20, 0, 2, 9))
 @example(([1], [1]), [1], None, Costs(0, 0, 2, 1))
 @example(([0, 3, 7], [5, 1, 1]), [1], None, Costs(60, 0, 2, 1))
+@example(([0, 5, 7], [9, 1, 1]), [1], None, Costs(60, 0, 9, 1))
 def test_the_cheapest_of_all_pairs(demand: Pair, lead: list[int], back: Pair | None, costs: Costs) -> None:
     if back and 2 * table(back).mean > table(demand).mean:
         back = None

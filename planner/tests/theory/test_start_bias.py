@@ -67,7 +67,7 @@ def test_steps_of_several_items(case: str, monkeypatch: pytest.MonkeyPatch) -> N
                     costs=Costs(900, 0, 1, 9),
                     policies=(Policy("low", 300, 700), Policy("high", 700, 1300)))
     exact = start_bias(asked)
-    monkeypatch.setattr("crnplan.theory.lattice.MOST_PRODUCTS", 30_000)
+    monkeypatch.setattr("crnplan.theory.start_bias.MOST_BIAS_GAPS", 150)
     monkeypatch.setattr("crnplan.theory.lattice.MOST_WORK", 600_000)
     monkeypatch.setattr("crnplan.theory.start_bias.MOST_WORK", 0)
     coarse = start_bias(asked)

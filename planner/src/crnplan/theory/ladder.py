@@ -15,8 +15,8 @@ import numpy as np
 from .laws import Floats, Law
 
 DIGITS = 36  # e^-36 is below the rounding of a number.
-# Chances that differ by no more are equal but for rounding. They are compared once in so many places.
-EQUAL = 1e-16
+# Chances that differ by no more than this share are equal but for rounding. They are compared once in so many places.
+EQUAL = 1e-13
 LOOK_EVERY = 64
 
 
@@ -80,9 +80,10 @@ def with_more_lows(lows: Floats, falls: Floats, count: int) -> Floats:
     longer[:len(lows)] = lows
     turned = falls[:0:-1]
     for place in range(len(lows), count):
+        is_due = place >= reach and (place % LOOK_EVERY == 0 or place == len(lows))
+        if is_due and np.ptp(longer[place - reach:place]) <= EQUAL * longer[place - 1]:
+            longer[place:] = longer[place - 1]
+            break
         back = min(place, reach)
         longer[place] = turned[reach - back:] @ longer[place - back:place]
-        if place % LOOK_EVERY == 0 and place >= reach and np.ptp(longer[place - reach + 1:place + 1]) <= EQUAL:
-            longer[place:] = longer[place]
-            break
     return longer

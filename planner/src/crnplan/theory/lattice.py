@@ -21,10 +21,13 @@ from .one_lead import OneLead
 from .overtaking import SeveralLeads, work_of
 from .walk import Walk
 
-MOST_PRODUCTS = 300_000_000  # of cells of levels and of gaps
-MOST_CELLS = 60_000  # of a law
+# Tables of this size are searched in about half a second: gaps with one lead time, and work for late orders with
+# several, by `work_of`.
+MOST_GAPS = 60_000
+MOST_WORK = 60_000_000
+MOST_CELLS = 150_000  # of a law, or of levels
+MOST_PRODUCTS = 300_000_000  # of cells of gaps and of demands, for a walk alone
 MOST_TRANSFORM = 1 << 20  # cells of a transform
-MOST_WORK = 40_000_000  # for late orders, by `work_of`
 CELLS_OF_SHAPE = 400  # in which a scenario's shape is looked at
 LEAST_CELLS = 8  # of the largest net demand or order
 COARSER = 1.2  # by how much a step may grow if more values then lie on the lattice
@@ -127,13 +130,13 @@ def has_room(shape: Shape, step: int) -> bool:
     return shape.height * 4 / step <= MOST_TRANSFORM and (shape.spread + shape.gap) / step <= MOST_CELLS
 
 
-def is_small(shape: Shape, step: int, widest: int) -> bool:
+def is_small(shape: Shape, step: int, widest: int, most_gaps: int) -> bool:
     """Returns whether the tables of a scenario on this lattice can be made in time."""
     gap = shape.gap / step
     if not has_room(shape, step):
         return False
     if shape.leads == 1:
-        return shape.level / step * gap <= MOST_PRODUCTS
+        return gap <= most_gaps and shape.level / step <= MOST_CELLS
     return sum(late_work(shape, step, it) for it in [*gap_grid(int(gap)), widest / step]) <= MOST_WORK
 
 
@@ -146,14 +149,14 @@ def blur(scenario: Scenario, step: int) -> float:
     return total
 
 
-def lattice_of(scenario: Scenario, shape: Shape, widest: int) -> tuple[int, bool]:
-    """Returns the step of the lattice, and whether it is exact.
+def lattice_of(scenario: Scenario, shape: Shape, widest: int, most_gaps: int = MOST_GAPS) -> tuple[int, bool]:
+    """Returns the step of the lattice, and whether it is exact. With one lead time it has at most so many gaps.
 
     If it is not exact, some coarser steps are looked at too: the one that adds the least variance is taken.
     """
     base = math.gcd(*values_of(scenario))
     times = 1
-    while not is_small(shape, base * times, widest):
+    while not is_small(shape, base * times, widest, most_gaps):
         times = max(times + 1, int(times * 1.1))
         if base * times * LEAST_CELLS > max(shape.high, shape.order):
             raise NoTheory("the numbers of this scenario are too far apart for the theory's tables: what comes back is "

@@ -14,76 +14,119 @@ from __future__ import annotations
 
 import math
 from bisect import bisect_left
-from collections.abc import Iterable
+from collections.abc import Callable, Iterable
+from typing import NamedTuple
 
 import numpy as np
 import numpy.typing as npt
 
 from ..formats import MOST_ITEMS
 from ..scenario import Scenario
-from .laws import Floats, Law, Surplus, Whole, convolved, power_of, reflected, room_for, scaled, sum_of
+from .laws import Floats, Law, Places, Surplus, Whole, convolved, power_of, reflected, room_for, scaled, sum_of
 from .long_run import CLOSE, NEAR, NO_POLICY, Candidate, LongRun, gap_grid
 
 FEW = 4  # Of the gaps of a grid, one in so many is looked at for a first policy.
+NEAR_BEST = (0, 1, 1.2, 1.5)  # of the best gap: where a first policy with a fill rate is looked for
+
+EVEN = 1e-10  # Chances that differ by no more than this share are taken as the same by a search, not for figures.
 
 Sums = tuple[float, float, float]
 
 
+class GapLevels(NamedTuple):
+    """A level for each of some gaps, in cells, with the number of lows and the sums over them, here and a cell below.
+
+    Sums are of stock costs, unmet demand and chances of no backlog, in this order.
+    """
+
+    gaps: Whole
+    levels: Whole
+    totals: Floats
+    here: Floats
+    below: Floats
+
+    def joined(self, other: GapLevels) -> GapLevels:
+        """Returns these and others."""
+        return GapLevels(*(np.concatenate(its, axis=-1) for its in zip(self, other)))
+
+
 class Lows:
-    """Sums over the lows of a policy, as its gap and its level rise: of stock costs, unmet demand and chances of no
-    backlog at the end of a period that starts from a low.
+    """Sums over the lows of a policy: of stock costs, unmet demand and chances of no backlog at the end of a period that
+    starts from a low.
 
     `table` has these three as rows, and a column for each level from -2 on, in cells. A level is enough if the mean
-    unmet demand is at most `allowed`, and the mean chance of no backlog at least `ratio`.
+    unmet demand is at most `allowed`, and the mean chance of no backlog at least `ratio`. From the place `even` on all
+    places are lows with the same chance, so the sums of wider gaps follow from sums over all levels below.
     """
 
     def __init__(self, lows: Floats, table: Floats, allowed: float, ratio: float) -> None:
         """Takes the chances of the lows, up to the widest gap."""
         self.turned, self.table = lows[::-1].copy(), table
         self.allowed, self.ratio = allowed, ratio * (1 - NEAR)
-        self.chances: list[float] = lows.tolist()
-        self.columns: list[Sums] = [*zip(*table.tolist())]
+        self.chances, self.counts = lows, np.cumsum(lows)
         self.last = table.shape[1] - 3
+        self.even = int(np.flatnonzero(np.append(1.0, abs(lows - lows[-1]) > EVEN * lows[-1]))[-1])
 
-    def start(self, gap: int, floor: int) -> None:
-        """Starts from a gap, and the least level from a floor on that is enough for it, or the last one."""
-        self.gap, self.total = gap, float(self.turned[-gap - 1:].sum())
-        floor = min(floor, self.last)
-        rising = range(floor, self.last)
-        self.level = floor + bisect_left(rising, True, key=lambda level: self.is_enough(self.at(level)))
-        self.below, self.here = self.at(self.level - 1), self.at(self.level)
+    def is_enough(self, sums: Sums, total: float) -> bool:
+        """Returns whether a level with these sums is enough."""
+        return sums[1] <= self.allowed * total and sums[2] >= self.ratio * total
 
-    def at(self, level: int) -> Sums:
-        """Returns the sums of a level, computed anew."""
-        cost, unmet, held = (self.table[:, level - self.gap + 2:level + 3] @ self.turned[-self.gap - 1:]).tolist()
+    def at(self, gap: int, level: int) -> Sums:
+        """Returns the sums of a gap and a level."""
+        cost, unmet, held = (self.table[:, level - gap + 2:level + 3] @ self.turned[-gap - 1:]).tolist()
         return cost, unmet, held
 
-    def is_enough(self, sums: Sums) -> bool:
-        """Returns whether a level with these sums is enough."""
-        return sums[1] <= self.allowed * self.total and sums[2] >= self.ratio * self.total
+    def walked(self, first: int, most: int, floor_of: Callable[[int], int]) -> GapLevels:
+        """Returns for each gap up to the most the least level that is enough, from a floor on, as far as the table goes.
 
-    def rise(self, floor: int) -> bool:
-        """Goes up to the least level from a floor on that is enough. Returns whether the table has it."""
-        while self.level < floor or not self.is_enough(self.here):
-            if self.level == self.last:
-                return False
-            self.level += 1
-            self.below, self.here = self.here, self.at(self.level)
-        return True
+        That level does not fall from one gap to the next. Gaps whose last place is no low are left out.
+        """
+        total, floor, found = float(self.counts[first]), min(floor_of(first), self.last), []
+        level = floor + bisect_left(range(floor, self.last), True,
+                                    key=lambda level: self.is_enough(self.at(first, level), total))
+        below, here = self.at(first, level - 1), self.at(first, level)
+        columns: list[Sums] = [*zip(*self.table.tolist())]
+        for gap in [first, *(first + 1 + np.flatnonzero(self.chances[first + 1:most + 1])).tolist()]:
+            low, floor = float(self.chances[gap]), floor_of(gap)
+            if floor > self.last:
+                break
+            total += low if gap > first else 0.0
+            if level < floor:
+                level, below, here = floor, self.at(gap, floor - 1), self.at(gap, floor)
+            elif gap > first:
+                (a, b, c), (x, y, z) = columns[level - gap + 2], columns[level - gap + 1]
+                here = here[0] + low * a, here[1] + low * b, here[2] + low * c
+                below = below[0] + low * x, below[1] + low * y, below[2] + low * z
+            while level < self.last and not self.is_enough(here, total):
+                level, below = level + 1, here
+                here = self.at(gap, level)
+            if not self.is_enough(here, total):
+                break
+            found.append((gap, level, total, *here, *below))
+        rows = np.array(found).reshape(-1, 9).T
+        return GapLevels(rows[0].astype(int), rows[1].astype(int), rows[2], rows[3:6], rows[6:])
 
-    def widen(self, most: int) -> bool:
-        """Goes to the next gap, up to the most, whose new place can be a low. Returns whether there is one."""
-        while self.gap < most:
-            self.gap += 1
-            low = self.chances[self.gap]
-            if low:
-                place = self.level - self.gap + 2
-                (a, b, c), (x, y, z) = self.columns[place], self.columns[place - 1]
-                self.here = self.here[0] + low * a, self.here[1] + low * b, self.here[2] + low * c
-                self.below = self.below[0] + low * x, self.below[1] + low * y, self.below[2] + low * z
-                self.total += low
-                return True
-        return False
+    def spread(self, gaps: Whole, floors: Whole) -> GapLevels:
+        """Returns for gaps of at least `even` the least level that is enough, from a floor on, as far as the table goes.
+        """
+        low, totals = float(self.chances[-1]), self.counts[gaps]
+        uneven, summed = self.chances[:self.even] - low, np.cumsum(self.table, axis=1)
+        first = np.array([convolved(uneven, row)[:len(row)] for row in self.table]) if self.even else 0 * self.table
+
+        def at(levels: Whole) -> Floats:
+            """Returns the sums of these gaps with these levels."""
+            sums: Floats = first[:, levels + 2] + low * (summed[:, levels + 2] - summed[:, levels + 1 - gaps])
+            return sums
+        below, above = floors, np.full(len(gaps), self.last)  # no floor is beyond the table
+        while (below < above).any():
+            middle = (below + above) // 2
+            sums = at(middle)
+            is_enough = (sums[1] <= self.allowed * totals) & (sums[2] >= self.ratio * totals)
+            below = np.where(is_enough | (below == above), below, middle + 1)
+            above = np.where(is_enough, middle, above)
+        here, under = at(below), at(below - 1)
+        kept = (here[1] <= self.allowed * totals) & (here[2] >= self.ratio * totals)
+        return GapLevels(gaps[kept], below[kept], totals[kept], here[:, kept], under[:, kept])
 
 
 class OneLead(LongRun):
@@ -96,6 +139,7 @@ class OneLead(LongRun):
         under_way = sum_of(power_of(self.net, lead), self.above_low)
         self.after, self.before = sum_of(under_way, self.net), sum_of(under_way, reflected(self.back))
         self.one_period, self.one_before = Surplus(self.after, step), Surplus(self.before, step)
+        self.found: Candidate | None = None
 
     def laws(self, gap: int) -> tuple[Law, Law]:
         """Returns the laws of how far the stock is below S at the end of a period, and just before its demand."""
@@ -140,64 +184,71 @@ class OneLead(LongRun):
         cheap = np.flatnonzero(self.stock_costs(levels) <= CLOSE * cost)
         return max(0, int(levels[cheap[0]]) - self.step + 1) if len(cheap) else 0
 
-    def lows_beside(self, known: Candidate, share: float, lowest: int) -> Lows:
+    def lows_beside(self, known: Candidate, share: float) -> Lows:
         """Returns the sums for a search of policies that meet a share of demand and cost no more than a known one.
 
-        They start from the least gap whose orders alone cost no more, and reach to the highest level of a policy that
-        costs no more.
+        They reach to the highest level of such a policy.
         """
-        lows = self.lows_of(self.widest(known.cost, lowest))
-        first = int(np.argmax(np.cumsum(lows) * self.span * known.cost * CLOSE >= self.setup))
+        lows = self.lows_of(self.widest(known.cost, self.lowest(known.cost)))
         top = min(MOST_ITEMS, self.reach(known.cost) + len(lows) * self.step / 2)
         levels = self.step * np.arange(-2, int(top) // self.step + 2)
         held = self.one_period.below[self.one_period.place(levels)]
-        sums = Lows(lows, np.array([self.stock_costs(levels), self.unmet_at(levels), held]), self.allowed(share),
+        return Lows(lows, np.array([self.stock_costs(levels), self.unmet_at(levels), held]), self.allowed(share),
                     self.backlog / (self.backlog + self.holding))
-        sums.start(first, self.floor(first))
-        return sums
 
-    def floor(self, gap: int) -> int:
+    def floor(self, gap: Places) -> Places:
         """Returns the least level of a gap with s of at least 0, in cells."""
         return -(-self.items(gap) // self.step)
 
-    def cheapest_of(self, lows: Lows) -> tuple[float, int, int]:
-        """Returns cost, gap and level, in items, of the best policy of a gap, whose level is at most one cell lower."""
-        level, spare = lows.level * self.step, 0
-        if lows.below[2] >= lows.ratio * lows.total:
-            free, slope = lows.allowed * lows.total - lows.here[1], lows.below[1] - lows.here[1]
-            spare = min(self.step - 1, int(self.step * free / slope) if slope > 0 else self.step,
-                        level - self.items(lows.gap))
-        cost = lows.here[0] + spare / self.step * (lows.below[0] - lows.here[0])
-        return (self.setup / self.span + cost) / lows.total, lows.gap, level - spare
+    def places_of(self, lows: Lows, known: Candidate) -> GapLevels:
+        """Returns the best level of each gap that may cost no more than a known policy: a multiple of a cell.
+
+        The least of these gaps is the first one whose orders alone cost no more.
+        """
+        first = int(np.argmax(lows.counts * self.span * known.cost * CLOSE >= self.setup))
+        most = len(lows.counts) - 1
+        gaps = np.arange(max(first, lows.even), most + 1)
+        gaps = gaps[self.floor(gaps) <= lows.last]
+        places = lows.spread(gaps, self.floor(gaps))
+        return places if first >= lows.even else lows.walked(first, lows.even - 1, self.floor).joined(places)
+
+    def cheapest_of(self, places: GapLevels, lows: Lows) -> Candidate:
+        """Returns the cheapest policy of all gaps, whose levels are at most one cell lower than the places."""
+        free, slope = lows.allowed * places.totals - places.here[1], places.below[1] - places.here[1]
+        spare = np.minimum(self.step * np.divide(free, slope, where=slope > 0, out=np.ones_like(free)), self.step - 1)
+        spare = np.minimum(spare.astype(int), places.levels * self.step - self.items(places.gaps))
+        spare = np.where(places.below[2] >= lows.ratio * places.totals, spare, 0)
+        levels = places.levels * self.step - spare
+        costs = self.setup / self.span + places.here[0] + spare / self.step * (places.below[0] - places.here[0])
+        costs = np.where(levels <= MOST_ITEMS, costs / places.totals, math.inf)
+        best = int(np.argmax(costs <= costs.min() * (1 + NEAR)))
+        return self.policy(int(places.gaps[best]), int(levels[best])) if costs[best] < math.inf else NO_POLICY
 
     def cheapest_beside(self, known: Candidate, share: float) -> Candidate:
         """Returns the cheapest of all policies that meet a share of demand at once, of which one is known.
 
-        The least level that meets the share, and the newsvendor's, do not fall from one gap to the next. So one walk
-        sees the best policy of each gap (compare Zheng and Federgruen, Finding optimal (s,S) policies is about as simple
-        as evaluating a single policy, 1991).
+        Of each gap the least level is sought that meets the share and is at least the newsvendor's (compare Zheng and
+        Federgruen, Finding optimal (s,S) policies is about as simple as evaluating a single policy, 1991).
         """
         if known.cost == math.inf:
             return NO_POLICY
-        lowest = self.lowest(known.cost)
-        lows, best = self.lows_beside(known, share, lowest), (math.inf, -1, 0)
-        while lows.rise(self.floor(lows.gap)):
-            found = self.cheapest_of(lows)
-            if found[0] < best[0] * (1 - NEAR) and found[2] <= MOST_ITEMS:
-                best = found
-            if not lows.widen(self.widest(min(best[0], known.cost), lowest)):
-                break
-        best_found = known if best[1] < 0 else self.policy(best[1], best[2])
-        is_cut = lows.level == lows.last and (lows.last + 1) * self.step > MOST_ITEMS
-        return min(best_found, self.best_with_level(MOST_ITEMS, share)) if is_cut else best_found
+        lows = self.lows_beside(known, share)
+        places = self.places_of(lows, known)
+        found = self.cheapest_of(places, lows) if len(places.gaps) else known
+        is_cut = (lows.last + 1) * self.step > MOST_ITEMS and len(places.gaps) < len(lows.counts)
+        return min(found, self.best_with_level(MOST_ITEMS, share)) if is_cut else found
 
     def best(self) -> Candidate:
         """Returns the cheapest policy of all."""
-        return self.cheapest_beside(min(map(self.best_of_gap, gap_grid(self.most)[::FEW])), 0)
+        if self.found is None:
+            self.found = self.cheapest_beside(min(map(self.best_of_gap, gap_grid(self.most)[::FEW])), 0)
+        return self.found
 
     def best_with_fill(self, share: float) -> Candidate:
         """Returns the cheapest of all policies that meet at least this share of demand at once."""
-        return self.cheapest_beside(min(self.filling(gap, share) for gap in gap_grid(self.most)[::FEW]), share)
+        best = self.best()
+        gap = self.gap_of(best.point, best.level)
+        return self.cheapest_beside(min(self.filling(int(times * gap), share) for times in NEAR_BEST), share)
 
     def place_of_least(self, stock_sums: Floats, is_allowed: npt.NDArray[np.bool_]) -> tuple[float, int]:
         """Returns the least cost, and its gap, from the sums of the costs of stock over the lows of each gap.

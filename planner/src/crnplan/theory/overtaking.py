@@ -34,7 +34,7 @@ MOST_CELLS = 1_000_000  # of the transforms of many gaps, for each of some table
 MOST_WORK = 20_000_000  # for all gaps of a search, by `work_of`
 FEW = 4  # Of the gaps of a grid, one in so many is looked at for a first policy.
 # In percent: how much dearer than the best of all a policy of a search was in planner/studies/search.csv.
-MOST_EXCESS = 1.1
+MOST_EXCESS = 0.7
 SEARCHED = ("S - s is searched on a grid that gets finer around the best: found policies cost up to "
             f"{MOST_EXCESS}% more than the best of all, where that was measured")
 
@@ -89,8 +89,8 @@ def shortfall(positions: Law, gap: int, net: Law, chances: Mapping[int, float]) 
 
 
 def work_of(room: float, last: int) -> float:
-    """Returns how much work `shortfalls` has with a gap, about: a million takes 8 ms."""
-    return room * last * (last + 10)
+    """Returns how much work the laws of a gap are, about: a million takes 8 ms."""
+    return room * (last * (last + 10) + 40)
 
 
 class SeveralLeads(LongRun):

@@ -20,7 +20,7 @@ import numpy as np
 
 from ..scenario import Policy, Scenario, Table
 from .laws import Floats, Law, Surplus, convolved, power_of, sum_of
-from .lattice import has_room, late_work, lattice_of, shape_of, theory_on, values_of
+from .lattice import MOST_GAPS, has_room, late_work, lattice_of, shape_of, theory_on, values_of
 from .long_run import LongRun, exactness_of
 from .overtaking import shortfall
 
@@ -31,11 +31,13 @@ LOOK_EVERY = 8
 AT_ONCE = 32
 MOST_DENSE = 100
 MOST_WORK = 40_000_000  # for late orders of all policies, by `work_of`
+MOST_BIAS_GAPS = 17_000  # with one lead time: reviews one by one take longer than figures
 
 
-def theory_of(scenario: Scenario) -> LongRun:
+def theory_of(scenario: Scenario, most_gaps: int = MOST_GAPS) -> LongRun:
     """Returns the theory of a scenario, fine enough for its own policies. Costs of 0 are taken too.
 
+    With one lead time the lattice has at most so many gaps.
     Raises NoTheory if there is no long run, or if the numbers of the scenario are too far apart.
     """
     costs, gaps = scenario.costs, [it.S - it.s for it in scenario.policies]
@@ -46,7 +48,7 @@ def theory_of(scenario: Scenario) -> LongRun:
     work = sum(late_work(shape, base, gap / base) for gap in gaps)
     if shape.leads > 1 and has_room(shape, base) and work <= MOST_WORK:
         return theory_on(scenario, shape, base, True)
-    return theory_on(scenario, shape, *lattice_of(scenario, shape, max(gaps)))
+    return theory_on(scenario, shape, *lattice_of(scenario, shape, max(gaps), most_gaps))
 
 
 def exactness(theory: LongRun) -> str:
@@ -230,7 +232,7 @@ def start_bias(scenario: Scenario) -> StartBias:
     Costs of the long run leave `unit` out, which adds unit times the mean net demand to each; the biases have it.
     Raises NoTheory if there is no long run, or if the numbers of the scenario are too far apart.
     """
-    theory = theory_of(scenario)
+    theory = theory_of(scenario, MOST_BIAS_GAPS)
     biases = (sum(share * bias_of_gap(theory, scenario, it, gap) for gap, share in theory.gaps_of(it.s, it.S))
               for it in scenario.policies)
     return StartBias(tuple(biases), tuple(theory.figures(it.s, it.S).cost for it in scenario.policies), theory)
