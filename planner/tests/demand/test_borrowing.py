@@ -14,6 +14,7 @@ from hypothesis import given, settings
 from hypothesis import strategies as st
 from scipy import special, stats
 
+import crnplan as crn
 from crnplan.demand import DemandLaw, fit_demand, notes_of
 from crnplan.demand.borrowing import Borrowed, Prior, borrowed_laws, em, grid, law_of, learn, learning
 from crnplan.demand.borrowing.likelihoods import Cells, Sums, chunks_of, marginal, of_shares, of_sizes
@@ -132,6 +133,17 @@ def test_blur(seed: int, part: float) -> None:
     assert np.allclose(em.blurred(prior, part).reshape(grid.SHAPE), expected, rtol=0, atol=1e-14)
 
 
+def test_learned_prior(mixed: dict[str, list[int]]) -> None:
+    """The prior is that of a hundred steps from the flat one, each blurred by 5%, with the flat prior as one item."""
+    chunks, prior = chunks_of(Sample.of(it) for it in mixed.values()), em.FLAT
+    for _ in range(100):
+        prior = em.blurred(em.step(chunks, prior, em.FLAT), 0.05)
+    whole = learn(mixed).whole
+    assert whole and np.allclose(whole.chances, prior, rtol=1e-5, atol=1e-9)
+    gains = np.log10(marginal(chunks, prior) / marginal(chunks, em.FLAT))
+    assert whole.gain == pytest.approx(gains.mean(), abs=1e-5)
+
+
 def test_cells_of_histories_in_groups() -> None:
     """Histories with as many periods and demands share a row, and each has the likelihoods that it has alone."""
     samples = [Sample.of(it) for it in ([0, 3, 1], [2, 0, 0, 7], [5, 0, 1], [0, 0, 0], [4, 0, 0, 1])]
@@ -219,7 +231,8 @@ def test_large_catalogue(monkeypatch: pytest.MonkeyPatch, mixed: dict[str, list[
     prior = learn(mixed)
     assert prior.whole and (prior.items, prior.whole.items, prior.whole.sampled) == (130, 130, 60)
     assert learn(reversed(mixed.values())).text == prior.text
-    assert learn(mixed, seed=2).text != prior.text
+    other = learn(mixed, seed=2).whole
+    assert other and other.units.tolist() != prior.whole.units.tolist()
 
 
 @pytest.mark.parametrize("borrow", ["all", "class", "none"])
@@ -331,6 +344,14 @@ def test_law_of_the_item_alone(numbers: list[int], alone: str, known: Prior) -> 
         assert min(found.guard) <= 0.05
     nothing = law_of(learn([], borrow="none"), RARE)
     assert nothing == fit_demand(RARE, method="auto") and borrowed(nothing).alone == "nothing is borrowed"
+
+
+def test_entry_point(known: Prior) -> None:
+    """fit_demand borrows from a prior, which replaces its method."""
+    law, expected = crn.fit_demand(RARE, borrow=known, item_class="a"), law_of(known, RARE, "a")
+    assert law == expected and law.diagnostics == expected.diagnostics and crn.learn is learn and crn.Prior is Prior
+    with pytest.raises(Refused, match="a law is either borrowed or fitted by the method 'poisson'; leave one out"):
+        crn.fit_demand(RARE, method="poisson", borrow=known)
 
 
 def test_law_is_mixed_with_the_history(known: Prior) -> None:

@@ -16,6 +16,7 @@ from ..history.observed import Observed
 from .laws import DemandLaw, check, empirical, numbers_of
 
 if TYPE_CHECKING:
+    from .borrowing import Prior
     from .families import Fit, Floats, Sample
     from .guard import Shares
 
@@ -179,7 +180,8 @@ def auto_law(sample: Sample, law: Floats) -> tuple[Floats, dict[str, Any]]:
     return mixture([(share, law), (1 - share, sample.law)]), {"cap": cap, "share": share}
 
 
-def fit_demand(observed: Observed | Iterable[Any], *, method: str = "auto", box: int = 1) -> DemandLaw:
+def fit_demand(observed: Observed | Iterable[Any], *, method: str = "auto", box: int = 1, borrow: Prior | None = None,
+               item_class: str | None = None) -> DemandLaw:
     """Fits the law of demand to a history, or to any whole numbers from 0, one for each period.
 
     `method` is one of these:
@@ -195,9 +197,15 @@ def fit_demand(observed: Observed | Iterable[Any], *, method: str = "auto", box:
     - the name of a family (`FAMILIES`): its posterior predictive law, whether it fits or not. In `bulk`, ordinary
       demand is Poisson or negative binomial, and in some periods a much larger bulk comes in its place.
 
-    Numbers are counted in boxes of `box` items, rounded up. Raises RefusedFaults with the place of each number that is
-    too large for a scenario, and Refused if a named family does not fit at all.
+    Numbers are counted in boxes of `box` items, rounded up. With `borrow`, what a catalogue has learned (`learn`), the
+    law is that of `borrowing.law_of` for an item of the class `item_class`, in place of a method. Raises RefusedFaults
+    with the place of each number that is too large for a scenario, and Refused if a named family does not fit at all.
     """
+    if borrow is not None:
+        from .borrowing import law_of
+        if method != "auto":
+            raise Refused(f"a law is either borrowed or fitted by the method {method!r}; leave one out")
+        return law_of(borrow, observed, item_class, box=box)
     if method not in METHODS:
         raise Refused(f"there is no method {method!r} to fit demand; say {', '.join(METHODS[:-1])} or {METHODS[-1]}")
     if box < 1:
