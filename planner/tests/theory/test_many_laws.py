@@ -61,12 +61,13 @@ def test_figures_of_any_small_scenario(demand: Pair, lead: Pair, back: Pair | No
 @pytest.mark.parametrize("lead", [([4], [1]), ([1, 2, 5], [2, 3, 1]), ([6, 9], [1, 3])], ids=str)
 @pytest.mark.parametrize("demand", [WIDE, SKEWED], ids=["wide", "skewed"])
 @pytest.mark.parametrize("step", [1, 3])
-def test_figures_are_those_of_the_theory_of_one_law(demand: Pair, lead: Pair, step: int) -> None:
+@pytest.mark.parametrize("rates", [(1, 9), (9, 1)], ids=["backlog", "holding"])  # With high holding costs, s is 0.
+def test_figures_are_those_of_the_theory_of_one_law(demand: Pair, lead: Pair, step: int, rates: tuple[int, int]) -> None:
     """Also on a lattice that is not exact, and the best policy costs as much."""
-    scenario = scenario_of(demand, lead, costs=Costs(90, 1, 1, 9))
+    scenario = scenario_of(demand, lead, costs=Costs(90, 1, *rates))
     shape = shape_of(scenario)
     theory = theory_on(scenario, shape, step, step == 1)
-    policies = [Policy.of_levels(20, 20 + gap) for gap in (0, 1, 10, 31, 55)]
+    policies = [Policy.of_levels(20, 20 + gap) for gap in (0, 1, 12, 32, 56)]
     run = ManyGaps(scenario, step, step == 1, int(2 * shape.order) // step + 60)
     cost, fill = run.figures(policies)
     expected = np.array([theory.figures(it.s, it.S)[:2] for it in policies])
