@@ -402,6 +402,8 @@ def test_classes(monkeypatch: pytest.MonkeyPatch, mixed: dict[str, list[int]]) -
     assert np.allclose(prior.classes["b"].chances, pulled, rtol=1e-5, atol=1e-9)
     names = {it: borrowed(law_of(prior, RARE, it, beside=False)).prior for it in ("a", "b", "c", None)}
     assert names == {"a": "a", "b": "b", "c": "all", None: "all"}
+    of_class = law_of(Prior("all", whole=prior.classes["b"]), RARE, beside=False)
+    assert law_of(prior, RARE, "b", beside=False) == of_class != law_of(prior, RARE, beside=False)
     monkeypatch.setattr(learning, "MOST_PULLED", 64)
     again = learn(mixed, classes, "class").classes
     own = learn([mixed[it] for it in mixed if classes[it] == "a"], least=30).whole
