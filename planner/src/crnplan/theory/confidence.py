@@ -22,8 +22,8 @@ from .long_run import NO_POLICY, Candidate, LongRun, exactness_of
 CONFIDENCE = 0.8
 FACTORS = tuple(1.1**it for it in range(-5, 7))  # of the gap without a promise
 BESIDE = 8  # laws on each side of the confidence's place that are looked at for other gaps
-MOST_LEVELS = 600  # cells, with one lead time, in the mean of the laws
-MOST_WORK = 200_000  # for late orders with a gap, by `work_of`, in the mean
+MOST_LEVELS = 1_500  # cells, with one lead time, in the mean of the laws
+MOST_WORK = 60_000  # for late orders with a gap, by `work_of`, in the mean
 
 
 def shape_or_none(scenario: Scenario) -> Shape | None:

@@ -5,9 +5,9 @@ demand of L + 1 periods (Zipkin, Foundations of Inventory Management, 2000, chap
 
     C(g, S) = (setup / span + the sum of m(j) G(S - j) over j = 0 .. g) / M(g)
 
-a period, with m and M as in `long_run.py`. G(y) is the mean cost of stock and backlog of a period that starts from a low
-at y. Gaps up to `widest` are looked at, and s from `lowest` on: if G(s) is above C(g, S), the policy with the gap g - 1
-and the same S costs less. It meets more demand at once too, since the lowest of all lows meets least. So the best
+a period, with m and M as in `long_run.py`. G(y) is the mean cost of stock and backlog of a period that starts from a
+low at y. Gaps up to `widest` are looked at, and s from `lowest` on: if G(s) is above C(g, S), the policy with the gap
+g - 1 and the same S costs less. It meets more demand at once too, since the lowest of all lows meets least. So the best
 policy, also with a fill rate, has G(s) of at most its cost.
 """
 from __future__ import annotations
@@ -51,8 +51,8 @@ class GapLevels(NamedTuple):
 
 
 class Lows:
-    """Sums over the lows of a policy: of stock costs, unmet demand and chances of no backlog at the end of a period that
-    starts from a low.
+    """Sums over the lows of a policy: of stock costs, unmet demand and chances of no backlog, at the end of a period
+    that starts from a low.
 
     `table` has these three as rows, and a column for each level from -2 on, in cells. A level is enough if the mean
     unmet demand is at most `allowed`, and the mean chance of no backlog at least `ratio`. From the place `even` on all
@@ -77,7 +77,7 @@ class Lows:
         return cost, unmet, held
 
     def walked(self, first: int, most: int, floor_of: Callable[[int], int]) -> GapLevels:
-        """Returns for each gap up to the most the least level that is enough, from a floor on, as far as the table goes.
+        """Returns for each gap up to the most the least level from a floor on that is enough, if the table has it.
 
         That level does not fall from one gap to the next. Gaps whose last place is no low are left out.
         """
@@ -107,8 +107,7 @@ class Lows:
         return GapLevels(rows[0].astype(int), rows[1].astype(int), rows[2], rows[3:6], rows[6:])
 
     def spread(self, gaps: Whole, floors: Whole) -> GapLevels:
-        """Returns for gaps of at least `even` the least level that is enough, from a floor on, as far as the table goes.
-        """
+        """Returns for gaps of at least `even` the least level from a floor on that is enough, if the table has it."""
         low, totals = float(self.chances[-1]), self.counts[gaps]
         uneven, summed = self.chances[:self.even] - low, np.cumsum(self.table, axis=1)
         first = np.array([convolved(uneven, row)[:len(row)] for row in self.table]) if self.even else 0 * self.table

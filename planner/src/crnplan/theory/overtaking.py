@@ -3,8 +3,8 @@
 Let m be the longest lead time. All that was ordered up to period t is there in period t + m. So the stock after the
 arrivals of period t + m is S less two numbers: how far the position after that period's review is below S, and what was
 ordered in the last m reviews and is still under way. An order of one of these reviews is late with the chance that its
-lead time exceeds its age. None of that depends on S (compare Zipkin, Foundations of Inventory Management, 2000, sections
-7.4 and 9.6).
+lead time exceeds its age. None of that depends on S (compare Zipkin, Foundations of Inventory Management, 2000,
+sections 7.4 and 9.6).
 
 Each order lifts the position to S, from where all starts anew. So the transform of the law of both numbers' sum follows
 from renewal equations over the m periods (Feller, An Introduction to Probability Theory and Its Applications, volume I,

@@ -157,15 +157,19 @@ demand)
 fill: the share of demand that is met at once; short: the share of periods that end with items owed
 stock: the mean stock at the end of a period; orders: orders a period
 error: {self._error_text()}
-{"".join(f"{it}{chr(10)}" for it in self.remarks)}{self._run_text()}"""
+{self._lines_of_remarks()}{self._run_text()}"""
+
+    def _lines_of_remarks(self) -> str:
+        """Returns the remarks as lines."""
+        return "".join(f"{it}\n" for it in self.remarks)
 
     def _error_text(self) -> str:
         """Returns what is known of the error of the figures."""
         if self.error is None:
             return exactness_of(self.step, True)
         rough = "; that is a rough guide, so compare the policies by runs" if self.error > ROUGH else ""
-        return (f"{exactness_of(self.step, False)}: costs are right to about {max(self.error, 1e-4):.2%}, by which steps "
-                f"of {2 * self.step} change them at most{rough}")
+        return (f"{exactness_of(self.step, False)}: costs are right to about {max(self.error, 1e-4):.2%}, by which "
+                f"steps of {2 * self.step} change them at most{rough}")
 
     def _run_text(self) -> str:
         """Returns the lines on the run: its start, and what `unit` charges at its end."""

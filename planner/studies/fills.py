@@ -1,0 +1,151 @@
+"""Measures how often a promised fill rate of 98% is below 97% in truth, and what an honest promise costs.
+
+    python -m planner.studies.fills --out planner/studies/fills.csv    all, in about half an hour
+    python -m planner.studies.fills --small                            a small part, in some seconds
+
+For each law and number of periods histories are drawn as in `laws.py`. A policy is the cheapest with a fill rate of
+98%: by what was seen (`empirical`), by the fit of `fit_demand` (`auto`), and by that fit and under 80% or 90% of 100
+laws that the history allows (`sure 80%`, `sure 90%`: `theory.confidence`). There are two settings: lead time 2 and an
+order for 8 periods of demand, lead time 6 and an order for 2; backlog costs 9 times holding. Of each policy the exact
+long-run fill rate and cost under the true law are computed. `below` is the share of histories and settings with a fill
+rate below 97%, `price` how much more a policy costs than the cheapest that has 98% in truth. All are in percent, with
+standard errors over histories.
+"""
+from __future__ import annotations
+
+import math
+from collections.abc import Iterable, Iterator, Sequence
+from concurrent.futures import ProcessPoolExecutor
+from pathlib import Path
+from typing import Any
+
+import click
+import numpy as np
+import pandas as pd
+
+from crnplan.demand import fit_demand
+from crnplan.demand.posterior import allowed_laws
+from crnplan.scenario import Costs, Policy, Scenario, Table
+from crnplan.theory.confidence import FillLevels, Promises
+from crnplan.theory.lattice import theories_of
+from crnplan.theory.laws import Floats
+from crnplan.theory.long_run import Candidate, LongRun
+from planner.studies.laws import GROUPS, LAWS, PERIODS, Truth
+from planner.studies.page import markdown
+
+SHARE, ENOUGH = 0.98, 0.97
+CONFIDENCES = (0.8, 0.9)
+METHODS = ("empirical", "auto", *(f"sure {it:.0%}" for it in CONFIDENCES))
+FIGURES = ("below", "fill", "price")
+STORED = Path(__file__).with_name("fills.csv")
+HISTORIES = 40
+SETTINGS = ((2, 8), (6, 2))  # lead time and cover
+SMALL: dict[str, Any] = {"laws": ("P0.3", "INT"), "periods": (26,), "histories": 3}  # of `study`
+HOLDING, BACKLOG = 1_000, 9_000
+WHOLE = 10**12  # what the weights of a true law add up to, about
+
+
+def table_of(chances: Floats) -> Table:
+    """Returns the table of a true law."""
+    return Table.of({value: round(WHOLE * chance) for value, chance in enumerate(chances / chances.sum())})
+
+
+def scenario_of(demand: Table, leads: Sequence[int], setup: float) -> Scenario:
+    """Returns a scenario, as far as theory looks at it. Its lead times have equal weights."""
+    return Scenario(1, ("0" * 16,) * 4, 1, 1, 0, 1, Costs(round(setup), 0, HOLDING, BACKLOG), demand,
+                    Table((*leads,), (1,) * len(leads)), (Policy("today", 0, 1),))
+
+
+def scenarios_of(demand: Table, mean: float) -> list[Scenario]:
+    """Returns the scenario of each setting. An order costs what is best for its cover of a mean demand."""
+    return [scenario_of(demand, (lead,), HOLDING * mean * cover**2 / 2) for lead, cover in SETTINGS]
+
+
+def chosen(history: Sequence[int], mean: float) -> Iterator[list[Candidate]]:
+    """Yields the policies of all methods for each setting, whose true mean demand is known."""
+    seen, fitted = (scenarios_of(fit_demand(history, method=method).table, mean) for method in METHODS[:2])
+    laws = allowed_laws(history).laws
+    for by_history, own in zip(seen, fitted):
+        theory = theory_of(own)
+        plain = theory.best_with_fill(SHARE)
+        levels = FillLevels(own, theory, theory.gap_of(plain.point, plain.level), laws, (), [SHARE])
+        yield [theory_of(by_history).best_with_fill(SHARE), plain,
+               *(Promises(levels, theory, it).cheapest(plain, SHARE) for it in CONFIDENCES)]
+
+
+def theory_of(scenario: Scenario) -> LongRun:
+    """Returns the theory of a scenario on its finest lattice."""
+    return theories_of(scenario)[0]
+
+
+def cell(job: tuple[str, int, int]) -> list[dict[str, object]]:
+    """Returns the figures of the methods for a law and a number of periods."""
+    name, periods, histories = job
+    truth = Truth(name)
+    theories = [*map(theory_of, scenarios_of(table_of(truth.law), truth.mean))]
+    least = [it.best_with_fill(SHARE).cost for it in theories]
+    found = np.empty((len(FIGURES), histories, len(theories), len(METHODS)))
+    for number in range(histories):
+        for at, its in enumerate(chosen(truth.history(periods, number), truth.mean)):
+            figures = [theories[at].figures(it.point, it.level) for it in its]
+            found[0, number, at] = [it.fill < ENOUGH for it in figures]
+            found[1, number, at] = [it.fill for it in figures]
+            found[2, number, at] = [it.cost / least[at] - 1 for it in figures]
+    means = 100 * found.mean(axis=2)
+    rows: list[dict[str, object]] = []
+    for at, method in enumerate(METHODS):
+        its = dict(zip(FIGURES, means[:, :, at]))
+        errors = {f"{it}_error": its[it].std(ddof=1) / math.sqrt(histories) for it in its}
+        rows.append({"law": name, "group": GROUPS[name], "periods": periods, "method": method, "histories": histories,
+                     **{it: its[it].mean() for it in its}, **errors})
+    return rows
+
+
+def study(laws: Iterable[str], periods: Iterable[int], histories: int, jobs: int = 1) -> pd.DataFrame:
+    """Returns the figures of all cells, in the order of laws and periods whatever the number of jobs."""
+    work = [(name, count, histories) for name in laws for count in periods]
+    if jobs == 1:
+        return pd.DataFrame([row for its in map(cell, work) for row in its])
+    with ProcessPoolExecutor(jobs) as pool:
+        return pd.DataFrame([row for its in pool.map(cell, work) for row in its])
+
+
+def summary(rows: pd.DataFrame) -> pd.DataFrame:
+    """Returns the means over the laws of a group."""
+    lines = []
+    for (group, periods, method), its in rows.groupby(["group", "periods", "method"], sort=False):
+        errors = {f"{it}_error": math.sqrt((its[f"{it}_error"]**2).sum()) / len(its) for it in FIGURES}
+        lines.append({"group": group, "periods": periods, "method": method, **its[[*FIGURES]].mean(), **errors})
+    return pd.DataFrame(lines)
+
+
+def tables() -> dict[str, str]:
+    """Returns the stored figures for the page."""
+    lines, stored = [], summary(pd.read_csv(STORED))
+    for (group, periods), its in stored.groupby(["group", "periods"], sort=False):
+        by_method = its.set_index("method")
+        lines.append({"laws": group, "periods": periods, **{
+            f"{figure}, {method}": f"{by_method[figure][method]:.1f} ± {by_method[f'{figure}_error'][method]:.1f}"
+            for figure in ("below", "price") for method in METHODS}})
+    return {"fills": markdown(pd.DataFrame(lines))}
+
+
+@click.command()
+@click.option("--small", is_flag=True, help="Run a small part.")
+@click.option("--jobs", type=click.IntRange(1), default=1, show_default=True)
+@click.option("--histories", type=click.IntRange(2), default=HISTORIES, show_default=True, help="Histories of a cell.")
+@click.option("--law", "names", type=click.Choice([*LAWS]), multiple=True, help="A true law; without it all.")
+@click.option("--periods", type=int, multiple=True, default=PERIODS, show_default=True)
+@click.option("--out", type=click.Path(dir_okay=False, path_type=Path), help="Write the rows as CSV.")
+def main(small: bool, jobs: int, histories: int, names: tuple[str, ...], periods: tuple[int, ...],
+         out: Path | None) -> None:
+    """Measure how often promised fill rates hold under true laws."""
+    rows = study(**SMALL, jobs=jobs) if small else study(names or LAWS, periods, histories, jobs)
+    if out:
+        rows.to_csv(out, index=False, float_format="%.3f")
+    for table in (rows, summary(rows)):
+        click.echo(table.round(2).to_string(index=False) + "\n")
+
+
+if __name__ == "__main__":
+    main()
