@@ -32,6 +32,8 @@ VERSION = 1
 TODAY, CHOSEN = "today", "chosen"
 FEW_DEMANDS = 10
 ROUGH_RATES = 0.001
+# Gaps of a lattice. An item that is planned alone may have more, with which one of 150 takes half a minute.
+MOST_GAPS = 4_000
 # Verdicts. `more service`: today's policy misses the wanted fill, which costs more.
 CHEAPER, DEARER, UNDECIDED, SAME, SERVICE = "cheaper", "dearer", "undecided", "same", "more service"
 OF_RUN = {"better": CHEAPER, "worse": DEARER, "undecided": UNDECIDED}
@@ -129,12 +131,12 @@ def theory_of(question: Question, settings: Settings) -> LongRun:
     if question.has_backlog:
         scenario = question.scenario(settings, question.rates["backlog"])
         shape = shape_of(scenario)
-        return theory_on(scenario, shape, *lattice_of(scenario, shape, _gap(question)))
+        return theory_on(scenario, shape, *lattice_of(scenario, shape, _gap(question), MOST_GAPS))
     assert question.fill is not None
     holding, least = question.rates["holding"], question.scenario(settings, 1)
     implied = round(holding * question.fill / (1 - question.fill))
     shape = shape_of(dataclasses.replace(least, costs=dataclasses.replace(least.costs, backlog=max(1, implied))))
-    return theory_on(least, shape, *lattice_of(least, shape, _gap(question)))
+    return theory_on(least, shape, *lattice_of(least, shape, _gap(question), MOST_GAPS))
 
 
 def _gap(question: Question) -> int:
