@@ -236,14 +236,14 @@ def test_the_long_run_is_that_of_the_commands(room: Path, plan: Plan, crnplan: C
 
 def test_laws_that_the_history_allows(room: Path, plan: Plan) -> None:
     """Policies are suggested, and the choice is doubted, by the laws that the history and the lead times allow."""
-    edit(room / "settings.toml", "laws = 10", "laws = 12\nconfidence = 0.7")
+    edit(room / "settings.toml", "laws = 10", "laws = 12\nconfidence = 0.95")
     edit(room / "settings.toml", "times = [2]", "times = [2, 3, 2, 4]")
     output = plan().output.replace("\n", " ")
     out = room / "plan"
     counts = [int(line.split(",")[1]) for line in (room / "history.csv").read_text().splitlines()[1:]]
     leads = [2, 3, 2, 4]
     wanted = suggestions_of(Scenario.read(out / "scenario.toml"), allowed_laws(counts, times=12).laws,
-                            allowed_leads(leads, times=12).laws, 0.7)
+                            allowed_leads(leads, times=12).laws, 0.95)
     suggested = Scenario.read(out / "suggested.toml")
     assert suggested.policies == tuple(it.policy for it in wanted.rows)
     assert any(it.name.startswith("sure_") for it in suggested.policies)
