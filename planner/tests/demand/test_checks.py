@@ -16,6 +16,7 @@ from scipy import optimize, stats
 
 import crnplan as crn
 from crnplan.demand import Checks, checks_of, lines_of
+from crnplan.demand.checks import Check
 from crnplan.demand.effects import Facts
 from crnplan.demand.losses import LAWS, LOSSES, Loss, loss_of, loss_text
 from crnplan.demand.outliers import bound_of, outliers_of
@@ -71,6 +72,13 @@ def test_quiet_history() -> None:
     assert line == ("demand: no warning is no proof: in 8 of 10 such histories the tests see an autocorrelation of "
                     f"{sizes[0]}, a trend from {1 - sizes[1]:.0%} to {1 + sizes[1]:.0%} of the mean and a season of "
                     f"±{sizes[2]:.0%}")
+
+
+def test_level() -> None:
+    """A test warns up to 5% over the number of tests."""
+    tests = [Check(str(p), p, 0.0, "") for p in (0.0125, 0.0126, 0.05, 0.9)]
+    assert Checks(9, 9, tuple(tests), (), (), ()).warned == ("0.0125",)
+    assert Checks(9, 9, tuple(tests[:1]), (), (), ()).level == 0.05
 
 
 def test_trend() -> None:
