@@ -15,7 +15,7 @@ from scipy import stats
 from crnplan.demand import permutation
 from crnplan.demand.permutation import Orders, bound_of, centred, p_value, statistics_of
 
-TINY = [0, 5, 2, 0, 9, 1]
+ALL_ORDERS = [*itertools.permutations([0, 5, 2, 0, 9, 1])]
 KINDS = statistics_of({"season": np.array([0, 1, 0, 1, 0, 1])})
 VARIED = st.lists(st.integers(0, 30), min_size=10, max_size=40).filter(lambda its: len({*its}) > 1)
 
@@ -80,24 +80,29 @@ def test_published_season() -> None:
     assert of_row("season", [*itertools.chain(*caps)], parts) == pytest.approx(5.656, abs=0.0005)
 
 
+@pytest.fixture(scope="module")
+def drawn() -> dict[str, list[float]]:
+    """Returns the p value by drawn orders of each order of the tiny history, by test."""
+    found = [Orders(it).statistics(KINDS) for it in ALL_ORDERS]
+    return {kind: [p_value(its[kind]) for its in found] for kind in KINDS}
+
+
 @pytest.mark.parametrize("kind", KINDS)
-def test_p_values_of_all_orders(kind: str, check_all: Callable[[Any], None]) -> None:
+def test_p_values_of_all_orders(kind: str, drawn: dict[str, list[float]], check_all: Callable[[Any], None]) -> None:
     """Over all 720 orders of a history, a p value by all orders is exact; one by drawn orders is near to it.
 
     If all orders are equally likely, the share of those with p at most a is at most a, and a itself where a is such a p
     value.
     """
-    orders = [*itertools.permutations(TINY)]
-    rows = np.array(orders, dtype=float)
+    rows = np.array(ALL_ORDERS, dtype=float)
     every = KINDS[kind](centred(rows), centred(stats.rankdata(rows, axis=1)))
     by_all = np.array([(every >= it * (1 - 1e-9)).mean() for it in every])
     for attained in np.unique(by_all):
         assert (by_all <= attained + 1e-9).mean() == pytest.approx(attained)
-    drawn = [p_value(Orders(it).statistics({kind: KINDS[kind]})[kind]) for it in orders]
     check_all((str(order), bool(abs(p - exact) <= 5 * math.sqrt(exact * (1 - exact) / 1200) + 1 / 1200))
-              for order, p, exact in zip(orders, drawn, by_all))
+              for order, p, exact in zip(ALL_ORDERS, drawn[kind], by_all))
     for level in (0.05, 0.1, 0.3, 0.5):
-        assert np.mean(np.array(drawn) <= level) <= level + 0.03
+        assert np.mean(np.array(drawn[kind]) <= level) <= level + 0.03
 
 
 def test_p_value_counts_the_history() -> None:
