@@ -230,12 +230,12 @@ def tables() -> dict[str, str]:
 @click.command()
 @click.option("--small", is_flag=True, help="Run a small part.")
 @click.option("--histories", type=click.IntRange(8), default=HISTORIES, show_default=True,
-              help="Of each law; a quarter of it for each effect.")
+              help="Of each cell; a quarter of it for what is stated.")
 @click.option("--out", type=click.Path(dir_okay=False, path_type=Path), help="Write the rows as CSV.")
 def main(small: bool, histories: int, out: Path | None) -> None:
     """Measure false alarms and power of the checks of a history."""
     rows = study(**SMALL) if small else \
-        study(laws.LAWS, EFFECTS, SAID, PERIODS, histories, histories // 4, histories // 4)
+        study(laws.LAWS, EFFECTS, SAID, PERIODS, histories, histories, histories // 4)
     if out:
         rows.to_csv(out, index=False, float_format="%.4f")
     click.echo(rows.round(3).to_string(index=False))
