@@ -45,12 +45,13 @@ _HOMES = {
     "Catalogue": "catalogue",
     "read_catalogue": "catalogue",
     "plan": "catalogue",
+    "exchange_curve": "catalogue",
 }
 
 __all__ = ["__version__", *_HOMES]
 
 if TYPE_CHECKING:
-    from .catalogue import Catalogue, plan, read_catalogue
+    from .catalogue import Catalogue, exchange_curve, plan, read_catalogue
     from .decision.doubt import doubt
     from .decision.keys import check_keys
     from .decision.sensitivity import sensitivity

@@ -2,7 +2,7 @@
 
 A price is what a unit of value costs that is not met at once, beside the item's setup and holding costs. The candidates
 are vertices of the item's own convex hull: of all order-up-to levels and of gaps S - s on a grid that is refined beside
-those that are best. Candidates stand for dearer orders too: with these, fewer orders are bought.
+those that are best. There are candidates for dearer orders too, of which fewer are then bought, and for dearer stock.
 """
 from __future__ import annotations
 
@@ -23,9 +23,10 @@ from .planning import Question, Settings, question_of, theory_of
 VERSION = 1
 # Prices of a unit of value that is not met at once, in units of value: five a decade.
 PRICES: Floats = 10.0**(np.arange(-30, 26) / 5)
-# An order costs so many times its setup. With the greatest, gaps are 8^(1/2) times as wide (the economic order
-# quantity), which is within those that theory looks at.
-FACTORS = (1, 2, 4, 8)
+# How many times the setup an order costs, and how many times the holding stock costs. With the dearest orders, gaps are
+# 8^(1/2) times as wide (the economic order quantity), which is within those that theory looks at.
+VARIANTS = ((1, 1), (3, 1), (8, 1), (1, 4), (1, 16))
+DEARER_ORDERS, DEARER_STOCK = (0, 1, 2), (0, 3, 4)
 
 
 class Policies:
@@ -34,9 +35,9 @@ class Policies:
     Of each gap these are the vertices of its own hull. Columns: gap, level, stock, unmet demand, orders.
     """
 
-    def __init__(self, theory: LongRun, setup: float, holding: float) -> None:
-        """Takes the theory of an item, and its costs in money."""
-        self.theory, self.setup, self.holding = theory, setup, holding
+    def __init__(self, theory: LongRun) -> None:
+        """Takes the theory of an item."""
+        self.theory = theory
         self.rows: dict[int, Floats] = {}
 
     def of_gap(self, gap: int) -> Floats:
@@ -53,32 +54,32 @@ class Policies:
             levels, unmet, allowed = np.array([least]), np.zeros(1), np.array([True])
         levels, unmet = levels[allowed], np.clip(unmet[allowed], 0, None)
         stock = theory.surpluses(gap)[0].left(levels)
-        kept = lower_hull(np.zeros(len(levels), np.int64), self.holding * stock, unmet)
+        kept = lower_hull(np.zeros(len(levels), np.int64), stock, unmet)
         figures = [np.full(len(kept), gap), levels[kept], stock[kept], unmet[kept],
                    np.full(len(kept), 1 / theory.periods(gap))]
-        return np.stack(figures, axis=1).astype(float)
+        rows: Floats = np.stack(figures, axis=1).astype(float)
+        return rows
 
     def table(self) -> Floats:
         """Returns the rows of all gaps that were looked at."""
         return np.concatenate([self.rows[gap] for gap in sorted(self.rows)])
 
-    def chosen(self, order_cost: float, value: float) -> Whole:
+    def chosen(self, order_cost: float, holding: float, value: float) -> Whole:
         """Returns the row of the table that is best for each of the prices. `value` is that of a unit of theory."""
         table = self.table()
-        cost = order_cost * table[:, 4] + self.holding * table[:, 2]
-        unmet = value * table[:, 3]
+        cost, unmet = order_cost * table[:, 4] + holding * table[:, 2], value * table[:, 3]
         owner = np.zeros(len(table), np.int64)
         kept = lower_hull(owner, cost, unmet)
         return kept[np.searchsorted(slopes(owner[kept], cost[kept], unmet[kept])[:-1], PRICES)]
 
-    def look(self, order_costs: Sequence[float], value: float) -> list[Whole]:
-        """Looks at gaps, ever finer beside the best, and returns the best rows for each cost of an order."""
+    def look(self, costs: Sequence[tuple[float, float]], value: float) -> list[Whole]:
+        """Looks at gaps, ever finer beside the best, and returns the best rows for each cost of orders and stock."""
         wanted = set(gap_grid(self.theory.most))
         while wanted:
             self.theory.prepare(sorted(wanted))
             self.rows |= {gap: self.of_gap(gap) for gap in wanted}
             table, gaps = self.table(), sorted(self.rows)
-            found = [self.chosen(it, value) for it in order_costs]
+            found = [self.chosen(*its, value) for its in costs]
             best = {int(gap) for its in found for gap in table[np.unique(its), 0]}
             wanted = set()
             for place, gap in enumerate(gaps):
@@ -88,10 +89,12 @@ class Policies:
         return found
 
 
-def order_costs_of(setup: float, holding: float, demand: float) -> list[float]:
-    """Returns what an order costs for each of `FACTORS`: if setup is free, beside it the holding of a period's demand.
+def variants_of(setup: float, holding: float, demand: float) -> list[tuple[float, float]]:
+    """Returns what an order and an item of stock cost in each of `VARIANTS`.
+
+    If setup is free, a dearer order costs the holding of a period's demand, a number of times.
     """
-    return [setup + (factor - 1) * (setup or holding * demand) for factor in FACTORS]
+    return [(setup + (orders - 1) * (setup or holding * demand), holding * stock) for orders, stock in VARIANTS]
 
 
 def costs_of(question: Question) -> tuple[float, float]:
@@ -103,20 +106,20 @@ def candidates_of(name: str, facts: Mapping[str, Any], price: float, settings: S
                   prior: Prior) -> dict[str, Any]:
     """Returns the candidates of an item, with its mean demand and its costs. Raises Refused if it has no theory.
 
-    Each row has the place of the cost of an order, the place of the first price that it is best for, s and S, stock and
+    Each row has the place of the variant, the place of the first price that it is best for, s and S, stock and
     unmet demand in items, and orders, of a period.
     """
     question = question_of(name, facts, settings, prior)
     (setup, holding), box = costs_of(question), question.box
     demand = float(question.demand.table.mean)
-    policies = Policies(theory_of(question, settings), setup, holding)
-    found = policies.look(order_costs_of(setup, holding, demand), price * box)
+    policies = Policies(theory_of(question, settings))
+    found = policies.look(variants_of(setup, holding, demand), price * box)
     table, rows = policies.table(), []
-    for factor, its in enumerate(found):
+    for variant, its in enumerate(found):
         for place in np.flatnonzero(np.append(True, its[1:] != its[:-1])):
             gap, level, stock, unmet, orders = table[its[place]].tolist()
             point = int(level) - int(policies.theory.items(int(gap)))
-            rows.append([factor, int(place), point * box, int(level) * box, stock * box, unmet * box, orders])
+            rows.append([variant, int(place), point * box, int(level) * box, stock * box, unmet * box, orders])
     return {"demand": demand * box, "setup": setup, "holding": holding / box, "rows": rows}
 
 

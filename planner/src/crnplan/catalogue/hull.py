@@ -23,7 +23,8 @@ def _undominated(owner: Whole, cost: Floats, unmet: Floats) -> Whole:
         ranks = np.unique(unmet, return_inverse=True)[1].reshape(-1)[order] - owner[order] * (len(order) + 1)
         least = np.minimum.accumulate(ranks)
     is_kept = np.append(True, least[1:] < least[:-1])
-    return order[is_kept].astype(np.int64)
+    kept: Whole = order[is_kept]
+    return kept
 
 
 def slopes(owner: Whole, cost: Floats, unmet: Floats) -> Floats:

@@ -18,6 +18,8 @@ from ..item.steps import digest_of
 from ..sweep import program_for
 from ..sweep.progress import progress as progress_of
 from .learning import prior_of
+from .lock import alone
+from .planned import Planned, keep_planned
 from .planning import Settings, plan_batch
 from .reading import Catalogue, check_folder, missing_of
 from .store import READ, Answers, Catalogued, Reject, told_of, with_advice
@@ -54,7 +56,7 @@ class Run:
     def __init__(self, read: Catalogued, answers: Answers, settings: Settings, prior: Prior, program: str) -> None:
         """Looks at which answers can be kept."""
         self.read, self.answers, self.settings, self.prior, self.program = read, answers, settings, prior, program
-        common = settings.digest(_program_digest(program), prior)
+        self.common = common = settings.digest(_program_digest(program), prior)
         kept = answers.digests()
         self.digests = {name: Settings.digest_of(common, name, facts) for name, facts in read.facts_of_items()}
         self.left = [name for name, digest in self.digests.items() if kept.get(name) != digest]
@@ -123,6 +125,7 @@ def plan_into(folder: Path, settings: Settings, *, jobs: int | None = None, addr
           contextlib.closing(Answers(folder)) as answers):
         prior, note = prior_of(folder, read, borrow, again, settings.fit)
         run = Run(read, answers, settings, prior, path)
+        keep_planned(folder, Planned(settings, prior, run.common))
         write_rows(folder / REJECTS, Reject._fields, reject_rows(read.rejects()))
         if run.left:
             run.plan(cluster(address) if address else processes(jobs or os.cpu_count() or 1), shown)
@@ -155,16 +158,22 @@ def plan(catalogue: Catalogue, folder: str | Path, *, jobs: int | None = None, c
     import pandas as pd
     place, chosen = Path(folder), Settings(**settings)
     check_folder(place)
-    if catalogue.path.resolve() != (place / READ).resolve():
-        with told_of(place):
-            shutil.copyfile(catalogue.path, place / f"{READ}.part")
-            os.replace(place / f"{READ}.part", place / READ)
-    done = plan_into(place, chosen, jobs=jobs, address=cluster, program=program, borrow=borrow, again=again,
-                     shown=progress)
+    with alone(place):
+        done = _plan_alone(catalogue, place, chosen, jobs=jobs, address=cluster, program=program, borrow=borrow,
+                           again=again, shown=progress)
     if done.missing:
         raise Lost("; ".join(done.missing))
     return pd.read_csv(place / DECISIONS, dtype={it: str for it in ("item", "description", "class", "law", "warnings")},
                        keep_default_na=False, na_values={it: [""] for it in _numbers()})
+
+
+def _plan_alone(catalogue: Catalogue, place: Path, settings: Settings, **words: Any) -> Done:
+    """Plans a catalogue into a folder that no other run uses. It is copied there if it was read elsewhere."""
+    if catalogue.path.resolve() != (place / READ).resolve():
+        with told_of(place):
+            shutil.copyfile(catalogue.path, place / f"{READ}.part")
+            os.replace(place / f"{READ}.part", place / READ)
+    return plan_into(place, settings, **words)
 
 
 def _numbers() -> Sequence[str]:

@@ -155,9 +155,9 @@ class Writer:
 class Answers:
     """The answers that are kept in a folder, each with the digest of what it depends on."""
 
-    def __init__(self, folder: Path) -> None:
+    def __init__(self, folder: Path, name: str = ANSWERS) -> None:
         """Opens the file, or makes it."""
-        self.base = sqlite3.connect(folder / ANSWERS)
+        self.base = sqlite3.connect(folder / name)
         self.base.execute("PRAGMA journal_mode = WAL")
         self.base.execute("PRAGMA synchronous = NORMAL")
         with self.base:

@@ -24,6 +24,7 @@ for _threads in ("OMP_NUM_THREADS", "OPENBLAS_NUM_THREADS"):
 COMMANDS = {
     "item": "Plan one item: from a history and settings to a decision.",
     "catalogue": "Plan all items: from two tables to a decision for each.",
+    "curve": "Show how much service the whole stock can give for its value.",
     "history": "Make tables of a scenario from a history.",
     "why": "Say all that is wrong with a scenario, with line and advice.",
     "suggest": "Suggest policies from exact long-run theory.",
