@@ -144,9 +144,8 @@ def test_concentrations(monkeypatch: pytest.MonkeyPatch) -> None:
     monkeypatch.setattr(posterior, "COUNTED", 1.0)
     monkeypatch.setattr(posterior, "MEMBERS", 4000)
     sample, means = Sample.of(ERRATIC), np.linspace(0.5, 12, 400)
-    found = members_of("poisson", fits_of(sample)["poisson"], sample, np.random.default_rng(1)).weights
-    found -= found.max()
-    shares = np.exp(found).mean(axis=1)
+    found = members_of("poisson", fits_of(sample)["poisson"], sample, np.random.default_rng(1)).likely
+    shares = np.exp(found - found.max())
     chances = stats.poisson.pmf(sample.values, means[:, None])
     expected = []
     for periods in len(ERRATIC) * posterior.CONCENTRATIONS:

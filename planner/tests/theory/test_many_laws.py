@@ -62,7 +62,8 @@ def test_figures_of_any_small_scenario(demand: Pair, lead: Pair, back: Pair | No
 @pytest.mark.parametrize("demand", [WIDE, SKEWED], ids=["wide", "skewed"])
 @pytest.mark.parametrize("step", [1, 3])
 @pytest.mark.parametrize("rates", [(1, 9), (9, 1)], ids=["backlog", "holding"])  # With high holding costs, s is 0.
-def test_figures_are_those_of_the_theory_of_one_law(demand: Pair, lead: Pair, step: int, rates: tuple[int, int]) -> None:
+def test_figures_are_those_of_the_theory_of_one_law(demand: Pair, lead: Pair, step: int,
+                                                    rates: tuple[int, int]) -> None:
     """Also on a lattice that is not exact, and the best policy costs as much."""
     scenario = scenario_of(demand, lead, costs=Costs(90, 1, *rates))
     shape = shape_of(scenario)

@@ -5,8 +5,8 @@ from what is known after the history: a mixture of Dirichlet processes round the
 Mixtures of Dirichlet processes with applications to Bayesian nonparametric problems, 1974). So a law is that of a
 family, or as unlike it as the history is. Drawn are, one after the other,
 
-- the family, for how many periods it counts beside the history (the concentration), and its parameters, with the
-  priors of `predictive.py`, by their joint likelihood;
+- the family, and for how many periods it counts beside the history (the concentration), by their likelihood;
+- the parameters of the family, with the priors of `predictive.py`;
 - where the law ends, which no history shows: from the largest demand seen to `end_of` times it, evenly in the
   logarithm;
 - the law, from the Dirichlet process round this member, which has seen the history. If no family fits at all, it is
@@ -88,37 +88,46 @@ def round_history(base: Floats, sample: Sample, share: float, random: np.random.
 
 
 class Members(NamedTuple):
-    """Members of a family that were drawn, and the logarithm of the weight of each with each concentration: a row for
-    each concentration, a column for each member."""
+    """Members of a family that were drawn, with the shares by which they are picked, summed up, and the logarithm of
+    how likely each concentration is."""
 
     name: str
     parameters: Parameters
-    weights: Floats
+    below: Floats
+    likely: Floats
 
 
 def members_of(name: str, fit: Fit, packs: Sample, random: np.random.Generator) -> Members:
     """Draws members of a family, as if each number counted `PROPOSED`, and weighs them by how likely they are.
 
-    What all weights of a family have in common is approximated as in the Bayesian information criterion. Source of the
-    weights: Rubin, Using the SIR algorithm to simulate posterior distributions, 1988.
+    A concentration is as likely as Dirichlet processes round all members make the sample. Members are picked by their
+    own likelihood alone: a process takes equal demands as one, so members by its likelihood would be off in the mean.
+    What is common to a family is approximated as in the Bayesian information criterion. Source of the weights: Rubin,
+    Using the SIR algorithm to simulate posterior distributions, 1988.
     """
     family = DRAWN[name]
     parameters = family.drawn(packs, stratified(random, UNIFORMS, MEMBERS), PROPOSED)
     seen = np.maximum(family.chances(parameters, packs.values), LEAST_SEEN)
+    own = np.log(seen) @ packs.counts
     periods = packs.size * CONCENTRATIONS[:, None, None]
     weights = periods * seen
     likely = (special.gammaln(weights + packs.counts) - special.gammaln(weights)).sum(axis=2)
     likely += special.gammaln(periods[:, :, 0]) - special.gammaln(periods[:, :, 0] + packs.size)
     common = PROPOSED * fit.log_likelihood - fit.parameters / 2 * np.log(packs.size)
-    return Members(name, parameters, COUNTED * likely - PROPOSED * (np.log(seen) @ packs.counts) + common)
+    below = np.cumsum(np.exp((COUNTED - PROPOSED) * (own - own.max())))
+    return Members(name, parameters, below / below[-1],
+                   special.logsumexp(COUNTED * likely - PROPOSED * own, axis=1) + common)
 
 
 def picked(members: Sequence[Members], times: int, random: np.random.Generator) -> Iterator[tuple[int, int, int]]:
-    """Yields the places of a family, of a concentration and of a member for each law, by their weights."""
-    weights = np.array([it.weights for it in members])
-    below = np.cumsum(np.exp(weights - weights.max()))
+    """Yields the places of a family, of a concentration and of a member for each law."""
+    likely = np.array([it.likely for it in members])
+    below = np.cumsum(np.exp(likely - likely.max()))
     places = np.searchsorted(below[:-1] / below[-1], (np.arange(times) + random.random()) / times)
-    yield from zip(*(column.tolist() for column in np.unravel_index(random.permutation(places), weights.shape)))
+    families, concentrations = np.unravel_index(random.permutation(places), likely.shape)
+    for family, concentration, uniform in zip(families, concentrations, stratified(random, 1, times)[0]):
+        member = np.searchsorted(members[family].below[:-1], uniform)
+        yield int(family), int(concentration), int(member)
 
 
 def end_of(sample: Sample) -> float:
