@@ -124,13 +124,16 @@ def test_killed(folder: Path, whole: Path, crnplan: Command, holding: Path, star
     """Kills the first process: its workers end by themselves, and at most one batch of each is planned again."""
     process = start("--jobs", str(JOBS))
     wait_until(lambda: kept(folder) >= 1)
+    told = crnplan("catalogue", *WORDS, "--out", "plan", "--program", holding)
+    assert told.status == 2 and "plan: another run of crnplan works in this folder" in told.errors
     process.kill()
     process.wait()
     (folder / "go_on").touch()
     wait_until(lambda: not living(process))
     there, before = kept(folder), runs(folder)
+    assert there > 0
     now, from_before = goes_on(folder, whole, crnplan, holding)
-    assert from_before == there > 0 and now == runs(folder) - before == FEW - there
+    assert from_before == there and now == runs(folder) - before == FEW - there
     assert before - there <= JOBS * running.BATCH
 
 
@@ -167,7 +170,7 @@ def test_no_room_to_read(folder: Path, crnplan: Command, holding: Path, start: S
     _, errors = process.communicate(timeout=60)
     lines = [it for it in errors.decode().splitlines() if it.startswith("crnplan:")]
     assert process.returncode == 2 and len(lines) == 1 and "make room" in lines[0], errors
-    assert [it.name for it in (folder / "plan").iterdir()] == []
+    assert [it.name for it in (folder / "plan").iterdir()] == ["lock"]
 
 
 def test_a_worker_that_is_killed(folder: Path, whole: Path, crnplan: Command, holding: Path, start: Start) -> None:

@@ -7,6 +7,7 @@ from typing import Any
 
 from ..history.cells import Rules
 from .config import read_config
+from .lock import alone
 from .parts import KEEP, LEAVE_OUT, Ways
 from .planning import Settings
 from .reading import Catalogue, Words, check_folder, kinds_of, read_into
@@ -38,6 +39,14 @@ def commanded(asked: Mapping[str, Any], say: Callable[[str], None], note: Callab
     words, settings = words_of(asked, config)
     folder = Path(asked["out"])
     check_folder(folder)
+    with alone(folder):
+        return _planned(asked, config, words, settings, say, note)
+
+
+def _planned(asked: Mapping[str, Any], config: Mapping[str, Any], words: Words, settings: Settings,
+             say: Callable[[str], None], note: Callable[[str], None]) -> int:
+    """Does what `commanded` does, in a folder of its own."""
+    folder = Path(asked["out"])
     path = read_into(folder, {kind: asked[kind] for kind in ("demand", "items", "orders")}, words)
     catalogue = Catalogue(path)
     (folder / FOUND).write_text(catalogue.found, "utf-8")

@@ -159,7 +159,7 @@ def read_catalogue(demand: str | Path, items: str | Path, orders: str | Path | N
 
 def check_folder(folder: Path) -> None:
     """Makes a folder. Raises Refused if it has files that are of no catalogue: they might be overwritten."""
-    known = {READ, ANSWERS, f"{READ}.part", PARTS}
+    known = {READ, ANSWERS, f"{READ}.part", PARTS, "lock"}
     with told_of(folder):
         folder.mkdir(parents=True, exist_ok=True)
         names = {it.name for it in folder.iterdir()}
