@@ -19,6 +19,7 @@ from ..sweep import program_for
 from ..sweep.progress import progress as progress_of
 from .learning import prior_of
 from .lock import alone
+from .planned import Planned, keep_planned
 from .planning import Settings, plan_batch
 from .reading import Catalogue, check_folder, missing_of
 from .store import READ, Answers, Catalogued, Reject, told_of, with_advice
@@ -55,7 +56,7 @@ class Run:
     def __init__(self, read: Catalogued, answers: Answers, settings: Settings, prior: Prior, program: str) -> None:
         """Looks at which answers can be kept."""
         self.read, self.answers, self.settings, self.prior, self.program = read, answers, settings, prior, program
-        common = settings.digest(_program_digest(program), prior)
+        self.common = common = settings.digest(_program_digest(program), prior)
         kept = answers.digests()
         self.digests = {name: Settings.digest_of(common, name, facts) for name, facts in read.facts_of_items()}
         self.left = [name for name, digest in self.digests.items() if kept.get(name) != digest]
@@ -124,6 +125,7 @@ def plan_into(folder: Path, settings: Settings, *, jobs: int | None = None, addr
           contextlib.closing(Answers(folder)) as answers):
         prior, note = prior_of(folder, read, borrow, again, settings.fit)
         run = Run(read, answers, settings, prior, path)
+        keep_planned(folder, Planned(settings, prior, run.common))
         write_rows(folder / REJECTS, Reject._fields, reject_rows(read.rejects()))
         if run.left:
             run.plan(cluster(address) if address else processes(jobs or os.cpu_count() or 1), shown)
