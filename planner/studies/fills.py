@@ -37,10 +37,11 @@ SHARE, ENOUGH = 0.98, 0.97
 CONFIDENCES = (0.8, 0.9)
 METHODS = ("empirical", "auto", *(f"sure {it:.0%}" for it in CONFIDENCES))
 FIGURES = ("below", "fill", "price")
+BY_LAW = METHODS[2]
 STORED = Path(__file__).with_name("fills.csv")
 HISTORIES = 40
 SETTINGS = ((2, 8), (6, 2))  # lead time and cover
-SMALL: dict[str, Any] = {"laws": ("P0.3", "INT"), "periods": (26,), "histories": 3}  # of `study`
+SMALL: dict[str, Any] = {"laws": ("P0.3", "INT"), "periods": (26,), "histories": 2}  # of `study`
 HOLDING, BACKLOG = 1_000, 9_000
 WHOLE = 10**12  # what the weights of a true law add up to, about
 
@@ -119,15 +120,24 @@ def summary(rows: pd.DataFrame) -> pd.DataFrame:
     return pd.DataFrame(lines)
 
 
+def spelt(its: pd.Series, figure: str) -> str:
+    """Returns a figure with its standard error."""
+    return f"{its[figure]:.1f} ± {its[f'{figure}_error']:.1f}"
+
+
 def tables() -> dict[str, str]:
-    """Returns the stored figures for the page."""
-    lines, stored = [], summary(pd.read_csv(STORED))
-    for (group, periods), its in stored.groupby(["group", "periods"], sort=False):
-        by_method = its.set_index("method")
-        lines.append({"laws": group, "periods": periods, **{
-            f"{figure}, {method}": f"{by_method[figure][method]:.1f} ± {by_method[f'{figure}_error'][method]:.1f}"
-            for figure in ("below", "price") for method in METHODS}})
-    return {"fills": markdown(pd.DataFrame(lines))}
+    """Returns the stored figures for the page: all methods in the mean of the laws, and one of them by law."""
+    stored = pd.read_csv(STORED)
+    means = summary(stored).set_index(["group", "periods", "method"])
+    lines = [{"laws": group, "periods": periods, **{
+        f"{figure}, {method}": spelt(means.loc[group, periods, method], figure)
+        for figure in ("below", "price") for method in METHODS}}
+        for group, periods in means.index.droplevel("method").unique()]
+    cells = stored[stored["method"] == BY_LAW].set_index(["law", "periods"])
+    by_law = [{"law": law, **{f"{figure}, {periods}": spelt(cells.loc[law, periods], figure)
+                              for figure in ("below", "price") for periods in PERIODS}}
+              for law in stored["law"].unique()]
+    return {"fills": markdown(pd.DataFrame(lines)), "fills-by-law": markdown(pd.DataFrame(by_law))}
 
 
 @click.command()

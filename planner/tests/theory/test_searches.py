@@ -55,7 +55,7 @@ def check(scenario: Scenario, found: Candidate, pairs: np.ndarray, share: float 
     assert found.cost <= least + 1e-6 * max(1, found.cost)
 
 
-@settings(max_examples=15)
+@settings(max_examples=10)
 @given(demand=laws(7, 3).filter(lambda it: max(it[0]) > 0), back=st.none() | laws(1, 2),
        lead=st.sampled_from([[1], [2], [3], [1, 3], [1, 2, 4]]),
        costs=st.builds(Costs, st.integers(0, 60), st.just(0), st.integers(2, 9), st.integers(1, 40)))
@@ -92,7 +92,7 @@ def test_the_second_fill_is_that_of_a_chain(demand: Pair, back: Pair | None, lev
 
 
 @pytest.mark.parametrize("share", (0.95, 0.995))
-@pytest.mark.parametrize("step", [1, 3, 10])
+@pytest.mark.parametrize("step", [3, 10])
 def test_no_gap_of_a_lattice_is_cheaper(step: int, share: float) -> None:
     """On a coarse lattice too: each gap has one cheapest policy with a fill rate, which `filling` finds by itself."""
     scenario = scenario_of((range(41), [1 + it % 5 for it in range(41)]), ([3], [1]), costs=Costs(700, 0, 1, 5))
