@@ -52,19 +52,22 @@ def test_columns(by_hand: Doubt) -> None:
     assert today["own_regret_90"] == pytest.approx(0.309)
     assert [today[it] for it in ("fill", "fill_10")] == pytest.approx([0.97, 0.954])
     assert [*by_hand.frame] == [*list(today)[1:]]
+    rounded = dataclasses.replace(by_hand.figures, least=by_hand.figures.cost.min(axis=1) * (1 + 1e-12))
+    assert dataclasses.replace(by_hand, figures=rounded).own_regrets.min() == 0
 
 
 def test_sentences(by_hand: Doubt) -> None:
     """The sentences say figures of the cheapest policy, and the notes what is to be known."""
-    assert by_hand.sentence == ("today is within 3% of the best of these 2 policies under 60% of the laws that this history "
-                                "allows.")
-    assert by_hand.bounds.startswith("Under 90% of the laws it costs at most 10.0% more than the best, and under 90% its "
-                                     "fill rate is at least 95.4%.")
+    assert by_hand.sentence == ("today is within 3% of the best of these 2 policies under 60% of the laws that this "
+                                "history allows.")
+    assert by_hand.bounds.startswith("Under 90% of the laws it costs at most 30.9% more than the best of all policies, "
+                                     "and under 90% its fill rate is at least 95.4%. In a study ")
     text = by_hand.text
     assert text.startswith("The long run under 5 laws that the history allows\n\npolicy ")
     assert "\ntoday   15  40  106.20   4.00%     10.00%     60%      60%" in text
-    for note in ("laws of demand: 4 poisson, 2 history", "lead times: those of the scenario", "1 laws of 6 are left out",
-                 "in steps of up to 3 items: costs are right to about 0.20%", "the mean demand of the scenario is "):
+    for note in ("laws of demand: 4 poisson, 2 history", "lead times: those of the scenario",
+                 "1 laws of 6 are left out", "in steps of up to 3 items: costs are right to about 0.20%",
+                 "the mean demand of the scenario is "):
         assert note in text
 
 
@@ -73,9 +76,10 @@ def test_single_policy(by_hand: Doubt) -> None:
     figures = dataclasses.replace(by_hand.figures, cost=by_hand.figures.cost[:, :1], fill=by_hand.figures.fill[:, :1])
     alone = dataclasses.replace(by_hand, policies=by_hand.policies[:1], figures=figures)
     assert alone.sentence == "today is within 3% of the best of all under 60% of the laws that this history allows."
-    assert "at most 30.9% more than the best" in alone.bounds
+    assert "at most 30.9% more than the best of all policies" in alone.bounds
     unknown = dataclasses.replace(by_hand, figures=dataclasses.replace(by_hand.figures, least=np.full(5, np.nan)))
     assert not any(name.startswith("own") for name in unknown.columns)
+    assert "at most 10.0% more than the best of these" in unknown.bounds
 
 
 def test_figures_are_those_of_each_law(part: Scenario) -> None:

@@ -38,7 +38,8 @@ def draw(found: Doubt, path: Path) -> None:
     """Draws the regrets of all policies."""
     from ..report.doubt_pictures import draw_regrets
     from ..report.pictures import open_pyplot
-    draw_regrets(open_pyplot(), [found.policies[it] for it in found.order], found.regrets_shown, found.within, MOST, path)
+    policies = [found.policies[it] for it in found.order]
+    draw_regrets(open_pyplot(), policies, found.regrets_shown, found.within, MOST, path)
 
 
 def show(found: Doubt, form: str | None) -> None:
