@@ -37,7 +37,7 @@ def step(chunks: Iterable[Cells], prior: Floats, pull: Floats) -> Floats:
     expected = pull.copy()
     for cells in chunks:
         likely = np.add.reduceat(cells.sizes / cells.marginal(prior)[:, None], cells.starts)
-        expected += prior * (cells.shares.T @ likely)
+        expected += prior * np.einsum("ij,ik->jk", cells.shares, likely)
     updated: Floats = expected / expected.sum()
     return updated
 

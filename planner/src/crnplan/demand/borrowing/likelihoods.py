@@ -81,8 +81,11 @@ class Cells(NamedTuple):
                    np.cumsum(counts) - counts, np.repeat(np.arange(len(counts)), counts))
 
     def marginal(self, prior: Floats) -> Floats:
-        """Returns the likelihood of each history under a prior (cells of the share, cells of sizes)."""
-        rows = self.shares @ prior
+        """Returns the likelihood of each history under a prior (cells of the share, cells of sizes).
+
+        A product of matrices would have other last bits with each library of linear algebra, and with some is slower.
+        """
+        rows = np.einsum("ij,jk->ik", self.shares, prior)
         likelihoods: Floats = np.einsum("ij,ij->i", rows[self.groups], self.sizes)
         return likelihoods
 
