@@ -1,6 +1,6 @@
 """Measures how often a promised fill rate of 98% is below 97% in truth, and what an honest promise costs.
 
-    python -m planner.studies.fills --out planner/studies/fills.csv    all, in about half an hour
+    python -m planner.studies.fills --out planner/studies/fills.csv    what is stored, in about 20 minutes
     python -m planner.studies.fills --small                            a small part, in some seconds
 
 For each law and number of periods histories are drawn as in `laws.py`. A policy is the cheapest with a fill rate of
@@ -30,7 +30,7 @@ from crnplan.theory.confidence import FillLevels, Promises
 from crnplan.theory.lattice import theories_of
 from crnplan.theory.laws import Floats
 from crnplan.theory.long_run import Candidate, LongRun
-from planner.studies.laws import GROUPS, LAWS, PERIODS, Truth
+from planner.studies.laws import DESIGNED, GROUPS, LAWS, PERIODS, Truth
 from planner.studies.page import markdown
 
 SHARE, ENOUGH = 0.98, 0.97
@@ -144,13 +144,13 @@ def tables() -> dict[str, str]:
 @click.option("--small", is_flag=True, help="Run a small part.")
 @click.option("--jobs", type=click.IntRange(1), default=1, show_default=True)
 @click.option("--histories", type=click.IntRange(2), default=HISTORIES, show_default=True, help="Histories of a cell.")
-@click.option("--law", "names", type=click.Choice([*LAWS]), multiple=True, help="A true law; without it all.")
+@click.option("--law", "names", type=click.Choice([*LAWS]), multiple=True, help="A true law; without it the designed ones.")
 @click.option("--periods", type=int, multiple=True, default=PERIODS, show_default=True)
 @click.option("--out", type=click.Path(dir_okay=False, path_type=Path), help="Write the rows as CSV.")
 def main(small: bool, jobs: int, histories: int, names: tuple[str, ...], periods: tuple[int, ...],
          out: Path | None) -> None:
     """Measure how often promised fill rates hold under true laws."""
-    rows = study(**SMALL, jobs=jobs) if small else study(names or LAWS, periods, histories, jobs)
+    rows = study(**SMALL, jobs=jobs) if small else study(names or DESIGNED, periods, histories, jobs)
     if out:
         rows.to_csv(out, index=False, float_format="%.3f")
     for table in (rows, summary(rows)):
