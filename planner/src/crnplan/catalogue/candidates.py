@@ -7,8 +7,8 @@ those that are best. There are candidates for dearer orders too, of which fewer 
 from __future__ import annotations
 
 import json
-from collections.abc import Mapping, Sequence
-from typing import Any
+from collections.abc import Iterable, Mapping, Sequence
+from typing import Any, NamedTuple
 
 import numpy as np
 
@@ -20,73 +20,81 @@ from .hull import Floats, Whole, lower_hull, slopes
 from .planning import Question, Settings, question_of, theory_of
 
 # Answers of other versions are not used again.
-VERSION = 1
-# Prices of a unit of value that is not met at once, in units of value: five a decade.
-PRICES: Floats = 10.0**(np.arange(-30, 26) / 5)
+VERSION = 2
+# Prices of a unit of value that is not met at once, in units of value: eight a decade.
+PRICES: Floats = 10.0**(np.arange(-40, 33) / 8)
+DIGITS = 10  # of a figure that is kept
 # How many times the setup an order costs, and how many times the holding stock costs. With the dearest orders, gaps are
 # 8^(1/2) times as wide (the economic order quantity), which is within those that theory looks at.
 VARIANTS = ((1, 1), (3, 1), (8, 1), (1, 4), (1, 16))
 DEARER_ORDERS, DEARER_STOCK = (0, 1, 2), (0, 3, 4)
+STOCK = (1, 4, 16)
+
+
+class Best(NamedTuple):
+    """The best level of a gap for each cost of stock and each price, with its figures: arrays of that shape."""
+
+    level: Whole
+    stock: Floats
+    unmet: Floats
 
 
 class Policies:
-    """The policies of an item that may be best, with their figures in the units of theory: a row for each.
+    """The best policies of an item, gap by gap, for each of `STOCK` and each of the prices, in the units of theory.
 
-    Of each gap these are the vertices of its own hull. Columns: gap, level, stock, unmet demand, orders.
+    Of a gap these are vertices of the hull of all its levels. Of all gaps the best is taken.
     """
 
-    def __init__(self, theory: LongRun) -> None:
-        """Takes the theory of an item."""
-        self.theory = theory
-        self.rows: dict[int, Floats] = {}
+    def __init__(self, theory: LongRun, holding: float, value: float) -> None:
+        """Takes the theory of an item, what it costs to hold a unit, and a unit's price."""
+        self.theory, self.holding, self.value = theory, holding, value
+        self.known: dict[int, Best] = {}
 
-    def of_gap(self, gap: int) -> Floats:
-        """Returns the rows of a gap. There are none if s would be below 0."""
+    def of_gap(self, gap: int) -> Best | None:
+        """Returns the best levels of a gap; None if s or S is out of its range with each."""
         theory = self.theory
-        unmet = theory.unmet_of(gap)
+        least, unmet = int(theory.items(gap)), np.clip(theory.unmet_of(gap), 0, None)
+        if least > MOST_ITEMS:
+            return None
         levels = theory.step * np.arange(len(unmet))
-        allowed = (levels >= theory.items(gap)) & (levels <= MOST_ITEMS)
-        if not allowed.any():
-            least = int(theory.items(gap))
-            if least > MOST_ITEMS:
-                return np.empty((0, 5))
-            # The least level that s may have lies above all that is ever owed.
-            levels, unmet, allowed = np.array([least]), np.zeros(1), np.array([True])
-        levels, unmet = levels[allowed], np.clip(unmet[allowed], 0, None)
+        allowed = (levels >= least) & (levels <= MOST_ITEMS)
+        # The least level that s may have can lie above all that is ever owed.
+        levels, unmet = (levels[allowed], unmet[allowed]) if allowed.any() else (np.array([least]), np.zeros(1))
         stock = theory.surpluses(gap)[0].left(levels)
         kept = lower_hull(np.zeros(len(levels), np.int64), stock, unmet)
-        figures = [np.full(len(kept), gap), levels[kept], stock[kept], unmet[kept],
-                   np.full(len(kept), 1 / theory.periods(gap))]
-        rows: Floats = np.stack(figures, axis=1).astype(float)
-        return rows
+        prices = slopes(kept * 0, self.holding * stock[kept], self.value * unmet[kept])[:-1]
+        places = kept[np.searchsorted(prices, PRICES / np.array(STOCK)[:, None])]
+        return Best(levels[places], stock[places], unmet[places])
 
-    def table(self) -> Floats:
-        """Returns the rows of all gaps that were looked at."""
-        return np.concatenate([self.rows[gap] for gap in sorted(self.rows)])
+    def look_at(self, gaps: Iterable[int]) -> None:
+        """Computes the best levels of gaps."""
+        new = sorted({*gaps} - self.known.keys())
+        self.theory.prepare(new)
+        self.known |= {gap: best for gap in new if (best := self.of_gap(gap)) is not None}
 
-    def chosen(self, order_cost: float, holding: float, value: float) -> Whole:
-        """Returns the row of the table that is best for each of the prices. `value` is that of a unit of theory."""
-        table = self.table()
-        cost, unmet = order_cost * table[:, 4] + holding * table[:, 2], value * table[:, 3]
-        owner = np.zeros(len(table), np.int64)
-        kept = lower_hull(owner, cost, unmet)
-        return kept[np.searchsorted(slopes(owner[kept], cost[kept], unmet[kept])[:-1], PRICES)]
-
-    def look(self, costs: Sequence[tuple[float, float]], value: float) -> list[Whole]:
-        """Looks at gaps, ever finer beside the best, and returns the best rows for each cost of orders and stock."""
-        wanted = set(gap_grid(self.theory.most))
-        while wanted:
-            self.theory.prepare(sorted(wanted))
-            self.rows |= {gap: self.of_gap(gap) for gap in wanted}
-            table, gaps = self.table(), sorted(self.rows)
-            found = [self.chosen(*its, value) for its in costs]
-            best = {int(gap) for its in found for gap in table[np.unique(its), 0]}
-            wanted = set()
-            for place, gap in enumerate(gaps):
-                if gap in best:
-                    below, above = gaps[max(place - 1, 0)], gaps[min(place + 1, len(gaps) - 1)]
-                    wanted |= {(below + gap) // 2, (gap + above + 1) // 2} - self.rows.keys()
+    def best_gaps(self, costs: Sequence[tuple[float, float]]) -> list[Whole]:
+        """Returns the best gap for each price, for each cost of orders and of stock in the order of `VARIANTS`."""
+        gaps, found = sorted(self.known), []
+        orders = np.array([1 / self.theory.periods(gap) for gap in gaps])[:, None]
+        stock, unmet = (np.stack([self.known[gap][place] for gap in gaps]) for place in (1, 2))
+        for (order, holding), (_, times) in zip(costs, VARIANTS):
+            place = STOCK.index(times)
+            totals = order * orders + holding * stock[:, place] + PRICES * self.value * unmet[:, place]
+            found.append(np.array(gaps)[totals.argmin(axis=0)])
         return found
+
+    def search(self, costs: Sequence[tuple[float, float]]) -> list[Whole]:
+        """Returns what `best_gaps` does, of gaps that are looked at ever finer beside the best."""
+        self.look_at(gap_grid(self.theory.most))
+        while True:
+            gaps, count = sorted(self.known), len(self.known)
+            found = self.best_gaps(costs)
+            for gap in {int(it) for its in found for it in its}:
+                place = gaps.index(gap)
+                below, above = gaps[max(place - 1, 0)], gaps[min(place + 1, len(gaps) - 1)]
+                self.look_at([(below + gap) // 2, (gap + above + 1) // 2])
+            if len(self.known) == count:
+                return found
 
 
 def variants_of(setup: float, holding: float, demand: float) -> list[tuple[float, float]]:
@@ -112,14 +120,17 @@ def candidates_of(name: str, facts: Mapping[str, Any], price: float, settings: S
     question = question_of(name, facts, settings, prior)
     (setup, holding), box = costs_of(question), question.box
     demand = float(question.demand.table.mean)
-    policies = Policies(theory_of(question, settings))
-    found = policies.look(variants_of(setup, holding, demand), price * box)
-    table, rows = policies.table(), []
-    for variant, its in enumerate(found):
-        for place in np.flatnonzero(np.append(True, its[1:] != its[:-1])):
-            gap, level, stock, unmet, orders = table[its[place]].tolist()
-            point = int(level) - int(policies.theory.items(int(gap)))
-            rows.append([variant, int(place), point * box, int(level) * box, stock * box, unmet * box, orders])
+    policies = Policies(theory_of(question, settings), holding, price * box)
+    rows = []
+    for variant, gaps in enumerate(policies.search(variants_of(setup, holding, demand))):
+        before, stock_place = None, STOCK.index(VARIANTS[variant][1])
+        for place, gap in enumerate(gaps.tolist()):
+            level, stock, unmet = (its[stock_place, place].item() for its in policies.known[gap])
+            if (gap, level) != before:
+                figures = (stock * box, unmet * box, 1 / policies.theory.periods(gap))
+                rows.append([variant, place, (level - int(policies.theory.items(gap))) * box, level * box,
+                             *(float(f"{it:.{DIGITS}g}") for it in figures)])
+                before = gap, level
     return {"demand": demand * box, "setup": setup, "holding": holding / box, "rows": rows}
 
 

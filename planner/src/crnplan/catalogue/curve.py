@@ -12,6 +12,8 @@ from .candidates import PRICES
 from .confirming import Confirmation, confirmed
 from .exchange import Budget, Choice, Ladder, Point, chosen_by, gap_of, judged
 from .gathering import Gathered, gather
+from .lock import alone
+from .planned import read_planned
 from .planning import CHOSEN, TODAY
 from .store import told_of
 from .tables import write_rows
@@ -94,22 +96,27 @@ def curve_points(its: Gathered) -> list[tuple[float, Point]]:
 def draw_curve(folder: Path, budget: Budget, *, jobs: int | None = None, address: str | None = None,
                program: str | Path | None = None, confirm: int = 0, shown: bool = False) -> Drawn:
     """Computes the curve of a planned folder, and writes its tables there. Raises Refused and ProgramError."""
-    its = gather(folder, jobs, address, shown)
+    planned = read_planned(folder)
+    with alone(folder):
+        its = gather(folder, planned, jobs, address, shown)
+        drawn = _drawn(folder, its, budget, confirm, program)
+        with told_of(folder):
+            write_rows(folder / CURVE, COLUMNS, (spelt_row(COLUMNS, row, its.decimals) for row in drawn.rows()))
+            write_rows(folder / POLICIES, POLICY_COLUMNS, policy_rows(drawn))
+            write_rows(folder / LEFT_OUT, ("item", "reason", "advice"), its.left_out)
+    return drawn
+
+
+def _drawn(folder: Path, its: Gathered, budget: Budget, confirm: int, program: str | Path | None) -> Drawn:
+    """Returns the curve with its points, and perhaps what crnsim counts."""
     found, missing = points_of(its, budget)
-    curve = curve_points(its)
     points = {name: (point, gap_of(its.items, point)) for name, point in its.points.items()}
     points |= {name: (choice.point, choice.gap) for name, choice in found.items()}
-    names = [name for name in (BUDGET, SAME_SERVICE, SAME_STOCK) if name in found]
-    written = names[0] if names else ON_CURVE
-    # If neither of today's figures is on the curve, its least price is as good as any.
-    choice = found[written] if names else judged(its.items, Ladder(its.items).with_price(float(PRICES[0])))
+    written = next((name for name in (BUDGET, SAME_SERVICE, SAME_STOCK) if name in found), ON_CURVE)
+    # If neither of today's figures is on the curve, the policies are those of its beginning.
+    choice = found[written] if found else judged(its.items, Ladder(its.items).with_price(float(PRICES[0])))
     sample = confirmed(folder, its, choice, confirm, program) if confirm else None
-    drawn = Drawn(its, curve, points, missing, written, choice, sample)
-    with told_of(folder):
-        write_rows(folder / CURVE, COLUMNS, (spelt_row(COLUMNS, row, its.decimals) for row in drawn.rows()))
-        write_rows(folder / POLICIES, POLICY_COLUMNS, policy_rows(drawn))
-        write_rows(folder / LEFT_OUT, ("item", "reason", "advice"), its.left_out)
-    return drawn
+    return Drawn(its, curve_points(its), points, missing, written, choice, sample)
 
 
 def spelt_row(names: Sequence[str], row: Sequence[Any], decimals: int) -> list[Any]:

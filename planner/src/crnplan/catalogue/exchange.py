@@ -189,10 +189,10 @@ class Ladder:
     def with_value(self, most: float) -> Whole | None:
         """Returns the choice with the best service whose stock is worth no more; None if no choice is."""
         value, allowed = self.along(self.items.value), most * (1 + NEAR)
-        if value[0] > allowed:
+        fits = np.flatnonzero(value <= allowed)
+        if not len(fits):
             return None
-        over = np.flatnonzero(value > allowed)
-        count = int(over[0]) - 1 if len(over) else len(self.prices)
+        count = int(fits[-1])
         return self._with_spare(self.after(count), count, allowed - float(value[count]))
 
     def _with_spare(self, chosen: Whole, count: int, spare: float) -> Whole:
@@ -214,7 +214,7 @@ class Ladder:
 class Choice:
     """A choice of policies: rows of the candidates, one for each item, what they amount to, and a bound.
 
-    `gap` is the share by which setup and holding are above the bound: no choice with this service (and no more orders,
+    `gap`, if it was computed, is the share by which setup and holding are above the bound: no choice with this service (and no more orders,
     or no more stock, if `dearer` says so) costs less than the bound.
     """
 
@@ -263,7 +263,7 @@ class Budget:
         """Returns the choice that keeps the stock value or the share; None if none does."""
         ladder = Ladder(items, dearer)
         rows = ladder.with_value(self.value) if self.value is not None else ladder.with_fill(self.fill or 0.0)
-        return None if rows is None else judged(items, rows, dearer)
+        return None if rows is None else Choice(rows, items.at(rows), math.nan, dearer)
 
     def keeps_orders(self, choice: Choice) -> bool:
         """Returns whether a choice has no more orders than are allowed."""
@@ -289,18 +289,19 @@ def chosen_by(items: Items, budget: Budget) -> Choice:
     """
     ladder = Ladder(items)
     check_most(ladder, budget)
-    value, fill = float(ladder.along(items.value)[0]), 1 - float(ladder.along(items.unmet)[0]) / items.asked
+    value, fill = float(ladder.along(items.value).min()), 1 - float(ladder.along(items.unmet)[0]) / items.asked
     first = budget.choice(items, AS_IS)
     is_below = first is None or (budget.fill is not None and budget.fill < fill * (1 - NEAR))
     if is_below and budget.orders is None:
         what, least = ("--fill", f"begins with {fill:.4f} of demand by value") if first else \
-            ("--stock-value", f"begins with a stock worth {value:,.2f}")
+            ("--stock-value", f"has stock worth {value:,.2f} at least")
         raise Refused(f"{what} {budget.fill or budget.value:,.10g}: the curve {least}; name more, or allow more orders "
                       "than it has there, by --orders")
-    if is_below:
-        return _less_stock(items, budget, first)
-    assert first is not None
-    return first if budget.keeps_orders(first) else _fewer_orders(items, budget, first)
+    if first is None or is_below:
+        found = _less_stock(items, budget, first)
+    else:
+        found = first if budget.keeps_orders(first) else _fewer_orders(items, budget, first)
+    return judged(items, found.rows, found.dearer)
 
 
 def _amounts(extras: Floats) -> list[float]:

@@ -19,7 +19,7 @@ from ..errors import Refused
 from ..sweep.progress import progress as progress_of
 from .candidates import VERSION, candidates_batch
 from .exchange import Items, Point
-from .planned import Planned, read_planned
+from .planned import Planned
 from .planning import CHOSEN, TODAY, Settings
 from .running import BATCH
 from .store import READ, Answers, Catalogued, told_of, with_advice
@@ -141,9 +141,8 @@ class Gathering:
                         self.read.fact("decimals"), self.read.fact("every"), len(self.left))
 
 
-def gather(folder: Path, jobs: int | None, address: str | None, shown: bool) -> Gathered:
+def gather(folder: Path, planned: Planned, jobs: int | None, address: str | None, shown: bool) -> Gathered:
     """Computes the candidates of a planned folder that are not kept yet, and returns all. Raises Refused."""
-    planned = read_planned(folder)
     with (told_of(folder), contextlib.closing(Catalogued(folder / READ)) as read,
           contextlib.closing(Answers(folder)) as plans, contextlib.closing(Answers(folder, CANDIDATES)) as kept):
         its = Gathering(planned, read, plans, kept)

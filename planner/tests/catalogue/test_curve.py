@@ -1,0 +1,190 @@
+"""Tests the exchange curve of a folder: sums, budgets, the same bytes always, what is left out, and what is said."""
+from __future__ import annotations
+
+import csv
+import json
+import re
+import shutil
+import sqlite3
+from pathlib import Path
+
+import numpy as np
+import pandas as pd
+import pytest
+
+import crnplan as crn
+from crnplan.catalogue.curve import CURVE, LEFT_OUT, POLICIES, Drawn, draw_curve
+from crnplan.catalogue.exchange import Budget
+from crnplan.catalogue.gathering import CANDIDATES
+from crnplan.catalogue.planning import figures_of, question_of, theory_of
+from crnplan.catalogue.store import READ, Catalogued
+from planner.tests.catalogue.conftest import FILES, SETTINGS, leave_few
+from planner.tests.catalogue.made import NO_PLAN, TODAY, Made
+from planner.tests.conftest import Command
+
+TABLES = (CURVE, POLICIES, LEFT_OUT)
+ITEMS = 20
+NO_PRICE = ("A-036", "A-040")
+
+
+@pytest.fixture(scope="module")
+def twenty(planted: Made, tmp_path_factory: pytest.TempPathFactory, program: Path) -> Path:
+    """Returns a folder with the plan of 20 items, of which two have no price, and the candidates of the others."""
+    files = planted.write(tmp_path_factory.mktemp("twenty"))
+    leave_few(files, ITEMS)
+    path = files / FILES[1]
+    rows = [row.split(";") for row in path.read_text("utf-8").splitlines()]
+    column = rows[0].index("Preis")
+    for row in rows:
+        row[column] = {NO_PRICE[0]: "", NO_PRICE[1]: "0"}.get(row[0], row[column])
+    path.write_text("\r\n".join([";".join(row) for row in rows] + [""]), "utf-8")
+    crn.plan(crn.read_catalogue(*(files / it for it in FILES), today=TODAY), files / "plan", jobs=1, program=program,
+             **SETTINGS)
+    crn.exchange_curve(files / "plan", jobs=1)
+    return files / "plan"
+
+
+@pytest.fixture
+def plan(twenty: Path, tmp_path: Path) -> Path:
+    """Returns a folder of its own with the plan and the candidates."""
+    return Path(shutil.copytree(twenty, tmp_path / "plan"))
+
+
+def drawn(plan: Path, budget: Budget = Budget()) -> Drawn:
+    """Returns the curve of a folder, by one process."""
+    return draw_curve(plan, budget, jobs=1)
+
+
+def tables_of(plan: Path) -> dict[str, bytes]:
+    """Returns the bytes of the curve's tables."""
+    return {name: (plan / name).read_bytes() for name in TABLES}
+
+
+def test_named_points(twenty: Path) -> None:
+    """Has today's point of decisions.csv, and points that are as good with less stock, or better with the same."""
+    table = pd.read_csv(twenty / "decisions.csv").set_index("item").drop(list(NO_PRICE))
+    prices = table.value_today / table.stock_today
+    curve = pd.read_csv(twenty / CURVE).set_index("point")
+    for name in ("today", "chosen"):
+        asked = prices * table.demand
+        assert curve.value[name] == pytest.approx(table[f"value_{name}"].sum(), rel=1e-6)
+        assert curve.fill[name] == pytest.approx((asked * table[f"fill_{name}"]).sum() / asked.sum(), abs=2e-4)
+        assert curve.orders[name] == pytest.approx(table[f"orders_{name}"].sum(), rel=1e-4)
+    today = curve.loc["today"]
+    assert curve.fill["same service"] >= today.fill - 1e-6 and curve.value["same service"] < today.value
+    assert curve.value["same stock"] <= today.value * (1 + 1e-6) and curve.fill["same stock"] > today.fill
+    assert (curve.gap >= 0).all() and curve.gap["today"] > curve.gap["same stock"]
+
+
+def test_curve_rises(plan: Path) -> None:
+    """Has more service and more cost with each price, less for each further unit of cost, and no gap."""
+    curve = crn.exchange_curve(plan, jobs=1).query("point == 'curve'")
+    assert len(curve) > 25 and (curve.gap == 0).all()
+    assert (np.diff(curve.price) > 0).all() and (np.diff(curve.cost) > 0).all() and (np.diff(curve.fill) > 0).all()
+    gains = np.diff(curve.fill) / np.diff(curve.cost)
+    assert (gains[1:] <= gains[:-1] * (1 + 1e-6)).all()
+
+
+@pytest.mark.parametrize("budget", [
+    Budget(fill=0.9), Budget(fill=0.99), Budget(value=40_000), Budget(fill=0.95, orders=1.5), Budget(orders=2.2),
+    Budget(value=12_000, orders=3)], ids=str)
+def test_budget_is_kept(plan: Path, budget: Budget) -> None:
+    """Writes a policy for each item that has theory's figures, keeps the budget in the sum, and says how far it is from
+    the best."""
+    its = drawn(plan, budget)
+    point, gap = its.points["budget"]
+    assert budget.value is None or point.value <= budget.value * (1 + 1e-9)
+    assert budget.fill is None or budget.fill - 1e-9 <= point.fill < budget.fill + 0.01
+    assert budget.orders is None or point.orders <= budget.orders * (1 + 1e-9)
+    assert 0 <= gap < 0.5
+    read, planned, sums = Catalogued(plan / READ), its.gathered.planned, np.zeros(4)
+    for row in csv.DictReader((plan / POLICIES).open(encoding="utf-8")):
+        facts, shown = read.item(row["item"])
+        question = question_of(row["item"], facts, planned.settings, planned.prior)
+        price = float(pd.eval(shown["price"]))
+        levels = int(row["s"]) // question.box, int(row["S"]) // question.box
+        theory = figures_of(question, theory_of(question, planned.settings), levels)
+        asked = price * float(question.demand.table.mean) * question.box
+        assert float(row["fill"]) == pytest.approx(theory["fill"], abs=2e-6)
+        assert float(row["value"]) == pytest.approx(price * theory["stock"], abs=1e-3)
+        sums += price * theory["stock"], asked * theory["fill"], theory["orders"], asked
+    read.close()
+    assert point[:3] == pytest.approx((sums[0], sums[1] / sums[3], sums[2]))
+
+
+def test_bytes_and_what_is_kept(plan: Path, twenty: Path) -> None:
+    """Computes only candidates that are not there or whose item has changed; two processes write the same bytes."""
+    assert drawn(plan).gathered.new == 0 and tables_of(plan) == tables_of(twenty)
+    with sqlite3.connect(plan / CANDIDATES) as base:
+        base.execute("DELETE FROM answers WHERE item > 'A-045'")
+    assert 0 < drawn(plan).gathered.new < ITEMS and tables_of(plan) == tables_of(twenty)
+    (plan / CANDIDATES).unlink()
+    crn.exchange_curve(plan, jobs=2)
+    assert tables_of(plan) == tables_of(twenty)
+    with sqlite3.connect(plan / READ) as base:
+        base.execute("UPDATE items SET shown = json_set(shown, '$.price', '77/2') WHERE item = 'A-050'")
+        base.execute("UPDATE items SET facts = json_set(facts, '$.setup', '99') WHERE item = 'A-051'")
+    its = drawn(plan).gathered
+    assert its.new == 1 and ("A-051", "it is not planned as its rows are now", "run crnplan catalogue again") in \
+        its.left_out
+
+
+def test_items_that_are_left_out(twenty: Path, planned: Path, tmp_path: Path) -> None:
+    """Names the items without a price, and those without a plan, and counts them."""
+    rows = list(csv.DictReader((twenty / LEFT_OUT).open(encoding="utf-8")))
+    assert [row["item"] for row in rows] == list(NO_PRICE)
+    assert all("no price above 0" in row["reason"] and "masters" in row["advice"] for row in rows)
+    policies = list(csv.DictReader((twenty / POLICIES).open(encoding="utf-8")))
+    assert len(policies) == ITEMS - len(NO_PRICE)
+    plan = Path(shutil.copytree(planned, tmp_path / "plan"))
+    with sqlite3.connect(plan / READ) as base:
+        base.execute("UPDATE items SET shown = json_set(shown, '$.price', NULL) WHERE item <> 'A-050'")
+    assert [it[0] for it in drawn(plan).gathered.left_out if "could not be planned" in it[1]] == [NO_PLAN]
+    with sqlite3.connect(plan / READ) as base:
+        base.execute("UPDATE items SET shown = json_set(shown, '$.price', NULL)")
+    with pytest.raises(crn.Refused, match="no item can be on the curve: .* items are left out; the first, A-"):
+        drawn(plan)
+
+
+def test_command(plan: Path, crnplan: Command, program: Path) -> None:
+    """Prints the points and what crnsim counts, which is within 2% of theory; the table with --csv; and draws."""
+    words = ["curve", plan, "--jobs", "1", "--fill", "0.95"]
+    told = crnplan(*words, "--confirm", "9", "--program", program, "--plot", plan / "curve.svg")
+    assert told.status == 0, told.errors
+    assert "18 items are on the curve; 2 are left out, as A-036: it has no price above 0" in told.output
+    line, = (it for it in told.output.splitlines() if it.startswith("crnsim: the stock of 9 of 18 items"))
+    runs, error, theory = (float(it.replace(",", "")) for it in re.findall(r"[\d,]+\.\d+(?=[ ,)])", line))
+    assert abs(runs - theory) < min(0.02 * theory, 5 * error) and "more than 2%" not in line
+    point = json.loads(pd.read_csv(plan / CURVE).query("point == 'budget'").iloc[0].to_json())
+    shown, = (it for it in told.output.splitlines() if it.startswith("your budget"))
+    assert shown.split()[2] == f"{point['value']:,.2f}" and "95.0" in shown
+    picture = (plan / "curve.svg").read_text("utf-8")
+    assert all(it in picture for it in ("your budget: ", "today: ", "one price for all items", "demand met at once"))
+    told = crnplan(*words, "--confirm", "0", "--csv")
+    assert told.status == 0 and told.output == (plan / CURVE).read_text("utf-8")
+
+
+@pytest.mark.parametrize("words, said", [
+    (["--stock-value", "1"], "--stock-value 1: the curve has stock worth "),
+    (["--stock-value", "1e9"], "--stock-value 1,000,000,000: the most stock on the curve is worth "),
+    (["--fill", "0.01"], "--fill 0.01: the curve begins with 0."),
+    (["--fill", "95"], "--fill 95 is not between 0 and 1; write 0.95"),
+    (["--fill", "0.9", "--stock-value", "9"], "leave one out"),
+    (["--orders", "0"], "--orders 0 is not above 0"),
+    (["--orders", "0.1", "--fill", "0.9"], "orders a period or more; name more"),
+    (["--stock-value", "1", "--orders", "9"], "stock of so little value takes more orders, or is not to be had"),
+    (["--plot", "curve.pdf"], "does not end with .png or .svg")])
+def test_refused_words(plan: Path, crnplan: Command, words: list[str], said: str) -> None:
+    """Says what no policies keep, and what to do."""
+    told = crnplan("curve", plan, "--jobs", "1", "--confirm", "0", *words)
+    assert told.status == 2 and said in told.errors and told.errors.count("\n") == 1
+
+
+def test_folders_without_a_plan(plan: Path, tmp_path: Path, crnplan: Command) -> None:
+    """Says that a folder has no plan, or one that was written by something else."""
+    told = crnplan("curve", tmp_path / "none")
+    assert told.status == 2 and "no plan is in it; run crnplan catalogue DEMAND.csv ITEMS.csv --out" in told.errors
+    assert not (tmp_path / "none").exists()
+    (plan / "planned.json").write_text("{}", "utf-8")
+    told = crnplan("curve", plan)
+    assert told.status == 2 and "planned.json: not as crnplan catalogue writes it" in told.errors

@@ -1,0 +1,143 @@
+"""Tests hulls, candidates and choices against all policies and all choices, one by one."""
+from __future__ import annotations
+
+import itertools
+import json
+from fractions import Fraction
+from pathlib import Path
+from typing import Any
+
+import numpy as np
+import pytest
+from hypothesis import given, settings
+from hypothesis import strategies as st
+
+from crnplan.catalogue.candidates import DEARER_ORDERS, DEARER_STOCK, PRICES, VARIANTS, candidates_of, variants_of
+from crnplan.catalogue.exchange import Budget, Dearer, Items, Ladder, chosen_by, gap_of
+from crnplan.catalogue.hull import lower_hull, slopes
+from crnplan.catalogue.planned import read_planned
+from crnplan.catalogue.planning import question_of, theory_of
+from crnplan.catalogue.store import READ, Catalogued
+from crnplan.errors import Refused
+
+NUMBERS = st.integers(0, 30)
+
+
+@settings(deadline=None, max_examples=150)
+@given(st.lists(st.tuples(st.integers(0, 3), NUMBERS, NUMBERS), min_size=1, max_size=40))
+def test_hull(points: list[tuple[int, int, int]]) -> None:
+    """Has for each owner rising costs, falling unmet demand and strictly rising prices, and the best point of all for
+    each price."""
+    owner, cost, unmet = np.array(points).T
+    kept = lower_hull(owner, cost.astype(float), unmet.astype(float))
+    assert len({*kept.tolist()}) == len(kept) and {*owner[kept]} == {*owner}
+    prices = slopes(owner[kept], cost[kept].astype(float), unmet[kept].astype(float))
+    for one, two, first, second in zip(kept, kept[1:], prices, prices[1:]):
+        if owner[one] == owner[two]:
+            assert cost[one] < cost[two] and unmet[one] > unmet[two] and first < second
+        else:
+            assert owner[one] < owner[two] and first == np.inf
+    for mine in {*owner}:
+        for price in (Fraction(0), Fraction(1, 7), Fraction(1), Fraction(29, 3), Fraction(10**6)):
+            every = [int(cost[it]) + price * int(unmet[it]) for it in range(len(owner)) if owner[it] == mine]
+            assert min(every) == min(int(cost[it]) + price * int(unmet[it]) for it in kept if owner[it] == mine)
+
+
+@pytest.mark.parametrize("name", ["A-036", "A-041", "A-054"])
+def test_candidates_are_the_best_of_all(planned: Path, name: str) -> None:
+    """Has for each variant and some prices the least of setup, holding and unmet demand of all (s,S) nearby."""
+    its, read = read_planned(planned), Catalogued(planned / READ)
+    facts = json.loads(read.text(name))
+    read.close()
+    answer, price = candidates_of(name, facts, 7.0, its.settings, its.prior), 7.0
+    question = question_of(name, facts, its.settings, its.prior)
+    theory = theory_of(question, its.settings)
+    assert theory.exact and question.box == 1 and answer["demand"] == pytest.approx(np.mean(facts["counts"]))
+    costs = variants_of(answer["setup"], answer["holding"], answer["demand"])
+    most = max(row[3] for row in answer["rows"] if PRICES[row[1]] < 1)
+    every = [(s, S, theory.figures(s, S)) for S in range(0, most + 3) for s in range(max(0, S - 60), S + 1)]
+    found = np.array([(it.orders, it.stock, answer["demand"] * (1 - it.fill)) for _, _, it in every])
+    for variant, (order, holding) in enumerate(costs):
+        rows = [row for row in answer["rows"] if row[0] == variant]
+        for place in np.flatnonzero((PRICES > 1e-3) & (PRICES < 1))[::4]:
+            row = [row for row in rows if row[1] <= place][-1]
+            mine = order * row[6] + holding * row[4] + PRICES[place] * price * row[5]
+            totals = found @ [order, holding, PRICES[place] * price]
+            assert mine <= totals.min() * (1 + 1e-8)
+            assert theory.figures(row[2], row[3]).stock == pytest.approx(row[4])
+
+
+def made_item(source: np.random.Generator, count: int) -> tuple[dict[str, Any], Any]:
+    """Returns candidates as `candidates_of` gives them, found one by one among random policies, and these: stock, unmet
+    demand and orders."""
+    setup, holding, demand = source.uniform(1, 20), source.uniform(0.05, 0.2), source.uniform(1, 5)
+    points = np.column_stack([source.uniform(0, 40, count), demand * source.uniform(0, 1, count)**2,
+                              source.uniform(0.1, 1, count)])
+    rows: list[list[float]] = []
+    for variant, (order, held) in enumerate(variants_of(setup, holding, demand)):
+        last = -1
+        for place, price in enumerate(PRICES):
+            best = int((points @ [held, price, order]).argmin())
+            if best != last:
+                rows.append([variant, place, best, best, *points[best]])
+                last = best
+    return {"demand": demand, "setup": setup, "holding": holding, "rows": rows}, points
+
+
+def every_choice(answers: list[dict[str, Any]], points: list[Any]) -> Any:
+    """Returns stock value, unmet value, orders and costs of all choices of policies, one by one."""
+    found = []
+    for its in itertools.product(*points):
+        cost = sum(answer["setup"] * it[2] + answer["holding"] * it[0] for answer, it in zip(answers, its))
+        found.append((*np.sum(its, axis=0), cost))
+    return np.array(found)
+
+
+@pytest.mark.parametrize("seed", range(6))
+def test_bound_against_every_choice(seed: int) -> None:
+    """Loses no more against the best of all choices than it says, and keeps what was asked for."""
+    source = np.random.default_rng(seed)
+    answers, points = zip(*(made_item(source, 9) for _ in range(4)))
+    items = Items.of([(str(place), its, 1.0) for place, its in enumerate(answers)])
+    values, unmet, orders, cost = every_choice(list(answers), list(points)).T
+    ladder, tested = Ladder(items), 0
+    low, high = ladder.along(items.value).min(), ladder.along(items.value).max()
+    budgets = [Budget(value=float(low + share * (high - low))) for share in (0.2, 0.5, 0.8)]
+    budgets += [Budget(fill=1 - float(it) / items.asked) for it in np.quantile(ladder.along(items.unmet), (0.2, 0.6))]
+    budgets += [Budget(value, fill, share * chosen_by(items, Budget(value, fill)).point.orders)
+                for value, fill in [(it.value, it.fill) for it in budgets] for share in (0.95, 0.85)]
+    budgets += [Budget(value=0.9 * float(low), orders=it) for it in (2.0, 2.5, 3.0)]
+    for budget in budgets:
+        try:
+            found = chosen_by(items, budget)
+        except Refused:
+            continue
+        its = found.point
+        assert budget.value is None or its.value <= budget.value * (1 + 1e-9)
+        assert budget.fill is None or its.fill >= budget.fill - 1e-9
+        assert budget.orders is None or its.orders <= budget.orders * (1 + 1e-9)
+        kept = unmet <= (1 - its.fill) * items.asked * (1 + 1e-9)
+        kept &= (orders <= its.orders * (1 + 1e-9)) | (found.dearer.orders == 0)
+        kept &= (values <= its.value * (1 + 1e-9)) | (found.dearer.stock == 0)
+        best = cost[kept].min()
+        assert best <= its.cost * (1 + 1e-9) <= best * (1 + found.gap) * (1 + 1e-6)
+        tested += 1
+    assert tested >= 7
+
+
+@pytest.mark.parametrize("seed", range(4))
+def test_the_curve_is_the_best(seed: int) -> None:
+    """Has no gap at the prices of the grid, and no choice of all is as good for less there. Other points have a gap."""
+    source = np.random.default_rng(100 + seed)
+    answers, points = zip(*(made_item(source, 9) for _ in range(4)))
+    items = Items.of([(str(place), its, 1.0) for place, its in enumerate(answers)])
+    _, unmet, _, cost = every_choice(list(answers), list(points)).T
+    ladder = Ladder(items)
+    for price in PRICES[::6]:
+        point = items.at(ladder.with_price(float(price)))
+        assert gap_of(items, point) < 1e-9
+        assert cost[unmet <= (1 - point.fill) * items.asked * (1 + 1e-9)].min() >= point.cost * (1 - 1e-9)
+        assert gap_of(items, point._replace(cost=1.2 * point.cost)) == pytest.approx(0.2)
+    for variants, extras in ((DEARER_ORDERS, items.orders_extra), (DEARER_STOCK, items.stock_extra)):
+        assert {*items.variant[extras > 0].tolist()} == {*variants[1:]} and len(VARIANTS) == 5
+    assert items.least_cost(point, Dearer(orders=0.0)) == items.least_cost(point)
