@@ -43,7 +43,8 @@ def asked(tmp_path: Path, monkeypatch: pytest.MonkeyPatch) -> Path:
 def test_the_worked_case(crnplan: Command, top: Path) -> None:
     case = top / "examples/case"
     stored = [(case / name).read_text("utf-8") for name in ("suggested.toml", "suggested.txt")]
-    assert crnplan("suggest", case / "scenario.toml") == (0, *stored)
+    history = "--history", case / "history.csv", "--lead", case / "lead_times.csv", "weeks"
+    assert crnplan("suggest", case / "scenario.toml", *history) == (0, *stored)
 
 
 @pytest.mark.parametrize("words, initial, unit", [([], 700, 20), (["--initial"], 40, 20), (["--unit-zero"], 700, 0),
