@@ -222,14 +222,14 @@ def test_notes() -> None:
 
 
 def test_command(tmp_path: Path, crnplan: Command) -> None:
-    """--fit fits demand and lead times, or takes what was seen."""
+    """Demand and lead times are fitted by auto, unless --fit says otherwise."""
     (tmp_path / "demand.csv").write_text("n\n" + "\n".join(map(str, ERRATIC)))
     (tmp_path / "leads.csv").write_text("weeks\n2\n3\n2\n4\n")
     words = ["history", tmp_path / "demand.csv", "--demand", "n", "--lead", tmp_path / "leads.csv", "weeks"]
     demand = fit_demand(ERRATIC, method="empirical").toml("demand")
     seen = f"\n{demand}\n[lead]\nvalues = [2, 3, 4]\nweights = [2, 1, 1]\n"
     assert crnplan(*words, "--fit", "empirical")[:2] == (0, seen)
-    status, text, notes = crnplan(*words, "--fit", "auto")
+    status, text, notes = crnplan(*words)
     law, lead = fit_demand(ERRATIC, method="auto"), fit_lead([2, 3, 2, 4], method="auto")
     assert (status, text) == (0, f"\n{law.toml('demand')}\n{lead.toml('lead')}")
     lines = [f"crnplan: {it}\n" for it in [*notes_of(law, "demand"), *notes_of(lead, "lead")]]
