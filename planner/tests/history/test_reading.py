@@ -250,8 +250,9 @@ def test_span_needs_dates(file: Files, answer: Answers) -> None:
 def test_suspicions(rows: str, words: str, notes: list[str], file: Files, answer: Answers) -> None:
     """What is suspicious is noted with its exact place, and read all the same. What is not has no note."""
     text = "w;n\n" + "".join(f"{place};{it}\n" for place, it in enumerate(rows.split()))
-    status, output, errors = answer([file(text), "--demand", "n", "--box", "1000", *words.split()])
-    assert status == 0 and errors.count("\n") == len(notes)
+    path = file(text)
+    status, _, errors = answer([path, "--demand", "n", "--box", "1000", *words.split()])
+    assert status == 0 and errors.count(f"crnplan: {path}:") == len(notes)
     assert [note for note in notes if note not in errors] == []
 
 
