@@ -20,14 +20,14 @@ from .hull import Floats, Whole, lower_hull, slopes
 from .planning import Question, Settings, question_of, theory_of
 
 # Answers of other versions are not used again.
-VERSION = 2
+VERSION = 1
 # Prices of a unit of value that is not met at once, in units of value: eight a decade.
 PRICES: Floats = 10.0**(np.arange(-40, 33) / 8)
 DIGITS = 10  # of a figure that is kept
 # How many times the setup an order costs, and how many times the holding stock costs. With the dearest orders, gaps are
 # 8^(1/2) times as wide (the economic order quantity), which is within those that theory looks at.
-VARIANTS = ((1, 1), (3, 1), (8, 1), (1, 4), (1, 16))
-DEARER_ORDERS, DEARER_STOCK = (0, 1, 2), (0, 3, 4)
+VARIANTS = ((1.0, 1), (1.5, 1), (3.0, 1), (8.0, 1), (1.0, 4), (1.0, 16))
+DEARER_ORDERS, DEARER_STOCK = (0, 1, 2, 3), (0, 4, 5)
 STOCK = (1, 4, 16)
 
 

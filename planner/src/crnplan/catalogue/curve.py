@@ -34,12 +34,13 @@ SAID = {TODAY: "today", CHOSEN: "chosen item by item", SAME_STOCK: "today's stoc
 
 @dataclass(frozen=True)
 class Drawn:
-    """The curve: its points by price, today's and the chosen point, and the choices that have a name, or why there is
-    none. `written` is the choice whose policies are written."""
+    """The curve: its points by price, the points that have a name with their gaps, what each is for a reader, and why
+    others are missing. `written` is the choice whose policies are written."""
 
     gathered: Gathered
     curve: list[tuple[float, Point]]
     points: dict[str, tuple[Point, float]]
+    said: dict[str, str]
     missing: dict[str, str]
     written: str
     choice: Choice
@@ -48,7 +49,7 @@ class Drawn:
     @property
     def named(self) -> dict[str, Point]:
         """Returns the named points, by what they are for a reader."""
-        return {SAID[name]: point for name, (point, _) in self.points.items()}
+        return {self.said[name]: point for name, (point, _) in self.points.items()}
 
     def rows(self) -> Iterator[tuple[Any, ...]]:
         """Yields the rows of curve.csv, unrounded: named points first, then the curve by rising price."""
@@ -116,7 +117,13 @@ def _drawn(folder: Path, its: Gathered, budget: Budget, confirm: int, program: s
     # If neither of today's figures is on the curve, the policies are those of its beginning.
     choice = found[written] if found else judged(its.items, Ladder(its.items).with_price(float(PRICES[0])))
     sample = confirmed(folder, its, choice, confirm, program) if confirm else None
-    return Drawn(its, curve_points(its), points, missing, written, choice, sample)
+    said = {name: SAID[name] + (how_of(found[name]) if name in found else "") for name in points}
+    return Drawn(its, curve_points(its), points, said, missing, written, choice, sample)
+
+
+def how_of(choice: Choice) -> str:
+    """Returns how a choice differs from the curve, for a reader."""
+    return " (more orders)" if choice.dearer.stock else " (fewer orders)" if choice.dearer.orders else ""
 
 
 def spelt_row(names: Sequence[str], row: Sequence[Any], decimals: int) -> list[Any]:
@@ -155,7 +162,7 @@ def curve_text(drawn: Drawn, folder: Path) -> str:
     rows = [["", "stock value", "met at once", f"orders a {its.every}", f"setup and holding a {its.every}",
              "above the best"]]
     for name, (point, gap) in drawn.points.items():
-        rows.append([SAID[name], f"{point.value:,.{money}f}", f"{point.fill:.2%}", f"{point.orders:,.4g}",
+        rows.append([drawn.said[name], f"{point.value:,.{money}f}", f"{point.fill:.2%}", f"{point.orders:,.4g}",
                      f"{point.cost:,.{money}f}", gap_text(gap)])
     widths = [max(map(len, column)) for column in zip(*rows)]
     lines = [f"{len(its.items.names):,} items are on the curve" + (
@@ -163,8 +170,8 @@ def curve_text(drawn: Drawn, folder: Path) -> str:
     lines += ["  ".join([row[0].ljust(widths[0]), *(cell.rjust(width) for cell, width in zip(row[1:], widths[1:]))])
               for row in rows]
     lines += ["", *(f"{SAID[name]}: there is no such point: {why}" for name, why in drawn.missing.items()), *NOTES]
-    lines += [f"{CURVE} has the curve; {POLICIES} has the policies of \"{SAID.get(drawn.written, 'the least stock')}\", "
-              f"in {folder}."]
+    policies = SAID.get(drawn.written, "the least stock")
+    lines.append(f'{CURVE} has the curve; {POLICIES} has the policies of "{policies}", in {folder}.')
     return "\n".join([*lines, *([drawn.confirmation.text] if drawn.confirmation else [])]) + "\n"
 
 
@@ -172,7 +179,7 @@ NOTES = (
     "Met at once: the share of demand by value. All figures are by theory, rounded and unproved, of the long run under "
     "the laws fitted to the histories.",
     "One price for a unit of value that is not met at once chooses the policy of each item, with setup and holding as "
-    "in the masters.",
+    "in the masters. Points with more orders or fewer lie beside the curve.",
     "Above the best: setup and holding are at most so much above the least of all policies with the same service (and "
     "no more orders or stock, where these are bounded too).")
 

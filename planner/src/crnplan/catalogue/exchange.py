@@ -84,7 +84,8 @@ class Items:
             parts.append((np.full(len(rows), place), variant, first, end, rows[:, 2].astype(int),
                           rows[:, 3].astype(int), extra[variant, 0], extra[variant, 1] / price, price * rows[:, 4],
                           price * rows[:, 5], rows[:, 6], setup * rows[:, 6] + holding * rows[:, 4]))
-        return cls(tuple(name for name, _, _ in answers), np.array([price * its["demand"] for _, its, price in answers]),
+        demand = np.array([price * its["demand"] for _, its, price in answers])
+        return cls(tuple(name for name, _, _ in answers), demand,
                    *(np.concatenate(its) for its in zip(*parts)))
 
     @property
@@ -214,8 +215,8 @@ class Ladder:
 class Choice:
     """A choice of policies: rows of the candidates, one for each item, what they amount to, and a bound.
 
-    `gap`, if it was computed, is the share by which setup and holding are above the bound: no choice with this service (and no more orders,
-    or no more stock, if `dearer` says so) costs less than the bound.
+    `gap`, if it was computed, is the share by which setup and holding are above the bound: no choice with this service
+    (and no more orders, or no more stock, if `dearer` says so) costs less than the bound.
     """
 
     rows: Whole
@@ -275,7 +276,8 @@ def check_most(ladder: Ladder, budget: Budget) -> None:
     items = ladder.items
     most, end = float(ladder.along(items.value).max()), 1 - float(ladder.along(items.unmet)[-1]) / items.asked
     if budget.value is not None and budget.value > most * (1 + NEAR):
-        raise Refused(f"--stock-value {budget.value:,.10g}: the most stock on the curve is worth {most:,.2f}; name less")
+        raise Refused(f"--stock-value {budget.value:,.10g}: the most stock on the curve is worth {most:,.2f}; name "
+                      "less")
     if budget.fill is not None and budget.fill > end + NEAR:
         raise Refused(f"--fill {budget.fill:g}: the curve ends with {end:.8f} of demand by value; name less")
 
@@ -353,6 +355,6 @@ def _less_stock(items: Items, budget: Budget, first: Choice | None) -> Choice:
         last, found = amount, its
     if found is None:
         least = "stock of so little value" if budget.value is not None else "this service"
-        raise Refused(f"--orders {budget.orders:g}: {least} takes more orders, or is not to be had; name more orders or "
-                      "more stock")
+        raise Refused(f"--orders {budget.orders:g}: {least} takes more orders, or is not to be had; name more orders "
+                      "or more stock")
     return found

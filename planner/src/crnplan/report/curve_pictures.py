@@ -5,7 +5,7 @@ from collections.abc import Mapping, Sequence
 from pathlib import Path
 from typing import Any, Protocol
 
-from .decision_pictures import TITLE
+from .decision_pictures import ABOVE, TITLE
 from .pictures import save
 
 CURVE = "#08458c"
@@ -32,7 +32,7 @@ class Placed(Protocol):
 def draw_exchange(pyplot: Any, curve: Sequence[tuple[float, Placed]], named: Mapping[str, Placed],
                   path: str | Path) -> None:
     """Writes a picture of the curve, by price and point, with named points. Raises Refused if it cannot be written."""
-    figure, axes = pyplot.subplots(figsize=(8, 5), layout="constrained")
+    figure, axes = pyplot.subplots(figsize=(8, 5.5), layout="constrained")
     axes.plot([it.value for _, it in curve], [100 * it.fill for _, it in curve], color=CURVE, linewidth=2,
               label="one price for all items", zorder=2)
     for (name, it), (colour, marker, filled) in zip(named.items(), STYLES):
@@ -48,6 +48,6 @@ def draw_exchange(pyplot: Any, curve: Sequence[tuple[float, Placed]], named: Map
     axes.set_ylabel("demand met at once, by value")
     axes.grid(alpha=0.3)
     axes.set_axisbelow(True)
-    axes.legend(loc="lower right", frameon=False)
+    axes.legend(ncol=2, **ABOVE)
     figure.suptitle("How much service the stock can give for its value", **TITLE)
     save(pyplot, figure, path)
