@@ -180,8 +180,8 @@ NOTES = (
     "the laws fitted to the histories.",
     "One price for a unit of value that is not met at once chooses the policy of each item, with setup and holding as "
     "in the masters. Points with more orders or fewer lie beside the curve.",
-    "Above the best: setup and holding are at most so much above the least of all policies that were looked at with the "
-    "same service (and no more orders or stock, where these are bounded too).")
+    "Above the best: setup and holding are at most so much above the least of all policies that were looked at with "
+    "the same service (and no more orders or stock, where these are bounded too).")
 
 
 def exchange_curve(folder: str | Path, *, stock_value: float | None = None, fill: float | None = None,
