@@ -83,8 +83,8 @@ def _family_lines(law: Law) -> Iterator[str]:
         least = min(its["bic"].values())
         behind = (f"{family} {value - least:.1f}" for family, value in its["bic"].items())
         yield f"BIC above the least: {', '.join(behind)}"
-    for family, shares in its["guard"].items():
-        yield _guard_line(family, shares, shares.passes)
+    # Of the families that pass, their weights say enough; `diagnostics` has the rest.
+    yield from (_guard_line(family, shares, False) for family, shares in its["guard"].items() if not shares.passes)
 
 
 def _guard_line(family: str, shares: Shares, passes: bool) -> str:
