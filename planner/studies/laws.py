@@ -1,7 +1,7 @@
 """Measures how far the chosen policy is from the best one under the true law, for each way of fitting the demand.
 
-    python -m planner.studies.laws --histories 20 --out planner/studies/laws.csv    what is stored
-    python -m planner.studies.laws --small                                          a small part, in some seconds
+    python -m planner.studies.laws --out planner/studies/laws.csv    all, in about half an hour
+    python -m planner.studies.laws --small                           a small part, in some seconds
 
 For each law, histories of 26, 52, 104 and 208 periods are drawn. Each method fits a law of demand to a history. For
 each of twelve settings (lead time 2 and 6; an order for 2 and for 8 periods of demand; backlog 9, 19 and 99 times

@@ -1,9 +1,13 @@
-"""The page of the studies has the tables of the stored figures, each once."""
+"""The page of the studies has the tables of the stored figures, each once, and one command runs all studies."""
 from __future__ import annotations
 
-import pandas as pd
+import importlib
 
-from planner.studies import page
+import click
+import pandas as pd
+import pytest
+
+from planner.studies import __main__, page
 
 
 def test_page_has_the_stored_figures() -> None:
@@ -15,3 +19,15 @@ def test_page_has_the_stored_figures() -> None:
 def test_markdown() -> None:
     table = pd.DataFrame({"law": ["a", "b"], "regret": ["1.0 ± 0.1", "-"]})
     assert page.markdown(table) == "| law | regret |\n| --- | --: |\n| a | 1.0 ± 0.1 |\n| b | - |\n"
+
+
+@pytest.mark.parametrize("study", page.STUDIES)
+def test_words_of_a_study(study: str) -> None:
+    """A study takes the words that it is run with, and writes what is stored."""
+    module = importlib.import_module(f"planner.studies.{study}")
+    command: click.Command = getattr(module, "main", None) or module.command
+    words = [*__main__.words_of(study, 3)]
+    assert words[2] == module.__name__
+    given = command.make_context(study, words[3:]).params
+    assert not given["small"] and given.get("jobs", 3) == 3
+    assert "out" not in given or given["out"].exists()
