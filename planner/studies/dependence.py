@@ -35,7 +35,7 @@ import numpy.typing as npt
 import pandas as pd
 
 from planner.studies import laws
-from planner.studies.laws import BACKLOGS, COVERS, LEADS, Choice, Floats, LongRuns
+from planner.studies.laws import COVERS, LEADS, Choice, Floats, LongRuns
 from planner.studies.page import markdown
 
 Whole = npt.NDArray[np.int64]

@@ -3,7 +3,7 @@ from __future__ import annotations
 
 import math
 import time
-from collections.abc import Callable, Sequence
+from collections.abc import Sequence
 from datetime import date, timedelta
 from pathlib import Path
 from typing import Any
@@ -17,7 +17,6 @@ from scipy import optimize, stats
 import crnplan as crn
 from crnplan.demand import Checks, checks_of, lines_of
 from crnplan.demand.checks import Check
-from crnplan.demand.effects import Facts
 from crnplan.demand.losses import LAWS, LOSSES, Loss, loss_of, loss_text
 from crnplan.demand.outliers import bound_of, outliers_of
 from crnplan.demand.permutation import Orders, drawn_orders, p_value, statistics_of

@@ -9,7 +9,7 @@ from hypothesis import given, settings
 from hypothesis import strategies as st
 from scipy import stats
 
-from crnplan.demand import fit_demand, fit_lead, members, posterior
+from crnplan.demand import fit_lead, members, posterior
 from crnplan.demand.families import Floats, Sample, fits_of
 from crnplan.demand.fitting import mixture
 from crnplan.demand.members import DRAWN, laws_of

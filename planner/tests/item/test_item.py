@@ -22,9 +22,9 @@ from crnplan.item.work import as_settings
 from crnplan.theory.long_run import LongRun
 from crnplan.theory.start_bias import theory_of
 from crnplan.theory.suggestions import suggestions_of
-from planner.tests.conftest import Answer, Command
+from planner.tests.conftest import Command
+from planner.tests.item.conftest import HERE, Plan
 
-HERE = Path(__file__).parent
 STEPS = ["tables", "scenario", "suggestions", "doubt", "run", "decision", "check", "trajectory", "summary"]
 FILES = {"tables.toml", "demand.csv", "lead_times.csv", "laws.csv", "laws.txt", "notes.txt", "scenario.toml",
          "suggested.toml", "suggested.txt", "suggested.csv", "doubt.txt", "doubt.csv", "decision.txt", "decision.csv",
@@ -33,39 +33,6 @@ FILES = {"tables.toml", "demand.csv", "lead_times.csv", "laws.csv", "laws.txt", 
 HORIZONS = {"horizon = 12\n": "report.csv", "": "long_run.csv"}
 NOTHING = "nothing has changed since the last run; nothing was done"
 Change = Callable[[Path], object]
-Plan = Callable[..., Answer]
-
-
-def furnished(folder: Path, top: Path, program: Path) -> Path:
-    """Puts a history, lead times, small settings, and a script that runs the program, into a folder."""
-    shutil.copy(top / "examples/case/history.csv", folder)
-    shutil.copy(top / "examples/case/lead_times.csv", folder)
-    shutil.copy(HERE / "settings.toml", folder)
-    (folder / "program").write_text(f'#!/bin/sh\nexec {program} "$@"\n')
-    (folder / "program").chmod(0o755)
-    return folder
-
-
-@pytest.fixture
-def room(tmp_path: Path, top: Path, program: Path) -> Path:
-    """Returns a folder with all that a plan needs."""
-    return furnished(tmp_path, top, program)
-
-
-@pytest.fixture(scope="module")
-def whole(tmp_path_factory: pytest.TempPathFactory, top: Path, program: Path) -> Path:
-    """Returns the folder of a plan that was made by the script at once. It is to be copied, not changed."""
-    room = furnished(tmp_path_factory.mktemp("whole"), top, program)
-    return item.plan_item(room / "history.csv", room / "settings.toml", room / "plan", program=room / "program").folder
-
-
-@pytest.fixture
-def plan(room: Path, crnplan: Command) -> Plan:
-    """Returns a function that plans the item of the folder."""
-    def run(out: str = "plan", used: Path = room / "program") -> Answer:
-        """Plans it into a folder of the folder."""
-        return crnplan("item", room / "history.csv", room / "settings.toml", "--out", room / out, "--program", used)
-    return run
 
 
 def bytes_of(folder: Path) -> dict[str, bytes]:

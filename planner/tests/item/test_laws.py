@@ -1,8 +1,6 @@
 """Tests how an item says by which laws it is planned, and that its tables are those laws."""
 from __future__ import annotations
 
-import csv
-from pathlib import Path
 
 import numpy as np
 import pytest

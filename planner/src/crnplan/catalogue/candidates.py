@@ -13,11 +13,10 @@ from typing import Any, NamedTuple
 import numpy as np
 
 from ..demand.borrowing import Prior
-from ..errors import Refused
 from ..formats import MOST_ITEMS
 from ..theory.long_run import LongRun, gap_grid
 from .hull import Floats, Whole, lower_hull, slopes
-from .planning import Question, Settings, question_of, theory_of
+from .planning import Question, Settings, question_of, text_of_answer, theory_of
 
 # Answers of other versions are not used again.
 VERSION = 1
@@ -137,13 +136,5 @@ def candidates_of(name: str, facts: Mapping[str, Any], price: float, settings: S
 def candidates_batch(batch: Sequence[tuple[str, str, float]], settings: Settings,
                      prior: Prior) -> list[tuple[str, str]]:
     """Returns the candidates of items, each as its name and a text. An item without any has its fault."""
-    answers = []
-    for name, facts, price in batch:
-        try:
-            answer = candidates_of(name, json.loads(facts), price, settings, prior)
-        except Refused as why:
-            answer = {"fault": str(why)}
-        except (ArithmeticError, ValueError, LookupError, MemoryError) as why:
-            answer = {"fault": f"crnplan failed ({type(why).__name__}: {why}); please report it with this item's rows"}
-        answers.append((name, json.dumps(answer, separators=(",", ":"))))
-    return answers
+    return [(name, text_of_answer(lambda: candidates_of(name, json.loads(facts), price, settings, prior)))
+            for name, facts, price in batch]

@@ -26,7 +26,7 @@ class Role:
     names: tuple[str, ...]
 
 
-# The files of a catalogue, with the roles of their columns. The names s and S are told apart by their case.
+# The files of a catalogue, with the roles of their columns. The names s and S differ by their case.
 FILES: dict[str, tuple[Role, ...]] = {
     "demand": (
         Role("item", True, ITEM),

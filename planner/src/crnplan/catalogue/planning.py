@@ -9,7 +9,7 @@ from __future__ import annotations
 import dataclasses
 import hashlib
 import json
-from collections.abc import Iterator, Mapping, Sequence
+from collections.abc import Callable, Iterator, Mapping, Sequence
 from dataclasses import dataclass
 from fractions import Fraction
 from typing import Any
@@ -20,10 +20,10 @@ from ..demand.borrowing import Prior, law_of
 from ..demand.fitting import METHODS
 from ..decision.long_run import LongRunDecision, corrected_decision
 from ..engine.report import Row, report_of
-from ..errors import ProgramError, Refused
+from ..errors import Refused
 from ..formats import MOST_ITEMS, MOST_PERIODS, MOST_REPLICATIONS, limits
 from ..money import rounded_costs
-from ..scenario import Costs, Policy, Scenario
+from ..scenario import Policy, Scenario
 from ..theory.lattice import lattice_of, shape_of, theory_on
 from ..theory.long_run import LongRun
 
@@ -240,21 +240,22 @@ def answer_of(name: str, facts: Mapping[str, Any], settings: Settings, prior: Pr
                   "diff_mean": str(row.diff_mean), "diff_var": str(row.diff_var or 0)}}
 
 
+def text_of_answer(answer: Callable[[], Mapping[str, Any]]) -> str:
+    """Returns the answer to an item as a text. If the item can't be answered, that is its fault."""
+    try:
+        found = answer()
+    except Refused as why:
+        found = {"fault": str(why)}
+    except (ArithmeticError, ValueError, LookupError, MemoryError) as why:
+        found = {"fault": f"crnplan failed ({type(why).__name__}: {why}); please report it with this item's rows"}
+    return json.dumps(found, separators=(",", ":"))
+
+
 def plan_batch(batch: Sequence[tuple[str, str]], settings: Settings, prior: Prior,
                program: str) -> list[tuple[str, str]]:
     """Returns the answers to items, each as its name and a text. An item that can't be planned has its fault.
 
     Raises ProgramError, since then no item can be planned.
     """
-    answers = []
-    for name, facts in batch:
-        try:
-            answer = answer_of(name, json.loads(facts), settings, prior, program)
-        except ProgramError:
-            raise
-        except Refused as why:
-            answer = {"fault": str(why)}
-        except (ArithmeticError, ValueError, LookupError, MemoryError) as why:
-            answer = {"fault": f"crnplan failed ({type(why).__name__}: {why}); please report it with this item's rows"}
-        answers.append((name, json.dumps(answer, separators=(",", ":"))))
-    return answers
+    return [(name, text_of_answer(lambda: answer_of(name, json.loads(facts), settings, prior, program)))
+            for name, facts in batch]

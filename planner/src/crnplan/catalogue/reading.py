@@ -17,7 +17,7 @@ from ..history.faults import Unreadable
 from .columns import FILES
 from .found import found_text
 from .parts import KEEP, LEAVE_OUT, Reader, Ways
-from .record import Record, record_of
+from .record import record_of
 from .sources import Source, open_source
 from .splitting import PART_BYTES, Split, split_sources
 from .store import ANSWERS, READ, Catalogued, Reject, Writer, told_of
