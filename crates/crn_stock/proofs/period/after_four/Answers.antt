@@ -1,4 +1,4 @@
-use Rattle.std.proofs.Common.{◌≡◌, ◌+◌, ℕ, true, refl, subst, arith}
+use Rattle.std.proofs.Common.{rules, ◌≡◌, ◌+◌, ℕ, true, refl, subst, arith}
 use Rattle.crn_stock.specs.Inner.Steps.{IsInventory}
 use Rattle.crn_stock.specs.Stock.{terms_in}
 use Rattle.crn_stock.proofs.Steps.{has_run_none, has_run_more}
@@ -33,3 +33,30 @@ returns c =
     let two = has_run_more p ds t 1 (t + 1) x c.after_one-at.result c.after_one-at-2.result due c.after_one-at.new.due c.after_one-at-2.new.due c.nth-second.result one refl c.nth-second.ensures c.after_one-at-2.ensures.kept c.after_one-at-2.ensures.moved in
     let three = has_run_more p ds t 2 (t + 2) x c.after_one-at-2.result c.after_one-at-3.result due c.after_one-at-2.new.due c.after_one-at-3.new.due c.nth-third.result two refl c.nth-third.ensures c.after_one-at-3.ensures.kept c.after_one-at-3.ensures.moved in
     has_run_more p ds t 3 (t + 3) x c.after_one-at-3.result c.after_one.result due c.after_one-at-3.new.due c.after_one.new.due c.nth-fourth.result three refl c.nth-fourth.ensures c.after_one.ensures.kept c.after_one.ensures.moved
+
+pub after_one-at-requires-clause-period : goal.after_one-at-requires-clause-period
+after_one-at-requires-clause-period c = search rules
+
+pub after_one-at-requires-clause-place : goal.after_one-at-requires-clause-place
+after_one-at-requires-clause-place c = search rules
+
+pub after_one-at-requires-clause-at : goal.after_one-at-requires-clause-at
+after_one-at-requires-clause-at c = search rules
+
+pub after_one-at-requires-2-clause-period : goal.after_one-at-requires-2-clause-period
+after_one-at-requires-2-clause-period c = search rules
+
+pub after_one-at-requires-2-clause-place : goal.after_one-at-requires-2-clause-place
+after_one-at-requires-2-clause-place c = search rules
+
+pub after_one-at-requires-3-clause-period : goal.after_one-at-requires-3-clause-period
+after_one-at-requires-3-clause-period c = search rules
+
+pub after_one-at-requires-3-clause-place : goal.after_one-at-requires-3-clause-place
+after_one-at-requires-3-clause-place c = search rules
+
+pub after_one-requires-clause-period : goal.after_one-requires-clause-period
+after_one-requires-clause-period c = search rules
+
+pub after_one-requires-clause-place : goal.after_one-requires-clause-place
+after_one-requires-clause-place c = search rules

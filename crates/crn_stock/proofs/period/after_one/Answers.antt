@@ -51,3 +51,60 @@ returns-clause-moved c = λ v.
     inventory_moved p d v c.args.period c.args.at at due c.turn-arrived.new.due z a c.cost_for.result
     c.requires.at.position_is (c.order_for-order.ensures.value ∙ ap (order_quantity p.low p.high) ty) arrived x-is moved
     c.cost_for.ensures.value refl
+
+pub order_for-order-requires-clause-low : goal.order_for-order-requires-clause-low
+order_for-order-requires-clause-low c = search rules
+
+pub order_for-order-requires-clause-high : goal.order_for-order-requires-clause-high
+order_for-order-requires-clause-high c = search rules
+
+pub turn-arrived-requires-clause-place : goal.turn-arrived-requires-clause-place
+turn-arrived-requires-clause-place c = search rules
+
+pub turn-arrived-requires-clause-lead_low : goal.turn-arrived-requires-clause-lead_low
+turn-arrived-requires-clause-lead_low c = search rules
+
+pub turn-arrived-requires-clause-lead_high : goal.turn-arrived-requires-clause-lead_high
+turn-arrived-requires-clause-lead_high c = search rules
+
+pub turn-arrived-requires-clause-room : goal.turn-arrived-requires-clause-room
+turn-arrived-requires-clause-room c = search rules
+
+pub changed-stock-requires-clause-low : goal.changed-stock-requires-clause-low
+changed-stock-requires-clause-low c = search rules
+
+pub changed-stock-requires-clause-high : goal.changed-stock-requires-clause-high
+changed-stock-requires-clause-high c = search rules
+
+pub changed-stock-requires-clause-up : goal.changed-stock-requires-clause-up
+changed-stock-requires-clause-up c = search rules
+
+pub changed-stock-requires-clause-down : goal.changed-stock-requires-clause-down
+changed-stock-requires-clause-down c = search rules
+
+pub changed-position-requires-clause-low : goal.changed-position-requires-clause-low
+changed-position-requires-clause-low c = search rules
+
+pub changed-position-requires-clause-high : goal.changed-position-requires-clause-high
+changed-position-requires-clause-high c = search rules
+
+pub changed-position-requires-clause-up : goal.changed-position-requires-clause-up
+changed-position-requires-clause-up c = search rules
+
+pub changed-position-requires-clause-down : goal.changed-position-requires-clause-down
+changed-position-requires-clause-down c = search rules
+
+pub cost_for-requires-clause-costs : goal.cost_for-requires-clause-costs
+cost_for-requires-clause-costs c = search rules
+
+pub cost_for-requires-clause-order : goal.cost_for-requires-clause-order
+cost_for-requires-clause-order c = search rules
+
+pub cost_for-requires-clause-setup : goal.cost_for-requires-clause-setup
+cost_for-requires-clause-setup c = search rules
+
+pub cost_for-requires-clause-low : goal.cost_for-requires-clause-low
+cost_for-requires-clause-low c = search rules
+
+pub cost_for-requires-clause-high : goal.cost_for-requires-clause-high
+cost_for-requires-clause-high c = search rules

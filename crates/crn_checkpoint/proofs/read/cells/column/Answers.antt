@@ -1,4 +1,4 @@
-use Rattle.std.proofs.Common.{◌≡◌, ◌++◌, ◌∷◌, ℕ, List, [], get_or, sym, ◌∙◌}
+use Rattle.std.proofs.Common.{rules, ◌≡◌, ◌++◌, ◌∷◌, ℕ, List, [], get_or, sym, ◌∙◌}
 use Rattle.std.proofs.lemmas.List.{take_more, take_all}
 use Rattle.crn_checkpoint.proofs.Places.{in_column, same_length}
 use Rattle.crn_checkpoint.proofs.read.cells.column.Goals as goal
@@ -14,3 +14,6 @@ pub returns : goal.returns
 returns c = λ xs small e.
     let count = same_length (λ (r : List (List ℕ)). get_or r c.args.place []) c.args.rows.now xs e in
     c.loop-row.invariant xs small e ∙ take_all c.loop-row.row-index xs (rw (← count) c.loop-row-test.false)
+
+pub loop-row-init : goal.loop-row-init
+loop-row-init c = search rules

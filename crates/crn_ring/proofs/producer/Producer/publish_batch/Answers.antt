@@ -1,4 +1,4 @@
-use Rattle.std.proofs.Common.{◌≡◌, ℕ, ◌+◌, ◌-◌, ◌*◌, ◌≤◌, ap, subst, arith}
+use Rattle.std.proofs.Common.{rules, ◌≡◌, ℕ, ◌+◌, ◌-◌, ◌*◌, ◌≤◌, ap, subst, arith}
 use Rattle.crn_cipher.specs.declared.TheConstants.{BLOCK_WORDS}
 use Rattle.crn_proto.specs.Chains.{ProducerReaches}
 use Rattle.crn_ring.proofs.Bounds.{producer_steps}
@@ -24,3 +24,66 @@ returns-in-Blocks-clause-moves c = let spec = c.args.ring.now.spec in let count 
 pub returns-in-Blocks-clause-steps : goal.returns-in-Blocks-clause-steps
 returns-in-Blocks-clause-steps c = let spec = c.args.ring.now.spec in let p = producer_in c.args.self.now.seat in let p' = producer_in c.publish_upto.new.seat in
     let most : p'.steps ≤ p.steps + (spec.readers + BLOCK_WORDS * (p'.published - p.published) + 1) = producer_steps spec p p' _ (returns-in-Blocks-clause-moves c) in omega arith
+
+pub returns-in-Full-clause-ring : goal.returns-in-Full-clause-ring
+returns-in-Full-clause-ring c = search rules
+
+pub returns-in-Full-clause-moves : goal.returns-in-Full-clause-moves
+returns-in-Full-clause-moves c = search rules
+
+pub returns-in-Full-clause-steps : goal.returns-in-Full-clause-steps
+returns-in-Full-clause-steps c = search rules
+
+pub returns-in-Full-clause-answer : goal.returns-in-Full-clause-answer
+returns-in-Full-clause-answer c = search rules
+
+pub returns-in-Full-clause-quiet : goal.returns-in-Full-clause-quiet
+returns-in-Full-clause-quiet c = search rules
+
+pub returns-in-Full-clause-within : goal.returns-in-Full-clause-within
+returns-in-Full-clause-within c = search rules
+
+pub returns-in-Blocks-clause-ring : goal.returns-in-Blocks-clause-ring
+returns-in-Blocks-clause-ring c = search rules
+
+pub returns-in-Blocks-clause-quiet : goal.returns-in-Blocks-clause-quiet
+returns-in-Blocks-clause-quiet c = search rules
+
+pub returns-in-Blocks-clause-within : goal.returns-in-Blocks-clause-within
+returns-in-Blocks-clause-within c = search rules
+
+pub invariant_of-self : goal.invariant_of-self
+invariant_of-self c = search rules
+
+pub find_room-requires-clause-ring : goal.find_room-requires-clause-ring
+find_room-requires-clause-ring c = search rules
+
+pub find_room-requires-clause-running : goal.find_room-requires-clause-running
+find_room-requires-clause-running c = search rules
+
+pub find_room-requires-clause-blocks : goal.find_room-requires-clause-blocks
+find_room-requires-clause-blocks c = search rules
+
+pub store_rows-requires-clause-own : goal.store_rows-requires-clause-own
+store_rows-requires-clause-own c = search rules
+
+pub store_rows-requires-clause-at : goal.store_rows-requires-clause-at
+store_rows-requires-clause-at c = search rules
+
+pub store_rows-requires-clause-blocks : goal.store_rows-requires-clause-blocks
+store_rows-requires-clause-blocks c = search rules
+
+pub store_rows-requires-clause-below : goal.store_rows-requires-clause-below
+store_rows-requires-clause-below c = search rules
+
+pub store_rows-requires-clause-room : goal.store_rows-requires-clause-room
+store_rows-requires-clause-room c = search rules
+
+pub publish_upto-requires-clause-own : goal.publish_upto-requires-clause-own
+publish_upto-requires-clause-own c = search rules
+
+pub publish_upto-requires-clause-at : goal.publish_upto-requires-clause-at
+publish_upto-requires-clause-at c = search rules
+
+pub publish_upto-requires-clause-below : goal.publish_upto-requires-clause-below
+publish_upto-requires-clause-below c = search rules

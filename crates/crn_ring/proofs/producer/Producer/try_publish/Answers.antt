@@ -1,4 +1,4 @@
-use Rattle.std.proofs.Common.{◌≡◌, ℕ, ap, subst, arith}
+use Rattle.std.proofs.Common.{rules, ◌≡◌, ℕ, ap, subst, arith}
 use Rattle.crn_ring.specs.Inner.Rooms.{HasFound}
 use Rattle.crn_ring.proofs.Bounds.{producer_steps}
 use Rattle.crn_ring.proofs.Rooms.{publish_moves, publishes}
@@ -19,3 +19,63 @@ returns-in-Blocks-clause-answer c = let spec = c.args.ring.now.spec in let p = p
     let one : c.in-Blocks.field-0 ≡ 1 = omega arith in
     publishes spec p found (producer_in c.store_row.new.seat) (producer_in c.publish_upto.new.seat) 1 1 c.requires.running c.args.self.now.rests (subst (λ (z : ℕ). HasFound spec p found 1 z) one f)
     c.find_room.ensures.moved (ap (λ m. m.0.producer) c.store_row.ensures.view) c.store_row.ensures.moved (ap (λ m. m.0.producer) c.publish_upto.ensures.view)
+
+pub returns-in-Full-clause-ring : goal.returns-in-Full-clause-ring
+returns-in-Full-clause-ring c = search rules
+
+pub returns-in-Full-clause-moves : goal.returns-in-Full-clause-moves
+returns-in-Full-clause-moves c = search rules
+
+pub returns-in-Full-clause-steps : goal.returns-in-Full-clause-steps
+returns-in-Full-clause-steps c = search rules
+
+pub returns-in-Full-clause-answer : goal.returns-in-Full-clause-answer
+returns-in-Full-clause-answer c = search rules
+
+pub returns-in-Full-clause-quiet : goal.returns-in-Full-clause-quiet
+returns-in-Full-clause-quiet c = search rules
+
+pub returns-in-Full-clause-within : goal.returns-in-Full-clause-within
+returns-in-Full-clause-within c = search rules
+
+pub returns-in-Blocks-clause-ring : goal.returns-in-Blocks-clause-ring
+returns-in-Blocks-clause-ring c = search rules
+
+pub returns-in-Blocks-clause-quiet : goal.returns-in-Blocks-clause-quiet
+returns-in-Blocks-clause-quiet c = search rules
+
+pub returns-in-Blocks-clause-within : goal.returns-in-Blocks-clause-within
+returns-in-Blocks-clause-within c = search rules
+
+pub invariant_of-self : goal.invariant_of-self
+invariant_of-self c = search rules
+
+pub find_room-requires-clause-ring : goal.find_room-requires-clause-ring
+find_room-requires-clause-ring c = search rules
+
+pub find_room-requires-clause-running : goal.find_room-requires-clause-running
+find_room-requires-clause-running c = search rules
+
+pub find_room-requires-clause-blocks : goal.find_room-requires-clause-blocks
+find_room-requires-clause-blocks c = search rules
+
+pub store_row-requires-clause-own : goal.store_row-requires-clause-own
+store_row-requires-clause-own c = search rules
+
+pub store_row-requires-clause-at : goal.store_row-requires-clause-at
+store_row-requires-clause-at c = search rules
+
+pub store_row-requires-clause-block : goal.store_row-requires-clause-block
+store_row-requires-clause-block c = search rules
+
+pub store_row-requires-clause-room : goal.store_row-requires-clause-room
+store_row-requires-clause-room c = search rules
+
+pub publish_upto-requires-clause-own : goal.publish_upto-requires-clause-own
+publish_upto-requires-clause-own c = search rules
+
+pub publish_upto-requires-clause-at : goal.publish_upto-requires-clause-at
+publish_upto-requires-clause-at c = search rules
+
+pub publish_upto-requires-clause-below : goal.publish_upto-requires-clause-below
+publish_upto-requires-clause-below c = search rules

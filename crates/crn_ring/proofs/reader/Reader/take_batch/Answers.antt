@@ -1,4 +1,4 @@
-use Rattle.std.proofs.Common.{◌≡◌, ℕ, ◌+◌, ◌-◌, ◌*◌, ap, subst, arith}
+use Rattle.std.proofs.Common.{rules, ◌≡◌, ℕ, ◌+◌, ◌-◌, ◌*◌, ap, subst, arith}
 use Rattle.crn_cipher.specs.declared.TheConstants.{BLOCK_WORDS}
 use Rattle.crn_proto.specs.Chains.{ReaderReaches}
 use Rattle.crn_ring.proofs.Rooms.{take_moves}
@@ -17,3 +17,72 @@ returns-clause-moves c = let count : ℕ = c.min-count.result in
     let risen : count ≡ q'.taken - q.taken = omega arith in
     subst (λ (z : ℕ). ReaderReaches q (BLOCK_WORDS * z + 2) q') risen
     (take_moves q looked read q' count c.load_cursor-cursor.ensures.moved c.load_rows.ensures.moved c.store_taken.ensures.moved)
+
+pub returns-then-self-clause-ring : goal.returns-then-self-clause-ring
+returns-then-self-clause-ring c = search rules
+
+pub returns-then-self-clause-moves : goal.returns-then-self-clause-moves
+returns-then-self-clause-moves c = search rules
+
+pub returns-then-self-clause-steps : goal.returns-then-self-clause-steps
+returns-then-self-clause-steps c = search rules
+
+pub returns-then-self-clause-answer : goal.returns-then-self-clause-answer
+returns-then-self-clause-answer c = search rules
+
+pub returns-then-self-clause-within : goal.returns-then-self-clause-within
+returns-then-self-clause-within c = search rules
+
+pub returns-then-published-self-clause-ring : goal.returns-then-published-self-clause-ring
+returns-then-published-self-clause-ring c = search rules
+
+pub returns-then-published-self-clause-moves : goal.returns-then-published-self-clause-moves
+returns-then-published-self-clause-moves c = search rules
+
+pub returns-then-published-self-clause-steps : goal.returns-then-published-self-clause-steps
+returns-then-published-self-clause-steps c = search rules
+
+pub returns-then-published-self-clause-answer : goal.returns-then-published-self-clause-answer
+returns-then-published-self-clause-answer c = search rules
+
+pub returns-then-published-self-clause-within : goal.returns-then-published-self-clause-within
+returns-then-published-self-clause-within c = search rules
+
+pub returns-clause-ring : goal.returns-clause-ring
+returns-clause-ring c = search rules
+
+pub returns-clause-steps : goal.returns-clause-steps
+returns-clause-steps c = search rules
+
+pub returns-clause-answer : goal.returns-clause-answer
+returns-clause-answer c = search rules
+
+pub returns-clause-within : goal.returns-clause-within
+returns-clause-within c = search rules
+
+pub invariant_of-self : goal.invariant_of-self
+invariant_of-self c = search rules
+
+pub load_cursor-cursor-requires-clause-own : goal.load_cursor-cursor-requires-clause-own
+load_cursor-cursor-requires-clause-own c = search rules
+
+pub load_cursor-cursor-requires-clause-at : goal.load_cursor-cursor-requires-clause-at
+load_cursor-cursor-requires-clause-at c = search rules
+
+pub load_rows-requires-clause-own : goal.load_rows-requires-clause-own
+load_rows-requires-clause-own c = search rules
+
+pub load_rows-requires-clause-at : goal.load_rows-requires-clause-at
+load_rows-requires-clause-at c = search rules
+
+pub load_rows-requires-clause-room : goal.load_rows-requires-clause-room
+load_rows-requires-clause-room c = search rules
+
+pub store_taken-requires-clause-own : goal.store_taken-requires-clause-own
+store_taken-requires-clause-own c = search rules
+
+pub store_taken-requires-clause-at : goal.store_taken-requires-clause-at
+store_taken-requires-clause-at c = search rules
+
+pub store_taken-requires-clause-whole : goal.store_taken-requires-clause-whole
+store_taken-requires-clause-whole c = search rules
