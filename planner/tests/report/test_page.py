@@ -1,14 +1,17 @@
-"""Tests the scales and numbers of a page."""
+"""Tests the scales, numbers and security policy of a page."""
 from __future__ import annotations
 
+import base64
+import hashlib
 import itertools
 import math
+import re
 
 import pytest
 from hypothesis import given
 from hypothesis import strategies as st
 
-from crnplan.report.page import UNITS, Chances, Scale, number, tick
+from crnplan.report.page import UNITS, Chances, Scale, number, rendered, source, tick
 
 VALUES = st.lists(st.floats(-1e9, 1e9).filter(lambda it: it == 0 or abs(it) > 1e-6), min_size=1, max_size=5)
 
@@ -52,3 +55,21 @@ def test_number(value: float, digits: int, text: str) -> None:
 def test_tick(value: float, text: str) -> None:
     """A round number at an axis has no decimals that it does not need."""
     assert tick(value) == text
+
+
+@pytest.mark.parametrize("text, wanted", [
+    ("alert('Hello, world.');", "'sha256-qznLcsROx4GACP2dm0UCKCzCG+HiZ1guq6ZZDob/Tng='"), ("", "'none'")])
+def test_source(text: str, wanted: str) -> None:
+    """A script has the source of the example in Content Security Policy Level 3, section 8.4; no text allows none."""
+    assert source(text) == wanted
+
+
+def test_page_allows_its_own_style_alone() -> None:
+    """The policy of a page allows the style that stands in it, no script if there is none, and no other file."""
+    text = rendered("base.html", {})
+    (style,) = re.findall("<style>(.*?)</style>", text, re.DOTALL)
+    (policy,) = re.findall('http-equiv="Content-Security-Policy" content="(.*?)"', text)
+    digest = base64.b64encode(hashlib.sha256(style.encode()).digest()).decode()
+    assert policy == (f"default-src 'none'; style-src 'sha256-{digest}'; script-src 'none'; img-src data:; "
+                      "base-uri 'none'; form-action 'none'")
+    assert "<script" not in text and not re.search(r"\s(style|on\w+)=", text)

@@ -7,7 +7,6 @@ from collections import Counter
 from collections.abc import Iterable, Sequence
 from typing import Any
 
-from .. import __version__
 from ..report.page import UNITS, Chances, Scale, number, rendered, tick
 from ..theory.long_run import exactness_of
 from .summary import Figures, Row, check, comparison, facts, headline, percent, promise, size_of
@@ -164,4 +163,4 @@ def page_text(figures: Figures) -> str:
         "checked": ranges_of(figures, figures.checked.values(), figures.chosen, size_of(figures, "check")),
         "doubt": regrets_of(figures), "promise": promise(figures), "count": its["run"]["laws"],
         "policies": [policy_row(figures, row) for row in figures.decided.values()],
-        "key": " ".join(figures.scenario.key), "version": __version__})
+        "key": " ".join(figures.scenario.key)})

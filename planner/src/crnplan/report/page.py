@@ -5,10 +5,17 @@ they stay readable if the picture is narrow.
 """
 from __future__ import annotations
 
+import base64
+import hashlib
 import math
 from collections.abc import Mapping, Sequence
 from dataclasses import dataclass
-from typing import Any
+from typing import TYPE_CHECKING, Any
+
+from .. import __version__
+
+if TYPE_CHECKING:
+    from markupsafe import Markup
 
 UNITS = 1000
 MOST_TICKS = 5
@@ -39,6 +46,11 @@ class Scale:
     def heights(self) -> list[tuple[float, str, str]]:
         """Returns the places at an axis, their texts and the class of their lines."""
         return [(self.at(it), tick(it), "gridline" if it else "zero") for it in self.ticks]
+
+    @property
+    def marks(self) -> list[tuple[float, str, str]]:
+        """Returns the places at an axis below a picture, their texts and no class."""
+        return [(self.at(it), tick(it), "") for it in self.ticks]
 
 
 @dataclass(frozen=True)
@@ -72,10 +84,20 @@ def tick(value: float) -> str:
     return f"{value:,.10g}".replace("-", "\u2212")
 
 
+def source(text: str) -> Markup:
+    """Returns the source by which a content security policy allows this style or script: its SHA-256.
+
+    Source: W3C, Content Security Policy Level 3, section 2.3.1. 'none' allows nothing, and stands for no text.
+    """
+    from markupsafe import Markup
+    return Markup(f"'sha256-{base64.b64encode(hashlib.sha256(text.encode()).digest()).decode()}'" if text else "'none'")
+
+
 def rendered(template: str, context: Mapping[str, Any]) -> str:
-    """Returns a page from a template of the package."""
+    """Returns a page from a template of the package. The version is that of crnplan in each."""
     import jinja2
     pages = jinja2.Environment(loader=jinja2.PackageLoader("crnplan.report"), autoescape=True, trim_blocks=True,
                                lstrip_blocks=True, keep_trailing_newline=True, undefined=jinja2.StrictUndefined)
-    pages.filters |= {"number": number, "tick": tick}
+    pages.filters |= {"number": number, "tick": tick, "source": source}
+    pages.globals["version"] = __version__
     return pages.get_template(template).render(context)
