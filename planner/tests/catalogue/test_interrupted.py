@@ -14,7 +14,8 @@ from pathlib import Path
 
 import pytest
 
-from crnplan.catalogue import plan, read_catalogue, running
+from crnplan.catalogue import plan, read_catalogue
+from crnplan.catalogue.work import BATCH
 from planner.tests.catalogue.conftest import FILES, SETTINGS, TABLES, WORDS, leave_few
 from planner.tests.catalogue.made import Made
 from planner.tests.conftest import Command
@@ -134,7 +135,7 @@ def test_killed(folder: Path, whole: Path, crnplan: Command, holding: Path, star
     assert there > 0
     now, from_before = goes_on(folder, whole, crnplan, holding)
     assert from_before == there and now == runs(folder) - before == FEW - there
-    assert before - there <= JOBS * running.BATCH
+    assert before - there <= JOBS * BATCH
 
 
 @pytest.mark.parametrize("jobs", ["1", str(JOBS)])
@@ -146,7 +147,7 @@ def test_interrupted(folder: Path, whole: Path, crnplan: Command, holding: Path,
     _, errors = process.communicate(timeout=60)
     assert process.returncode == 130 and b"Traceback" not in errors
     there = kept(folder)
-    assert f"{there} of {FEW} items are planned and kept; run again to go on".encode() in errors
+    assert f"{there} of {FEW} items are done and kept; run again to go on".encode() in errors
     assert goes_on(folder, whole, crnplan, holding)[1] == there
 
 

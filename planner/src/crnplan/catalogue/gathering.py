@@ -5,25 +5,18 @@ Candidates are kept in a file of the folder, each with all that it depends on, a
 from __future__ import annotations
 
 import contextlib
-import itertools
-import os
-import sys
-from collections.abc import Iterator
-from contextlib import AbstractContextManager
 from dataclasses import dataclass, field
 from fractions import Fraction
 from pathlib import Path
 from typing import Any
 
 from ..errors import Refused
-from ..sweep.progress import progress as progress_of
 from .candidates import VERSION, candidates_batch
 from .exchange import Items, Point
 from .planned import Planned
 from .planning import CHOSEN, TODAY, Settings
-from .running import BATCH
 from .store import READ, Answers, Catalogued, told_of, with_advice
-from .workers import Workers, answers_of, cluster, processes
+from .work import Work, workers_of
 
 CANDIDATES = "curve.sqlite"
 NO_PRICE = ("it has no price above 0, so its stock has no value", "give it a price in the masters")
@@ -79,11 +72,11 @@ class Gathering:
 
     def __init__(self, planned: Planned, read: Catalogued, plans: Answers, kept: Answers) -> None:
         """Looks at which items can be on the curve, and which candidates are left to be computed."""
-        self.planned, self.read, self.plans, self.kept = planned, read, plans, kept
+        self.planned, self.read, self.plans = planned, read, plans
         self.prices: dict[str, Fraction] = {}
         self.digests: dict[str, str] = {}
         self.left_out: list[tuple[str, str, str]] = []
-        current, known = plans.digests(), kept.digests()
+        current = plans.digests()
         for name, facts in read.facts_of_items():
             price = read.item(name)[1]["price"]
             if current.get(name) != Settings.digest_of(planned.common, name, facts):
@@ -96,35 +89,17 @@ class Gathering:
             else:
                 self.prices[name] = Fraction(price)
                 self.digests[name] = Settings.digest_of(f"{planned.common}\ncurve {VERSION} {price}", name, facts)
-        self.left = [name for name, digest in self.digests.items() if known.get(name) != digest]
+        self.work = Work(kept, self.digests)
 
-    def batches(self, prior: Any) -> Iterator[tuple[list[tuple[str, str, float]], Settings, Any]]:
-        """Yields what is sent to a worker for each batch."""
-        names = iter(self.left)
-        while batch := list(itertools.islice(names, BATCH)):
-            yield ([(name, self.read.text(name), float(self.prices[name])) for name in batch], self.planned.settings,
-                   prior)
-
-    def compute(self, given: AbstractContextManager[Workers], shown: bool) -> None:
-        """Computes the candidates that are left. Each batch is kept as it comes."""
-        kept = done = len(self.digests) - len(self.left)
-        try:
-            with given as workers, progress_of(len(self.digests), kept, shown, "items") as show:
-                for answers in answers_of(workers, candidates_batch, self.batches(workers.share(self.planned.prior))):
-                    self.kept.keep([(name, self.digests[name], text) for name, text in answers])
-                    done += len(answers)
-                    show(done)
-        except KeyboardInterrupt:
-            if shown:
-                print(f"the candidates of {done:,} of {len(self.digests):,} items are kept; run again to go on",
-                      file=sys.stderr)
-            raise
+    def asked(self, name: str) -> tuple[str, str, float]:
+        """Returns what is asked of an item."""
+        return name, self.read.text(name), float(self.prices[name])
 
     def gathered(self, folder: Path) -> Gathered:
         """Returns all of it. Raises Refused if no item can be on the curve."""
         sums, found, shown, prices = Sums(), [], [], []
         for name, price in self.prices.items():
-            its = self.kept.answer(name)
+            its = self.work.answers.answer(name)
             if "fault" in its:
                 reason, advice = with_advice(its["fault"])
                 self.left_out.append((name, reason, advice))
@@ -138,7 +113,7 @@ class Gathering:
                 f"{self.left_out[0][1]}; {self.left_out[0][2]}" if self.left_out else "no item is in the plan"
             raise Refused(f"{folder}: no item can be on the curve: {why}")
         return Gathered(self.planned, Items.of(found), sums.points, shown, prices, sorted(self.left_out),
-                        self.read.fact("decimals"), self.read.fact("every"), len(self.left))
+                        self.read.fact("decimals"), self.read.fact("every"), len(self.work.left))
 
 
 def gather(folder: Path, planned: Planned, jobs: int | None, address: str | None, shown: bool) -> Gathered:
@@ -146,6 +121,5 @@ def gather(folder: Path, planned: Planned, jobs: int | None, address: str | None
     with (told_of(folder), contextlib.closing(Catalogued(folder / READ)) as read,
           contextlib.closing(Answers(folder)) as plans, contextlib.closing(Answers(folder, CANDIDATES)) as kept):
         its = Gathering(planned, read, plans, kept)
-        if its.left:
-            its.compute(cluster(address) if address else processes(jobs or os.cpu_count() or 1), shown)
+        its.work.finish(candidates_batch, its.asked, planned, workers=workers_of(jobs, address), shown=shown)
         return its.gathered(folder)

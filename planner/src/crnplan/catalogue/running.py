@@ -3,20 +3,15 @@ from __future__ import annotations
 
 import contextlib
 import dataclasses
-import itertools
 import os
 import shutil
-import sys
 from collections.abc import Iterator, Sequence
-from contextlib import AbstractContextManager
 from pathlib import Path
 from typing import TYPE_CHECKING, Any
 
-from ..demand.borrowing import Prior
 from ..errors import CrnplanError
 from ..item.steps import digest_of
 from ..sweep import program_for
-from ..sweep.progress import progress as progress_of
 from .learning import prior_of
 from .lock import alone
 from .planned import Planned, keep_planned
@@ -25,12 +20,10 @@ from .reading import Catalogue, check_folder, missing_of
 from .store import READ, Answers, Catalogued, Reject, told_of, with_advice
 from .tables import (COLUMNS, DECISIONS, EXACT, EXACT_COLUMNS, REJECTS, SUMMARY, Totals, exact_row, reject_rows, row_of,
                      spelt, summary_text, write_rows)
-from .workers import Workers, answers_of, cluster, processes
+from .work import Work, workers_of
 
 if TYPE_CHECKING:
     import pandas as pd
-
-BATCH = 8
 
 
 class Lost(CrnplanError):
@@ -50,44 +43,20 @@ class Done:
     missing: tuple[str, ...]
 
 
+@dataclasses.dataclass(frozen=True)
 class Run:
-    """A run: the catalogue, the answers that are kept, and which items are left."""
+    """A run: the catalogue, the settings, and the work on its items."""
 
-    def __init__(self, read: Catalogued, answers: Answers, settings: Settings, prior: Prior, program: str) -> None:
-        """Looks at which answers can be kept."""
-        self.read, self.answers, self.settings, self.prior, self.program = read, answers, settings, prior, program
-        self.common = common = settings.digest(_program_digest(program), prior)
-        kept = answers.digests()
-        self.digests = {name: Settings.digest_of(common, name, facts) for name, facts in read.facts_of_items()}
-        self.left = [name for name, digest in self.digests.items() if kept.get(name) != digest]
-
-    def batches(self, prior: Any) -> Iterator[tuple[list[tuple[str, str]], Settings, Any, str]]:
-        """Yields what is sent to a worker for each batch."""
-        names = iter(self.left)
-        while batch := list(itertools.islice(names, BATCH)):
-            yield [(name, self.read.text(name)) for name in batch], self.settings, prior, self.program
-
-    def plan(self, given: AbstractContextManager[Workers], shown: bool) -> None:
-        """Plans the items that are left. Each batch is kept as it comes."""
-        kept = done = len(self.digests) - len(self.left)
-        try:
-            with given as workers, progress_of(len(self.digests), kept, shown, "items") as show:
-                for answers in answers_of(workers, plan_batch, self.batches(workers.share(self.prior))):
-                    self.answers.keep([(name, self.digests[name], text) for name, text in answers])
-                    done += len(answers)
-                    show(done)
-        except KeyboardInterrupt:
-            if shown:
-                print(f"{done:,} of {len(self.digests):,} items are planned and kept; run again to go on",
-                      file=sys.stderr)
-            raise
+    read: Catalogued
+    settings: Settings
+    work: Work
 
     def rows(self, totals: Totals, faults: list[Reject]) -> Iterator[tuple[dict[str, Any], dict[str, Any]]]:
         """Yields the row of each planned item with its answer, in order of the names, and adds up. Items without a plan
         become rejects."""
         masters = self.read.fact("counts")["files"]["items"]["name"]
-        for name in self.digests:
-            answer = self.answers.answer(name)
+        for name in self.work.digests:
+            answer = self.work.answers.answer(name)
             if "fault" in answer:
                 shown = self.read.item(name)[1]
                 totals.faults += 1
@@ -124,18 +93,20 @@ def plan_into(folder: Path, settings: Settings, *, jobs: int | None = None, addr
     with (told_of(folder), contextlib.closing(Catalogued(folder / READ)) as read,
           contextlib.closing(Answers(folder)) as answers):
         prior, note = prior_of(folder, read, borrow, again, settings.fit)
-        run = Run(read, answers, settings, prior, path)
-        keep_planned(folder, Planned(settings, prior, run.common))
+        planned = Planned(settings, prior, settings.digest(_program_digest(path), prior))
+        work = Work(answers, {name: Settings.digest_of(planned.common, name, facts)
+                              for name, facts in read.facts_of_items()})
+        keep_planned(folder, planned)
         write_rows(folder / REJECTS, Reject._fields, reject_rows(read.rejects()))
-        if run.left:
-            run.plan(cluster(address) if address else processes(jobs or os.cpu_count() or 1), shown)
-        totals = write_tables(folder, run)
+        work.finish(plan_batch, lambda name: (name, read.text(name)), planned, path,
+                    workers=workers_of(jobs, address), shown=shown)
+        totals = write_tables(folder, Run(read, settings, work))
         counts = read.fact("counts")
         text = summary_text(counts, totals, settings, read.fact("every"), read.fact("decimals"), note)
         missing = missing_of(counts, totals.verdicts.total() + totals.faults)
         text += "".join(f"\nLOST: {it}\n" for it in missing)
         (folder / SUMMARY).write_text(text, "utf-8")
-        return Done(folder, len(run.left), len(run.digests) - len(run.left), text, tuple(missing))
+        return Done(folder, len(work.left), work.kept, text, tuple(missing))
 
 
 def plan(catalogue: Catalogue, folder: str | Path, *, jobs: int | None = None, cluster: str | None = None,
