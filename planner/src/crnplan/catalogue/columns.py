@@ -69,7 +69,8 @@ FILES: dict[str, tuple[Role, ...]] = {
         Role("price", False, ("price", "unit value", "unit cost", "item cost", "value", "preis", "stückpreis",
                               "stückwert", "prix", "coût unitaire", "precio", "prezzo", "prijs")),
         Role("class", False, ("class", "abc", "abc class", "category", "group", "klasse", "abc klasse", "kategorie",
-                              "warengruppe", "classe", "catégorie", "clase", "categoría", "categoria"))),
+                              "warengruppe", "classe", "catégorie", "clase", "categoría", "categoria")),
+        Role("borrow", False, ("borrow", "borrow from"))),
     "orders": (
         Role("item", True, ITEM),
         Role("ordered", True, ("ordered", "order date", "ordered on", "placed", "bestellt", "bestellt am",

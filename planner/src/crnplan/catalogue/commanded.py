@@ -15,7 +15,7 @@ from .running import Lost, plan_into
 from .store import Reject
 from .tables import REJECTS, counted, reject_rows, write_rows
 
-SETTINGS = ("seed", "fit", "level", "periods", "replications")
+SETTINGS = ("seed", "fit", "borrow", "confidence", "level", "periods", "replications")
 RULES = ("delimiter", "encoding", "decimal", "date_formats")
 FOUND = "found.toml"
 
@@ -59,7 +59,7 @@ def _planned(asked: Mapping[str, Any], config: Mapping[str, Any], words: Words, 
         missing = catalogue.missing
     else:
         done = plan_into(folder, settings, jobs=asked["jobs"], address=asked["cluster"], program=asked["program"],
-                         borrow=asked["borrow"] or config.get("borrow"), again=asked["again"], shown=True)
+                         again=asked["again"], shown=True)
         note(f"{folder}: {done.planned:,} items planned, {done.kept:,} kept from before\n")
         say(done.summary)
         missing = list(done.missing)

@@ -25,7 +25,8 @@ CHECKS: dict[str, Check] = {
     "every": choice(*EVERY), "delimiter": choice(*DELIMITERS), "encoding": text, "decimal": choice(*DECIMALS),
     "date_formats": texts, "from": date, "to": date, "net": flag, "twice": choice(KEEP, LEAVE_OUT),
     "far": choice(KEEP, LEAVE_OUT), "borrow": choice(*BORROW), "least": whole(1, MOST_WEIGHT), "seed": text,
-    "fit": choice(*METHODS), "level": share("0.95 for 95 of 100 samples"), "periods": whole(1, MOST_PERIODS),
+    "fit": choice(*METHODS), "confidence": share("0.8 for 80% of the laws that a history allows"),
+    "level": share("0.95 for 95 of 100 samples"), "periods": whole(1, MOST_PERIODS),
     "replications": whole(2, MOST_REPLICATIONS)}
 Trouble = tuple[tuple[str, ...], str]
 

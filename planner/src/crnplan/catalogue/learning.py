@@ -8,20 +8,20 @@ from __future__ import annotations
 import hashlib
 import heapq
 import json
+from collections import Counter
 from collections.abc import Iterator
 from pathlib import Path
 from typing import Any
 
 from ..demand.borrowing import Prior, learn
 from ..demand.borrowing.learning import LEAST_ITEMS, LEAST_ON_REQUEST
-from ..demand.borrowing.prior import ALL, BORROW
 from ..errors import Refused
+from .planning import ALL, CLASS, NONE, Settings
 from .store import Catalogued
 
 PRIOR = "prior.json"
 # Items whose histories are looked at for the law of a whole catalogue: it is estimated on 3,000 of them.
 MOST_READ = 10_000
-NONE = "none"
 
 
 def drawn_names(read: Catalogued, most: int | None) -> frozenset[str]:
@@ -42,34 +42,43 @@ def histories_of(read: Catalogued, most: int | None = None) -> Iterator[tuple[An
             yield np.array(its["counts"], np.uint32), its["class"]
 
 
-def prior_of(folder: Path, read: Catalogued, borrow: str | None, again: bool, fit: str) -> tuple[Prior, str]:
-    """Returns what the items of a catalogue learn from one another, and a note on it.
+def prior_of(folder: Path, read: Catalogued, settings: Settings, again: bool) -> tuple[Prior, str, str]:
+    """Returns what the items of a catalogue learn from one another, from whom an item learns if its master does not say
+    that, and a note on it.
 
-    `borrow` is none, class or all; None is all if there are 100 items, unless a way to `fit` each alone is asked for.
-    What was learned before in this way is kept, unless it is to be learned `again`. Raises Refused for another word, and
-    for fewer than 30 items.
+    With `settings.borrow` None that is all if there are 100 items. What was learned before in this way is kept, unless
+    it is to be learned `again`. Raises Refused if fewer than 30 items are to learn.
     """
-    if borrow not in (None, *BORROW):
-        raise Refused(f"--borrow {borrow!r} is not one of {', '.join(BORROW)}")
-    if fit != "auto" and borrow not in (None, NONE):
-        raise Refused(f"--fit {fit} fits each item alone, and --borrow {borrow} learns from others; leave one out")
+    if settings.fit != "auto":
+        return Prior(NONE), NONE, f"each item has the law of its own history (--fit {settings.fit})"
+    said = Counter(json.loads(facts)["borrow"] for _, facts in read.facts_of_items())
+    asked = {settings.borrow, *said} & {ALL, CLASS}
+    if settings.borrow == NONE and not asked:
+        return Prior(NONE), NONE, "each item has the law of its own history (--borrow none)"
+    way, least = CLASS if CLASS in asked else ALL, LEAST_ON_REQUEST if asked else LEAST_ITEMS
     path = folder / PRIOR
-    if fit != "auto":
-        return Prior(NONE), f"each item has the law of its own history (--fit {fit})"
-    if borrow == NONE:
-        return Prior(NONE), "each item has the law of its own history (--borrow none)"
+    try:
+        prior, note = _kept(path, read, way, least, again)
+    except Refused as few:
+        if asked:
+            raise
+        return Prior(NONE), NONE, f"each item has the law of its own history: {str(few).split(';')[0]}"
+    usual = settings.borrow or (ALL if prior.items - prior.outside >= LEAST_ITEMS else NONE)
+    others = sum(count for word, count in said.items() if word not in ("", usual))
+    if usual == NONE:
+        note = f"each item has the law of its own history; {note}"
+    return prior, usual, note + f"; the masters say otherwise for {others:,} items (borrow)" * (others > 0)
+
+
+def _kept(path: Path, read: Catalogued, way: str, least: int, again: bool) -> tuple[Prior, str]:
+    """Returns what was learned in an earlier run, or is learned now and kept, and a note on it. Raises Refused if there
+    are fewer than `least` items."""
     if path.is_file() and not again:
         prior = Prior.read(path)
-        if prior.borrow == (borrow or ALL):
+        if prior.borrow == way and prior.items - prior.outside >= least:
             return prior, f"{_learned(prior)} in an earlier run (--learn-again learns anew)"
-    histories, classes = _split(read, None if borrow == "class" else MOST_READ)
-    try:
-        prior = learn(histories, classes if borrow == "class" else None, borrow or ALL,
-                      least=LEAST_ITEMS if borrow is None else LEAST_ON_REQUEST)
-    except Refused as few:
-        if borrow is not None:
-            raise
-        return Prior(NONE), f"each item has the law of its own history: {str(few).split(';')[0]}"
+    histories, classes = _split(read, None if way == CLASS else MOST_READ)
+    prior = learn(histories, classes if way == CLASS else None, way, least=least)
     prior.write(path)
     return prior, _learned(prior)
 

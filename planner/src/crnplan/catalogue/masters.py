@@ -6,7 +6,8 @@ from dataclasses import dataclass
 from fractions import Fraction
 from typing import Any
 
-from ..history.faults import Unreadable
+from ..demand.borrowing.prior import BORROW
+from ..history.faults import Unreadable, shown
 from ..money import MOST_DECIMALS
 from .amounts import AmountReader, leads_of
 
@@ -17,7 +18,8 @@ MONEY = ("setup", "holding", "backlog", "price")
 
 @dataclass(frozen=True)
 class Master:
-    """What a row says of an item. Amounts are exact, None stands for an empty cell. `decimals` are those of its money."""
+    """What a row says of an item. Amounts are exact, None stands for an empty cell. `group` is its class, `borrow` from
+    whom its law is learned, both perhaps empty. `decimals` are those of its money."""
 
     line: int
     description: str
@@ -30,6 +32,7 @@ class Master:
     stock: Fraction | None
     price: Fraction | None
     group: str
+    borrow: str
     decimals: int
 
 
@@ -47,11 +50,19 @@ def decimals_of(number: Fraction) -> int:
     return next(it for it in range(MOST_DECIMALS + 1) if (number * 10**it).denominator == 1)
 
 
+def borrowed_from(text: str) -> str:
+    """Returns from whom an item learns its law. Raises Unreadable."""
+    if text.casefold() not in BORROW:
+        raise Unreadable(f"{shown(text)!r} is not {', '.join(BORROW[:-1])} or {BORROW[-1]}; write one of them, or nothing")
+    return text.casefold()
+
+
 def _readers(amounts: Mapping[str, AmountReader]) -> dict[str, Callable[[str], Any]]:
     """Returns how the cell of each role is read."""
     return {"setup": amounts["setup"].amount, "holding": amounts["holding"].positive, "lead": leads_of,
             "backlog": amounts["backlog"].positive, "fill": amounts["fill"].share, "s": amounts["s"].items,
-            "S": amounts["S"].items, "stock": amounts["stock"].number, "price": amounts["price"].amount}
+            "S": amounts["S"].items, "stock": amounts["stock"].number, "price": amounts["price"].amount,
+            "borrow": borrowed_from}
 
 
 def master_of(line: int, cells: Mapping[str, str], amounts: Mapping[str, AmountReader],
@@ -78,7 +89,7 @@ def master_of(line: int, cells: Mapping[str, str], amounts: Mapping[str, AmountR
     money = [read[it] for it in MONEY if read[it] is not None]
     return Master(line, cells.get("description", ""), read["setup"], read["holding"], read["backlog"], read["fill"],
                   tuple(read["lead"] or observed), (read["s"], read["S"]), read["stock"], read["price"],
-                  cells.get("class", ""), max(map(decimals_of, money)))
+                  cells.get("class", ""), read["borrow"] or "", max(map(decimals_of, money)))
 
 
 def _joint_faults(read: Mapping[str, Any], cells: Mapping[str, str],

@@ -293,7 +293,8 @@ class Reader:
             ("setup", master.setup), ("holding", master.holding), ("backlog", master.backlog), ("fill", master.fill))}
         levels = [round(it / box) for it in master.levels]
         facts: dict[str, Any] = {"counts": asked, "back": back if any(back) else None, "box": box, **amounts,
-                                 "leads": [*master.leads], "levels": levels, "class": master.group}
+                                 "leads": [*master.leads], "levels": levels, "class": master.group,
+                                 "borrow": master.borrow}
         if levels[1] > MOST_ITEMS:
             raise Left("items", master.line, self._column("items", "S"), str(master.levels[1]),
                        f"S is above {MOST_ITEMS:,}; correct it")

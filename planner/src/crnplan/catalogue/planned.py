@@ -8,8 +8,8 @@ from pathlib import Path
 
 from ..demand.borrowing import Prior
 from ..errors import Refused
-from .learning import NONE, PRIOR
-from .planning import Settings
+from .learning import PRIOR
+from .planning import NONE, Settings
 from .store import READ
 
 PLANNED = "planned.json"

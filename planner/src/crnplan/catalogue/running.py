@@ -86,13 +86,13 @@ def write_tables(folder: Path, run: Run) -> Totals:
 
 
 def plan_into(folder: Path, settings: Settings, *, jobs: int | None = None, address: str | None = None,
-              program: str | Path | None = None, borrow: str | None = None, again: bool = False,
-              shown: bool = False) -> Done:
+              program: str | Path | None = None, again: bool = False, shown: bool = False) -> Done:
     """Plans the catalogue that was read into a folder: see `plan`."""
     path = program_for(program, address)
     with (told_of(folder), contextlib.closing(Catalogued(folder / READ)) as read,
           contextlib.closing(Answers(folder)) as answers):
-        prior, note = prior_of(folder, read, borrow, again, settings.fit)
+        prior, usual, note = prior_of(folder, read, settings, again)
+        settings = dataclasses.replace(settings, borrow=usual)
         planned = Planned(settings, prior, settings.digest(_program_digest(path), prior))
         work = Work(answers, {name: Settings.digest_of(planned.common, name, facts)
                               for name, facts in read.facts_of_items()})
@@ -110,7 +110,7 @@ def plan_into(folder: Path, settings: Settings, *, jobs: int | None = None, addr
 
 
 def plan(catalogue: Catalogue, folder: str | Path, *, jobs: int | None = None, cluster: str | None = None,
-         program: str | Path | None = None, borrow: str | None = None, again: bool = False, progress: bool = False,
+         program: str | Path | None = None, again: bool = False, progress: bool = False,
          **settings: Any) -> pd.DataFrame:
     """Plans all items of a catalogue into a folder, and returns the decisions: a row for each planned item.
 
@@ -121,17 +121,22 @@ def plan(catalogue: Catalogue, folder: str | Path, *, jobs: int | None = None, c
     not there or has changed is planned.
 
     `jobs` processes work (by default one for each processor), or the workers of a Dask scheduler, whose address is
-    `cluster`; the bytes are the same. Items learn laws of demand from all others, from those of their class, or not at
-    all (`borrow`: all, class or none; by default all if there are 100). That is learned once in a folder, and then
-    `again` only if asked. `settings` are those of `Settings`: `seed`, `fit`, `level`, `periods` and
-    `replications`. Raises Refused, ProgramError, and Lost if the counts do not add up.
+    `cluster`; the bytes are the same. `settings` are those of `Settings`:
+
+    - `borrow`: items learn laws of demand from all others, from those of their class, or not at all (all, class, none;
+      by default all if there are 100). The column borrow of the masters says so item by item. It is learned once in a
+      folder, and then `again` only if asked.
+    - `confidence`: wanted fill rates are kept under that share of the laws that a history allows.
+    - `seed`, `fit`, `level`, `periods` and `replications`.
+
+    Raises Refused, ProgramError, and Lost if the counts do not add up.
     """
     import pandas as pd
     place, chosen = Path(folder), Settings(**settings)
     check_folder(place)
     with alone(place):
-        done = _plan_alone(catalogue, place, chosen, jobs=jobs, address=cluster, program=program, borrow=borrow,
-                           again=again, shown=progress)
+        done = _plan_alone(catalogue, place, chosen, jobs=jobs, address=cluster, program=program, again=again,
+                           shown=progress)
     if done.missing:
         raise Lost("; ".join(done.missing))
     return pd.read_csv(place / DECISIONS, dtype={it: str for it in ("item", "description", "class", "law", "warnings")},

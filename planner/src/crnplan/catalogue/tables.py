@@ -16,12 +16,15 @@ from .planning import CHOSEN, TODAY, Settings
 from .store import Reject
 
 DECISIONS, EXACT, REJECTS, SUMMARY = "decisions.csv", "exact.csv", "rejects.csv", "summary.txt"
-# The columns of decisions.csv. Money, stock and orders are those of a period.
+# The columns of decisions.csv. Money, stock and orders are those of a period. `theory_cost_confidence` is what the
+# confidence in the fill rate costs. Figures of `alone` are those of the policy that the item would get by its own
+# history alone, under the law that it has.
 COLUMNS = ("item", "description", "class", "verdict", "s_today", "S_today", "s_chosen", "S_chosen", "cost_today",
            "cost_chosen", "saving", "saving_low", "saving_high", "theory_cost_today", "theory_cost_chosen",
            "theory_saving", "fill_wanted", "fill_today", "fill_chosen", "stock_today", "stock_chosen", "value_today",
-           "value_chosen", "orders_today", "orders_chosen", "demand", "periods", "periods_with_demand", "law",
-           "law_share", "log10_bayes", "warnings")
+           "value_chosen", "orders_today", "orders_chosen", "theory_cost_confidence", "s_alone", "S_alone",
+           "theory_cost_alone", "fill_alone", "demand", "periods", "periods_with_demand", "law", "law_share",
+           "log10_bayes", "warnings")
 EXACT_COLUMNS = ("item", "s_today", "S_today", "s_chosen", "S_chosen", "periods", "replications", "initial", "key",
                  "units_of_money", "setup", "holding", "backlog", "total_today", "total_chosen", "cost_today",
                  "cost_chosen", "saving", "saving_variance")
@@ -41,9 +44,11 @@ def write_rows(path: Path, heading: Sequence[str], rows: Iterable[Sequence[Any]]
 
 @dataclass
 class Totals:
-    """What adds up over items: costs and values of a period, savings with their variance, and verdicts."""
+    """What adds up over items: costs and values of a period, savings with their variance, and verdicts. `promised`
+    items have a confidence in their fill rate."""
 
     verdicts: Counter[str] = field(default_factory=Counter)
+    promised: int = 0
     sums: defaultdict[str, float] = field(default_factory=lambda: defaultdict(float))
     variance: float = 0.0
     without_interval: int = 0
@@ -52,8 +57,10 @@ class Totals:
     def add(self, row: Mapping[str, Any], error: float | None) -> None:
         """Adds an item: its row, and the standard error of its saving (None if it is not known)."""
         self.verdicts[row["verdict"]] += 1
-        for name in ("cost_today", "cost_chosen", "saving", "theory_saving", "value_today", "value_chosen"):
+        for name in ("cost_today", "cost_chosen", "saving", "theory_saving", "value_today", "value_chosen",
+                     "theory_cost_confidence"):
             self.sums[name] += row[name] or 0.0
+        self.promised += row["theory_cost_confidence"] is not None
         self.variance += error**2 if error else 0.0
         self.without_interval += error is None
 
@@ -62,20 +69,23 @@ def row_of(name: str, facts: Mapping[str, Any], shown: Mapping[str, Any], answer
     """Returns the row of an item in decisions.csv, unrounded. None stands for no figure."""
     price = None if shown["price"] is None else float(Fraction(shown["price"]))
     theory, levels = answer["theory"], {**answer["levels"], TODAY: shown["today"]}
-    row: dict[str, Any] = {"item": name, "verdict": answer["verdict"], "saving": answer["saving"],
-                           "description": shown["description"], "class": facts["class"], "saving_low": answer["low"],
-                           "saving_high": answer["high"], "demand": answer["mean"], "periods": answer["periods"],
+    row: dict[str, Any] = {**dict.fromkeys(COLUMNS), "item": name, "verdict": answer["verdict"],
+                           "saving": answer["saving"], "description": shown["description"],
+                           "class": facts["class"], "saving_low": answer["low"], "saving_high": answer["high"],
+                           "demand": answer["mean"], "periods": answer["periods"],
                            "periods_with_demand": answer["demands"], "law": answer["law"],
                            "law_share": answer["share"], "log10_bayes": answer["log10_bayes"],
                            "theory_saving": theory[TODAY]["cost"] - theory[CHOSEN]["cost"],
+                           "theory_cost_confidence": answer["confidence_cost"],
                            "fill_wanted": float(Fraction(facts["fill"])) if facts["fill"] else None,
                            "warnings": "; ".join([*shown["notes"], *answer["warnings"]])}
+    for policy, its in theory.items():
+        row |= {f"s_{policy}": levels[policy][0], f"S_{policy}": levels[policy][1], f"fill_{policy}": its["fill"],
+                f"theory_cost_{policy}": its["cost"]}
     for policy in (TODAY, CHOSEN):
         its = theory[policy]
-        row |= {f"s_{policy}": levels[policy][0], f"S_{policy}": levels[policy][1], f"fill_{policy}": its["fill"],
-                f"cost_{policy}": answer["cost"][policy], f"theory_cost_{policy}": its["cost"],
-                f"stock_{policy}": its["stock"], f"orders_{policy}": its["orders"],
-                f"value_{policy}": None if price is None else price * its["stock"]}
+        row |= {f"cost_{policy}": answer["cost"][policy], f"stock_{policy}": its["stock"],
+                f"orders_{policy}": its["orders"], f"value_{policy}": None if price is None else price * its["stock"]}
     return row
 
 
@@ -139,8 +149,12 @@ def summary_text(counts: Mapping[str, Any], totals: Totals, settings: Settings, 
         f"saved: {money(saving)} a {every}, {settings.level:g} interval {money(saving - half)} to "
         f"{money(saving + half)} (theory: {money(totals.sums['theory_saving'])})",
         f"stock value: {money(totals.sums['value_today'])} today, {money(totals.sums['value_chosen'])} chosen, by "
-        "theory",
-        "", f"Laws: {learned}.", *NOTES]
+        "theory"]
+    if settings.confidence is not None:
+        lines.append(f"fill rates kept under {settings.confidence:.0%} of the laws that the histories allow: "
+                     f"{totals.promised:,} items, which cost {money(totals.sums['theory_cost_confidence'])} a {every} more "
+                     "than without, by theory")
+    lines += ["", f"Laws: {learned}.", *NOTES]
     if totals.without_interval:
         lines.append(f"{totals.without_interval:,} items have no interval, since one of their policies hardly orders; "
                      "their savings are in the sum, but not in its interval.")

@@ -38,8 +38,11 @@ TAKEN = ("keep", "leave-out")
 @click.option("--fit", type=click.Choice(METHODS), metavar="METHOD",
               help="How demand is fitted, as in crnplan history; by default auto.")
 @click.option("--borrow", type=click.Choice(("none", "class", "all")),
-              help="From which items each learns its law of demand; by default all if there are 100.")
+              help="From which items each learns its law of demand; by default all if there are 100. The masters may "
+              "have a column borrow.")
 @click.option("--learn-again", "again", is_flag=True, help="Learn laws anew, not as in an earlier run in FOLDER.")
+@click.option("--confidence", type=float, metavar="SHARE",
+              help="Keep a wanted fill rate under this share of the laws that the item's history allows.")
 @click.option("--level", type=float, metavar="SHARE", help="The level of the intervals; by default 0.95.")
 @click.option("--seed", metavar="TEXT", help="The keys of all items follow from it; by default crnplan.")
 @click.option("--config", metavar="FILE.toml", help="Settings; by default crnplan.toml, if it is here.")
@@ -51,7 +54,7 @@ def command(**asked: Any) -> int:
 
     DEMAND.csv has a row for each movement: item, date, quantity, and perhaps returned. ITEMS.csv has a row for each
     item: item, setup, holding, backlog or a wanted fill rate, lead time in periods, today's s and S, and perhaps
-    description, stock, price and class. Costs are for one item and one period. Columns are found by their names; what
+    description, stock, price, class, and borrow (none, class or all). Costs are for one item and one period. Columns are found by their names; what
     was found is printed as lines for crnplan.toml that state it.
 
     FOLDER gets decisions.csv (an item a row), exact.csv (crnsim's figures as fractions), rejects.csv (all that was left
