@@ -24,7 +24,7 @@ OPTIONS = "apt-get -q -y -o DPkg::Lock::Timeout=900 -o APT::Update::Error-Mode=a
 UPDATE = f"{OPTIONS} update"
 INSTALL = f"{OPTIONS} install --no-install-recommends"
 # The commands of the list of packages, and those that any system has.
-COMMANDS = ["python3", "cc", "nm", "valgrind", "mandoc"]
+COMMANDS = ["python3", "chromium", "chromedriver", "pdftotext", "cc", "nm", "valgrind", "mandoc"]
 BASICS = ["awk", "bash", "cat", "dirname", "flock", "id", "mktemp", "paste", "rm", "sed", "wc"]
 # Prints all packages as installed, but those of the file `missing`.
 DPKG_QUERY = r"""
@@ -163,7 +163,8 @@ def test_without_root_missing_packages_are_named(machine: Machine) -> None:
 def test_without_debian_missing_commands_are_named(machine: Machine) -> None:
     ran = elsewhere(machine, "python3", "cc", "mandoc")
     assert (ran.returncode, ran.stdout) == (1, "")
-    assert ran.stderr == ("tools/setup: these commands are missing (with Debian's packages that bring them): nm "
+    assert ran.stderr == ("tools/setup: these commands are missing (with Debian's packages that bring them): "
+                          "chromium (chromium), chromedriver (chromium-driver), pdftotext (poppler-utils), nm "
                           "(binutils), valgrind (valgrind)\n"
                           f"tools/setup: .venv has to be made, since there is none: {PIP}\n")
     assert not (machine.top / ".venv").exists()
