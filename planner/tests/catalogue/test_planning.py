@@ -5,6 +5,7 @@ import csv
 import datetime
 import hashlib
 import math
+import re
 import shutil
 import subprocess
 from collections import Counter
@@ -22,6 +23,7 @@ from planner.tests.catalogue.conftest import FILES, SETTINGS, TABLES, WORDS, lea
 from planner.tests.catalogue.made import NO_PLAN, START, TITLES, WEEKS, Made
 from planner.tests.conftest import Command
 
+ALONE = ("s_alone", "S_alone")
 SCENARIO = """version = 1
 key = {key}
 periods = {periods}
@@ -168,6 +170,13 @@ def change(path: Path, row: str, column: int, value: str) -> None:
     path.write_text("\r\n".join([*lines, ""]), "utf-8")
 
 
+def add_column(path: Path, name: str, cells: dict[str, str]) -> None:
+    """Adds a column to a file, with a cell for some rows by their first cell."""
+    heading, *rows = path.read_text("utf-8").splitlines()
+    rows = [f"{row};{cells.get(row.partition(';')[0], '')}" for row in rows]
+    path.write_text("\r\n".join([f"{heading};{name}", *rows, ""]), "utf-8")
+
+
 def test_only_what_changed_is_planned(begun: Path, crnplan: Command, program: Path, planned: Path) -> None:
     """Plans nothing if nothing has changed, an item if its row has, and none for a price or a description."""
     words = ["catalogue", *WORDS, "--out", "plan", "--jobs", "1", "--program", program]
@@ -218,6 +227,37 @@ def test_learning_from_others(begun: Path, files: Path, crnplan: Command, progra
     assert laws["borrowed"] > laws.total() / 2
     change(begun / FILES[0], ";A-001;", 3, "7")
     assert planned_now(crnplan(*words)) == 1
+    leave_few(begun, 4)
+    before = rows_of(begun / "plan/decisions.csv")
+    add_column(begun / FILES[1], "borrow", {"A-034": "None", "A-035": "some"})
+    told = crnplan(*words)
+    table, rejects = rows_of(begun / "plan/decisions.csv"), rows_of(begun / "plan/rejects.csv", "item")
+    assert planned_now(told) == 1 and "the masters say otherwise for 1 items (borrow)" in told.output
+    assert table["A-034"]["law"] != "borrowed" == before["A-034"]["law"]
+    assert [table["A-034"][it] for it in ("s_chosen", "S_chosen")] == [before["A-034"][it] for it in ALONE]
+    assert "'some' is not none, class or all" in rejects["A-035"]["reason"]
+
+
+def test_confidence_and_its_price(begun: Path, crnplan: Command, program: Path) -> None:
+    """Keeps wanted fill rates under most laws that histories allow, and says in the summary what this costs."""
+    leave_few(begun, 6)
+    words = ["catalogue", *WORDS, "--out", "plan", "--jobs", "1", "--program", program]
+    assert planned_now(crnplan(*words)) == 0
+    before = rows_of(begun / "plan/decisions.csv")
+    told = crnplan(*words, "--confidence", "0.8")
+    after = rows_of(begun / "plan/decisions.csv")
+    assert planned_now(told) == len(after) == 6
+    price = 0.0
+    for name, row in after.items():
+        rise = float(row["theory_cost_chosen"]) - float(before[name]["theory_cost_chosen"])
+        assert math.isclose(rise, float(row["theory_cost_confidence"] or 0), abs_tol=2e-4)
+        assert bool(row["theory_cost_confidence"]) == bool(row["fill_wanted"]) and rise >= 0
+        assert row["fill_chosen"] >= before[name]["fill_chosen"]
+        price += rise
+    line, = (it for it in told.output.splitlines() if it.startswith("fill rates kept under 80% of the laws"))
+    items, cost = re.findall(r"\d[\d.]*", line)[1:]
+    assert int(items) == sum(bool(it["fill_wanted"]) for it in after.values()) and price > 0
+    assert math.isclose(float(cost), price, abs_tol=0.01)
 
 
 @pytest.mark.parametrize("text, said", [
@@ -225,6 +265,7 @@ def test_learning_from_others(begun: Path, files: Path, crnplan: Command, progra
     ("[catalogue]\nfit = 'best'\n", "[catalogue] fit:"),
     ("[catalogue.demand]\namount = 'x'\n", "[catalogue.demand] amount"),
     ("catalogue = 3\n", "write a table [catalogue]"), ("[catalogue]\nlevel = 2\n", "level"),
+    ("[catalogue]\nconfidence = 80\n", "0.8 for 80% of the laws"),
     ("[catalogue\n", "crnplan.toml:1")])
 def test_refused_settings(folder: Path, crnplan: Command, text: str, said: str) -> None:
     """Says what is wrong with crnplan.toml, and where."""
@@ -240,6 +281,7 @@ def test_other_folders_are_refused(folder: Path, crnplan: Command) -> None:
     (folder / "crnplan.toml").write_text("[catalogue]\nfit = 'empirical'\n", "utf-8")
     told = crnplan("catalogue", *WORDS, "--out", "plan", "--borrow", "all")
     assert told.status == 2 and "--fit empirical fits each item alone" in told.errors
-    for words in ({"level": 1.5}, {"fit": "best"}, {"periods": 0}, {"replications": 1}):
+    for words in ({"level": 1.5}, {"fit": "best"}, {"periods": 0}, {"replications": 1}, {"borrow": "some"},
+                  {"fit": "empirical", "borrow": "all"}, {"confidence": 1.0}):
         with pytest.raises(crn.Refused):
             Settings(**words)  # type: ignore[arg-type]
