@@ -46,12 +46,14 @@ _HOMES = {
     "read_catalogue": "catalogue",
     "plan": "catalogue",
     "exchange_curve": "catalogue",
+    "report": "catalogue.page",
 }
 
 __all__ = ["__version__", *_HOMES]
 
 if TYPE_CHECKING:
     from .catalogue import Catalogue, exchange_curve, plan, read_catalogue
+    from .catalogue.page import report
     from .decision.doubt import doubt
     from .decision.keys import check_keys
     from .decision.sensitivity import sensitivity

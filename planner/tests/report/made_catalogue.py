@@ -12,7 +12,7 @@ from crnplan.catalogue.curve import COLUMNS as CURVE_COLUMNS
 from crnplan.catalogue.curve import CURVE, LEFT_OUT, spelt_row
 from crnplan.catalogue.planned import Planned, keep_planned
 from crnplan.catalogue.planning import CHEAPER, DEARER, SAME, SERVICE, UNDECIDED, Settings
-from crnplan.catalogue.store import Reject, Writer
+from crnplan.catalogue.store import Answers, Reject, Writer
 from crnplan.catalogue.tables import (COLUMNS, DECISIONS, EXACT, EXACT_COLUMNS, REJECTS, reject_rows, spelt,
                                       write_rows)
 from crnplan.demand.borrowing import Prior
@@ -41,6 +41,7 @@ def made_folder(path: Path, items: int, names: Sequence[str] = (), has_curve: bo
     write_rows(path / EXACT, EXACT_COLUMNS, ([row.get(name, "") for name in EXACT_COLUMNS] for row in rows))
     rejects = made_rejects(source, items)
     write_rows(path / REJECTS, Reject._fields, reject_rows(rejects))
+    Answers(path).close()
     keep_planned(path, Planned(Settings(), Prior("none"), "made"))
     writer = Writer(path)
     writer.begin()

@@ -14,6 +14,7 @@ from ..item.steps import digest_of
 from ..sweep import program_for
 from .learning import prior_of
 from .lock import alone
+from .page import write_page
 from .planned import Planned, keep_planned
 from .planning import Settings, plan_batch
 from .reading import Catalogue, check_folder, missing_of
@@ -106,6 +107,7 @@ def plan_into(folder: Path, settings: Settings, *, jobs: int | None = None, addr
         missing = missing_of(counts, totals.verdicts.total() + totals.faults)
         text += "".join(f"\nLOST: {it}\n" for it in missing)
         (folder / SUMMARY).write_text(text, "utf-8")
+        write_page(folder, planned)
         return Done(folder, len(work.left), work.kept, text, tuple(missing))
 
 

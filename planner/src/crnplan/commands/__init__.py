@@ -25,6 +25,7 @@ COMMANDS = {
     "item": "Plan one item: from a history and settings to a decision.",
     "catalogue": "Plan all items: from two tables to a decision for each.",
     "curve": "Show how much service the whole stock can give for its value.",
+    "report": "Write the page of a planned catalogue, and of single items.",
     "history": "Make tables of a scenario from a history.",
     "why": "Say all that is wrong with a scenario, with line and advice.",
     "suggest": "Suggest policies from exact long-run theory.",
