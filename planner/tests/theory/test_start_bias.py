@@ -1,6 +1,7 @@
 """Compares the bias of the start with a chain of all states, period by period from the start, and with simulations."""
 from __future__ import annotations
 
+import itertools
 import math
 from dataclasses import replace
 from pathlib import Path
@@ -22,18 +23,22 @@ CASES = {"one lead time": scenario_of(DEMAND, ([2], [1])),
          "several lead times": scenario_of(DEMAND, ([1, 2, 4], [2, 1, 1])),
          "returns": scenario_of(DEMAND, ([2], [1]), ([0, 1], [8, 1])),
          "returns and several lead times": scenario_of(([0, 1, 2], [3, 2, 1]), ([1, 3], [2, 1]), ([0, 1], [7, 1]))}
+# These do not settle within a run.
+SLOW = {"the same demand in all periods": scenario_of(([1], [1]), ([2], [1])),
+        "rare demand": scenario_of(([0, 1, 9], [90, 1, 1]), ([3, 5], [1, 0]))}
 # Policies, and the stock before the first period: below s, between, at S, and above.
 STARTS = [(4, 11, 0), (4, 11, 7), (4, 11, 11), (2, 6, 15), (5, 5, 5), (0, 20, 3)]
+BACK = [it for it in CASES if it.startswith("returns")]
 
 
-@pytest.mark.parametrize("periods, dense", [(1, 100), (3, 100), (40, 100), (40, 0)])
 @pytest.mark.parametrize("start", STARTS, ids=lambda it: f"({it[0]},{it[1]}) from {it[2]}")
-@pytest.mark.parametrize("case", CASES)
+@pytest.mark.parametrize("case, periods, dense", [
+    *itertools.product([*CASES, *SLOW], [1, 3, 40], [100]), *itertools.product(BACK, [40], [0])])
 def test_biases_are_those_of_a_chain(case: str, start: tuple[int, int, int], periods: int, dense: int,
                                      monkeypatch: pytest.MonkeyPatch) -> None:
-    monkeypatch.setattr("crnplan.theory.start_bias.MOST_DENSE", dense)
+    monkeypatch.setattr("crnplan.theory.reviews.MOST_DENSE", dense)
     s, S, initial = start
-    asked = replace(CASES[case], costs=COSTS, periods=periods, initial=initial, policies=(Policy("it", s, S),))
+    asked = replace((CASES | SLOW)[case], costs=COSTS, periods=periods, initial=initial, policies=(Policy("it", s, S),))
     found = start_bias(asked)
     net = asked.demand.mean - (asked.returns.mean if asked.returns else 0)
     usual = by_chain(asked)[0]
@@ -91,7 +96,7 @@ def test_many_periods(case: str, monkeypatch: pytest.MonkeyPatch) -> None:
     """Matrices of many reviews agree with single reviews, and the bias settles as the periods grow."""
     asked = replace(CASES[case], periods=1024, initial=30, policies=(Policy("it", 4, 11), Policy("other", 9, 9)))
     dense, shorter = start_bias(asked), start_bias(replace(asked, periods=900))
-    monkeypatch.setattr("crnplan.theory.start_bias.MOST_DENSE", 0)
+    monkeypatch.setattr("crnplan.theory.reviews.MOST_DENSE", 0)
     assert start_bias(asked).biases == pytest.approx(dense.biases, abs=1e-7)
     assert shorter.biases == pytest.approx(dense.biases, abs=1e-7)
 
