@@ -1,6 +1,8 @@
 """Makes items of the rows of one part: their demand by period, lead times and masters, or why they are left out."""
 from __future__ import annotations
 
+import contextlib
+import gc
 import heapq
 from collections import Counter, defaultdict
 from collections.abc import Iterable, Iterator, Mapping, Sequence
@@ -101,6 +103,18 @@ class Left(Exception):
         self.place = kind, line, column, text
 
 
+@contextlib.contextmanager
+def without_collection() -> Iterator[None]:
+    """Stops the search for reference cycles meanwhile: rows have none, and each search would look at all of them."""
+    was_enabled = gc.isenabled()
+    gc.disable()
+    try:
+        yield
+    finally:
+        if was_enabled:
+            gc.enable()
+
+
 def far_above(amounts: Iterable[int]) -> int:
     """Returns how many amounts, at most 3, are far above all others."""
     ranked = heapq.nlargest(MOST_FAR + LEAST_OTHERS, (it for it in amounts if it > 0))
@@ -178,6 +192,7 @@ class Reader:
         return (columns, ", ".join(shown(text) for _, text, _ in faults), " and ".join(reason for reason, _ in split),
                 " and ".join(dict.fromkeys(advice for _, advice in split)))
 
+    @without_collection()
     def read_part(self, path: Path) -> None:
         """Reads a part, and writes its items and what is left out of them."""
         part = Part()
