@@ -1,0 +1,77 @@
+"""Writes the tables of README.md beside it from the stored figures: python -m planner.bench.page."""
+from __future__ import annotations
+
+import itertools
+from collections.abc import Callable, Mapping, Sequence
+from operator import itemgetter
+from pathlib import Path
+from typing import Any
+
+import pandas as pd
+
+from planner.bench.stored import stored
+from planner.studies.page import markdown, page_with
+
+PAGE = Path(__file__).with_name("README.md")
+SUMS, MOSTS = ("wall", "processor", "bytes"), ("own", "all")
+Rows = Sequence[Mapping[str, Any]]
+
+
+def times_of(row: Mapping[str, Any], search: str) -> str:
+    """Returns mean, median and 99th percentile of the times of a search."""
+    return " / ".join(f"{row[f'{search}_{it}']:.1f}" for it in ("mean", "50", "99"))
+
+
+def compared_table(rows: Rows) -> str:
+    """Returns the table of both searches as Markdown."""
+    lines = [{"items": row["which"], "number": f"{row['items']:,}", "crnplan, ms": times_of(row, "crnplan"),
+              "published, ms": times_of(row, "published"), "published s below 0": row["below"],
+              "other policies": row["other"], "most difference of cost": f"{row['most_dearer']:.0e}"} for row in rows]
+    return str(markdown(pd.DataFrame(lines)))
+
+
+def with_sums(rows: Rows) -> list[Mapping[str, Any]]:
+    """Returns the parts of catalogues, with what all parts of each take."""
+    lines: list[Mapping[str, Any]] = []
+    for _, parts in itertools.groupby(rows, itemgetter("items")):
+        its = [*parts]
+        whole = {**its[0], "part": "**all**", **{name: sum(row[name] for row in its) for name in SUMS},
+                 **{name: max(row[name] for row in its) for name in MOSTS}}
+        lines += [*its, *([whole] if len(its) > 1 else [])]
+    return lines
+
+
+def whole_table(rows: Rows) -> str:
+    """Returns the table of the parts of catalogues as Markdown."""
+    lines = [{"items": f"{row['items']:,}", "rows": f"{row['rows']:,}", "part": row["part"], "s": f"{row['wall']:.1f}",
+              "processor s": f"{row['processor']:.1f}", "ms an item": f"{1000 * row['processor'] / row['items']:.1f}",
+              "MB, main process": f"{row['own']:.0f}", "MB, all processes": f"{row['all']:.0f}",
+              "kB kept an item": f"{row['bytes'] / 1000 / row['items']:.1f}"} for row in with_sums(rows)]
+    return str(markdown(pd.DataFrame(lines)))
+
+
+def million_table(rows: Rows) -> str:
+    """Returns the table of what grows with the items as Markdown."""
+    return str(markdown(pd.DataFrame([{"what": row["what"], "figure": f"{row['figure']:,}", "unit": row["unit"]}
+                                      for row in rows])))
+
+
+TABLES: dict[str, Callable[[Rows], str]] = {"compared": compared_table, "whole": whole_table, "four": whole_table,
+                                            "reading": whole_table, "million": million_table}
+
+
+def measured_line(measured: Mapping[str, Any]) -> str:
+    """Returns in which circumstances something was measured."""
+    jobs = f"{measured['jobs']} process{'es' * (measured['jobs'] > 1)}"
+    return (f"{measured['date']}, {jobs}, {measured['processors']} virtual processors with a load of "
+            f"{measured['load']} at the start:")
+
+
+def all_tables() -> dict[str, str]:
+    """Returns the tables of the stored figures by name, each with a line on the circumstances."""
+    return {name: f"{measured_line(part['measured'])}\n\n{TABLES[name](part['rows'])}"
+            for name, part in stored().items()}
+
+
+if __name__ == "__main__":
+    PAGE.write_text(page_with(PAGE.read_text(encoding="utf-8"), all_tables()), encoding="utf-8")

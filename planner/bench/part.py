@@ -1,0 +1,69 @@
+"""Runs one part of the way of a catalogue by itself, so that its time and memory can be measured.
+
+    python -m planner.bench.part PART FOLDER --jobs N
+
+FOLDER has the files of `made.py` in `files`; the plan is in `plan`. Each part needs what those before it have written.
+"""
+from __future__ import annotations
+
+import contextlib
+from collections.abc import Callable
+from pathlib import Path
+
+import click
+
+from crnplan.catalogue.planning import Settings
+from crnplan.catalogue.reading import Words, check_folder, read_into
+from crnplan.catalogue.store import READ, Catalogued
+from planner.bench.made import Made
+
+FILES, PLAN = "files", "plan"
+
+
+def read(folder: Path, jobs: int) -> None:
+    """Reads the files."""
+    check_folder(folder / PLAN)
+    read_into(folder / PLAN, Made(folder / FILES).paths, Words())
+
+
+def learn(folder: Path, jobs: int) -> None:
+    """Learns laws of demand from all items, which the plan then uses."""
+    from crnplan.catalogue.learning import prior_of
+    with contextlib.closing(Catalogued(folder / PLAN / READ)) as its:
+        prior_of(folder / PLAN, its, Settings(), True)
+
+
+def plan(folder: Path, jobs: int) -> None:
+    """Plans all items, and writes the tables."""
+    from crnplan.catalogue.running import plan_into
+    plan_into(folder / PLAN, Settings(), jobs=jobs)
+
+
+def curve(folder: Path, jobs: int) -> None:
+    """Draws the exchange curve."""
+    from crnplan.catalogue.curve import draw_curve
+    from crnplan.catalogue.exchange import Budget
+    draw_curve(folder / PLAN, Budget(), jobs=jobs)
+
+
+def page(folder: Path, jobs: int) -> None:
+    """Writes the page of all items."""
+    from crnplan import report
+    report(folder / PLAN)
+
+
+PARTS: dict[str, Callable[[Path, int], None]] = {"read": read, "learn": learn, "plan": plan, "curve": curve,
+                                                 "page": page}
+
+
+@click.command()
+@click.argument("part", type=click.Choice([*PARTS]))
+@click.argument("folder", type=click.Path(exists=True, file_okay=False, path_type=Path))
+@click.option("--jobs", type=click.IntRange(1), default=1, show_default=True, help="Processes.")
+def main(part: str, folder: Path, jobs: int) -> None:
+    """Run one part of the way of a catalogue."""
+    PARTS[part](folder, jobs)
+
+
+if __name__ == "__main__":
+    main()
