@@ -87,6 +87,8 @@ def totalled(decisions: Path, exact: Path, most: int) -> tuple[Totals, list[Row]
     def added() -> Iterator[Row]:
         """Yields the rows as they are added."""
         for row, its in zip(rows_of(decisions), rows_of(exact), strict=True):
+            if row["item"] != its["item"]:
+                raise ValueError(f"{row['item']} and {its['item']} are different items")
             totals.add(row, Fraction(its["saving_variance"]))
             yield row
     kept = heapq.nlargest(most, added(), key=lambda row: abs(Decimal(row["saving"])))

@@ -151,7 +151,7 @@ def unit_of(most: float) -> tuple[float, str]:
 def clipped(points: Sequence[tuple[float, float]], right: float, bottom: float) -> list[tuple[float, float]]:
     """Returns the part of a rising curve up to a value and above a share, with the points where it crosses these."""
     import numpy as np
-    if not points:
+    if not any(share >= bottom for _, share in points):
         return []
     values, shares = zip(*sorted(points))
     ends = max(values[0], float(np.interp(bottom, shares, values))), min(values[-1], right)
