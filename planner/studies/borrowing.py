@@ -3,13 +3,13 @@
     python -m planner.studies.borrowing --out planner/studies    all, in about half an hour
     python -m planner.studies.borrowing --small                  a small part, in some seconds
 
-Of each kind, a catalogue of 600 items is made (`made_catalogues.py`), each item with its own law and a history of 26,
-52 or 104 periods. All of it is learned from. Its first 150 items with at least two periods with demand are judged (100
-if there are 26 periods): each method fits a law, and for each of six settings (lead time 2 and 6; backlog 9, 19 and 99
-times holding; an order for 8 periods of demand) the best policy under it is found. Its regret is its exact long-run
-cost under the true law over the least possible, less 1, in the mean over settings. Figures are means over items, in
-percent or in points of it. Standard errors are over items, paired for differences. They do not hold the doubt about
-which catalogue was made.
+Of each kind, two catalogues of 600 items are made (`made_catalogues.py`), each item with its own law and a history of
+26, 52 or 104 periods. All of a catalogue is learned from. Its first 100 items with at least two periods with demand are
+judged (60 if there are 104 periods): each method fits a law, and for each of six settings (lead time 2 and 6; backlog
+9, 19 and 99 times holding; an order for 8 periods of demand) the best policy under it is found. Its regret is its exact
+long-run cost under the true law over the least possible, less 1, in the mean over settings. Figures are means over
+items, in percent or in points of it. Standard errors are over items, paired for differences. They do not hold all of
+the doubt about which catalogues were made.
 
 The methods are `empirical`, `predictive` and `auto` of `fit_demand`, each for one item alone; `borrowed`, from the
 whole catalogue; and `class`, from the item's class. An item is intermittent if there are more than 1.32 periods between
@@ -22,9 +22,10 @@ from __future__ import annotations
 import itertools
 import math
 from collections.abc import Callable, Iterable, Iterator
+from concurrent.futures import ProcessPoolExecutor
 from functools import partial
 from pathlib import Path
-from typing import Any, NamedTuple
+from typing import Any, NamedTuple, TypeVar
 
 import click
 import numpy as np
@@ -41,17 +42,19 @@ from planner.studies.laws import COVERS, Choice, LongRuns
 from planner.studies.made_catalogues import DESIGNED, UNSEEN, catalogue, drawn, hurdle, negative_binomial
 from planner.studies.page import markdown
 
+Found = TypeVar("Found")
+
 KINDS = (*DESIGNED, *UNSEEN)
-SEED = 1  # of the catalogues
-ITEMS, HISTORIES = 600, 25  # of a catalogue; of an odd item
-JUDGED = {26: 100, 52: 150, 104: 150}  # items of a catalogue, by periods
+SEEDS = (1, 2)  # of the catalogues of a kind
+ITEMS, HISTORIES = 600, 40  # of a catalogue; of an odd item
+JUDGED = {26: 100, 52: 100, 104: 60}  # items of a catalogue, by periods
 MANY_COVERS = COVERS.index(8)
 MOST_INTERVAL = 1.32  # periods between demands, beyond which demand is intermittent
 METHODS = ("empirical", "predictive", "auto", "borrowed", "class")
 BANDS = {"2 or 3": (2, 3), "4 to 7": (4, 7), "8 to 15": (8, 15), "16 or more": (16, 10**6)}  # of periods with demand
 FOLDER = Path(__file__).parent
 STORED, STORED_ODD = FOLDER / "borrowing.csv", FOLDER / "borrowing_odd.csv"
-SMALL: dict[str, Any] = {"kinds": ("intermittent", "shop"), "periods": (26,), "most": 6}  # of `study`
+SMALL: dict[str, Any] = {"kinds": ("intermittent", "shop"), "periods": (26,), "most": 3}  # of `study`
 SMALL_ODD: dict[str, Any] = {"names": ("large sizes",), "periods": (52,), "histories": 4}  # of `odd_study`
 # The laws of an odd item in a catalogue of demand in 15% of periods with geometric sizes of mean 5.
 ODD: dict[str, Floats] = {
@@ -125,16 +128,15 @@ def judged(law: Floats, history: list[int], prior: Prior, by_class: Prior | None
                      1 / (1 - float(law[0])) > MOST_INTERVAL, truth.best[1].cost, known)
 
 
-def judgements(kind: str, periods: int, most: int) -> Iterator[Judgement]:
-    """Yields what is found of the first items of a catalogue that have two demands. Classes are used if there are
+def judgements(kind: str, periods: int, most: int, seed: int) -> list[Judgement]:
+    """Returns what is found of the first items of a catalogue that have two demands. Classes are used if there are
     some."""
-    made = catalogue(kind, ITEMS, periods, SEED)
+    made = catalogue(kind, ITEMS, periods, seed)
     prior, classes = learn(made.histories), [it.item_class for it in made.items]
     by_class = learn(made.histories, classes, "class") if len({*classes}) > 1 else None
     several = (place for place, it in enumerate(made.histories) if np.count_nonzero(it) > 1)
-    for place, _ in zip(several, range(most)):
-        item = made.items[place]
-        yield judged(item.law, made.histories[place], prior, by_class, item.item_class)
+    return [judged(made.items[place].law, made.histories[place], prior, by_class, made.items[place].item_class)
+            for place, _ in zip(several, range(most))]
 
 
 def paired(regrets: Floats, others: Floats) -> tuple[float, float, float, float]:
@@ -176,12 +178,22 @@ def without_class(found: Judgement) -> Judgement:
     return found._replace(regrets={name: its for name, its in found.regrets.items() if name != "class"})
 
 
-def study(kinds: Iterable[str], periods: Iterable[int], most: int | None = None) -> pd.DataFrame:
+def mapped(work: Callable[..., Found], cells: list[tuple[Any, ...]], jobs: int) -> list[Found]:
+    """Returns what a function finds of each cell, in their order whatever the number of jobs."""
+    with ProcessPoolExecutor(jobs) as pool:
+        return [*tqdm(pool.map(work, *zip(*cells)), total=len(cells), disable=None)]
+
+
+def study(kinds: Iterable[str], periods: Iterable[int], most: int | None = None, jobs: int = 1) -> pd.DataFrame:
     """Returns the figures of each kind of catalogue, and of parts of all designed and of all unseen ones."""
     rows: list[dict[str, Any]] = []
     groups: dict[tuple[str, int], list[Judgement]] = {}
-    for kind, count in tqdm([*itertools.product(kinds, periods)], disable=None):
-        found = [*judgements(kind, count, most or JUDGED[count])]
+    cells = [(kind, count, most or JUDGED[count], seed)
+             for kind, count, seed in itertools.product(kinds, periods, SEEDS)]
+    its: dict[tuple[str, int], list[Judgement]] = {}
+    for (kind, count, *_), found in zip(cells, mapped(judgements, cells, jobs)):
+        its.setdefault((kind, count), []).extend(found)
+    for (kind, count), found in its.items():
         groups.setdefault(("all designed" if kind in DESIGNED else "all unseen", count), []).extend(
             map(without_class, found))
         for part in ("all", "intermittent"):
@@ -200,15 +212,19 @@ def odd_judgement(law: Floats, others: list[list[int]], random: np.random.Genera
             return judged(law, history, learn([*others, history]), None, "")
 
 
-def odd_study(names: Iterable[str], periods: Iterable[int], histories: int = HISTORIES) -> pd.DataFrame:
+def odd_judgements(name: str, periods: int, histories: int) -> list[Judgement]:
+    """Returns what is found of an odd item, for so many of its histories."""
+    others = catalogue("alike", ITEMS, periods, SEEDS[0]).histories
+    random = np.random.default_rng([[*ODD].index(name), periods])
+    return [odd_judgement(ODD[name], others, random) for _ in range(histories)]
+
+
+def odd_study(names: Iterable[str], periods: Iterable[int], histories: int = HISTORIES, jobs: int = 1) -> pd.DataFrame:
     """Returns the figures of odd items in a catalogue of items that are all but alike."""
-    rows: list[dict[str, Any]] = []
-    for name, count in tqdm([*itertools.product(names, periods)], disable=None):
-        others = catalogue("alike", ITEMS, count, SEED).histories
-        random = np.random.default_rng([[*ODD].index(name), count])
-        found = [odd_judgement(ODD[name], others, random) for _ in range(histories)]
-        rows.extend(rows_of(found, [True] * histories, item=name, periods=count))
-    return pd.DataFrame(rows)
+    cells = [(name, count, histories) for name, count in itertools.product(names, periods)]
+    found = zip(cells, mapped(odd_judgements, cells, jobs))
+    return pd.DataFrame([row for (name, count, _), its in found
+                         for row in rows_of(its, [True] * histories, item=name, periods=count)])
 
 
 def with_error(row: pd.Series, name: str, form: str = ".1f") -> str:
@@ -245,17 +261,18 @@ def tables() -> dict[str, str]:
 
 @click.command()
 @click.option("--small", is_flag=True, help="Run a small part.")
+@click.option("--jobs", type=click.IntRange(1), default=1, show_default=True)
 @click.option("--kind", "kinds", type=click.Choice(KINDS), multiple=True, help="A kind of catalogue; without it all.")
 @click.option("--odd/--no-odd", default=True, help="With or without the odd items.")
 @click.option("--out", type=click.Path(file_okay=False, path_type=Path), help="Write the rows as CSV to this folder.")
-def main(small: bool, kinds: tuple[str, ...], odd: bool, out: Path | None) -> None:
+def main(small: bool, jobs: int, kinds: tuple[str, ...], odd: bool, out: Path | None) -> None:
     """Measure what items gain and lose that learn from a catalogue."""
-    parts: dict[str, Callable[[], pd.DataFrame]] = {
+    parts: dict[str, Callable[..., pd.DataFrame]] = {
         STORED.name: partial(study, **(SMALL if small else {"kinds": kinds or KINDS, "periods": JUDGED}))}
     if odd:
         parts[STORED_ODD.name] = partial(odd_study, **SMALL_ODD) if small else partial(odd_study, ODD, [52])
     for name, part in parts.items():
-        rows = part()
+        rows = part(jobs=jobs)
         if out:
             rows.to_csv(out / name, index=False, float_format="%.3f")
         click.echo(rows.round(2).to_string(index=False) + "\n")

@@ -236,26 +236,27 @@ def test_large_catalogue(monkeypatch: pytest.MonkeyPatch, mixed: dict[str, list[
 
 
 @pytest.mark.parametrize("borrow", ["all", "class", "none"])
-def test_file(borrow: str, mixed: dict[str, list[int]], tmp_path: Path) -> None:
+def test_file(borrow: str, packed: dict[str, list[int]], tmp_path: Path) -> None:
     """A file has the same bytes once it is read and written again, and gives the same laws, as does a pickled prior."""
-    classes = {name: f"Größe {number % 2}" for number, name in enumerate(mixed)}
-    prior = learn(mixed, classes, borrow)
+    classes = {name: f"Größe {number % 2}" for number, name in enumerate(packed)}
+    prior = learn(packed, classes, borrow)
     prior.write(tmp_path / "prior.json")
     found = Prior.read(tmp_path / "prior.json")
     found.write(tmp_path / "again.json")
     assert (tmp_path / "again.json").read_bytes() == (tmp_path / "prior.json").read_bytes()
-    expected = law_of(prior, RARE, "Größe 1")
-    for it in (found, pickle.loads(pickle.dumps(prior))):
-        law = law_of(it, RARE, "Größe 1")
-        assert law == expected and law.diagnostics == expected.diagnostics
+    for numbers in (RARE, packed["packs 2"]):
+        expected = law_of(prior, numbers, "Größe 1")
+        for it in (found, pickle.loads(pickle.dumps(prior))):
+            law = law_of(it, numbers, "Größe 1")
+            assert law == expected and law.diagnostics == expected.diagnostics
 
 
 DAMAGED = "the prior of crnplan is damaged; learn it anew"
 DAMAGES = [
     (lambda tree: "{", "this is no prior of crnplan; learn one from the catalogue"),
     (lambda tree: [1], "this is no prior of crnplan; learn one from the catalogue"),
-    (lambda tree: {**tree, "version": 7}, "this is a prior of crnplan of version 7, not 1; learn it anew"),
-    (lambda tree: {**tree, "kind": "plan"}, "this is a plan of version 1, not 1; learn it anew"),
+    (lambda tree: {**tree, "version": 7}, "this is a prior of crnplan of version 7, not 2; learn it anew"),
+    (lambda tree: {**tree, "kind": "plan"}, "this is a plan of version 2, not 2; learn it anew"),
     (lambda tree: {**tree, "whole": {**tree["whole"], "units": [1, 2]}}, DAMAGED),
     (lambda tree: {**tree, "whole": {**tree["whole"], "units": [0] * 4608}}, DAMAGED),
     (lambda tree: {**tree, "whole": None}, DAMAGED), (lambda tree: {**tree, "classes": []}, DAMAGED),
@@ -330,10 +331,11 @@ def test_outside_the_grid(mixed: dict[str, list[int]]) -> None:
 
 
 @pytest.mark.parametrize(("numbers", "alone"), [
-    ([6, 12, 0, 6, 18, 0, 6, 24], "all demands are packs of 6"),
+    ([6, 12, 0, 6, 18, 0, 6, 24], "all demands are packs of 6, as those of few others"),
     ([40] * 20 + [41] * 20, "drawn histories do not look like the real one")], ids=["packs", "guard"])
 def test_law_of_the_item_alone(numbers: list[int], alone: str, known: Prior) -> None:
-    """For packs, and if drawn histories do not look like the real one, the item has the law of its own history."""
+    """If few others have packs, or drawn histories do not look like the real one, the item has the law of its own
+    history."""
     law, expected = law_of(known, numbers), fit_demand(numbers, method="auto")
     found = borrowed(law)
     assert law == expected and (found.alone, found.share, found.single) == (alone, 0, expected)
@@ -354,20 +356,86 @@ def test_entry_point(known: Prior) -> None:
         crn.fit_demand(RARE, method="poisson", borrow=known)
 
 
-def test_law_is_mixed_with_the_history(known: Prior) -> None:
-    """The law is the predictive law, mixed with the history by the Dirichlet weight."""
-    numbers = [*history(5, 60)[:-14], *[9] * 14]
-    sample = Sample.of(numbers)
+def expected_law(numbers: Sequence[int], prior: Floats) -> tuple[float, float, Floats]:
+    """Returns, by sums over all points, the chance that an item is like the catalogue; then the share of what was
+    learned in its law, and its law."""
+    sample, likelihoods = Sample.of(numbers), np.exp(logarithms(numbers))
+    weights = np.kron(prior, np.ones((grid.SHARE_POINTS, grid.MEAN_POINTS)) / 80) * likelihoods
+    odds = weights.sum() / likelihoods.mean()
+    base, flat = (Posterior.of(sample, it).predictive for it in (prior, em.FLAT))
+    times = math.log(300) / math.log(np.count_nonzero(numbers) + 1)
+    flat = flat[:math.ceil(min(max(times, 2), 3) * max(numbers)) + 1]
+    seen, alike = np.bincount(numbers) / len(numbers), odds / (1 + odds)
+    law = np.zeros(max(len(base), len(flat)))
+    for chance, its in ((alike, base), (1 - alike, flat / flat.sum())):
+        share = share_of(sample, its)
+        law[:len(its)] += chance * share * its
+        law[:len(seen)] += chance * (1 - share) * seen
+    return alike, alike * share_of(sample, base), law
+
+
+# Histories that may be of the catalogue or not, and of sizes that vary too little for it.
+IN_BETWEEN = history(3, 52, 0.2, 10, 1.6)
+MIXED = [*history(5, 60)[:-14], *[9] * 14]
+
+
+@pytest.mark.parametrize(("numbers", "least", "most"), [
+    (history(77, 52, 0.2, 60, 15), 0, 0.01), (IN_BETWEEN, 0.05, 0.5), (history(11, 30), 0.9, 1)],
+    ids=["unlike", "in between", "like"])
+def test_law_of_a_doubtful_item(numbers: list[int], least: float, most: float, known: Prior) -> None:
+    """The law is that of the learned prior and that of the flat one, each as likely as it is after the history."""
     assert known.whole
-    base = Posterior.of(sample, known.whole.chances).predictive
-    law, share = law_of(known, numbers, beside=False), share_of(sample, base)
-    assert 0 < share < 1 and borrowed(law).share == share and borrowed(law).single is None
-    expected, width = share * base + (1 - share) * np.bincount(numbers, minlength=len(base)) / 60, law.values[-1] + 1
+    alike, share, expected = expected_law(numbers, known.whole.chances)
+    law = law_of(known, numbers, beside=False)
+    assert least <= alike <= most and law.family == "borrowed"
+    assert borrowed(law).share == pytest.approx(share, rel=1e-6)
+    width = law.values[-1] + 1
+    assert np.cumsum(chances_of(law)) == pytest.approx(np.cumsum(expected)[:width], abs=1 / 65_536)
+
+
+def test_law_is_mixed_with_the_history(known: Prior) -> None:
+    """The law is mixed with the history by the Dirichlet weight."""
+    assert known.whole
+    alike, share, expected = expected_law(MIXED, known.whole.chances)
+    law = law_of(known, MIXED, beside=False)
+    assert 0 < share < alike < 1 and borrowed(law).single is None
+    assert borrowed(law).share == pytest.approx(share, rel=1e-6)
+    width = law.values[-1] + 1
     assert np.cumsum(chances_of(law)) == pytest.approx(np.cumsum(expected)[:width], abs=1 / 65_536)
     assert sum(law.weights) == 65_536
     assert law.diagnostics["mean"] == pytest.approx(chances_of(law) @ np.arange(width))
-    assert law.diagnostics["history"]["mean"] == pytest.approx(np.mean(numbers))
+    assert law.diagnostics["history"]["mean"] == pytest.approx(np.mean(MIXED))
     assert f"mixed with {1 - share:.0%} of what was seen" in notes_of(law, "demand")[0]
+
+
+@pytest.fixture(scope="module")
+def packed(mixed: dict[str, list[int]]) -> dict[str, list[int]]:
+    """Returns the items of `mixed`, and 31 with demands in packs; one has sizes that only in packs are of the grid."""
+    packs = {f"packs {seed}": [(6 if seed else 90) * it for it in history(seed, 50, 0.3)] for seed in range(31)}
+    return mixed | packs
+
+
+def test_items_in_packs(packed: dict[str, list[int]]) -> None:
+    """They learn from one another, counted in packs, if there are 30 of them."""
+    prior = learn(packed)
+    assert prior.packs and prior.packs.items == 31 and prior.outside == 1
+    for name in ("packs 0", "packs 4"):
+        pack, numbers = (6 if name == "packs 4" else 90), packed[name]
+        law, found = law_of(prior, numbers), law_of(Prior("all", whole=prior.packs), [it // pack for it in numbers])
+        assert (law.values, law.weights) == (tuple(pack * it for it in found.values), found.weights)
+        assert borrowed(law).share == borrowed(found).share > 0.5 and borrowed(law).guard == borrowed(found).guard
+        assert borrowed(law).single == fit_demand(numbers, method="auto")
+        drawn = borrowed_laws(prior, numbers, times=5).laws
+        assert all(value % pack == 0 for it in drawn for value in it.values)
+    pulled = [Sample.of(it // (90 if name == "packs 0" else 6) for it in numbers)
+              for name, numbers in packed.items() if name.startswith("packs")]
+    assert prior.whole
+    expected = em.estimated(chunks_of(pulled), prior.whole.chances, 30 * prior.whole.chances)
+    assert np.allclose(prior.packs.chances, expected, rtol=1e-5, atol=1e-9)
+    few = learn({name: its for name, its in packed.items() if name not in ("packs 1", "packs 2")})
+    assert few.packs is None and "as those of few others" in borrowed(law_of(few, packed["packs 4"])).alone
+    large = law_of(prior, [1200, 0, 0, 1010, 0, 1030, 0, 0, 0])
+    assert borrowed(large).alone == "the mean size of a demand is above 101 packs"
 
 
 @pytest.mark.parametrize(("numbers", "few"), [([0] * 26, True), ([0] * 25 + [3], True), (RARE, False)])
@@ -413,7 +481,7 @@ def test_classes(monkeypatch: pytest.MonkeyPatch, mixed: dict[str, list[int]]) -
 
 def test_drawn_laws(known: Prior) -> None:
     """Their mean is the law of the item within the error of the draws, and the same seed gives the same laws."""
-    for numbers in (history(3, 40), [*history(5, 60)[:-14], *[9] * 14]):
+    for numbers in (history(3, 40), MIXED, IN_BETWEEN):
         law, drawn = law_of(known, numbers, beside=False), borrowed_laws(known, numbers, times=1500)
         assert drawn.families == {"borrowed": 1500} and {sum(it.weights) for it in drawn.laws} == {65_536}
         width = max(max(it.values) for it in drawn.laws) + 1

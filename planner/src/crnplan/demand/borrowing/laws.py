@@ -3,13 +3,15 @@ from __future__ import annotations
 
 from collections.abc import Iterable
 from dataclasses import dataclass, replace
+from functools import cached_property
 from typing import Any
 
 import numpy as np
 
+from ...formats import MOST_DEMAND
 from ...history.observed import Observed
-from ..families import Sample
-from ..fitting import LEAST_DEMANDS, fields_of, fit_demand, mixture, share_of, weights_of
+from ..families import Floats, Sample, scaled, unpacked
+from ..fitting import LEAST_DEMANDS, cap_of, fields_of, fit_demand, mixture, share_of, weights_of
 from ..guard import Shares, shares_of
 from ..laws import DemandLaw
 from ..posterior import AllowedLaws, allowed_laws, check_times, round_history, sample_of, stratified, table_of
@@ -21,7 +23,7 @@ from .prior import Prior
 FAMILY = "borrowed"
 ALONE = "auto"  # how the law of a single item is fitted
 LEVEL = 0.05  # Each share of the guard is above it, else the law of the single item is taken.
-ROWS = 3  # of uniform numbers for a drawn law
+ROWS = 4  # of uniform numbers for a drawn law; the last one chooses its part
 
 
 @dataclass(frozen=True)
@@ -29,10 +31,10 @@ class Borrowed:
     """What is known of an item's law, under the name "borrowed" in its diagnostics.
 
     `demands` are the periods with demand, `prior` is the name of the class whose prior it has, or "all". `alone` says
-    why the law of the item's own history is taken; it is empty if the borrowed law is. `share` is that of the learned
-    law in the mixture with the history, 0 if it is not taken. `guard` has the shares of drawn histories, None with no
-    or one demand; `log10_bayes` is the log10 of the Bayes factor for the learned prior against the flat one. Both are
-    None if nothing was learned for such an item. `single` is the law of the item's own history by
+    why the law of the item's own history is taken; it is empty if the borrowed law is. `share` is that of what was
+    learned in the law of the item; the rest is from its own history. `guard` has the shares of drawn histories, None
+    with no or one demand; `log10_bayes` is the log10 of the Bayes factor for the learned prior against the flat one.
+    Both are None if nothing was learned for such an item. `single` is the law of the item's own history by
     `fit_demand(method="auto")`, None if not asked for.
     """
 
@@ -47,7 +49,7 @@ class Borrowed:
     @property
     def unlike(self) -> bool:
         """Returns whether the history is less likely under the learned prior than under the flat one: the item is
-        unlike the catalogue."""
+        unlike the catalogue. Then at most half of its law is from what was learned."""
         return self.log10_bayes is not None and self.log10_bayes < 0
 
     @property
@@ -56,52 +58,98 @@ class Borrowed:
         return self.demands < LEAST_DEMANDS
 
 
+@dataclass(frozen=True, eq=False)
+class Part:
+    """A part of an item's law, with its weight: the posterior of the history, counted in packs. No demand is above
+    `most`."""
+
+    packs: Sample
+    posterior: Posterior
+    weight: float
+    most: int = MOST_DEMAND
+
+    @cached_property
+    def base(self) -> Floats:
+        """Returns the posterior predictive law."""
+        return scaled(self.posterior.predictive[:self.most + 1])
+
+    @cached_property
+    def share(self) -> float:
+        """Returns the share of that law in its mixture with the history."""
+        return share_of(self.packs, self.base)
+
+    @property
+    def law(self) -> Floats:
+        """Returns the mixture of both."""
+        return mixture([(self.share, self.base), (1 - self.share, self.packs.law)])
+
+    def drawn(self, uniform: Floats, random: np.random.Generator) -> list[Floats]:
+        """Draws laws round which the mixture lies, as many as there are columns of uniform numbers."""
+        return [round_history(scaled(law[:self.most + 1]), self.packs, self.share, random)
+                for law in self.posterior.drawn(uniform)]
+
+
 def why_alone(prior: Prior, sample: Sample, box: int) -> str:
     """Returns why an item learns from no others, without a look at its law; empty if it does."""
     if prior.borrow == "none":
         return "nothing is borrowed"
     if box > 1:
         return f"demand is counted in boxes of {box}"
-    if sample.pack > 1:
-        return f"all demands are packs of {sample.pack}"
-    return f"the mean size of a demand is above {grid.MOST_SIZE:g}" if is_outside(sample) else ""
+    if sample.pack > 1 and not prior.packs:
+        return f"all demands are packs of {sample.pack}, as those of few others"
+    if is_outside(sample.in_packs(sample.pack)):
+        return f"the mean size of a demand is above {grid.MOST_SIZE:g}{' packs' * (sample.pack > 1)}"
+    return ""
 
 
-def looked_at(prior: Prior, sample: Sample, item_class: str | None, box: int) -> tuple[Borrowed, Posterior | None]:
-    """Returns what is known of an item, and its posterior, or None if the law of the item alone is to be taken."""
-    name, learned = prior.of_item(item_class)
+def parts_of(packs: Sample, posterior: Posterior, few: bool) -> list[Part]:
+    """Returns the parts of an item's law: that of the learned prior and that of the flat one, each as likely as it is
+    after the history. Under the flat prior, demands are at most as large as in `fit_demand`."""
+    if few:
+        return [Part(packs, posterior, 1.0)]
+    alike = posterior.alike
+    return [Part(packs, posterior, alike), Part(packs, posterior.flat, 1 - alike, cap_of(packs))]
+
+
+def looked_at(prior: Prior, sample: Sample, item_class: str | None, box: int) -> tuple[Borrowed, list[Part]]:
+    """Returns what is known of an item, and the parts of its law; none if the law of the item alone is to be taken."""
+    name, learned = prior.of_item(item_class, sample.pack)
     found = Borrowed(sample.size - sample.zeros, name, why_alone(prior, sample, box))
     if found.alone or not learned:
-        return found, None
-    posterior = Posterior.of(sample, learned.chances)
-    guard = None if found.few else shares_of(sample, posterior.predictive)
+        return found, []
+    packs = sample.in_packs(sample.pack)
+    posterior = Posterior.of(packs, learned.chances)
+    guard = None if found.few else shares_of(packs, posterior.predictive)
     found = replace(found, guard=guard, log10_bayes=posterior.log10_bayes)
     if guard and min(guard) <= LEVEL:
-        return replace(found, alone="drawn histories do not look like the real one"), None
-    return replace(found, share=share_of(sample, posterior.predictive)), posterior
+        return replace(found, alone="drawn histories do not look like the real one"), []
+    parts = parts_of(packs, posterior, found.few)
+    return replace(found, share=parts[0].weight * parts[0].share), parts
 
 
 def law_of(prior: Prior, observed: Observed | Iterable[Any], item_class: str | None = None, *, box: int = 1,
            beside: bool = True) -> DemandLaw:
     """Fits the law of demand to a history with few orders, by what its catalogue has learned (`learn`).
 
-    It is the posterior predictive law under the prior of the item's class, or of the catalogue, mixed with the history
-    as far as this speaks against it. Drawn histories of it must look like the real one (`LEVEL`), else the law is that
-    of the item alone: `fit_demand(method="auto")`. So it is for packs, for boxes, and if the mean size is outside the
-    grid. An item with no or one demand has the borrowed law in any case, since its history alone has none. What is
-    known is in `diagnostics["borrowed"]`, a `Borrowed`, with the law of the item alone if `beside`.
+    It is the posterior predictive law under what the item's class, the catalogue, or all items in packs have learned,
+    mixed with the history as far as this speaks against it. The item may be like no other, so the law under a flat
+    prior has a part too. Both are as likely beforehand, and have the parts that they are likely with after the history.
+    Drawn histories of the learned law must look like the real one (`LEVEL`), else the law is that of the item alone:
+    `fit_demand(method="auto")`. So it is for boxes, for packs if few others have some, and for sizes outside the grid.
+    An item with no or one demand has the learned law in any case, since its history alone has none. What is known is in
+    `diagnostics["borrowed"]`, a `Borrowed`, with the law of the item alone if `beside`.
 
     `observed` and `box` are as in `fit_demand`, and so is what is raised. Weights add up to 65,536.
     """
     numbers: Observed | list[Any] = observed if isinstance(observed, Observed) else [*observed]
     sample = sample_of(fit_demand(numbers, method="empirical", box=box))
-    found, posterior = looked_at(prior, sample, item_class, box)
-    if posterior is None:
+    found, parts = looked_at(prior, sample, item_class, box)
+    if not parts:
         single = fit_demand(numbers, method=ALONE, box=box)
         return replace(single, diagnostics={**single.diagnostics, FAMILY: replace(found, single=single)})
     if beside:
         found = replace(found, single=fit_demand(numbers, method=ALONE))
-    law = mixture([(found.share, posterior.predictive), (1 - found.share, sample.law)])
+    law = unpacked(mixture((it.weight, it.law) for it in parts), sample.pack)
     fitted = DemandLaw(**fields_of(*weights_of(law), FAMILY, np.repeat(sample.values, sample.counts).tolist()))
     return replace(fitted, diagnostics={**fitted.diagnostics, FAMILY: found})
 
@@ -110,16 +158,20 @@ def borrowed_laws(prior: Prior, observed: Observed | Iterable[Any], item_class: 
                   box: int = 1, seed: int = 1) -> AllowedLaws:
     """Draws laws of demand that an item's history and its catalogue allow. The same seed gives the same laws.
 
-    Their mean is the law of `law_of`: each is drawn from the item's posterior, and then from a Dirichlet process round
-    it as far as the history speaks against it. If the law of the item alone is taken, so is its `allowed_laws`.
-    Arguments are as in `law_of`, and so is what is raised; `times` is the number of laws.
+    Their mean is the law of `law_of`, all but the end of its tail: each is drawn from the item's posterior under the
+    learned prior or the flat one, and then from a Dirichlet process round it as far as the history speaks against it.
+    If the law of the item alone is taken, so is its `allowed_laws`. Arguments are as in `law_of`, and so is what is
+    raised; `times` is the number of laws.
     """
     check_times(times)
     numbers: Observed | list[Any] = observed if isinstance(observed, Observed) else [*observed]
     sample = sample_of(fit_demand(numbers, method="empirical", box=box))
-    found, posterior = looked_at(prior, sample, item_class, box)
-    if posterior is None:
+    _, parts = looked_at(prior, sample, item_class, box)
+    if not parts:
         return allowed_laws(numbers, times=times, box=box, seed=seed)
     random = np.random.default_rng(seed)
-    laws = [round_history(law, sample, found.share, random) for law in posterior.drawn(stratified(random, ROWS, times))]
-    return AllowedLaws({FAMILY: times}, tuple(table_of(law, sample.most) for law in laws))
+    *uniform, choice = stratified(random, ROWS, times)
+    places = np.searchsorted(np.cumsum([it.weight for it in parts])[:-1], choice, side="right")
+    laws = (law for place, part in enumerate(parts)
+            for law in part.drawn(np.array(uniform)[:, places == place], random))
+    return AllowedLaws({FAMILY: times}, tuple(table_of(unpacked(law, sample.pack), sample.most) for law in laws))

@@ -122,6 +122,13 @@ def by_class(samples: Iterable[Sample], names: Iterable[str]) -> Iterator[tuple[
     yield from sorted(groups.items())
 
 
+def in_packs(samples: Iterable[Sample]) -> Iterator[Sample]:
+    """Yields the histories of items whose demands are packs, counted in packs."""
+    for sample in samples:
+        if (pack := sample.pack) > 1:
+            yield sample.in_packs(pack)
+
+
 def learn(histories: Histories, classes: Classes | None = None, borrow: str = "all", seed: int = 1, *,
           least: int = LEAST_ITEMS) -> Prior:
     """Learns from the histories of a catalogue which laws of demand there are, for `law_of`.
@@ -134,6 +141,8 @@ def learn(histories: Histories, classes: Classes | None = None, borrow: str = "a
       histories; an item without one learns from the whole catalogue. A class with up to 300 items is pulled to the
       catalogue, which counts for 30 items; a larger one has a prior of its own.
     - `none`: each item has the law of its own history alone.
+
+    Items whose demands are packs learn from all others in packs, as one class counted in packs, if there are 30.
 
     The prior depends on neither the order nor the names of the items. Items with a mean size above 101 are outside the
     grid and left out. Raises Refused if there are fewer than `least` others: 100, or on request as few as 30. Raises
@@ -151,7 +160,9 @@ def learn(histories: Histories, classes: Classes | None = None, borrow: str = "a
         raise Refused(few_items(len(within), len(items) - len(within), least))
     whole = learned(within, seed)
     its = {name: learned(group, seed, whole.chances) for name, group in by_class(samples, names)}
-    return Prior(borrow, seed, len(items), len(items) - len(within), whole, its)
+    packs = [it for it in in_packs(samples) if not is_outside(it)]
+    of_packs = learned(packs, seed, whole.chances) if len(packs) >= LEAST_ON_REQUEST else None
+    return Prior(borrow, seed, len(items), len(items) - len(within), whole, its, of_packs)
 
 
 def few_items(items: int, outside: int, least: int) -> str:

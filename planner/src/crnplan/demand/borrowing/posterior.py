@@ -1,7 +1,7 @@
 """Computes what is known of one item after its history, if a prior is known."""
 from __future__ import annotations
 
-from dataclasses import dataclass
+from dataclasses import dataclass, replace
 from functools import cached_property
 
 import numpy as np
@@ -12,6 +12,7 @@ from .em import FLAT
 from .likelihoods import Sums, of_shares, of_sizes
 
 LEAST_CHANCE = 1e-12  # of a cell that counts in a predictive law
+ALIKE = 0.5  # beforehand, the chance that an item is one of those that the prior was learned from
 
 
 @dataclass(frozen=True, eq=False)
@@ -39,6 +40,20 @@ class Posterior:
         Source: Kass and Raftery, Bayes factors, 1995, section 2.
         """
         return float(np.log10(self.likelihood(self.prior) / self.likelihood(FLAT)))
+
+    @property
+    def alike(self) -> float:
+        """Returns the chance that the item is one of those that the prior was learned from, and not of the flat prior.
+
+        Source: Berger and Berliner, Robust Bayes and empirical Bayes analysis with epsilon-contaminated priors, 1986.
+        """
+        learned, flat = ALIKE * self.likelihood(self.prior), (1 - ALIKE) * self.likelihood(FLAT)
+        return learned / (learned + flat)
+
+    @property
+    def flat(self) -> Posterior:
+        """Returns what is known of the item under the flat prior."""
+        return replace(self, prior=FLAT)
 
     @cached_property
     def predictive(self) -> Floats:

@@ -14,7 +14,7 @@ from ...errors import Refused
 from ..families import Floats, Whole
 from .em import FLAT
 
-VERSION = 1  # of the file; another grid is another version
+VERSION = 2  # of the file; another grid is another version
 UNITS = 2**40  # of a chance of 1: the last bits of a sum, which differ by machine, are rounded off
 KIND = "prior of crnplan"
 ALL = "all"  # the name of the prior of the whole catalogue
@@ -65,7 +65,8 @@ class Prior:
 
     `borrow` is "all", "class" or "none": each item learns from the whole catalogue, from its class, or from nothing.
     `outside` is how many items were left out, since their sizes are larger than those of the grid. `whole` is the prior
-    of the catalogue (None with "none"), `classes` has those of the classes by name.
+    of the catalogue (None with "none"), `classes` has those of the classes by name. `packs` is the prior of all items
+    in packs, counted in packs; None if there are too few of them.
     """
 
     borrow: str
@@ -74,10 +75,13 @@ class Prior:
     outside: int = 0
     whole: Learned | None = None
     classes: Mapping[str, Learned] | None = None
+    packs: Learned | None = None
 
-    def of_item(self, item_class: str | None) -> tuple[str, Learned | None]:
+    def of_item(self, item_class: str | None, pack: int = 1) -> tuple[str, Learned | None]:
         """Returns the prior of an item of a class, with its name. An item without a class that was learned has that of
-        the catalogue."""
+        the catalogue, and an item in packs that of all items in packs."""
+        if pack > 1:
+            return ALL, self.packs
         own = (self.classes or {}).get(item_class or "")
         return (str(item_class), own) if own else (ALL, self.whole)
 
@@ -86,7 +90,8 @@ class Prior:
         """Returns the text of a file: JSON in one line."""
         tree = {"kind": KIND, "version": VERSION, "borrow": self.borrow, "seed": self.seed, "items": self.items,
                 "outside": self.outside, "whole": self.whole.tree if self.whole else None,
-                "classes": {name: it.tree for name, it in sorted((self.classes or {}).items())}}
+                "classes": {name: it.tree for name, it in sorted((self.classes or {}).items())},
+                "packs": self.packs.tree if self.packs else None}
         return json.dumps(tree, ensure_ascii=False, separators=(",", ":")) + "\n"
 
     def write(self, path: Path | str) -> None:
@@ -114,5 +119,5 @@ class Prior:
         if tree["borrow"] not in BORROW or (tree["borrow"] == "none") is bool(tree["whole"]):
             raise ValueError("something is learned unless nothing is borrowed")
         classes = {name: Learned.from_tree(it) for name, it in tree["classes"].items()}
-        whole = Learned.from_tree(tree["whole"]) if tree["whole"] else None
-        return cls(tree["borrow"], int(tree["seed"]), int(tree["items"]), int(tree["outside"]), whole, classes)
+        whole, packs = (Learned.from_tree(tree[name]) if tree[name] else None for name in ("whole", "packs"))
+        return cls(tree["borrow"], int(tree["seed"]), int(tree["items"]), int(tree["outside"]), whole, classes, packs)
