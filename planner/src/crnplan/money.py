@@ -29,6 +29,8 @@ def whole(value: Any, name: str) -> int:
 
     Raises Refused if it is none. `name` says what it is.
     """
+    if type(value) is int:
+        return value
     number = None if isinstance(value, str) else exact(value)
     if number is None or number.denominator != 1:
         raise Refused(f"{name}: {shown(value)} is not a whole number; round it, or count in a smaller unit")
@@ -56,8 +58,8 @@ def rounded_costs(costs: Mapping[str, Fraction], exact_one: str) -> tuple[dict[s
     """Returns costs as the program's whole numbers, what one unit of money counts in them, and the greatest relative
     error of their rounding.
 
-    If no scale makes all costs whole, it is the greatest within the program's ranges that makes `exact_one` whole, which
-    is above 0. Raises Refused if the costs are too far apart for that.
+    If no scale makes all costs whole, it is the greatest within the program's ranges that makes `exact_one` whole,
+    which is above 0. Raises Refused if the costs are too far apart for that.
     """
     try:
         return *scaled_costs(costs), 0.0

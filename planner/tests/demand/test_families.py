@@ -2,6 +2,7 @@
 from __future__ import annotations
 
 import math
+import statistics
 from collections.abc import Callable, Sequence
 
 import numpy as np
@@ -222,18 +223,41 @@ def test_any_history(numbers: list[int]) -> None:
             assert law[0] == pytest.approx((sample.zeros + 0.5) / (len(numbers) + 1) if sample.zeros else 0, abs=1e-6)
 
 
+@pytest.mark.parametrize("size, periods, total, most_mean", [
+    (0.05, 30, 12, 3.0), (2.5, 104, 300, 4.1), (900.0, 52, 5_000, 120.0), (0.15, 14, 92, 40.0)])
+def test_beta_negative_binomial(size: float, periods: int, total: int, most_mean: float) -> None:
+    """Each chance is an integral of negative binomial chances over p, up to the bound."""
+    chances = predictive.beta_negative_binomial(size, periods * size, total, most_mean)
+    law, least = stats.beta(periods * size, total), size / (size + most_mean)
+    for value in (0, 1, 7, min(60, len(chances) - 1)):
+        def density(p: float, value: int = value) -> float:
+            """Returns the density of p times the chance of the value."""
+            return float(law.pdf(p) * stats.nbinom.pmf(value, size, p))
+        middle = min(max(float(law.mean()), least), 1.0)
+        expected = sum(integrate.quad(density, *ends, limit=400)[0] for ends in [(least, middle), (middle, 1)])
+        assert chances[value] == pytest.approx(expected, rel=1e-6, abs=1e-12)
+
+
 def test_distances() -> None:
     """The distance of Cramer and von Mises agrees with scipy's where the law is all but continuous."""
     law = np.full(5000, 1 / 5000)
     data = np.random.default_rng(5).integers(0, 5000, (3, 40))
-    found = guard.distances(np.stack([np.bincount(it, minlength=5000) for it in data]), law)
+    found = guard.distances(np.sort(data), law)
     expected = [stats.cramervonmises((it + 0.5) / 5000, "uniform").statistic for it in data]
     assert found == pytest.approx(expected, rel=0.02)
-    chances, counts = np.array([0.1, 0.4, 0.2, 0.2, 0.1]), np.array([[0, 3, 0, 1, 0], [2, 0, 0, 2, 0]])
-    below = [[0, 0.75, 0.75, 1, 1], [0.5, 0.5, 0.5, 1, 1]]
-    expected = [4 * sum(chance * (one - other)**2 for one, other, chance in zip(row, np.cumsum(chances), chances))
-                for row in below]
-    assert guard.distances(counts, chances) == pytest.approx(expected)
+
+
+@settings(max_examples=50, deadline=None)
+@given(st.lists(st.integers(0, 9), min_size=8, max_size=8).filter(any),
+       st.integers(2, 9).flatmap(lambda size: st.lists(
+           st.lists(st.integers(0, 7), min_size=size, max_size=size), min_size=1, max_size=4)))
+def test_distances_and_variances_by_definition(weights: list[int], histories: list[list[int]]) -> None:
+    """Both are those of sums over all cells, and of the standard library."""
+    chances, rows, cells = np.array(weights) / sum(weights), np.sort(histories), np.arange(8)
+    shares = [(row[:, None] <= cells).mean(axis=0) for row in rows]
+    expected = [len(rows[0]) * float(chances @ (share - np.cumsum(chances))**2) for share in shares]
+    assert guard.distances(rows, chances) == pytest.approx(expected, abs=1e-12)
+    assert guard.variances_of(rows) == pytest.approx([statistics.variance(row) for row in rows.tolist()], rel=1e-15)
 
 
 def test_guard() -> None:

@@ -14,7 +14,7 @@ from typing import NamedTuple
 
 import numpy as np
 import numpy.typing as npt
-from scipy import optimize, special, stats
+from scipy import special
 
 from ..formats import MOST_DEMAND
 
@@ -30,6 +30,7 @@ MOST_BULKS = 0.5  # the largest share of bulks
 # Beforehand, the deviation of a bulk is about a quarter of its mean, as two more bulks would say.
 BULK_VARIATION, BULK_FREEDOM = 0.25, 2.0
 CELLS = np.arange(MOST_DEMAND + 1)
+BOUNDS = np.log(CELLS[1:] + 0.5)  # of rounded lognormal sizes 1, 2 and so on: their upper ends
 
 
 @dataclass(frozen=True, eq=False)
@@ -143,12 +144,18 @@ class Fit(NamedTuple):
 Fitting = Callable[[Sample], Fit | None]
 
 
+def poisson_logarithms(values: Whole, mean: float) -> Floats:
+    """Returns the logarithms of the chances of values under a Poisson law."""
+    logarithms: Floats = special.xlogy(values, mean) - special.gammaln(values + 1) - mean
+    return logarithms
+
+
 def poisson(sample: Sample) -> Fit | None:
     """Fits a Poisson law. None if all numbers are 0."""
     if not sample.total:
         return None
-    return Fit(float(sample.counts @ stats.poisson.logpmf(sample.values, sample.mean)), 1,
-               np.exp(stats.poisson.logpmf(CELLS, sample.mean)))
+    return Fit(float(sample.counts @ poisson_logarithms(sample.values, sample.mean)), 1,
+               np.exp(poisson_logarithms(CELLS, sample.mean)))
 
 
 def size_of(sample: Sample) -> float | None:
@@ -157,6 +164,8 @@ def size_of(sample: Sample) -> float | None:
     The score has a single root if the variance with the divisor n is above the mean, else none (Levin and Reeds,
     Compound multinomial likelihood functions are unimodal, 1977).
     """
+    from scipy import optimize
+
     def score(logarithm: float) -> float:
         """Returns the derivative of the likelihood's logarithm by k, times k."""
         size = math.exp(logarithm)
@@ -168,14 +177,21 @@ def size_of(sample: Sample) -> float | None:
     return math.exp(optimize.brentq(score, low, high))
 
 
+def negative_binomial_logarithms(values: Whole, size: float, chance: float) -> Floats:
+    """Returns the logarithms of the chances of values under a negative binomial law."""
+    ways = special.gammaln(values + size) - special.gammaln(values + 1) - special.gammaln(size)
+    logarithms: Floats = ways + size * math.log(chance) + special.xlog1py(values, -chance)
+    return logarithms
+
+
 def negative_binomial(sample: Sample) -> Fit | None:
     """Fits a negative binomial law. None if the numbers vary no more than under a Poisson law."""
     size = size_of(sample)
     if size is None:
         return None
     chance = size / (size + sample.mean)
-    return Fit(float(sample.counts @ stats.nbinom.logpmf(sample.values, size, chance)), 2,
-               np.exp(stats.nbinom.logpmf(CELLS, size, chance)))
+    return Fit(float(sample.counts @ negative_binomial_logarithms(sample.values, size, chance)), 2,
+               np.exp(negative_binomial_logarithms(CELLS, size, chance)))
 
 
 def geometric(sample: Sample) -> Fit | None:
@@ -183,8 +199,8 @@ def geometric(sample: Sample) -> Fit | None:
     if not sample.total:
         return None
     chance = 1 / (1 + sample.mean)
-    return Fit(float(sample.counts @ stats.geom.logpmf(sample.values + 1, chance)), 1,
-               np.exp(stats.geom.logpmf(CELLS + 1, chance)))
+    first, rest = math.log(chance), math.log1p(-chance)
+    return Fit(first * sample.size + rest * sample.total, 1, np.exp(first + rest * CELLS))
 
 
 def lognormal_moments(sizes: Sample) -> tuple[float, float]:
@@ -194,9 +210,12 @@ def lognormal_moments(sizes: Sample) -> tuple[float, float]:
     return mean, math.sqrt(float(sizes.counts @ (logarithms - mean)**2) / max(sizes.size - 1, 1))
 
 
-def lognormal_cells(mean: float, deviation: float) -> Floats:
-    """Returns the chances of 1, 2 and so on for a rounded lognormal size; what is below 1.5 counts as 1."""
-    below = special.ndtr((np.log(CELLS[1:] + 0.5) - mean) / deviation)
+def lognormal_cells(mean: float, deviations: Floats) -> Floats:
+    """Returns the chances of 1, 2 and so on for a rounded lognormal size; what is below 1.5 counts as 1.
+
+    All deviations, of the logarithm, are as likely.
+    """
+    below = special.ndtr((BOUNDS - mean) / deviations[:, None]).mean(axis=0)
     return np.diff(below, prepend=0.0)
 
 
@@ -206,7 +225,7 @@ def lognormal(excess: Sample) -> Fit | None:
     mean, deviation = lognormal_moments(sizes)
     if deviation < 0.01:
         return None
-    chances = lognormal_cells(mean, deviation)
+    chances = lognormal_cells(mean, np.array([deviation]))
     return Fit(float(sizes.counts @ np.log(np.maximum(chances[excess.values], LEAST_CHANCE))), 2, chances)
 
 

@@ -6,9 +6,11 @@ from the ends, and the bounds are higher than those of a test.
 """
 from __future__ import annotations
 
+import functools
 from typing import NamedTuple
 
 import numpy as np
+import numpy.typing as npt
 
 from .families import Floats, Sample, Whole
 
@@ -36,36 +38,50 @@ class Shares(NamedTuple):
 LEAST = Shares(0.05, 0.05, 0.30, 0.10, 0.05)
 
 
-def distances(counts: Whole, chances: Floats) -> Floats:
-    """Returns how far histories are from a law, by Cramer and von Mises. Each row has the counts of 0, 1, 2 and so on.
+def distances(histories: Whole, chances: Floats) -> Floats:
+    """Returns how far histories are from a law, by Cramer and von Mises. Each row has the rising numbers of a history.
 
-    Source: Choulakian, Lockhart and Stephens, Cramer-von Mises statistics for discrete distributions, 1994.
+    Source: Choulakian, Lockhart and Stephens, Cramer-von Mises statistics for discrete distributions, 1994. The sum
+    over all cells of the squared distance is split by the numbers, each of which counts from its cell on.
     """
-    size, below = counts.sum(axis=1), np.cumsum(chances)
-    starts = np.flatnonzero(np.append(True, counts[:, 1:].any(axis=0)))  # from there on, histories have the same share
-    shares = np.cumsum(counts[:, starts], axis=1) / size[:, None]
-    chance, mean, square = (np.add.reduceat(chances * below**power, starts) for power in range(3))
-    far: Floats = size * (shares**2 @ chance - 2 * shares @ mean + square.sum())
+    size, below = histories.shape[1], np.cumsum(chances)
+    tails, means = (np.cumsum((chances * below**power)[::-1])[::-1] for power in (0, 1))
+    weights = (2 * np.arange(size) + 1) / size
+    far: Floats = size * float(chances @ below**2) + tails[histories] @ weights - 2 * means[histories].sum(axis=1)
     return far
+
+
+@functools.lru_cache(maxsize=8)
+def uniforms(size: int) -> Floats:
+    """Returns uniform numbers for drawn histories of a size, rising in each row."""
+    rows = np.sort(np.random.default_rng(SEED).random((TIMES, size)), axis=1)
+    rows.flags.writeable = False
+    return rows
+
+
+def variances_of(histories: Whole) -> Floats:
+    """Returns the unbiased variance of each row, without rounding before the last division."""
+    size = histories.shape[1]
+    sums, squares = histories.sum(axis=1), np.einsum("ij,ij->i", histories, histories)
+    variances: Floats = (size * squares - sums**2) / (size * (size - 1))
+    return variances
 
 
 def shares_of(sample: Sample, chances: Floats) -> Shares:
     """Returns the shares of a sample under a law. The same sample and law have the same shares."""
-    width = max(len(chances), sample.most + 1)
-    law = np.zeros(width)
+    law = np.zeros(max(len(chances), sample.most + 1))
     law[:len(chances)] = chances / chances.sum()
-    drawn = np.searchsorted(np.cumsum(law), np.random.default_rng(SEED).random((TIMES, sample.size)), side="right")
+    drawn = np.searchsorted(np.cumsum(law), uniforms(sample.size), side="right")
     drawn = np.minimum(drawn, len(chances) - 1)
-    variances = drawn.var(axis=1, ddof=1)
-    counts = np.stack([np.bincount(it, minlength=width) for it in [*drawn, np.repeat(sample.values, sample.counts)]])
-    far = distances(counts, law)
+    variances = variances_of(drawn)
+    far = distances(np.vstack([drawn, np.repeat(sample.values, sample.counts)]), law)
 
-    def share(count: np.int64) -> float:
+    def share(holds: npt.NDArray[np.bool_]) -> float:
         """Returns a share in which the history itself counts."""
-        return float((count + 1) / (TIMES + 1))
-    return Shares(share((variances >= sample.variance * (1 - ROUNDING)).sum()),
-                  share((variances <= sample.variance * (1 + ROUNDING)).sum()),
-                  share((far[:-1] >= far[-1] * (1 - ROUNDING)).sum()), *largest(sample, law))
+        return float((holds.sum() + 1) / (TIMES + 1))
+    return Shares(share(variances >= sample.variance * (1 - ROUNDING)),
+                  share(variances <= sample.variance * (1 + ROUNDING)),
+                  share(far[:-1] >= far[-1] * (1 - ROUNDING)), *largest(sample, law))
 
 
 def largest(sample: Sample, law: Floats) -> tuple[float, float]:

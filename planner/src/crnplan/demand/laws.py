@@ -51,27 +51,28 @@ class LeadLaw(Law):
 def empirical(numbers: Iterable[int]) -> dict[str, Any]:
     """Returns the fields of the empirical law: the weight of a value is how often it was observed."""
     counts = Counter(numbers)
-    total = sum(counts.values())
-    mean = Fraction(sum(value * count for value, count in counts.items()), total)
-    squares = sum(count * (value - mean)**2 for value, count in counts.items())
-    variance = float(squares / (total - 1)) if total > 1 else None
-    return {"values": tuple(sorted(counts)), "weights": tuple(counts[it] for it in sorted(counts)),
-            "diagnostics": {"observed": total, "mean": float(mean), "variance": variance}}
+    size, values = counts.total(), tuple(sorted(counts))
+    total = sum(value * count for value, count in counts.items())
+    squares = size * sum(value**2 * count for value, count in counts.items()) - total**2
+    variance = float(Fraction(squares, size * (size - 1))) if size > 1 else None
+    return {"values": values, "weights": tuple(counts[it] for it in values),
+            "diagnostics": {"observed": size, "mean": float(Fraction(total, size)), "variance": variance}}
 
 
-def numbers_of(observed: Observed | Iterable[Any], what: str) -> tuple[list[int], list[Place | None]]:
+def numbers_of(observed: Observed | Iterable[Any], what: str) -> tuple[list[int], Iterable[Place | None]]:
     """Returns numbers and their places. Whole numbers of any kind are taken, and floats that are whole."""
     if isinstance(observed, Observed):
-        return list(observed.counts), list(observed.places)
+        return list(observed.counts), observed.places
     numbers = [whole(it, f"{what}: entry {place}") for place, it in enumerate(observed, 1)]
     if not 1 <= len(numbers) <= MOST_WEIGHT:
         raise Refused(f"there are {len(numbers):,} numbers of {what}; give 1 to {MOST_WEIGHT:,}")
-    return numbers, [Place("", 0, 0, what, f"entry {place}, {it},") for place, it in enumerate(numbers, 1)]
+    return numbers, (Place("", 0, 0, what, f"entry {place}, {it},") for place, it in enumerate(numbers, 1))
 
 
 def check(numbers: Iterable[int], places: Iterable[Place | None], reason_of: Callable[[int], str | None]) -> None:
     """Rejects all numbers that a scenario can't have."""
-    reasons = [(place, reason_of(number)) for number, place in zip(numbers, places)]
-    faults: list[Fault] = [place.fault(reason) for place, reason in reasons if place and reason]
-    if faults:
-        raise RefusedFiles(faults)
+    reasons = [*map(reason_of, numbers)]
+    if any(reasons):
+        faults: list[Fault] = [it.fault(reason) for it, reason in zip(places, reasons) if it and reason]
+        if faults:
+            raise RefusedFiles(faults)

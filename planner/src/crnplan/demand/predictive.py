@@ -8,15 +8,16 @@ magnitude, and in the mean, and the variance has a scaled inverse chi-square law
 """
 from __future__ import annotations
 
+import functools
 import math
 from collections.abc import Callable
 
 import numpy as np
-from scipy import special, stats
+from scipy import special
 
 from ..formats import MOST_DEMAND
 from .families import (BULK_FREEDOM, CELLS, Bulks, Floats, Sample, bulk_cells, cut, lognormal_cells, lognormal_moments,
-                       ordinary_of, parts_of, scaled)
+                       negative_binomial_logarithms, ordinary_of, parts_of, scaled)
 
 Predicting = Callable[[Sample], Floats]
 
@@ -32,7 +33,7 @@ MOST_DEVIATION = 2.0  # of the logarithm of a size: beyond, a size varies by mor
 
 def poisson(sample: Sample) -> Floats:
     """Returns the law of a Poisson number whose mean has a gamma law: it is negative binomial."""
-    chances: Floats = np.exp(stats.nbinom.logpmf(CELLS, sample.total + 0.5, sample.size / (sample.size + 1)))
+    chances: Floats = np.exp(negative_binomial_logarithms(CELLS, sample.total + 0.5, sample.size / (sample.size + 1)))
     return chances
 
 
@@ -53,8 +54,12 @@ def beta_negative_binomial(size: float, first: float, second: float, most_mean: 
     width = min(MOST_DEMAND, int(most_mean + 12 * math.sqrt(variance) + 20 * variance / most_mean + 30)) + 1
     cells = CELLS[:width]
     ways = special.gammaln(cells + size) - special.gammaln(size) - special.gammaln(cells + 1)
-    scale = special.betaln(first + size, second + cells) - special.betaln(first, second)
-    chances: Floats = np.exp(ways + scale) * special.betainc(second + cells, first + size, above)
+    (a, b), scale = (second + cells, first + size), special.betaln(first + size, second + cells)
+    # The chance that a beta number is below the bound falls from one a to the next one by what is known (Abramowitz and
+    # Stegun, Handbook of Mathematical Functions, 26.5.16). It is summed from the last one on, so nothing cancels.
+    falls = np.exp(a * math.log(above) + b * math.log1p(-above) - scale) / a
+    within = special.betainc(a[-1], b, above) + np.append(np.cumsum(falls[-2::-1])[::-1], 0.0)
+    chances: Floats = np.exp(ways + scale - special.betaln(first, second)) * within
     return chances
 
 
@@ -92,10 +97,10 @@ def lognormal(excess: Sample) -> Floats:
     sizes = Sample(excess.values + 1, excess.counts)
     mean, deviation = lognormal_moments(sizes)
     freedom = max(sizes.size - 1, 1)
-    quantiles = stats.chi2.ppf((np.arange(DEVIATIONS) + 0.5) / DEVIATIONS, freedom)
+    # Quantiles of a chi-square law.
+    quantiles = 2 * special.gammaincinv(freedom / 2, (np.arange(DEVIATIONS) + 0.5) / DEVIATIONS)
     drawn = np.minimum(deviation * np.sqrt(freedom / quantiles), MOST_DEVIATION) * math.sqrt(1 + 1 / sizes.size)
-    chances: Floats = np.mean([lognormal_cells(mean, it) for it in drawn], axis=0)
-    return chances
+    return lognormal_cells(mean, drawn)
 
 
 def hurdle(sizes: Predicting) -> Predicting:
@@ -116,7 +121,7 @@ def bulk(sample: Sample) -> Floats:
     freedom = bulks.size - 1 + BULK_FREEDOM
     deviation = math.sqrt(bulks.squares / freedom * (1 + 1 / bulks.size))
     share = bulks.size / (sample.size + 1)
-    sizes = bulk_cells(bulks.mean, deviation, stats.t(freedom).cdf)
+    sizes = bulk_cells(bulks.mean, deviation, functools.partial(special.stdtr, freedom))
     chances: Floats = share * sizes + (1 - share) * scaled(PREDICTIVE[name](parts[0]))
     return chances
 
