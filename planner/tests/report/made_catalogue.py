@@ -1,4 +1,4 @@
-"""Makes the folder of a planned catalogue without planning it: all files that its page needs, of any number of items."""
+"""Makes the folder of a planned catalogue without planning it: all files that its page needs, of so many items."""
 from __future__ import annotations
 
 import math

@@ -4,6 +4,7 @@ from __future__ import annotations
 import base64
 import csv
 import hashlib
+import json
 import math
 import re
 import shutil
@@ -26,6 +27,8 @@ from crnplan.catalogue.page import NO_CURVE, OLD_CURVE
 from crnplan.catalogue.store import READ, Writer
 from crnplan.report.catalogue_figures import Totals, price_of, reasons_of
 from crnplan.report.catalogue_page import COLUMNS, LARGE, clipped
+from planner.tests.catalogue.conftest import FILES, SETTINGS, leave_few
+from planner.tests.catalogue.made import TODAY, made
 from planner.tests.conftest import Command
 from planner.tests.report.made_catalogue import QUANTILE, made_folder
 
@@ -99,7 +102,7 @@ class Page(HTMLParser):
     def reasons(self, title: str) -> Counter[str]:
         """Returns how many rows each reason has below a title."""
         places = [place for place, text in enumerate(re.findall(r"<h3>([^:<]+)", self.source)) if text == title]
-        return Counter({row[0]: int(row[2].replace(",", "")) for place in places
+        return Counter({row[0]: int(row[3].replace(",", "")) for place in places
                         for row in self.tables[-1 - len(re.findall("<h3>", self.source)) + place][1:]})
 
 
@@ -180,8 +183,9 @@ def test_totals(large: Path) -> None:
             for name in ("saving", "cost_today", "cost_chosen", "value_today", "value_chosen")}
     exact = {row["item"]: float(Fraction(row["saving_variance"])) for row in rows_of(large / "exact.csv")}
     half = 1.959964 * math.sqrt(sum(exact[row["item"]] for row in rows if row["saving_low"]))
-    by_ends = [(float(row["saving_high"]) - float(row["saving_low"])) / 2 / QUANTILE for row in rows if row["saving_low"]]
-    assert half == pytest.approx(1.959964 * math.sqrt(sum(it**2 for it in by_ends)), rel=0.001)
+    ends = [(float(row["saving_low"]), float(row["saving_high"])) for row in rows if row["saving_low"]]
+    errors = [(high - low) / 2 / QUANTILE for low, high in ends]
+    assert half == pytest.approx(1.959964 * math.sqrt(sum(it**2 for it in errors)), rel=0.001)
     assert min(sums.values()) > LARGE
     low, high = (f"{sums['saving'] + it:,.0f}" for it in (-half, half))
     assert f"The difference is {sums['saving']:,.0f}, from {low} to {high} (95% interval of the runs)" in page.text
@@ -218,8 +222,9 @@ def test_left_out(large: Path) -> None:
     for row in rejects:
         pattern = next(text for word, text in patterns.items() if word in row["reason"])
         wanted[row["kind"]][pattern] += int(row["rows"]) if row["kind"] == "item" else 1
-    titles = {"item": "Items left out", "row": "Rows rejected", "suspicious": "Suspicious rows, which count all the same"}
-    assert {kind: page.reasons(title) for kind, title in titles.items()} == wanted
+    titles = {"Items left out": "item", "Rows rejected": "row",
+              "Suspicious rows, which count all the same": "suspicious"}
+    assert {kind: page.reasons(title) for title, kind in titles.items()} == wanted
     items = [row for row in rejects if row["kind"] == "item"]
     assert f"Items left out: {len(items)}, with {sum(int(row['rows']) for row in items):,} rows" in page.text
     first = next(row for row in rejects if row["kind"] == "row")
@@ -228,11 +233,14 @@ def test_left_out(large: Path) -> None:
 
 def test_reasons_are_in_order() -> None:
     """The most frequent reason of a kind stands first, with the place of its first row."""
-    rows = [{"kind": "row", "file": "d.csv", "line": str(line), "item": item, "reason": reason, "rows": "1"}
-            for line, item, reason in ((2, "A", "'x' is no date"), (3, "B", "12 is above 9.5"), (4, "A", "'y' is no date"))]
-    found = reasons_of(rows)
-    assert [(it.pattern, it.count, it.place, it.items) for it in found] == [
-        ("… is no date", 2, "d.csv:2", {"A"}), ("… is above …", 1, "d.csv:3", {"B"})]
+    rows = [{"kind": "row", "file": "d.csv", "line": str(line), "item": item, "column": column, "reason": reason,
+             "rows": "1"} for line, (item, column, reason) in enumerate([
+                 ("A", "day", "'x' is no date as 3/5/2026"), ("B", "amount", "12 is above 9.5"),
+                 ("B", "day", "is empty"), ("A", "day", '"y" is no date as 2026-05-03'),
+                 ("A", "amount", "is empty")], 2)]
+    assert [(it.pattern, it.first["column"], it.count, it.place, it.items) for it in reasons_of(rows)] == [
+        ("… is no date as …", "day", 2, "d.csv:2", {"A"}), ("is empty", "amount", 1, "d.csv:6", {"A"}),
+        ("is empty", "day", 1, "d.csv:4", {"B"}), ("… is above …", "amount", 1, "d.csv:3", {"B"})]
 
 
 def test_page_is_small_and_asks_for_nothing(large: Path, hostile: Path) -> None:
@@ -277,16 +285,17 @@ def test_greatest_are_shown_of_very_many(folder: Path, monkeypatch: pytest.Monke
 
 
 def test_curve(large: Path) -> None:
-    """The named points have the figures of curve.csv, also for a screen reader, and the line ends within the picture."""
+    """The named points have the figures of curve.csv, also for a screen reader. The line ends within the picture."""
     page, rows = Page(large / "report.html"), rows_of(large / "curve.csv")
     named = [row for row in rows if row["point"] != "curve"]
     points = next(it for it in page.tables if it[0][0] == "point")[1:]
     assert [[row[0].strip(), row[3]] for row in points] == [
         [name, row["orders"]] for name, row in zip(("today", "chosen item by item", "today's stock, best service",
                                                     "today's service, least stock"), named, strict=True)]
-    assert [row[1:3] for row in points] == [[f"{float(row['value']):,.0f}", f"{float(row['fill']):.2%}"] for row in named]
+    figures = [[f"{float(row['value']):,.0f}", f"{float(row['fill']):.2%}"] for row in named]
+    assert [row[1:3] for row in points] == figures
     said = re.findall(r"<desc[^>]*>([^<]+)", page.source)[0]
-    assert all(f"{float(row['fill']):.2%} met at once with a stock of {float(row['value']):,.0f}" in said for row in named)
+    assert all(f"{fill} met at once with a stock of {value}" in said for value, fill in figures)
     (path,) = re.findall(r'class="line of-chosen" d="M([^"]+)"', page.source)
     places = [tuple(map(float, it.split())) for it in path.split("L")]
     assert all(0 <= it <= 1000 for place in places for it in place) and len(places) > 5
@@ -303,10 +312,18 @@ def test_curve_is_clipped(points: list[tuple[float, float]], right: float, botto
     assert inside <= {value for value, _ in left} and left == sorted(left)
 
 
-def test_no_curve_and_old_curve(folder: Path) -> None:
-    """If there is no curve, or one of another plan, the page says what to run."""
+@pytest.mark.parametrize("old, new", [("today,,", "today,,9"), (",", ";"), ("today", "now")])
+def test_curve_of_another_plan(folder: Path, old: str, new: str) -> None:
+    """If the curve is of another plan, or was changed, the page says what to run in place of it."""
     text = (folder / "curve.csv").read_text()
-    (folder / "curve.csv").write_text(text.replace("today,,", "today,,9"))
+    (folder / "curve.csv").write_text(text.replace(old, new))
+    page = Page(crn.report(folder))
+    assert OLD_CURVE in page.text and 'id="curve-title"' not in page.source
+
+
+def test_no_curve(folder: Path) -> None:
+    """If there is no curve, the page says what to run. One whose items are not known is of another plan."""
+    (folder / "curve_left_out.csv").unlink()
     assert OLD_CURVE in Page(crn.report(folder)).text
     (folder / "curve.csv").unlink()
     page = Page(crn.report(folder))
@@ -361,12 +378,13 @@ def test_refusals(folder: Path, tmp_path: Path, crnplan: Command) -> None:
     (empty / "summary.html").write_text("")
     refused(empty, "this is the plan of one item, whose page is summary.html; to draw it anew run crnplan item "
                    f"HISTORY.csv SETTINGS.toml --out {empty}")
+    message = "decisions.csv, exact.csv or rejects.csv is missing, or not as crnplan catalogue wrote it; run that again"
     text = (folder / "decisions.csv").read_text("utf-8")
     for changed in (text.replace(",", ";"), text.replace("P00020", "P00099"), text[:text.rindex("\n", 0, -1) + 1]):
         (folder / "decisions.csv").write_text(changed, "utf-8")
-        refused(folder, "decisions.csv, exact.csv or rejects.csv is not as crnplan catalogue wrote it; run that again")
+        refused(folder, message)
     (folder / "decisions.csv").unlink()
-    refused(folder, "decisions.csv is missing, so the plan is not finished; run crnplan catalogue again")
+    refused(folder, message)
 
 
 def test_plan_of_other_rows_is_refused(folder: Path) -> None:
@@ -376,5 +394,18 @@ def test_plan_of_other_rows_is_refused(folder: Path) -> None:
     writer.begin()
     writer.add_items([("P00020", {"counts": [1]}, {})])
     writer.finish({})
-    with pytest.raises(crn.Refused, match="its plan is not as the rows that were read last; run crnplan catalogue again"):
+    with pytest.raises(crn.Refused, match="its plan is not as the rows that were read last; run crnplan catalogue"):
         crn.report(folder)
+
+
+def test_page_of_a_plan(tmp_path: Path, program: Path) -> None:
+    """A plan writes its page at its end. The totals are those of summary.txt."""
+    made().write(tmp_path)
+    leave_few(tmp_path, 6)
+    crn.plan(crn.read_catalogue(*(tmp_path / it for it in FILES), today=TODAY), tmp_path / "plan", jobs=1,
+             program=program, **SETTINGS)
+    page, summary = Page(tmp_path / "plan/report.html"), (tmp_path / "plan/summary.txt").read_text("utf-8")
+    saving, low, high = re.search(r"saved: (\S+) a week, \S+ interval (\S+) to (\S+) ", summary).groups()
+    assert f"The difference is {saving}, from {low} to {high}" in page.text.replace("\u2212", "-")
+    assert len(page.items) == 6 and not (tmp_path / "plan/curve.csv").exists()
+    assert json.loads((tmp_path / "plan/planned.json").read_text())["settings"]["seed"] in page.text

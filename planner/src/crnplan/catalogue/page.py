@@ -3,7 +3,7 @@ from __future__ import annotations
 
 import contextlib
 import os
-from collections.abc import Iterable, Sequence
+from collections.abc import Iterable, Mapping, Sequence
 from pathlib import Path
 from urllib.parse import quote
 
@@ -24,12 +24,14 @@ ITEM_PAGE = "summary.html"  # of crnplan item
 # What each verdict means, for a reader.
 MEANING = {
     CHEAPER: "The chosen policy costs less than today's: the interval of its saving is above 0.",
-    SERVICE: "Today's policy misses the wanted share of demand met at once. The chosen one keeps it, and may cost more.",
+    SERVICE: "Today's policy misses the wanted share of demand met at once. The chosen one keeps it and may cost more.",
     UNDECIDED: "The runs cannot tell which policy costs less.",
     SAME: "Today's policy is the best one already.",
-    DEARER: "By the runs the chosen policy costs more than today's, though it is the best by theory. Look at this item."}
+    DEARER: "By the runs the chosen policy costs more, though it is the best by theory. Look at these items."}
 NO_CURVE = "There is no curve yet. It is drawn by crnplan curve FOLDER, and then crnplan report FOLDER."
-OLD_CURVE = "The curve in the folder is that of another plan. Run crnplan curve FOLDER again, then crnplan report FOLDER."
+OLD_CURVE = "The curve here is not that of this plan. Run crnplan curve FOLDER again, then crnplan report FOLDER."
+# What a table raises that is missing, or was changed.
+CHANGED = (FileNotFoundError, ValueError, KeyError, TypeError, ArithmeticError)
 
 
 def write_page(folder: Path, planned: Planned) -> Path:
@@ -44,9 +46,6 @@ def write_page(folder: Path, planned: Planned) -> Path:
 
 def contents_of(folder: Path, planned: Planned) -> Contents:
     """Returns what the page of a folder says. Raises Refused if its tables are not there, or not those of one plan."""
-    for name in (DECISIONS, EXACT, REJECTS):
-        if not (folder / name).is_file():
-            raise Refused(f"{folder}: {name} is missing, so the plan is not finished; run crnplan catalogue again")
     settings = planned.settings
     with contextlib.closing(Catalogued(folder / READ)) as read, contextlib.closing(Answers(folder)) as answers:
         check_plan(folder, planned, read, answers)
@@ -54,21 +53,22 @@ def contents_of(folder: Path, planned: Planned) -> Contents:
     try:
         totals, rows = totalled(folder / DECISIONS, folder / EXACT, MOST_ROWS)
         reasons = reasons_of(rows_of(folder / REJECTS))
-    except (ValueError, KeyError, TypeError, ArithmeticError) as fault:
-        raise Refused(f"{folder}: {DECISIONS}, {EXACT} or {REJECTS} is not as crnplan catalogue wrote it; run that "
-                      "again") from fault
-    failed = sum(it.count for it in reasons if it.kind == "item") - counts["items"]["left_out"]
+    except CHANGED as fault:
+        raise Refused(f"{folder}: {DECISIONS}, {EXACT} or {REJECTS} is missing, or not as crnplan catalogue wrote it; "
+                      "run that again") from fault
     curve, no_curve = curve_of(folder, decimals)
-    run = f"{settings.replications} runs of {settings.periods:,} {every}s for each item, seed {settings.seed}"
-    return Contents(every, decimals, settings.level, run, counts["files"], counts["items"]["named"], totals,
-                    rows, reasons, MEANING, SAID, curve, no_curve, pages_of(folder, rows),
-                    missing_of(counts, totals.items + failed))
+    failed = sum(it.count for it in reasons if it.kind == "item") - counts["items"]["left_out"]
+    return Contents(
+        every=every, decimals=decimals, level=settings.level, sources=counts["files"], named=counts["items"]["named"],
+        run=f"{settings.replications} runs of {settings.periods:,} {every}s for each item, seed {settings.seed}",
+        totals=totals, rows=rows, reasons=reasons, verdicts=MEANING, said=SAID, curve=curve, no_curve=no_curve,
+        pages=pages_of(folder, rows), lost=missing_of(counts, totals.items + failed))
 
 
 def check_plan(folder: Path, planned: Planned, read: Catalogued, answers: Answers) -> None:
     """Raises Refused if an item is not planned as its rows are now: the tables are then those of an earlier plan."""
-    current = answers.digests()
-    if any(current.get(name) != Settings.digest_of(planned.common, name, facts) for name, facts in read.facts_of_items()):
+    current, common = answers.digests(), planned.common
+    if any(current.get(name) != Settings.digest_of(common, name, facts) for name, facts in read.facts_of_items()):
         raise Refused(f"{folder}: its plan is not as the rows that were read last; run crnplan catalogue again")
 
 
@@ -76,17 +76,22 @@ def curve_of(folder: Path, decimals: int) -> tuple[list[Place], str]:
     """Returns the points of the exchange curve of a folder; none, and why, if it has no curve of this plan."""
     if not (folder / CURVE).is_file():
         return [], NO_CURVE
-    left = {row["item"] for row in rows_of(folder / LEFT_OUT)}
-    points = [Place.of(row) for row in rows_of(folder / CURVE)]
-    values = {it.row["point"]: it.value for it in points}
-    sums, count = {TODAY: 0.0, CHOSEN: 0.0}, 0
-    for row in (it for it in rows_of(folder / DECISIONS) if it["item"] not in left):
-        count += 1
-        for policy in sums:
-            sums[policy] += float(row[f"value_{policy}"] or 0)
-    # Each value is rounded to the smallest unit of money.
-    is_of_plan = all(abs(value - values[policy]) <= (count + 1) * 10.0**-decimals for policy, value in sums.items())
+    try:
+        points = [Place.of(row) for row in rows_of(folder / CURVE)]
+        is_of_plan = has_values(folder, {it.row["point"]: it.value for it in points}, decimals)
+    except CHANGED:
+        is_of_plan = False
     return (points, "") if is_of_plan else ([], OLD_CURVE)
+
+
+def has_values(folder: Path, values: Mapping[str, float], decimals: int) -> bool:
+    """Returns whether today's stock and the chosen one of the decisions are worth what the points of the curve say."""
+    left = {row["item"] for row in rows_of(folder / LEFT_OUT)}
+    rows = [row for row in rows_of(folder / DECISIONS) if row["item"] not in left]
+    # Each value is rounded to the smallest unit of money.
+    rounding = (len(rows) + 1) * 10.0**-decimals
+    return all(abs(sum(float(row[f"value_{it}"] or 0) for row in rows) - values[it]) <= rounding
+               for it in (TODAY, CHOSEN))
 
 
 def pages_of(folder: Path, rows: Sequence[Row]) -> dict[str, str]:

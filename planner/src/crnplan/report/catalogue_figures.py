@@ -17,7 +17,7 @@ Row = Mapping[str, str]
 POLICIES = ("today", "chosen")
 MONEY = ("cost_today", "cost_chosen", "saving", "value_today", "value_chosen")
 # What differs between reasons of one kind: texts in quotes, numbers and dates.
-PARTICULAR = re.compile(r"'[^']*'|\"[^\"]*\"|\d+(?:[.,:-]\d+)*")
+PARTICULAR = re.compile(r"'[^']*'|\"[^\"]*\"|\d+(?:[.,:/-]\d+)*")
 
 
 def rows_of(path: Path) -> Iterator[Row]:
@@ -113,16 +113,16 @@ class Reason:
 
 
 def reasons_of(rejects: Iterable[Row]) -> list[Reason]:
-    """Returns the reasons of rejects.csv, the most frequent of each kind first. Texts, numbers and dates do not tell
-    reasons apart."""
-    found: dict[tuple[str, str], Reason] = {}
+    """Returns the reasons of rejects.csv by column, the most frequent of each kind first. Texts, numbers and dates do
+    not tell reasons apart."""
+    found: dict[tuple[str, str, str], Reason] = {}
     for row in rejects:
         pattern = PARTICULAR.sub("\u2026", row["reason"])
-        reason = found.setdefault((row["kind"], pattern), Reason(row["kind"], pattern, row))
+        reason = found.setdefault((row["kind"], row["column"], pattern), Reason(row["kind"], pattern, row))
         reason.count += 1
         reason.rows += int(row["rows"])
         reason.items.add(row["item"])
-    return sorted(found.values(), key=lambda it: (it.kind, -it.count, it.pattern))
+    return sorted(found.values(), key=lambda it: (it.kind, -it.count, it.pattern, it.first["column"]))
 
 
 @dataclass(frozen=True)

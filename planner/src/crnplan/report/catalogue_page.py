@@ -1,4 +1,4 @@
-"""Draws the plan of a catalogue as one HTML page: what it saves, the exchange curve, what was left out, and all items."""
+"""Draws the plan of a catalogue as one HTML page: what it saves, the exchange curve, what is left out, all items."""
 from __future__ import annotations
 
 from collections import Counter
@@ -40,8 +40,9 @@ class Column:
 
 
 COLUMNS = (
-    Column("item", "item", 22, True), Column("description", "description", 26, True), Column("class", "class", 12, True),
-    Column("verdict", "verdict", 14, True), Column("s_today", "s today"), Column("S_today", "S today"),
+    Column("item", "item", 22, True), Column("description", "description", 26, True),
+    Column("class", "class", 12, True), Column("verdict", "verdict", 14, True),
+    Column("s_today", "s today"), Column("S_today", "S today"),
     Column("s_chosen", "s chosen"), Column("S_chosen", "S chosen"), Column("s_alone", "s alone", is_optional=True),
     Column("S_alone", "S alone", is_optional=True), Column("cost_today", "cost today"),
     Column("cost_chosen", "cost chosen"), Column("saving", "saving"), Column("saving_low", "saving from"),
@@ -113,10 +114,10 @@ def meaning(its: Contents) -> str:
     """Returns what the headline means, in two sentences."""
     low, high = map(its.money, its.ends)
     sums = its.totals.sums
-    return (f"In the long run the {its.totals.items:,} planned items cost {its.money(sums['cost_today'])} a {its.every} "
-            f"with today's policies, and {its.money(sums['cost_chosen'])} with the chosen ones. The difference is "
-            f"{its.money(sums['saving'])}, from {low} to {high} ({100 * its.level:g}% interval of the runs), if demand "
-            "keeps to the laws that were fitted to its history.")
+    return (f"In the long run the {its.totals.items:,} planned items cost {its.money(sums['cost_today'])} a "
+            f"{its.every} with today's policies, and {its.money(sums['cost_chosen'])} with the chosen ones. The "
+            f"difference is {its.money(sums['saving'])}, from {low} to {high} ({100 * its.level:g}% interval of the "
+            "runs), if demand keeps to the laws that were fitted to its history.")
 
 
 def cards(its: Contents) -> list[dict[str, str]]:
@@ -183,8 +184,8 @@ def savings(its: Contents) -> dict[str, Any]:
     rows = [row for row in its.rows if Decimal(row["saving"]) > 0][:MOST_SAVINGS]
     ends = [float(row["saving_high"] or row["saving"]) for row in rows]
     scale = Scale.of([0.0, *ends, *(float(row["saving_low"] or 0) for row in rows)])
-    bars = [{"its": row, "end": scale.at(float(row["saving"])), "low": scale.at(float(row["saving_low"] or row["saving"])),
-             "high": scale.at(end)} for row, end in zip(rows, ends)]
+    bars = [{"its": row, "end": scale.at(float(row["saving"])), "high": scale.at(end),
+             "low": scale.at(float(row["saving_low"] or row["saving"]))} for row, end in zip(rows, ends)]
     together = sum((Decimal(row["saving"]) for row in rows), Decimal())
     return {"rows": bars, "zero": scale.at(0), "together": its.money(together)}
 

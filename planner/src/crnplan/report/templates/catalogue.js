@@ -24,7 +24,7 @@ function order(isText, isDescending) {
 }
 
 function sortBy(heading) {
-  const isDescending = heading.ariaSort === "ascending";
+  const isDescending = heading.getAttribute("aria-sort") === "ascending";
   const place = headings.indexOf(heading);
   const compare = order(heading.classList.contains("left"), isDescending);
   const keyed = rows.map((row) => [row.cells[place].textContent, row]);
