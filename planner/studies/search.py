@@ -53,7 +53,7 @@ def excesses(demand: Table, leads: Sequence[int], setup: float) -> Iterator[tupl
     scenario = scenario_of(demand, leads, setup)
     theory, _ = theories_of(scenario)
     for name, policy_of in sought(theory).items():
-        found = search(policy_of, theory.most).cost
+        found = search(lambda gaps: map(policy_of, gaps), theory.most).cost
         yield name, 100 * (found / all_gaps(theory, policy_of, found) - 1)
 
 

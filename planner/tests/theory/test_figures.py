@@ -108,7 +108,7 @@ def test_the_best_of_all_pairs(lead: Pair) -> None:
 def test_the_best_if_the_first_found_has_a_high_level(scenario: Scenario) -> None:
     theory = theory_of(scenario)
     assert isinstance(theory, OneLead)
-    first, best = search(theory.best_of_gap, theory.most), theory.best()
+    first, best = search(lambda gaps: map(theory.best_of_gap, gaps), theory.most), theory.best()
     assert theory.stock_costs(np.array([first.level]))[0] > first.cost
     gap = best.level - best.point
     shorts = {it: shortfall_of(scenario, it) for it in range(gap - 20, gap + 20)}

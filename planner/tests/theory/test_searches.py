@@ -111,7 +111,7 @@ def test_several_valleys() -> None:
     by_gap = [theory.filling(gap, 0.98) for gap in range(200)]
     found = theory.best_with_fill(0.98).cost
     assert found == pytest.approx(min(by_gap).cost, rel=1e-12)
-    assert search(by_gap.__getitem__, 40).cost > 1.02 * found
+    assert search(lambda gaps: map(by_gap.__getitem__, gaps), 40).cost > 1.02 * found
 
 
 def test_a_point_whose_best_level_is_far_beyond_the_grid() -> None:

@@ -16,14 +16,15 @@ from __future__ import annotations
 
 import math
 from abc import ABC, abstractmethod
-from collections.abc import Callable, Iterable, Sequence
+from collections.abc import Callable, Iterable, Iterator, Sequence
 from typing import NamedTuple
 
 import numpy as np
 
 from ..formats import MOST_ITEMS
 from ..scenario import Scenario
-from .laws import Floats, Law, Places, Surplus
+from .laws import Floats, Law, Places, Surplus, Whole, reflected, sum_of
+from .means import GapLevels, Levels, LevelsOf, Means
 from .walk import Walk
 
 GRID_GROWTH = 1.15
@@ -52,7 +53,6 @@ class Candidate(NamedTuple):
 
 NO_POLICY = Candidate(math.inf, 0, 0)
 
-
 def exactness_of(step: int, exact: bool) -> str:
     """Returns how exact figures on a lattice are, for a reader."""
     return "exact but for rounding" if exact else f"rounded to steps of {step} items"
@@ -67,22 +67,22 @@ def gap_grid(most: int) -> list[int]:
     return [*gaps, most]
 
 
-def search(policy_of: Callable[[int], Candidate], most: int) -> Candidate:
+def search(policies_of: Callable[[Sequence[int]], Iterable[Candidate]], most: int) -> Candidate:
     """Returns the cheapest policy over the gaps up to the most: on a grid of gaps, and then ever finer beside the best.
 
     Costs may have several valleys over the gaps, so beyond the grid's first gaps a better one can be missed. By how
-    much is measured by `planner.studies.search`.
+    much is measured by `planner.studies.search`. Of costs that are equal but for rounding the first is taken.
     """
-    found = {gap: policy_of(gap) for gap in gap_grid(most)}
+    grid = gap_grid(most)
+    found = dict(zip(grid, policies_of(grid)))
     while True:
-        best = min(found, key=found.__getitem__)
-        gaps = sorted(found)
-        place = gaps.index(best)
+        gaps, least = sorted(found), min(found.values()).cost
+        place, best = next((place, gap) for place, gap in enumerate(gaps) if found[gap].cost <= CLOSE * least)
         below, above = gaps[max(place - 1, 0)], gaps[min(place + 1, len(gaps) - 1)]
-        between = {(below + best) // 2, (best + above + 1) // 2} - found.keys()
+        between = sorted({(below + best) // 2, (best + above + 1) // 2} - found.keys())
         if not between:
             return found[best]
-        found.update((gap, policy_of(gap)) for gap in between)
+        found.update(zip(between, policies_of(between)))
 
 
 class LongRun(Walk, ABC):
@@ -103,6 +103,32 @@ class LongRun(Walk, ABC):
         # How far the mean stock less the mean backlog is below the mean low, in items.
         self.offset = step * (self.above_low.mean + self.net.mean * float(scenario.lead.mean + 1))
 
+    @property
+    def ratio(self) -> float:
+        """Returns the share of periods without backlog that is best for a newsvendor, but for rounding."""
+        return self.backlog / (self.backlog + self.holding) * (1 - NEAR)
+
+    def start_from(self, under_way: Law) -> None:
+        """Takes the law of what is independently lost of a stock before a period's net demand."""
+        self.after, self.before = sum_of(under_way, self.net), sum_of(under_way, reflected(self.back))
+        self.one_period, self.one_before = Surplus(self.after, self.step), Surplus(self.before, self.step)
+
+    def stock_costs(self, levels: Whole) -> Floats:
+        """Returns the mean cost of stock and backlog in a period that starts from lows at these levels."""
+        return self.holding * self.one_period.left(levels) + self.backlog * self.one_period.lacking(levels)
+
+    def unmet_at(self, levels: Whole) -> Floats:
+        """Returns the mean demand that is not met at once in a period that starts from lows at these levels, in items.
+        """
+        return self.one_period.lacking(levels) - self.one_before.lacking(levels)
+
+    def figures_from(self, cells: Whole) -> Floats:
+        """Returns rows with stock costs, unmet demand and the chance of no backlog of a period that starts from these
+        levels, in cells."""
+        levels = self.step * cells
+        held = self.one_period.below[self.one_period.place(levels)]
+        return np.array([self.stock_costs(levels), self.unmet_at(levels), held])
+
     @abstractmethod
     def prepare(self, gaps: Iterable[int]) -> None:
         """Computes what `levels_with_fill` needs of many gaps at once, which is faster than one by one."""
@@ -114,12 +140,9 @@ class LongRun(Walk, ABC):
     def surpluses(self, gap: int) -> tuple[Surplus, Surplus]:
         """Returns both laws summed up. They are kept for the next call."""
         if gap not in self.known:
-            self.keep(gap, *self.laws(gap))
+            after, before = self.laws(gap)
+            self.known[gap] = Surplus(after, self.step), Surplus(before, self.step)
         return self.known[gap]
-
-    def keep(self, gap: int, after: Law, before: Law) -> None:
-        """Keeps the laws of a gap."""
-        self.known[gap] = Surplus(after, self.step), Surplus(before, self.step)
 
     def reach(self, cost: float) -> float:
         """Returns how high the lows of a policy are at most on average, in items, if it costs no more."""
@@ -202,27 +225,83 @@ class LongRun(Walk, ABC):
         """
         return sorted({0, -point % self.step, self.step - 1}) if self.exact else [0]
 
-    def with_point(self, gap: int, point: int, level: int) -> Candidate:
+    def with_point(self, gap: int, level: int, point: int) -> Candidate:
         """Returns the policy of a point and a level that has this gap; none if S is out of its range."""
         return Candidate(self.figures_of_gap(gap, level).cost, point, level) if level <= MOST_ITEMS else NO_POLICY
 
-    def cheapest(self, policy_of: Callable[[int], Candidate], lowest: int) -> Candidate:
-        """Returns the cheapest policy of all gaps, if each gives one with s of at least `lowest`."""
-        return search(policy_of, self.most)
+    def floor(self, gap: Places) -> Places:
+        """Returns the least level of a gap with s of at least 0, in cells."""
+        return -(-self.items(gap) // self.step)
 
+    def first_gap(self, cost: float, most: int) -> int:
+        """Returns the first gap up to the most whose orders alone cost no more."""
+        return int(np.argmax(np.cumsum(self.lows_of(most)) * self.span * cost * CLOSE >= self.setup))
+
+    @abstractmethod
+    def rows_of(self, gaps: Whole) -> tuple[int, list[Floats]]:
+        """Returns for each gap the chances of how far a level of `figures_from` is below S, and their first cell."""
+
+    def parts(self, gaps: Sequence[int]) -> Iterator[Whole]:
+        """Yields rising gaps in parts, whose tables are small."""
+        yield np.array(gaps, int)
+
+    def costed(self, levels_of: LevelsOf, gaps: Sequence[int]) -> Levels:
+        """Returns levels of rising gaps with their costs. They are found part by part."""
+        found = []
+        for some in self.parts(gaps):
+            low, rows = self.rows_of(some)
+            # With the last level but one or a higher one, nothing is ever owed.
+            top = max(int(self.floor(some[-1])), low + max(map(len, rows)) + self.after.high) + 1
+            found.append(levels_of(Means(self.figures_from, low, rows, top), some))
+        levels, costs = zip(*found)
+        return np.concatenate(levels), np.concatenate(costs)
+
+    def best_levels(self, means: Means, gaps: Whole, share: float) -> Levels:
+        """Returns the cheapest levels that meet a share of demand at once: those, or the newsvendor's if higher."""
+        allowed, low, high = self.allowed(share), self.floor(gaps), np.full(len(gaps), means.top)
+        while (low < high).any():
+            middle = (low + high) // 2
+            unmet, held = means.at(middle, slice(1, 3))
+            is_enough = (unmet <= allowed) & (held >= self.ratio)
+            low, high = np.where(is_enough, low, np.minimum(middle + 1, high)), np.where(is_enough, middle, high)
+        places = self.places(means, gaps, low)
+        return self.costs_of(places, self.spare_of(places, allowed))
+
+    def fixed_levels(self, means: Means, gaps: Whole, levels: Whole) -> Levels:
+        """Returns these levels, with their costs. Beyond the highest one, each item more is one more in stock."""
+        cells = np.minimum(-(-levels // self.step), means.top)
+        return self.costs_of(self.places(means, gaps, cells), cells * self.step - levels)
+
+    def places(self, means: Means, gaps: Whole, levels: Whole) -> GapLevels:
+        """Returns levels of gaps, in cells, with the sums over the lows."""
+        totals = np.cumsum(self.lows_of(int(gaps[-1])))[gaps]
+        return GapLevels(gaps, levels, totals, totals * means.at(levels), totals * means.at(levels - 1))
+
+    def spare_of(self, places: GapLevels, allowed: float) -> Whole:
+        """Returns how far below these places a level can be, in items, less than a cell, if so much may be unmet."""
+        free, slope = allowed * places.totals - places.here[1], places.below[1] - places.here[1]
+        spare = np.minimum(self.step * np.divide(free, slope, where=slope > 0, out=np.ones_like(free)), self.step - 1)
+        spare = np.minimum(spare.astype(int), places.levels * self.step - self.items(places.gaps))
+        return np.where(places.below[2] >= self.ratio * places.totals, spare, 0)
+
+    def costs_of(self, places: GapLevels, spare: Whole) -> Levels:
+        """Returns the levels that are so much below these places, with their costs; infinite if S is out of range."""
+        levels = places.levels * self.step - spare
+        costs = self.setup / self.span + places.here[0] + spare / self.step * (places.below[0] - places.here[0])
+        return levels, np.where(levels <= MOST_ITEMS, costs / places.totals, math.inf)
+
+    @abstractmethod
     def best(self) -> Candidate:
         """Returns the cheapest policy."""
-        return self.cheapest(self.best_of_gap, 0)
 
+    @abstractmethod
     def best_with_point(self, point: int) -> Candidate:
         """Returns the cheapest policy with a reorder point."""
-        return self.cheapest(lambda gap: min(self.with_point(gap, point, point + self.items(gap) + rest)
-                                             for rest in self.rests(point)), point)
 
+    @abstractmethod
     def best_with_level(self, level: int) -> Candidate:
         """Returns the cheapest policy with an order-up-to level."""
-        return self.cheapest(lambda gap: self.policy(gap, level), 0)
 
+    @abstractmethod
     def best_with_fill(self, share: float) -> Candidate:
         """Returns the cheapest policy that meets at least this share of demand at once."""
-        return self.cheapest(lambda gap: self.filling(gap, share), 0)

@@ -14,40 +14,23 @@ from __future__ import annotations
 
 import math
 from bisect import bisect_left
-from collections.abc import Callable, Iterable
-from typing import NamedTuple
+from collections.abc import Callable, Iterable, Sequence
+from functools import partial
 
 import numpy as np
 import numpy.typing as npt
 
 from ..formats import MOST_ITEMS
 from ..scenario import Scenario
-from .laws import Floats, Law, Places, Surplus, Whole, convolved, power_of, reflected, room_for, scaled, sum_of
+from .laws import Floats, Law, Whole, convolved, power_of, room_for, scaled, sum_of
 from .long_run import CLOSE, NEAR, NO_POLICY, Candidate, LongRun, gap_grid
+from .means import GapLevels
 
 FEW = 4  # Of the gaps of a grid, one in so many is looked at for a first policy.
-NEAR_BEST = (0, 1, 1.2, 1.5)  # of the best gap: where a first policy with a fill rate is looked for
-
+ROUNDING = 1e-14  # Costs that differ by no more than this share are the same to a search that lowers them step by step.
 EVEN = 1e-10  # Chances that differ by no more than this share are taken as the same by a search, not for figures.
 
 Sums = tuple[float, float, float]
-
-
-class GapLevels(NamedTuple):
-    """A level for each of some gaps, in cells, with the number of lows and the sums over them, here and a cell below.
-
-    Sums are of stock costs, unmet demand and chances of no backlog, in this order.
-    """
-
-    gaps: Whole
-    levels: Whole
-    totals: Floats
-    here: Floats
-    below: Floats
-
-    def joined(self, other: GapLevels) -> GapLevels:
-        """Returns these and others."""
-        return GapLevels(*(np.concatenate(its, axis=-1) for its in zip(self, other)))
 
 
 class Lows:
@@ -62,7 +45,7 @@ class Lows:
     def __init__(self, lows: Floats, table: Floats, allowed: float, ratio: float) -> None:
         """Takes the chances of the lows, up to the widest gap."""
         self.turned, self.table = lows[::-1].copy(), table
-        self.allowed, self.ratio = allowed, ratio * (1 - NEAR)
+        self.allowed, self.ratio = allowed, ratio
         self.chances, self.counts = lows, np.cumsum(lows)
         self.last = table.shape[1] - 3
         self.even = int(np.flatnonzero(np.append(1.0, abs(lows - lows[-1]) > EVEN * lows[-1]))[-1])
@@ -135,9 +118,7 @@ class OneLead(LongRun):
         """Makes the laws of the net demand while an order is under way."""
         super().__init__(scenario, step, exact, most)
         lead, = (it for it, weight in zip(scenario.lead.values, scenario.lead.weights) if weight)
-        under_way = sum_of(power_of(self.net, lead), self.above_low)
-        self.after, self.before = sum_of(under_way, self.net), sum_of(under_way, reflected(self.back))
-        self.one_period, self.one_before = Surplus(self.after, step), Surplus(self.before, step)
+        self.start_from(sum_of(power_of(self.net, lead), self.above_low))
         self.found: Candidate | None = None
 
     def laws(self, gap: int) -> tuple[Law, Law]:
@@ -145,14 +126,10 @@ class OneLead(LongRun):
         lows = scaled(0, self.lows_of(gap))
         return sum_of(lows, self.after), sum_of(lows, self.before)
 
-    def stock_costs(self, levels: Whole) -> Floats:
-        """Returns the mean cost of stock and backlog in a period that starts from lows at these levels."""
-        return self.holding * self.one_period.left(levels) + self.backlog * self.one_period.lacking(levels)
-
-    def unmet_at(self, levels: Whole) -> Floats:
-        """Returns the mean demand that is not met at once in a period that starts from lows at these levels, in items.
-        """
-        return self.one_period.lacking(levels) - self.one_before.lacking(levels)
+    def rows_of(self, gaps: Whole) -> tuple[int, list[Floats]]:
+        """Returns the chances of the lows, for each gap a row, and their first cell."""
+        lows = self.lows_of(int(gaps[-1]))
+        return 0, [lows[:gap + 1] / lows[:gap + 1].sum() for gap in gaps.tolist()]
 
     def unmet_of(self, gap: int) -> Floats:
         """Returns the mean demand of a period that is not met at once, in items, for each level S of 0 cells and more.
@@ -190,22 +167,15 @@ class OneLead(LongRun):
         """
         lows = self.lows_of(self.widest(known.cost, self.lowest(known.cost)))
         top = min(MOST_ITEMS, self.reach(known.cost) + len(lows) * self.step / 2)
-        levels = self.step * np.arange(-2, int(top) // self.step + 2)
-        held = self.one_period.below[self.one_period.place(levels)]
-        return Lows(lows, np.array([self.stock_costs(levels), self.unmet_at(levels), held]), self.allowed(share),
-                    self.backlog / (self.backlog + self.holding))
-
-    def floor(self, gap: Places) -> Places:
-        """Returns the least level of a gap with s of at least 0, in cells."""
-        return -(-self.items(gap) // self.step)
+        return Lows(lows, self.figures_from(np.arange(-2, int(top) // self.step + 2)), self.allowed(share), self.ratio)
 
     def places_of(self, lows: Lows, known: Candidate) -> GapLevels:
         """Returns the best level of each gap that may cost no more than a known policy: a multiple of a cell.
 
         The least of these gaps is the first one whose orders alone cost no more.
         """
-        first = int(np.argmax(lows.counts * self.span * known.cost * CLOSE >= self.setup))
         most = len(lows.counts) - 1
+        first = self.first_gap(known.cost, most)
         gaps = np.arange(max(first, lows.even), most + 1)
         gaps = gaps[self.floor(gaps) <= lows.last]
         places = lows.spread(gaps, self.floor(gaps))
@@ -213,13 +183,7 @@ class OneLead(LongRun):
 
     def cheapest_of(self, places: GapLevels, lows: Lows) -> Candidate:
         """Returns the cheapest policy of all gaps, whose levels are at most one cell lower than the places."""
-        free, slope = lows.allowed * places.totals - places.here[1], places.below[1] - places.here[1]
-        spare = np.minimum(self.step * np.divide(free, slope, where=slope > 0, out=np.ones_like(free)), self.step - 1)
-        spare = np.minimum(spare.astype(int), places.levels * self.step - self.items(places.gaps))
-        spare = np.where(places.below[2] >= lows.ratio * places.totals, spare, 0)
-        levels = places.levels * self.step - spare
-        costs = self.setup / self.span + places.here[0] + spare / self.step * (places.below[0] - places.here[0])
-        costs = np.where(levels <= MOST_ITEMS, costs / places.totals, math.inf)
+        levels, costs = self.costs_of(places, self.spare_of(places, lows.allowed))
         best = int(np.argmax(costs <= costs.min() * (1 + NEAR)))
         return self.policy(int(places.gaps[best]), int(levels[best])) if costs[best] < math.inf else NO_POLICY
 
@@ -237,17 +201,61 @@ class OneLead(LongRun):
         is_cut = (lows.last + 1) * self.step > MOST_ITEMS and len(places.gaps) < len(lows.counts)
         return min(found, self.best_with_level(MOST_ITEMS, share)) if is_cut else found
 
+    def cheap_lows(self, cost: float) -> Floats:
+        """Returns G(y) of all lows y that cost no more, from the least y on, in steps of a cell."""
+        last = int(min(MOST_ITEMS, self.reach(cost))) // self.step
+        costs = self.stock_costs(self.step * np.arange(self.floor(0), last + 1))
+        cheap = np.flatnonzero(costs <= cost * (1 + NEAR))
+        return costs[cheap[0]:cheap[-1] + 1]
+
+    def costs_of_gaps(self, lows: Floats) -> Floats:
+        """Returns what each gap costs with one S, from G of S and of the places below it."""
+        chances = self.lows_of(len(lows) - 1)
+        costs: Floats = (self.setup / self.span + np.cumsum(chances * lows)) / np.cumsum(chances)
+        return costs
+
+    def cheapest_gap(self) -> int:
+        """Returns the gap of the cheapest policy whose S is a multiple of a cell; the first if there are several.
+
+        For a cost c let w(y) = c - G(y), and let y0 be the first low with w of at least 0. If the sum of m(j) w(S - j)
+        over the places from S down to y0 exceeds setup / span for some S, the policy with these lows costs less than c,
+        and its cost is the next c (Dinkelbach, On nonlinear fractional programming, Management Science 13, 1967). Else
+        c is the least cost: no other s is better for any S, and no S with w below 0 is (Zheng and Federgruen, Finding
+        optimal (s,S) policies is about as simple as evaluating a single policy, Operations Research 39, 1991).
+        """
+        level = max(self.floor(0), self.one_period.quantile(self.ratio) // self.step)
+        lows = self.stock_costs(self.step * np.array([min(level, MOST_ITEMS // self.step)]))
+        cost, place = math.inf, 0
+        while (found := float(self.costs_of_gaps(lows[place::-1])[-1])) < cost * (1 - ROUNDING):
+            cost = found
+            lows = self.cheap_lows(cost)
+            chances = self.lows_of(len(lows) - 1)
+            saved = convolved(chances, cost - lows)[:len(lows)]
+            place = int(np.argmax(saved))
+        nearly = np.flatnonzero(saved >= saved[place] - NEAR * cost * np.cumsum(chances))
+        equal = [np.flatnonzero(self.costs_of_gaps(lows[it::-1]) <= found * (1 + NEAR)) for it in nearly.tolist()]
+        return int(min(its[0] for its in equal if len(its)))
+
     def best(self) -> Candidate:
         """Returns the cheapest policy of all."""
         if self.found is None:
-            self.found = self.cheapest_beside(min(map(self.best_of_gap, gap_grid(self.most)[::FEW])), 0)
+            found = self.cheapest_of_gaps([self.cheapest_gap()], 0.0)
+            if self.floor(0) > 0:  # then S is no multiple of a cell if s is 0
+                found = min(found, self.best_with_point(0))
+            if self.reach(found.cost) + self.step > MOST_ITEMS:
+                found = min(found, self.best_with_level(MOST_ITEMS))
+            self.found = found
         return self.found
+
+    def cheapest_of_gaps(self, gaps: Sequence[int], share: float) -> Candidate:
+        """Returns the cheapest policy of rising gaps that meets a share of demand at once."""
+        levels, costs = self.costed(partial(self.best_levels, share=share), gaps)
+        best = int(np.argmax(costs <= costs.min() * (1 + NEAR)))
+        return self.policy(gaps[best], int(levels[best]))
 
     def best_with_fill(self, share: float) -> Candidate:
         """Returns the cheapest of all policies that meet at least this share of demand at once."""
-        best = self.best()
-        gap = self.gap_of(best.point, best.level)
-        return self.cheapest_beside(min(self.filling(int(times * gap), share) for times in NEAR_BEST), share)
+        return self.cheapest_beside(self.cheapest_of_gaps(gap_grid(self.most)[::FEW], share), share)
 
     def place_of_least(self, stock_sums: Floats, is_allowed: npt.NDArray[np.bool_]) -> tuple[float, int]:
         """Returns the least cost, and its gap, from the sums of the costs of stock over the lows of each gap.
@@ -268,7 +276,7 @@ class OneLead(LongRun):
             found = self.place_of_least(sums, levels <= MOST_ITEMS)
             widest = self.widest(found[0], point) if found[0] < math.inf else 0
             most = min(widest, 2 * most) if widest > most else 0
-        return self.with_point(found[1], point, point + self.items(found[1]) + rest)
+        return self.with_point(found[1], point + self.items(found[1]) + rest, point)
 
     def best_with_point(self, point: int) -> Candidate:
         """Returns the cheapest of all policies with a reorder point."""
