@@ -9,7 +9,6 @@ from __future__ import annotations
 import contextlib
 import pickle
 import sqlite3
-import tempfile
 import time
 from collections.abc import Iterator
 from pathlib import Path
@@ -21,14 +20,15 @@ from crnplan.catalogue.exchange import Items
 from crnplan.catalogue.gathering import CANDIDATES, gather
 from crnplan.catalogue.page import PAGE
 from crnplan.catalogue.planned import read_planned
-from crnplan.catalogue.store import ANSWERS, READ, Answers, Catalogued
+from crnplan.catalogue.store import ANSWERS, READ, Catalogued
 from crnplan.catalogue.tables import DECISIONS, EXACT
 from crnplan.catalogue.work import BATCH
+from planner.bench.made import Made
 from planner.bench.page import million_table
-from planner.bench.part import PLAN
+from planner.bench.part import FILES, PLAN
+from planner.bench.rates import loop_rates, split_seconds, transactions
 from planner.bench.stored import circumstances, keep
 
-SECONDS = 10
 Measured = tuple[str, float, str]
 
 
@@ -39,40 +39,42 @@ def mean_bytes(path: Path, column: str, table: str) -> float:
     return float(mean)
 
 
-def transactions(folder: Path, text: str) -> float:
-    """Returns how many transactions a second keep a batch of answers with this text, in a new file of the folder."""
-    count, start = 0, time.perf_counter()
-    with tempfile.TemporaryDirectory(dir=folder) as path, contextlib.closing(Answers(Path(path))) as answers:
-        while time.perf_counter() - start < SECONDS:
-            answers.keep([(f"P{BATCH * count + it:08}", 32 * "0", text) for it in range(BATCH)])
-            count += 1
-    return count / (time.perf_counter() - start)
-
-
 def array_bytes(items: Items) -> int:
     """Returns the bytes of the arrays of all candidates."""
     return sum(getattr(its, "nbytes", 0) for its in vars(items).values())
 
 
+def bytes_of(folder: Path, items: int) -> Iterator[Measured]:
+    """Yields what is sent and kept for an item."""
+    sent, plans, curve = folder / READ, folder / ANSWERS, folder / CANDIDATES
+    yield "an item's facts, to a worker", mean_bytes(sent, "facts", "items"), "bytes an item"
+    yield "what was learned, with each batch", len(pickle.dumps(read_planned(folder).prior)), "bytes"
+    yield "the answer of a plan, back", mean_bytes(plans, "answer", "answers"), "bytes an item"
+    yield "candidates of the curve, back", mean_bytes(curve, "answer", "answers"), "bytes an item"
+    for path in (sent, plans, curve, folder / DECISIONS, folder / EXACT, folder / PAGE):
+        yield f"{path.name}, on disk", path.stat().st_size / items, "bytes an item"
+
+
+def rates_of(folder: Path, read: Catalogued) -> Iterator[Measured]:
+    """Yields how fast the main process of a planned folder sends out items and keeps answers."""
+    text = int(mean_bytes(folder / ANSWERS, "answer", "answers")) * "x"
+    yield f"SQLite: transactions of {BATCH} answers", transactions(folder, text), "a second"
+    for where, rate in loop_rates(folder, read, read_planned(folder), text):
+        yield f"the loop of the main process, with workers in {where}", rate, "items a second"
+
+
 def measured_of(folder: Path) -> Iterator[Measured]:
     """Yields what each figure is, the figure and its unit."""
-    sent, plans, curve = folder / READ, folder / ANSWERS, folder / CANDIDATES
-    with contextlib.closing(Catalogued(sent)) as read:
-        count = sum(1 for _ in read.facts_of_items())
-    yield "sent to a worker", mean_bytes(sent, "facts", "items"), "bytes an item"
-    yield "what was learned, sent once a worker", len(pickle.dumps(read_planned(folder).prior)), "bytes"
-    answer = mean_bytes(plans, "answer", "answers")
-    yield "answer of a plan", answer, "bytes an item"
-    yield "candidates of the curve", mean_bytes(curve, "answer", "answers"), "bytes an item"
-    for path in (sent, plans, curve, folder / DECISIONS, folder / EXACT, folder / PAGE):
-        yield path.name, path.stat().st_size / count, "bytes an item"
-    rate = transactions(folder, int(answer) * "x")
-    yield f"transactions of {BATCH} answers", rate, "a second"
-    yield "answers kept", rate * BATCH, "items a second"
+    plan = folder / PLAN
+    with contextlib.closing(Catalogued(plan / READ)) as read:
+        rows, items = read.fact("counts")["files"]["demand"]["read"], sum(1 for _ in read.facts_of_items())
+        yield "reading, the first pass", 1e6 * split_seconds(plan, Made(folder / FILES).paths) / rows, "µs a row"
+        yield from bytes_of(plan, items)
+        yield from rates_of(plan, read)
     start = time.process_time()
-    gathered = gather(folder, read_planned(folder), 1, None, False)
-    yield "reading all candidates", 1e6 * (time.process_time() - start) / count, "µs an item"
-    yield "candidates in arrays", array_bytes(gathered.items) / len(gathered.items.names), "bytes an item"
+    gathered = gather(plan, read_planned(plan), 1, None, False)
+    yield "reading all candidates", 1e6 * (time.process_time() - start) / items, "µs an item"
+    yield "candidates, as arrays", array_bytes(gathered.items) / len(gathered.items.names), "bytes an item"
 
 
 def rounded(number: float) -> float | int:
@@ -87,7 +89,7 @@ def main(folder: Path, store: bool) -> None:
     """Measure what grows with the items of a planned catalogue, and print a table."""
     measured = circumstances() | {"jobs": 1}
     rows: list[dict[str, Any]] = [{"what": what, "figure": rounded(figure), "unit": unit}
-                                  for what, figure, unit in measured_of(folder / PLAN)]
+                                  for what, figure, unit in measured_of(folder)]
     if store:
         keep("million", measured, rows)
     click.echo(million_table(rows), nl=False)

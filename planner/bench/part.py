@@ -48,7 +48,7 @@ def curve(folder: Path, jobs: int) -> None:
 
 def page(folder: Path, jobs: int) -> None:
     """Writes the page of all items."""
-    from crnplan import report
+    from crnplan.catalogue.page import report
     report(folder / PLAN)
 
 

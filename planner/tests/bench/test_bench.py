@@ -76,7 +76,8 @@ def test_figures_are_kept(tmp_path: Path) -> None:
 
 
 def test_sums_of_parts() -> None:
-    part: dict[str, Any] = {"items": 2, "rows": 9, "part": "read", "wall": 1.0, "processor": 2.0, "own": 30.0, "all": 40.0, "bytes": 5}
+    part: dict[str, Any] = {"items": 2, "rows": 9, "part": "read", "wall": 1.0, "processor": 2.0, "own": 30.0,
+                            "all": 40.0, "bytes": 5}
     rows = [part, {**part, "part": "plan", "own": 20.0, "all": 50.0}, {**part, "items": 3}]
     whole_row = {**part, "part": "**all**", "wall": 2.0, "processor": 4.0, "bytes": 10, "own": 30.0, "all": 50.0}
     assert page.with_sums(rows) == [*rows[:2], whole_row, rows[2]]

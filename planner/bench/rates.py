@@ -1,0 +1,77 @@
+"""Measures how fast that is done which only one process can do: reading, sending out items, keeping answers."""
+from __future__ import annotations
+
+import contextlib
+import importlib
+import tempfile
+import time
+from collections.abc import Iterator, Sequence
+from contextlib import AbstractContextManager
+from pathlib import Path
+from typing import Any
+
+from crnplan.catalogue.planned import Planned
+from crnplan.catalogue.reading import Words, open_sources
+from crnplan.catalogue.splitting import split_sources
+from crnplan.catalogue.store import Answers, Catalogued, Writer
+from crnplan.catalogue.work import BATCH, Work
+from crnplan.catalogue.workers import Workers, cluster, processes
+
+SECONDS = 10
+WORKERS = 4
+
+
+def transactions(folder: Path, text: str) -> float:
+    """Returns how many transactions a second keep a batch of answers with this text, in a new file of a folder."""
+    count, start = 0, time.perf_counter()
+    with tempfile.TemporaryDirectory(dir=folder) as path, contextlib.closing(Answers(Path(path))) as answers:
+        while time.perf_counter() - start < SECONDS:
+            answers.keep([(f"P{BATCH * count + it:08}", 32 * "0", text) for it in range(BATCH)])
+            count += 1
+    return count / (time.perf_counter() - start)
+
+
+def split_seconds(folder: Path, paths: dict[str, str | Path | None]) -> float:
+    """Returns the processor seconds of the first pass over the files of a catalogue."""
+    sources = open_sources(paths, Words())
+    with tempfile.TemporaryDirectory(dir=folder) as path:
+        writer = Writer(Path(path))
+        with contextlib.closing(writer.base):
+            writer.begin()
+            start = time.process_time()
+            split_sources(sources, Path(path), writer, (), None)
+            return time.process_time() - start
+
+
+def instant(batch: Sequence[tuple[str, str]], settings: Any, prior: Any, text: str) -> list[tuple[str, str]]:
+    """Answers each item of a batch by the same text."""
+    return [(name, text) for name, _ in batch]
+
+
+@contextlib.contextmanager
+def dask() -> Iterator[Workers]:
+    """Gives the workers of a Dask scheduler on this machine."""
+    distributed: Any = importlib.import_module("distributed")
+    with (distributed.LocalCluster(n_workers=WORKERS, threads_per_worker=1, dashboard_address=None) as its,
+          cluster(its.scheduler_address) as workers):
+        yield workers
+
+
+def loop_rate(folder: Path, read: Catalogued, planned: Planned, text: str,
+              given: AbstractContextManager[Workers]) -> float:
+    """Returns how many items a second the main process sends out, gets back and keeps, if workers answer at once."""
+    names = {name: 32 * "0" for name, _ in read.facts_of_items()}
+    with (tempfile.TemporaryDirectory(dir=folder) as path, contextlib.closing(Answers(Path(path))) as answers,
+          given as workers):
+        list(workers.executor.submit(len, "all are started").result() for _ in range(WORKERS))
+        work, start = Work(answers, names), time.perf_counter()
+        work.finish(instant, lambda name: (name, read.text(name)), planned, text,
+                    workers=contextlib.nullcontext(workers), shown=False)
+        return len(names) / (time.perf_counter() - start)
+
+
+def loop_rates(folder: Path, read: Catalogued, planned: Planned, text: str) -> Iterator[tuple[str, float]]:
+    """Yields where the workers are, and how many items a second go through the main process."""
+    for where, given in (("this process", processes(1)), (f"{WORKERS} processes", processes(WORKERS)),
+                         (f"{WORKERS} Dask workers", dask())):
+        yield where, loop_rate(folder, read, planned, text, given)
