@@ -1,20 +1,26 @@
-"""Tests that a plan that is interrupted, by whatever, keeps what was done and goes on to the same bytes."""
+"""Tests that a plan or a curve that is interrupted, by whatever, keeps what was done and goes on to the same bytes."""
 from __future__ import annotations
 
 import contextlib
 import os
+import random
 import resource
+import shutil
 import signal
 import sqlite3
 import subprocess
 import sys
 import time
-from collections.abc import Callable, Iterator
+from collections.abc import Callable, Iterator, Sequence
 from pathlib import Path
 
 import pytest
 
-from crnplan.catalogue import plan, read_catalogue
+from crnplan.catalogue import exchange_curve, plan, read_catalogue
+from crnplan.catalogue.curve import CURVE, LEFT_OUT, POLICIES, draw_curve
+from crnplan.catalogue.exchange import Budget
+from crnplan.catalogue.gathering import CANDIDATES
+from crnplan.catalogue.store import ANSWERS
 from crnplan.catalogue.work import BATCH
 from planner.tests.catalogue.conftest import FILES, SETTINGS, TABLES, WORDS, leave_few
 from planner.tests.catalogue.made import Made
@@ -24,6 +30,11 @@ from planner.tests.sweep.clusters import SECONDS, Cluster
 # Two batches and a half. After so many runs of the program all others wait, so that a plan stops in its middle: one
 # batch at least is kept then, however the runs are spread.
 JOBS, FEW, PASSES = 2, 20, 17
+CURVE_TABLES = (CURVE, POLICIES, LEFT_OUT)
+# What is killed at random: a command with its words, the file with the answers that it keeps, and its tables.
+PLAN = ["catalogue", *WORDS, "--out", "plan"], ANSWERS, TABLES
+DRAW = ["curve", "plan", "--fill", "0.9", "--confirm", "0"], CANDIDATES, CURVE_TABLES
+KILLS, MOST_DELAY = 3, 0.5  # the delay in seconds, from when so many answers are kept
 HOLDING = """#!/bin/sh
 echo run >> "{folder}/runs"
 [ "$(wc -l < "{folder}/runs")" -le {passes} ] || until [ -e "{folder}/go_on" ]; do sleep 0.05; done
@@ -47,6 +58,14 @@ def whole(planted: Made, tmp_path_factory: pytest.TempPathFactory, program: Path
     return files / "plan"
 
 
+@pytest.fixture(scope="module")
+def drawn(whole: Path, tmp_path_factory: pytest.TempPathFactory) -> Path:
+    """Returns a plan with a curve, which was never interrupted."""
+    folder = Path(shutil.copytree(whole, tmp_path_factory.mktemp("drawn") / "plan"))
+    exchange_curve(folder, fill=0.9, jobs=1)
+    return folder
+
+
 @pytest.fixture
 def holding(folder: Path, program: Path) -> Path:
     """Returns a program that waits after some runs."""
@@ -58,12 +77,13 @@ def holding(folder: Path, program: Path) -> Path:
 
 @pytest.fixture
 def start(folder: Path, holding: Path) -> Iterator[Start]:
-    """Returns a function that starts a plan in a process group of its own. What is left of it at the end is ended."""
+    """Returns a function that starts a command, by default a plan, in a process group of its own. What is left of it at the end is ended."""
     begun: list[subprocess.Popen[bytes]] = []
 
-    def starting(*words: str, before: Callable[[], None] | None = None) -> subprocess.Popen[bytes]:
-        """Starts a plan."""
-        command = [sys.executable, "-m", "crnplan", "catalogue", *WORDS, "--out", "plan", "--program", str(holding)]
+    def starting(*words: str, command: Sequence[str] = PLAN[0],
+                 before: Callable[[], None] | None = None) -> subprocess.Popen[bytes]:
+        """Starts a command."""
+        command = [sys.executable, "-m", "crnplan", *command, "--program", str(holding)]
         begun.append(subprocess.Popen([*command, *words], cwd=folder, stdin=subprocess.DEVNULL, stdout=subprocess.DEVNULL,
                                       stderr=subprocess.PIPE, start_new_session=True, preexec_fn=before))
         return begun[-1]
@@ -74,14 +94,19 @@ def start(folder: Path, holding: Path) -> Iterator[Start]:
         process.communicate()
 
 
-def kept(folder: Path) -> int:
-    """Returns how many answers are kept, by a look from outside."""
+def answers(folder: Path, name: str = ANSWERS) -> set[tuple[str, str, str]]:
+    """Returns the answers that are kept, by a look from outside: item, digest and text."""
     try:
-        base = sqlite3.connect(f"file:{folder}/plan/answers.sqlite?mode=ro", uri=True)
+        base = sqlite3.connect(f"file:{folder}/plan/{name}?mode=ro", uri=True)
         with contextlib.closing(base):
-            return int(base.execute("SELECT count(*) FROM answers").fetchone()[0])
+            return {*base.execute("SELECT item, digest, answer FROM answers")}
     except sqlite3.OperationalError:
-        return 0
+        return set()
+
+
+def kept(folder: Path, name: str = ANSWERS) -> int:
+    """Returns how many answers are kept."""
+    return len(answers(folder, name))
 
 
 def wait_until(happened: Callable[[], object]) -> None:
@@ -97,9 +122,9 @@ def runs(folder: Path) -> int:
     return len((folder / "runs").read_text().splitlines()) if (folder / "runs").exists() else 0
 
 
-def tables(folder: Path) -> dict[str, bytes]:
+def tables(folder: Path, names: Sequence[str] = TABLES) -> dict[str, bytes]:
     """Returns the tables of a plan."""
-    return {it: (folder / it).read_bytes() for it in TABLES}
+    return {it: (folder / it).read_bytes() for it in names}
 
 
 def goes_on(folder: Path, whole: Path, crnplan: Command, holding: Path) -> tuple[int, int]:
@@ -111,6 +136,11 @@ def goes_on(folder: Path, whole: Path, crnplan: Command, holding: Path) -> tuple
     assert tables(folder / "plan") == tables(whole)
     words = told.errors.split("plan: ")[1].split()
     return int(words[0]), int(words[3])
+
+
+def children(process: "subprocess.Popen[bytes]") -> list[int]:
+    """Returns the processes that a process has started, and which live."""
+    return [*map(int, Path(f"/proc/{process.pid}/task/{process.pid}/children").read_text().split())]
 
 
 def living(process: "subprocess.Popen[bytes]") -> bool:
@@ -136,6 +166,32 @@ def test_killed(folder: Path, whole: Path, crnplan: Command, holding: Path, star
     now, from_before = goes_on(folder, whole, crnplan, holding)
     assert from_before == there and now == runs(folder) - before == FEW - there
     assert before - there <= JOBS * BATCH
+
+
+@pytest.mark.parametrize("seed, command, file, names", [(3, *PLAN), (6, *DRAW)], ids=["plan", "curve"])
+def test_killed_at_random(folder: Path, drawn: Path, crnplan: Command, start: Start, holding: Path, seed: int,
+                          command: list[str], file: str, names: Sequence[str]) -> None:
+    """Kills all processes at once at three random moments, each time after going on: nothing that was kept is lost, and
+    the bytes are those of a run that was never interrupted."""
+    source, before = random.Random(seed), set[tuple[str, str, str]]()
+    (folder / "go_on").touch()
+    if file == CANDIDATES:
+        shutil.copytree(drawn, folder / "plan", ignore=shutil.ignore_patterns(f"{CANDIDATES}*", *CURVE_TABLES))
+    for _ in range(KILLS):
+        process, most = start("--jobs", str(JOBS), command=command), source.randrange(FEW)
+        wait_until(lambda: kept(folder, file) >= most or process.poll() is not None)
+        time.sleep(source.uniform(0, MOST_DELAY))
+        with contextlib.suppress(ProcessLookupError):
+            os.killpg(process.pid, signal.SIGKILL)
+        process.wait()
+        assert before <= (there := answers(folder, file))
+        before = there
+    if file == ANSWERS:
+        told = crnplan(*command, "--jobs", "1", "--program", holding)
+        now = int(told.errors.split("plan: ")[1].split()[0])
+    else:
+        now = draw_curve(folder / "plan", Budget(fill=0.9), jobs=1).gathered.new
+    assert now == FEW - len(before) and tables(folder / "plan", names) == tables(drawn, names)
 
 
 @pytest.mark.parametrize("jobs", ["1", str(JOBS)])
@@ -178,8 +234,7 @@ def test_a_worker_that_is_killed(folder: Path, whole: Path, crnplan: Command, ho
     """Kills a process that works, as a system without memory does: one line, and the plan goes on."""
     process = start("--jobs", str(JOBS))
     wait_until(lambda: kept(folder) >= 1)
-    children = Path(f"/proc/{process.pid}/task/{process.pid}/children").read_text().split()
-    os.kill(int(children[0]), signal.SIGKILL)
+    os.kill(children(process)[0], signal.SIGKILL)
     (folder / "go_on").touch()
     _, errors = process.communicate(timeout=60)
     assert process.returncode == 2 and b"a worker process has ended by force" in errors and b"Traceback" not in errors
@@ -187,18 +242,23 @@ def test_a_worker_that_is_killed(folder: Path, whole: Path, crnplan: Command, ho
 
 
 @pytest.mark.timeout(2 * SECONDS)
-def test_a_cluster_that_loses_a_worker(folder: Path, whole: Path, holding: Path) -> None:
-    """Plans on a Dask cluster, one worker of which is killed in the middle: the same bytes."""
+@pytest.mark.parametrize("command, file, names", [PLAN, DRAW], ids=["plan", "curve"])
+def test_a_cluster_that_loses_a_worker(folder: Path, drawn: Path, holding: Path, command: list[str], file: str,
+                                       names: Sequence[str]) -> None:
+    """Works on a Dask cluster, one worker of which is killed in the middle: the same bytes."""
+    if file == CANDIDATES:
+        shutil.copytree(drawn, folder / "plan", ignore=shutil.ignore_patterns(f"{CANDIDATES}*", *CURVE_TABLES))
     cluster = Cluster(folder)
     try:
         cluster.open(hidden=False)
-        words = ["catalogue", *WORDS, "--out", "plan", "--program", str(holding), "--cluster", cluster.address]
-        cluster.start("plan", "-m", "crnplan", *words, hidden=False)
-        cluster.wait_until("the first batch", lambda: kept(folder) >= 1, "plan")
+        words = [*command, "--program", str(holding), "--cluster", cluster.address]
+        cluster.start("driver", "-m", "crnplan", *words, hidden=False)
+        cluster.wait_until("the first batch", lambda: kept(folder, file) >= 1, "driver")
         cluster.end("leaves")
+        assert kept(folder, file) < FEW and children(cluster.processes["driver"]) == []
         (folder / "go_on").touch()
-        assert cluster.wait_for_end("plan") == 0, cluster.last_words("plan")
-        assert tables(folder / "plan") == tables(whole)
+        assert cluster.wait_for_end("driver") == 0, cluster.last_words("driver")
+        assert tables(folder / "plan", names) == tables(drawn, names)
     finally:
         cluster.end_all()
     assert cluster.have_all_ended()
