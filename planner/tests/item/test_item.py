@@ -6,7 +6,6 @@ import os
 import re
 import shutil
 from collections.abc import Callable
-from html.parser import HTMLParser
 from pathlib import Path
 
 import pytest
@@ -17,18 +16,21 @@ from crnplan.decision.doubt import doubt
 from crnplan.decision.long_run import check_long_run
 from crnplan.demand import checks_of, fit_demand, fit_lead, lines_of
 from crnplan.demand.posterior import allowed_laws, allowed_leads
-from crnplan.item import comparison, steps, summary
+from crnplan.item import comparison, steps
 from crnplan.item.work import as_settings
 from crnplan.theory.long_run import LongRun
 from crnplan.theory.start_bias import theory_of
 from crnplan.theory.suggestions import suggestions_of
 from planner.tests.conftest import Command
 from planner.tests.item.conftest import HERE, Plan
+from planner.tests.report.page_reader import Page
 
-STEPS = ["tables", "scenario", "suggestions", "doubt", "run", "decision", "check", "trajectory", "summary"]
+STEPS = ["tables", "scenario", "suggestions", "doubt", "run", "decision", "check", "trajectory", "sensitivity",
+         "summary"]
 FILES = {"tables.toml", "demand.csv", "lead_times.csv", "laws.csv", "laws.txt", "notes.txt", "scenario.toml",
          "suggested.toml", "suggested.txt", "suggested.csv", "doubt.txt", "doubt.csv", "decision.txt", "decision.csv",
-         "check.txt", "check.csv", "trajectory.csv", "summary.txt", "summary.html", "state.json"}
+         "check.txt", "check.csv", "trajectory.csv", "sensitivity.txt", "sensitivity.csv", "summary.txt",
+         "summary.html", "state.json"}
 # The line of the settings that asks for a horizon, and the file of the run with it and without.
 HORIZONS = {"horizon = 12\n": "report.csv", "": "long_run.csv"}
 NOTHING = "nothing has changed since the last run; nothing was done"
@@ -234,7 +236,7 @@ def test_a_page_says_by_which_law(fit: str, room: Path, plan: Plan) -> None:
     scenario = Scenario.read(room / "plan/scenario.toml")
     assert (scenario.demand, scenario.lead) == (law.table, lead.table)
     words = {"empirical": "this history.", "hurdle-geometric": "the law fitted to this history (hurdle-geometric)."}
-    page = " ".join(" ".join(Page((room / "plan/summary.html").read_text()).texts).split())
+    page = Page((room / "plan/summary.html").read_text()).words
     for text in (output.replace("\n", " "), page):
         assert words.get(fit, "the law fitted to this history (auto: ") in text
 
@@ -286,12 +288,6 @@ def test_decimals_are_scaled(room: Path, plan: Plan, horizon: str) -> None:
                          if line.startswith("today ")) for it in ("plan", "whole"))
     for place in (3, 8):
         assert abs(10 * float(tenth[place].replace(",", "")) - float(whole[place].replace(",", ""))) <= 0.05
-
-
-@pytest.mark.parametrize("share, text", [("-1e-17", "0.0%"), ("0.98449", "98.4%"), ("1", "100.0%")])
-def test_percent(share: str, text: str) -> None:
-    """A share that rounding made less than none is none."""
-    assert summary.percent(share) == text
 
 
 def test_today_is_the_best(room: Path, plan: Plan) -> None:
@@ -359,66 +355,6 @@ def test_largest_numbers_fit_one_screen(room: Path, plan: Plan) -> None:
     assert status in (0, 1), errors
     assert "WARNING: unit = 1 " in output
     assert len(output.splitlines()) <= 24 and max(map(len, output.splitlines())) <= 80
-
-
-class Page(HTMLParser):
-    """Reads a page: its texts, and whether each element is closed."""
-
-    VOID = {"meta", "link", "br", "line", "rect", "path"}
-
-    def __init__(self, text: str) -> None:
-        """Reads the page."""
-        super().__init__()
-        self.open: list[str] = []
-        self.texts: list[str] = []
-        self.links: list[str] = []
-        self.feed(text)
-        self.close()
-
-    def handle_starttag(self, tag: str, attrs: list[tuple[str, str | None]]) -> None:
-        """Opens an element."""
-        self.links += [str(value) for name, value in attrs if name in ("src", "href", "xlink:href")]
-        if tag not in self.VOID:
-            self.open.append(tag)
-
-    def handle_startendtag(self, tag: str, attrs: list[tuple[str, str | None]]) -> None:
-        """Passes over an element without content."""
-
-    def handle_endtag(self, tag: str) -> None:
-        """Closes an element."""
-        assert self.open.pop() == tag
-
-    def handle_data(self, data: str) -> None:
-        """Keeps a text."""
-        self.texts.append(data)
-
-
-def test_page_stands_alone(room: Path, plan: Plan, horizon: str) -> None:
-    """The page is closed in itself, links to nothing, and has the summary's words and all policies."""
-    plan()
-    text = (room / "plan/summary.html").read_text()
-    page = Page(text)
-    assert not page.open and set(page.links) == {"data:,"} and "url(" not in text and "<script" not in text
-    assert "http" not in text.replace("http-equiv", "")
-    words = " ".join(" ".join(page.texts).split())
-    wanted = " ".join((room / "plan/summary.txt").read_text().split())
-    parts = r"^(Below .*?) (history.csv: .*?) policy s S .* ((?:Over the|In the long run).*?[.]) (On new .*?[.]) "
-    told = re.search(parts, wanted)
-    assert told and all(part in words for part in told.groups())
-    for policy in Scenario.read(room / "plan/suggested.toml").policies:
-        assert words.count(f" {policy.name} ") >= 3
-    says = f"today's policy, {'over the coming 12 weeks from a stock of 20' if horizon else 'in the long run'}"
-    assert f"Cost compared with {says}" in words
-    counts = [row.split(",")[1] for row in (room / "plan/demand.csv").read_text().splitlines()[1:]]
-    assert text.count('class="bar"') == len(counts) - counts.count("0")
-
-
-def test_page_escapes_texts(room: Path, crnplan: Command, program: Path) -> None:
-    """A file's name is no markup."""
-    shutil.copy(room / "history.csv", room / "a<b>&.csv")
-    crnplan("item", room / "a<b>&.csv", room / "settings.toml", "--out", room / "plan", "--program", program)
-    text = (room / "plan/summary.html").read_text()
-    assert "a&lt;b&gt;&amp;.csv" in text and "<b>&.csv" not in text and not Page(text).open
 
 
 REFUSED: dict[str, tuple[Change, str]] = {

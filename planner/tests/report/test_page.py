@@ -11,7 +11,7 @@ import pytest
 from hypothesis import given
 from hypothesis import strategies as st
 
-from crnplan.report.page import UNITS, Chances, Scale, number, rendered, source, tick
+from crnplan.report.page import UNITS, Chances, Scale, number, percent, rendered, source, tick
 
 VALUES = st.lists(st.floats(-1e9, 1e9).filter(lambda it: it == 0 or abs(it) > 1e-6), min_size=1, max_size=5)
 
@@ -49,6 +49,12 @@ def test_scale_of_nothing() -> None:
 def test_number(value: float, digits: int, text: str) -> None:
     """A number has separators of thousands and a minus sign, and no sign if it is rounded to 0."""
     assert number(value, digits) == text
+
+
+@pytest.mark.parametrize("share, text", [("-1e-17", "0.0%"), ("0.98449", "98.4%"), (1, "100.0%")])
+def test_percent(share: str | float, text: str) -> None:
+    """A share that rounding made less than none is none."""
+    assert percent(share) == text
 
 
 @pytest.mark.parametrize("value, text", [(0.0, "0"), (-2000.0, "\u22122,000"), (2.5, "2.5")])

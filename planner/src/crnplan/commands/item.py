@@ -15,8 +15,8 @@ def command(history: str, settings: str, out: str, program: str | None) -> int:
     """Plan one item: the whole way from a history and settings to a checked decision.
 
     HISTORY.csv has a row for each period, or for each dated movement. The steps are tables, scenario, suggestions,
-    doubt, run, decision, check on new random numbers, trajectory and summary. FOLDER keeps what each has made;
-    summary.html is the page to read.
+    doubt, run, decision, check on new random numbers, trajectory, sensitivity and summary. FOLDER keeps what each has
+    made; summary.html is the page to read.
 
     SETTINGS.toml has the tables [history] (demand, and perhaps date, every, decimal, fit), [lead] (file and column, or
     orders, or times), [costs] (setup, holding, backlog), [today] (s, S, stock), [run] (horizon, replications, key,

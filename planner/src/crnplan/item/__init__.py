@@ -24,16 +24,17 @@ class Plan:
 
 def _make_summary(item: Item) -> dict[str, str]:
     """Says what comes of all, as a text of one screen and as a page."""
-    from .page import page_text
     from .summary import Figures, summary_text
+    from .summary_page import page_of
     figures = Figures(item)
-    return {"summary.txt": summary_text(figures), "summary.html": page_text(figures)}
+    return {"summary.txt": summary_text(figures), "summary.html": page_of(figures).text}
 
 
 SEEN = ("demand.csv", "lead_times.csv")
 SUGGESTED = ("suggested.toml",)
 SHOWN = ("tables.toml", *SEEN, "laws.csv", "notes.txt", *SUGGESTED, "suggested.txt", "suggested.csv", "doubt.csv",
-         "decision.txt", "decision.csv", "check.txt", "check.csv", "trajectory.csv")
+         "decision.txt", "decision.csv", "check.txt", "check.csv", "trajectory.csv", "sensitivity.csv",
+         "sensitivity.txt")
 
 
 def _facts_of(*tables: str, files: tuple[str, ...] = ()) -> Callable[[Item], object]:
@@ -64,6 +65,7 @@ STEPS: tuple[Step[Item], ...] = (
     Step("decision", (*SUGGESTED, "report.csv", "long_run.csv"), _facts_of("run"), comparison.make_decision),
     Step("check", SUGGESTED, _facts_of("run", "check", files=PROGRAM), comparison.make_check),
     Step("trajectory", SUGGESTED, lambda item: [item.chosen, item.digests["program"]], work.make_trajectory),
+    Step("sensitivity", SUGGESTED, lambda item: item.chosen, work.make_sensitivity),
     Step("summary", SHOWN, _facts_of(*TABLES), _make_summary))
 
 

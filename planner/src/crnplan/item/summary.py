@@ -3,12 +3,14 @@ from __future__ import annotations
 
 import math
 import textwrap
+from collections.abc import Sequence
 from dataclasses import dataclass
 from fractions import Fraction
 from functools import cached_property
 
 from ..decision.doubt import WITHIN
 from ..decision.keys import clause_of
+from ..report.page import percent
 from ..report.tables import aligned
 from ..scenario import Scenario
 from .settings import Settings
@@ -95,6 +97,11 @@ class Figures:
         return [line.removeprefix(ALARM) for line in lines if line.startswith(ALARM)]
 
     @property
+    def unmoved(self) -> list[str]:
+        """Returns what sensitivity.txt says of cases that are left out, or are not exact: below all else."""
+        return "\n".join(self.item.text("sensitivity.txt").split("\n\n")[3:]).splitlines()
+
+    @property
     def law(self) -> str:
         """Returns in words by which law of demand the figures are."""
         return [row["law"] for row in rows_of(self.item.text("laws.csv")) if row["table"] == "demand"][-1]
@@ -146,11 +153,6 @@ def amount(value: float) -> str:
     return f"{value:,.{2 if abs(value) < LARGE else 0}f}"
 
 
-def percent(share: str) -> str:
-    """Returns a share in percent: not -0.0%, if rounding has made it less than none."""
-    return f"{max(float(share), 0.0):.1%}"
-
-
 def headline(figures: Figures) -> str:
     """Returns the decision in a sentence, by the verdict on new random numbers."""
     today, row = figures.scenario.policies[0], figures.checked[figures.chosen]
@@ -161,16 +163,20 @@ def headline(figures: Figures) -> str:
     return f"{order}: {verdict} today's policy ({today.s:,}, {today.S:,})"
 
 
+def history_facts(name: str, demand: Sequence[int], returned: int, leads: Sequence[int], period: str) -> str:
+    """Returns what is known of a history and of lead times."""
+    periods, least, most = f"{period}s", min(leads), max(leads)
+    return (f"{name}: {len(demand):,} {periods}, {sum(demand):,} items{f', {returned:,} returned' if returned else ''}, "
+            f"{[*demand].count(0):,} {periods} without demand. Lead times: {len(leads):,}, of "
+            f"{least if least == most else f'{least} to {most}'} {periods}.")
+
+
 def facts(figures: Figures) -> str:
     """Returns what is known of the history and of the lead times."""
-    periods = f"{figures.settings.period}s"
-    counts = {name: list(map(int, its)) for name, its in figures.demand.items() if name != "period"}
+    counts = {name: [*map(int, its)] for name, its in figures.demand.items() if name != "period"}
     leads = [int(row["lead time"]) for row in rows_of(figures.item.text("lead_times.csv"))]
-    demand, least, most = counts["demand"], min(leads), max(leads)
-    returned = f", {sum(counts['returns']):,} returned" if "returns" in counts else ""
-    return (f"{figures.item.history.name}: {len(demand):,} {periods}, {sum(demand):,} items{returned}, "
-            f"{demand.count(0):,} {periods} without demand. Lead times: {len(leads):,}, of "
-            f"{least if least == most else f'{least} to {most}'} {periods}.")
+    return history_facts(figures.item.history.name, counts["demand"], sum(counts.get("returns", [])), leads,
+                         figures.settings.period)
 
 
 def cells_of(figures: Figures, row: Row) -> dict[str, str]:
@@ -235,13 +241,18 @@ def provenance(figures: Figures) -> str:
             f"unproved. Column {run}: by runs, proved for their stream.")
 
 
+def promise_words(name: str, count: int, within: float, cost: str, period: str) -> str:
+    """Returns how sure the choice of one of so many policies is, and what to promise of its cost."""
+    return (f"{name} is within {100 * WITHIN:g}% of the best of these {count} policies under {within:.0%} of the laws "
+            f"that this history allows. The cost to promise is {cost} a {period} in the long run, the mean over these "
+            "laws.")
+
+
 def promise(figures: Figures) -> str:
     """Returns how sure the choice is under the laws that the history allows, and what to promise of its cost."""
     row = figures.doubted[figures.chosen]
-    return (f"{figures.chosen} is within {100 * WITHIN:g}% of the best of these {len(figures.doubted)} policies under "
-            f"{float(row['within']):.0%} of the laws that this history allows. The cost to promise is "
-            f"{amount(figures.money(row['cost']))} a {figures.settings.period} in the long run, the mean over these "
-            "laws.")
+    return promise_words(figures.chosen, len(figures.doubted), float(row["within"]), amount(figures.money(row["cost"])),
+                         figures.settings.period)
 
 
 def summary_text(figures: Figures) -> str:

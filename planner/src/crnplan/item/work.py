@@ -197,3 +197,12 @@ def make_trajectory(item: Item) -> dict[str, str]:
     rows = ([policy.name, number, *period] for policy, periods in zip(shown, found)
             for number, period in enumerate(periods))
     return {"trajectory.csv": csv_text([["policy", "period", *Period._fields], *rows])}
+
+
+def make_sensitivity(item: Item) -> dict[str, str]:
+    """Says how the best policy moves if a cost or a law differs, and what it costs to keep the chosen one."""
+    from .sensitivity import moves_of
+    scenario = item.scenario("suggested.toml")
+    kept = next(it for it in scenario.policies if it.name == item.chosen)
+    found = moves_of(scenario, kept.name, (kept.s, kept.S))
+    return {"sensitivity.txt": found.text, "sensitivity.csv": csv_text(found.rows)}

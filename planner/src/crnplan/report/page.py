@@ -79,6 +79,11 @@ def number(value: float, digits: int = 0) -> str:
     return "-" if value != value else f"{round(value, digits) + 0.0:,.{digits}f}".replace("-", "\u2212")
 
 
+def percent(share: str | float) -> str:
+    """Returns a share in percent: not -0.0%, if rounding has made it less than none."""
+    return f"{max(float(share), 0.0):.1%}"
+
+
 def tick(value: float) -> str:
     """Returns a round number at an axis."""
     return f"{value:,.10g}".replace("-", "\u2212")
