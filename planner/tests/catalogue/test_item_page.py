@@ -1,0 +1,210 @@
+"""Tests the page of an item of a catalogue: its figures are those of the tables, and what cannot be shown is refused."""
+from __future__ import annotations
+
+import csv
+import re
+import shutil
+import sqlite3
+from collections.abc import Callable
+from pathlib import Path
+
+import pytest
+
+from crnplan.catalogue import plan, read_catalogue
+from crnplan.catalogue.item_files import file_of
+from crnplan.catalogue.item_page import item_page
+from crnplan.errors import CrnplanError, Refused
+from planner.tests.catalogue.conftest import FILES, SETTINGS
+from planner.tests.catalogue.made import NO_PLAN, TODAY, made
+from planner.tests.report.page_reader import Page, digest_of
+
+PAIRS = "Today's and the chosen policy, as in decisions.csv"
+EXACT = "The run's exact figures, as in exact.csv"
+ALL = "All policies in the long run"
+# The rows of the table of both policies, and the columns of decisions.csv without the policy's name.
+COLUMNS = {"s": "s", "S": "S", "cost a week, crnsim": "cost", "cost a week, theory": "theory_cost",
+           "met at once": "fill", "mean stock": "stock", "value of the mean stock": "value", "orders a week": "orders"}
+SAVINGS = {"saving a week": "saving", "saving a week, low end": "saving_low", "saving a week, high end": "saving_high"}
+
+
+def rows_of(path: Path) -> dict[str, dict[str, str]]:
+    """Returns the rows of a table by item."""
+    with path.open(encoding="utf-8", newline="") as file:
+        return {row["item"]: row for row in csv.DictReader(file)}
+
+
+def plain(text: str) -> str:
+    """Returns a number of the page without separators of thousands, and with a plain minus sign."""
+    return text.replace(",", "").replace("\u2212", "-")
+
+
+def negated(text: str) -> str:
+    """Returns a number with its sign changed."""
+    return text.lstrip("-") if text.startswith("-") or not text.strip("0.") else f"-{text}"
+
+
+def spoken(text: str) -> str:
+    """Returns a saving in words."""
+    return f"{text.lstrip('-')} {'more' if text.startswith('-') else 'less'}"
+
+
+@pytest.fixture(scope="module")
+def folder(planned: Path, tmp_path_factory: pytest.TempPathFactory) -> Path:
+    """Returns a copy of the planned folder, in which pages may stand."""
+    return Path(shutil.copytree(planned, tmp_path_factory.mktemp("pages") / "plan"))
+
+
+@pytest.fixture(scope="module")
+def names(folder: Path) -> list[str]:
+    """Returns an item of each verdict, with and without a backlog cost, with returns, and with several lead times."""
+    rows = rows_of(folder / "decisions.csv")
+    kinds = {(row["verdict"], bool(row["fill_wanted"])): name for name, row in rows.items()}
+    return sorted({*kinds.values(), *{"A-000", "A-005", "A-006"} & rows.keys()})
+
+
+@pytest.fixture(scope="module")
+def pages(folder: Path, names: list[str], program: Path) -> dict[str, Page]:
+    """Returns the pages of these items."""
+    return {name: Page(item_page(folder, name, program).read_text("utf-8")) for name in names}
+
+
+def test_figures_are_those_of_the_tables(folder: Path, pages: dict[str, Page]) -> None:
+    """The page has s, S, costs, saving, interval and all exact figures to the digit."""
+    decisions, exact = rows_of(folder / "decisions.csv"), rows_of(folder / "exact.csv")
+    for name, page in pages.items():
+        row = decisions[name]
+        wanted = [[words, row[f"{it}_today"] or "-", row[f"{it}_chosen"] or "-"] for words, it in COLUMNS.items()]
+        wanted += [[words, "", row[it] or "-"] for words, it in SAVINGS.items()]
+        assert page.tables[PAIRS][1:] == wanted
+        assert page.tables[EXACT][1:] == [[*it] for it in exact[name].items()]
+
+
+def test_tables_of_policies_have_them_too(folder: Path, pages: dict[str, Page]) -> None:
+    """In the table of all policies today's and the chosen one have the costs and levels of decisions.csv, and so has
+    the picture of the differences."""
+    for name, page in pages.items():
+        row, shown = rows_of(folder / "decisions.csv")[name], {it[0]: it for it in page.tables[ALL]}
+        for policy in ("today", "chosen") if row["verdict"] != "same" else ("today",):
+            cells = [plain(it) for it in shown[policy]]
+            assert cells[:4] == [policy, *(row[f"{it}_{policy}"] for it in ("s", "S", "theory_cost"))]
+            assert cells[8] == row[f"cost_{policy}"]
+        if row["verdict"] != "same" and row["saving_low"]:
+            mean, low, high = (negated(row[it]) for it in ("saving", "saving_high", "saving_low"))
+            assert any(plain(it).startswith(f"chosen: {mean} from {low} to {high} ") for it in page.pictures)
+
+
+def test_intervals_of_costs_are_round_their_costs(pages: dict[str, Page]) -> None:
+    """The cost by crnsim of each policy is in the middle of its interval, and near theory's."""
+    for page in pages.values():
+        for *_, cost, ends in page.tables[ALL][1:]:
+            if "-" not in plain(ends).split(" to ")[0]:
+                low, high = (float(plain(it)) for it in ends.split(" to "))
+                assert abs((low + high) / 2 - float(plain(cost))) <= 1e-4
+
+
+def test_headline_has_the_decision(folder: Path, pages: dict[str, Page]) -> None:
+    """The headline has s and S of the chosen policy, and the sentence below it the saving with its interval."""
+    for name, page in pages.items():
+        row, words = rows_of(folder / "decisions.csv")[name], plain(page.words)
+        assert f"Below {row['s_chosen']} order up to {row['S_chosen']}: " in words
+        assert row["verdict"] == "same" or f"policy costs {spoken(row['saving'])} a week than today's " in words
+        if row["saving_low"] and row["verdict"] != "same":
+            assert f"from {spoken(row['saving_low'])} to {spoken(row['saving_high'])} at 95%" in words
+
+
+def test_pages_stand_alone(pages: dict[str, Page]) -> None:
+    """Each page is closed, links to nothing, and its policy allows its own style alone."""
+    for page in pages.values():
+        assert not page.open and set(page.links) == {"data:,"} and not page.parts["script"]
+        assert page.policy["style-src"] == digest_of("".join(page.parts["style"]))
+        assert all(page.tables) and not [it for it in page.attributes if it == "style" or it.startswith("on")]
+
+
+def test_same_bytes_again(folder: Path, names: list[str], pages: dict[str, Page], program: Path) -> None:
+    """The same folder gives the same bytes."""
+    before = file_of(folder, names[0]).read_bytes()
+    assert item_page(folder, names[0], program).read_bytes() == before
+
+
+def test_texts_are_escaped(files: Path, tmp_path: Path, program: Path) -> None:
+    """A name and a description are no markup, and the name leads out of no folder."""
+    name = "../<b>&\"A"
+    for file in FILES:
+        text = (files / file).read_text("utf-8").replace("A-034;", f"\"{name.replace(chr(34), chr(34) * 2)}\";")
+        (tmp_path / file).write_text(text.replace("Teil 34", "<script>1</script>"), "utf-8")
+    masters = tmp_path / FILES[1]
+    heading, *rows = masters.read_text("utf-8").splitlines()
+    masters.write_text("\n".join([heading, *(it for it in rows if "<script>" in it), ""]), "utf-8")
+    read = read_catalogue(*(tmp_path / it for it in FILES), today=TODAY)
+    plan(read, tmp_path / "plan", jobs=1, program=program, **SETTINGS)
+    path = item_page(tmp_path / "plan", name, program)
+    text = path.read_text("utf-8")
+    assert path.parent == tmp_path / "plan/items" and not Page(text).open
+    assert "../&lt;b&gt;&amp;" in text and "<b>&" not in text and "<script>" not in text
+
+
+def forget(folder: Path) -> None:
+    """Changes what the plan of an item depends on, as if a row had changed since."""
+    base = sqlite3.connect(folder / "catalogue.sqlite")
+    with base:
+        base.execute("UPDATE items SET facts = replace(facts, '\"box\":1', '\"box\": 1') WHERE item = 'A-040'")
+    base.close()
+
+
+REFUSED: dict[str, tuple[str, Callable[[Path], object], str]] = {
+    "no such item": ("A-04", lambda folder: None, "there is no item 'A-04'; did you mean 'A-0"),
+    "left out": ("A-031", lambda folder: None, "item 'A-031' is left out: Artikel.csv:"),
+    "not planned": (NO_PLAN, lambda folder: None, "it could not be planned: costs: these are too far apart"),
+    "changed": ("A-040", forget, "item 'A-040': it is not planned as its rows are now; run crnplan catalogue again"),
+    "no plan": ("A-040", lambda folder: (folder / "planned.json").unlink(), "no plan is in it; run crnplan catalogue"),
+    "no folder": ("A-040", shutil.rmtree, "no plan is in it; run crnplan catalogue")}
+
+
+@pytest.mark.parametrize("case", REFUSED)
+def test_refused(case: str, planned: Path, tmp_path: Path, program: Path) -> None:
+    """What has no page is refused with one message that names the folder, and nothing is written."""
+    name, change, part = REFUSED[case]
+    folder = Path(shutil.copytree(planned, tmp_path / "plan"))
+    change(folder)
+    with pytest.raises(Refused) as refused:
+        item_page(folder, name, program)
+    assert part in str(refused.value) and str(folder) in str(refused.value) and "\n" not in str(refused.value)
+    assert not (folder / "items").exists()
+
+
+def test_other_program(folder: Path, names: list[str], tmp_path: Path, program: Path) -> None:
+    """A program that gives other totals is refused."""
+    other = tmp_path / "other"
+    other.write_text(f"#!/bin/sh\n{program} \"$@\" | sed 's/^\\(today,[^,]*,[^,]*,\\)/\\11/'\n")
+    other.chmod(0o755)
+    with pytest.raises(CrnplanError, match="gives other totals than the plan has|total"):
+        item_page(folder, names[0], other)
+
+
+@pytest.fixture(scope="module")
+def learned(tmp_path_factory: pytest.TempPathFactory, program: Path) -> Path:
+    """Returns a planned folder whose items learn from one another: hardly more than the 30 that are needed."""
+    place = made().write(tmp_path_factory.mktemp("learned"))
+    masters = (place / FILES[1]).read_text("utf-8").splitlines()
+    (place / FILES[1]).write_text("\n".join(it for it in masters if not "A-000" <= it < "A-015"), "utf-8")
+    read = read_catalogue(*(place / it for it in FILES), today=TODAY)
+    plan(read, place / "plan", jobs=1, program=program, borrow="all", periods=16, replications=2, confidence=0.8)
+    return place / "plan"
+
+
+def test_learned_law_stands_beside_the_items_own(learned: Path, program: Path) -> None:
+    """With a law that is learned from others, the page names it, and has that of the item alone in table and picture.
+    """
+    rows = rows_of(learned / "decisions.csv")
+    name = next(it for it, row in rows.items() if row["law"] == "borrowed" and row["s_alone"] and row["fill_wanted"])
+    page = Page(item_page(learned, name, program).read_text("utf-8"))
+    laws = [row[1] for row in page.tables["Figures of the laws"][1:]]
+    assert laws[:3][1].startswith("the law learned from all items of the catalogue")
+    assert laws[2] == "the law of this item alone"
+    picture = next(text for title, text in page.pictures.items() if title.startswith("In how many weeks"))
+    assert "the law of this item alone: " in picture
+    assert "learned from the whole catalogue" in page.words and "without a confidence" in page.words
+    row = rows[name]
+    levels = [f"({row[f's_{it}']}, {row[f'S_{it}']})" for it in ("today", "chosen", "alone")]
+    assert len({*levels}) < 3 or [row["s_alone"], row["S_alone"]] in [it[1:3] for it in page.tables[ALL]]
+    assert re.search(r"A fill rate of \d+(\.\d+)?% is wanted", page.words)
