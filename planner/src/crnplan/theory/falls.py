@@ -6,6 +6,7 @@ from functools import cached_property
 
 import numpy as np
 import numpy.typing as npt
+from scipy import fft
 
 from .laws import Floats, Law, convolved, room_for
 
@@ -51,8 +52,8 @@ class Falls:
         rows = np.zeros((1, self.size))
         rows[0, 0] = 1.0
         while len(rows) < count and law.sum() > LEAST_MASS:
-            given = np.fft.rfft(np.vstack([rows, law]), self.room)
-            sums = np.fft.irfft(given * given[-1], self.room)[:, :self.size]
+            given = fft.rfft(np.vstack([rows, law]), self.room)
+            sums = fft.irfft(given * given[-1], self.room)[:, :self.size]
             sums[sums < LEAST_CHANCE] = 0.0
             rows, law = np.vstack([rows, sums[:-1]]), sums[-1]
         return rows, law
@@ -65,7 +66,7 @@ class Falls:
     @cached_property
     def _transforms(self) -> npt.NDArray[np.complex128]:
         """Returns the transforms of the laws of many reviews."""
-        transforms: npt.NDArray[np.complex128] = np.fft.rfft(self.many, self.room)
+        transforms: npt.NDArray[np.complex128] = fft.rfft(self.many, self.room)
         return transforms
 
     def within(self, width: int) -> Floats:
@@ -81,6 +82,6 @@ class Falls:
         some = weights[:len(self.many) * len(self.few)]
         given = np.zeros((len(self.many), len(self.few)))
         given.flat[:len(some)] = some
-        parts = np.fft.rfft(given @ self.few, self.room)
-        found: Floats = np.fft.irfft((parts * self._transforms).sum(axis=0), self.room)[:self.size]
+        parts = fft.rfft(given @ self.few, self.room)
+        found: Floats = fft.irfft((parts * self._transforms).sum(axis=0), self.room)[:self.size]
         return found

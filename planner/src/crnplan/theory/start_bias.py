@@ -22,9 +22,8 @@ from .falls import Falls
 from .laws import Law
 from .lattice import MOST_GAPS, has_room, late_work, lattice_of, shape_of, theory_on, values_of
 from .long_run import LongRun, exactness_of
-from .overtaking import SeveralLeads
 from .reviews import Falling, Moving, Reviews, Start
-from .stock_bias import OneLeadBias, SeveralLeadsBias, StockBias
+from .stock_bias import StockBias
 
 MOST_WORK = 40_000_000  # for late orders of all policies, by `work_of`
 MOST_BIAS_GAPS = 17_000  # with one lead time: the reviews of a run take longer than figures
@@ -74,8 +73,7 @@ class Runs:
         self.theory, self.scenario = theory, scenario
         self.starts = {(it, gap): start_of(theory, scenario.initial, it.s, it.S, gap)
                        for it in scenario.policies for gap, _ in theory.gaps_of(it.s, it.S)}
-        self.stock: StockBias = (SeveralLeadsBias(theory, scenario) if isinstance(theory, SeveralLeads) else
-                                 OneLeadBias(theory, scenario))
+        self.stock = StockBias(theory, scenario)
         self.falls: Falls | None = None
         if theory.net.low >= 0:
             widest = max(gap - min(start.law.low, 0) for (_, gap), start in self.starts.items())

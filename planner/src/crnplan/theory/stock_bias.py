@@ -1,113 +1,97 @@
 """Computes what the start of a run adds to its expected costs of stock and backlog.
 
-With L the longest lead time, the stock L periods after a review follows from the position after that review. Its
-expected cost is linear in the law of the position, so the mean law of all these reviews suffices. In the first L
-periods only orders of the run itself may have arrived. These are counted period by period.
+Let l be the shortest and L the longest lead time. In the first l periods no order of the run arrives, so their costs
+are the same for all policies. The stock in period t + l follows from the position after review t, from the orders of
+this and the reviews before that are late, and from the net demand since then (`overtaking.py`). From review L - l on,
+its expected cost is linear in the law of the position L - l reviews before, so the mean law of all these suffices.
 """
 from __future__ import annotations
 
-from abc import ABC, abstractmethod
-
 import numpy as np
+from scipy import fft
 
 from ..scenario import Policy, Scenario
-from .laws import NOTHING, Floats, Law, Surplus, Whole, room_for, scaled, sum_of
+from .laws import NOTHING, Floats, Law, Surplus, Whole, power_of, room_for, sum_of
 from .long_run import LongRun
-from .overtaking import LEAST_CHANCE, SeveralLeads, renewed, transforms_of
+from .overtaking import renewed, transforms_of
 from .reviews import Reviews, Start
 
 
-class StockBias(ABC):
+def difference(left: Law, right: Law) -> Law:
+    """Returns the chances of a law less those of another one."""
+    low, high = min(left.low, right.low), max(left.high, right.high)
+    chances = np.zeros(high - low + 1)
+    chances[left.low - low:left.high - low + 1] = left.chances
+    chances[right.low - low:right.high - low + 1] -= right.chances
+    return Law(low, chances)
+
+
+class StockBias:
     """The bias of stock and backlog for the policies of a scenario, from its common `initial` stock.
 
-    `early` is the number of periods before the longest lead time has passed, `counted` that of the others.
+    `counted` is the number of reviews whose orders all arrive within the run.
     """
 
     def __init__(self, theory: LongRun, scenario: Scenario) -> None:
-        """Takes the theory of the scenario."""
-        self.theory, self.initial = theory, scenario.initial
-        self.longest = max(lead for lead, weight in zip(scenario.lead.values, scenario.lead.weights) if weight)
-        self.early, self.counted = min(self.longest, scenario.periods), max(scenario.periods - self.longest, 0)
+        """Computes the costs of the periods before the shortest lead time has passed."""
+        self.theory, self.initial, self.periods = theory, scenario.initial, scenario.periods
+        lead = scenario.lead
+        leads = {value: weight / sum(lead.weights) for value, weight in zip(lead.values, lead.weights) if weight}
+        least, longest = min(leads), max(leads)
+        self.counted = max(self.periods - longest, 0)
+        # The chances that an order is late, by its age beyond the shortest lead time.
+        self.late = np.array([sum(chance for value, chance in leads.items() if value > least + age)
+                              for age in range(longest - least)])
+        amounts = [theory.net]
+        while len(amounts) <= least:
+            amounts.append(sum_of(amounts[-1], theory.net))
+        surpluses = [Surplus(it, theory.step) for it in amounts]
+        self.amount = surpluses[-1]
+        # Periods before the shortest lead time has passed, and what they cost; then those before the longest one has.
+        self.before = min(least, self.periods)
+        self.first = sum(float(self._costs(it, np.array(self.initial))) for it in surpluses[:self.before])
+        self.between = self.periods - self.counted - self.before
 
-    def costs(self, law: Law, levels: Whole) -> Floats:
-        """Returns the expected costs of levels from which a random amount is taken, with its law in cells."""
-        surplus = Surplus(law, self.theory.step)
-        found: Floats = self.theory.holding * surplus.left(levels) + self.theory.backlog * surplus.lacking(levels)
+    def _costs(self, amount: Surplus, levels: Whole) -> Floats:
+        """Returns the expected costs of a period with these levels, from which a random amount is taken."""
+        found: Floats = self.theory.holding * amount.left(levels) + self.theory.backlog * amount.lacking(levels)
         return found
 
-    @abstractmethod
+    def _excess(self, short: Law, level: int, usual: float) -> float:
+        """Returns what a period costs more than usual if the stock a shortest lead time before is so far below a level.
+        """
+        return float(short.chances @ (self._costs(self.amount, level - self.theory.step * short.cells) - usual))
+
     def of(self, policy: Policy, gap: int, start: Start, reviews: Reviews) -> float:
         """Returns the bias of a policy that is counted with this gap."""
+        settled = self.theory.positions(gap)
+        mean = reviews.mean_law() if self.counted else settled
+        *first, later = self._shortfalls(start.law, difference(mean, settled), gap)
+        usual = float(self._costs(self.theory.surpluses(gap)[0], np.array(policy.S)))
+        total = self.first - self.before * usual + self.counted * self._excess(later, policy.S, usual)
+        for law, late in zip(first[:self.between], self.late * start.ordered):
+            total += (1 - late) * self._excess(law, policy.S, usual) + late * self._excess(law, self.initial, usual)
+        return total
 
-
-class OneLeadBias(StockBias):
-    """The bias with one lead time."""
-
-    def __init__(self, theory: LongRun, scenario: Scenario) -> None:
-        """Computes the costs of the first periods, which are the same for all policies."""
-        super().__init__(theory, scenario)
-        amounts = [theory.net]
-        while len(amounts) <= self.longest:
-            amounts.append(sum_of(amounts[-1], theory.net))
-        self.amount = amounts[-1]
-        self.first = sum(float(self.costs(it, np.array(self.initial))) for it in amounts[:self.early])
-
-    def of(self, policy: Policy, gap: int, start: Start, reviews: Reviews) -> float:
-        """Returns the bias of a policy."""
-        def excess(law: Law, usual: float) -> float:
-            """Returns what a period costs more than usual if the position a lead time before has this law."""
-            return float(law.chances @ (self.costs(self.amount, policy.S - self.theory.step * law.cells) - usual))
-        usual = excess(self.theory.positions(gap), 0.0)
-        later = self.counted * excess(reviews.mean_law(), usual) if self.counted else 0.0
-        return self.first - self.early * usual + later
-
-
-class SeveralLeadsBias(StockBias):
-    """The bias with several lead times."""
-
-    def __init__(self, theory: SeveralLeads, scenario: Scenario) -> None:
-        """Computes the chances that an order is late by its age."""
-        super().__init__(theory, scenario)
-        self.amount = theory.amount
-        self.late = np.array([sum(chance for lead, chance in theory.chances.items() if lead > age)
-                              for age in range(max(theory.chances))])
-
-    def of(self, policy: Policy, gap: int, start: Start, reviews: Reviews) -> float:
-        """Returns the bias of a policy."""
-        level, net = np.array(policy.S), self.theory.net
-        usual = float(self.costs(self.theory.surpluses(gap)[0].law, level))
-        mean = reviews.mean_law() if self.counted else start.law
-        *first, last = self.shortfalls(start.law, mean, gap)
-        laws = [start.law, *first][:self.early]
-        total = sum(self.early_cost(sum_of(law, net), policy.S, late)
-                    for law, late in zip(laws, (self.late * start.ordered).tolist()))
-        if self.counted:
-            total += self.counted * (float(self.costs(sum_of(last, net), level)) - usual)
-        return total - self.early * usual
-
-    def early_cost(self, law: Law, level: int, late: float) -> float:
-        """Returns the cost of a period if the first order is late with this chance."""
-        costs = self.costs(law, np.array([level, self.initial]))
-        return float((1 - late) * costs[0] + late * costs[1])
-
-    def shortfalls(self, start: Law, mean: Law, gap: int) -> list[Law]:
-        """Returns the laws of how far the stock after arrivals is below S, as `overtaking.shortfalls`: 1, 2, .. periods
-        after the start, and at last, after the longest lead time, from the mean law of the position."""
+    def _shortfalls(self, start: Law, deviation: Law, gap: int) -> list[Law]:
+        """Returns how far the stock is below S when all but late orders have arrived: the laws 0, 1, .. reviews after
+        the start, and at last what a deviation of the position makes of it, after as many as orders may be late."""
         net, last = self.theory.net, len(self.late)
-        above = max(0, -start.low, -mean.low) + last * max(0, -net.low)
-        room = room_for(above + gap + max(net.high, self.amount) + 1)
+        if not last:
+            return [deviation]
+        above = max(0, -start.low, -deviation.low) + last * max(0, -net.low)
+        room = room_for(above + gap + max(net.high, power_of(net, last).high) + 1)
         waiting = (np.arange(room) <= gap) | (np.arange(room) >= room - above)
-        move, state = transforms_of([net], room), transforms_of([NOTHING, start, mean], room)
+        move, state = transforms_of([net], room), transforms_of([NOTHING, start, deviation], room)
         placed, solved = np.zeros((last, *state.shape), complex), np.ones((last, 1, state.shape[1]), complex)
         found = []
         for time in range(1, last + 1):
             moved = state * move
-            state = np.fft.rfft(np.fft.irfft(moved, room) * waiting)
+            state = fft.rfft(fft.irfft(moved, room) * waiting)
             placed[time - 1] = moved - state
             rows = slice(0, 2) if time < last else slice(2, 3)
             its = renewed(state[rows], placed[:time, rows], self.late[time - 1::-1], solved[:time])
             solved[time:time + 1] = its[0]
             found.append(its[-1])
-        chances = np.fft.irfft(found, room)
-        chances = np.roll(np.where(chances > LEAST_CHANCE, chances, 0), above, axis=1)
-        return [scaled(-above, it) for it in chances]
+        chances = np.roll(fft.irfft(found, room), above, axis=1)
+        return [start, *(Law(-above, it) for it in chances)]
