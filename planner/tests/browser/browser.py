@@ -25,17 +25,16 @@ SWITCHES = ("--headless=new", "--no-sandbox", "--disable-gpu", "--disable-dev-sh
             "--disable-background-networking", "--disable-component-update", "--disable-default-apps",
             "--disable-domain-reliability", "--disable-sync", "--no-pings", "--host-resolver-rules=MAP * ~NOTFOUND",
             "--hide-scrollbars", "--force-color-profile=srgb", "--lang=en-US")
-HEIGHT = 900
-Rows = list[list[str]]
 
 
 @dataclass(frozen=True)
 class Form:
-    """How a page is shown: its width in CSS pixels, its colours and its medium."""
+    """How a page is shown: its width and height in CSS pixels, its colours and its medium."""
 
     width: int
     scheme: str = "light"
     medium: str = "screen"
+    height: int = 900
 
     def __str__(self) -> str:
         """Returns a name, such as screen-light-1280."""
@@ -90,9 +89,10 @@ class Browser:
 
     def show(self, form: Form) -> None:
         """Shows the page in another form."""
-        self.command("Emulation.setDeviceMetricsOverride", width=form.width, height=HEIGHT, deviceScaleFactor=1,
+        self.command("Emulation.setDeviceMetricsOverride", width=form.width, height=form.height, deviceScaleFactor=1,
                      mobile=False)
-        self.command("Emulation.setEmulatedMedia", media=form.medium,
+        # A page that is set to the medium screen would be printed so, too.
+        self.command("Emulation.setEmulatedMedia", media=form.medium.removeprefix("screen"),
                      features=[{"name": "prefers-color-scheme", "value": form.scheme}])
 
     def open(self, page: Path, form: Form = WIDE) -> None:

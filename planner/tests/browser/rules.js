@@ -96,11 +96,20 @@ const rules = (() => {
     return named([...faults.values()].filter((it) => it !== null));
   }
 
+  const isRegion = (element) => getComputedStyle(element).overflowX !== "visible";
+
   const scrolls = (element) => /auto|scroll/.test(getComputedStyle(element).overflowX)
     && element.scrollWidth > element.clientWidth;
 
-  const region = (element) => element && element !== document.documentElement
-    && (getComputedStyle(element).overflowX !== "visible" ? element : region(element.parentElement));
+  // Returns the elements of the body that are shown, without those in a region that scrolls or hides what is too wide.
+  function outsideRegions() {
+    const filter = (element) => isRegion(element.parentElement) && element.parentElement !== document.body
+      ? NodeFilter.FILTER_REJECT : NodeFilter.FILTER_ACCEPT;
+    const walker = document.createTreeWalker(document.body, NodeFilter.SHOW_ELEMENT, filter);
+    const found = [];
+    while (walker.nextNode()) found.push(walker.currentNode);
+    return found.filter(isShown);
+  }
 
   // What scrolls in a region of its own does not widen the page.
   function overflow() {
@@ -109,9 +118,9 @@ const rules = (() => {
       : [`the page is ${root.scrollWidth} px wide, and the window ${root.clientWidth} px`];
     const isBeyond = (element) => {
       const box = element.getBoundingClientRect();
-      return box.width && (box.right > root.clientWidth + 1 || box.left < -1) && !region(element.parentElement);
+      return box.width && (box.right > root.clientWidth + 1 || box.left < -1);
     };
-    const beyond = all("body *").filter(isBeyond);
+    const beyond = outsideRegions().filter(isBeyond);
     return named([...faults, ...beyond.map((it) => `${place(it)}: it ends beyond the side of the page`)]);
   }
 

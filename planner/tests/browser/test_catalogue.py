@@ -1,0 +1,128 @@
+"""Tests the page of a catalogue in a browser: it says what the files say, sorts, filters, and prints what is shown."""
+from __future__ import annotations
+
+import statistics
+
+import pytest
+from selenium.webdriver.common.keys import Keys
+
+from planner.tests.browser.browser import Browser
+from planner.tests.browser.conftest import Pages
+from planner.tests.browser.items import PLAIN, TALL, Items, Row, decisions_of, in_order, is_number
+
+SEARCHED = ("item", "description", "class", "warnings")
+COLUMNS = ("item", "description", "class", "verdict", "s_today", "S_today", "s_chosen", "S_chosen", "cost_today",
+           "cost_chosen", "saving", "saving_low", "saving_high", "fill_today", "fill_chosen", "value_today",
+           "value_chosen", "warnings")
+# Seconds in which thousands of items are sorted on a quiet machine.
+LONGEST_SORT = 0.3
+MOST_BYTES = 2_000_000
+
+
+@pytest.fixture
+def items(browser: Browser, pages: Pages) -> Items:
+    """Returns the table of a page that has just been loaded."""
+    browser.open(pages("catalogue"), TALL)
+    return Items(browser)
+
+
+@pytest.fixture
+def decisions(pages: Pages) -> list[Row]:
+    """Returns the rows of the file that the page shows."""
+    return decisions_of(pages("catalogue").parent)
+
+
+def by_item(rows: list[Row]) -> dict[str, Row]:
+    """Returns the columns of the page in each row, by the name of its item."""
+    return {row["item"]: {name: row[name] for name in COLUMNS} for row in rows}
+
+
+def test_cells_are_those_of_the_file(items: Items, decisions: list[Row]) -> None:
+    """The page shows each cell as the file spells it, also names that are markup, formulas or written from the right."""
+    assert tuple(items.columns) == COLUMNS
+    assert by_item(items.shown()) == by_item(decisions)
+
+
+def test_first_order_is_by_saving(items: Items, decisions: list[Row]) -> None:
+    """The item that saves most stands first, and the heading says so."""
+    savings = [row["saving"] for row in decisions]
+    assert [row["saving"] for row in items.shown()] == in_order(savings, descends=True)
+    assert items.orders() == {"saving": "descending"}
+
+
+@pytest.mark.parametrize("column", COLUMNS)
+def test_click_on_a_heading_sorts(items: Items, decisions: list[Row], column: str) -> None:
+    """A click sorts by the column, and the next one the other way. Each row keeps its cells."""
+    cells = [row[column] for row in decisions]
+    numbers = all(map(is_number, filter(None, cells)))
+    button = items.button(column)
+    for _ in range(2):
+        button.click()
+        shown, said = items.shown(), items.orders()
+        found = [row[column] for row in shown]
+        judged = [it for it in found if numbers or it == "" or PLAIN.fullmatch(it)]
+        assert judged == in_order(cells, descends=said[column] == "descending")
+        assert by_item(shown) == by_item(decisions) and list(said) == [column]
+    assert said == {column: "descending"}
+
+
+@pytest.mark.parametrize("key", [Keys.ENTER, Keys.SPACE], ids=["enter", "space"])
+def test_heading_is_pressed_by_keyboard(items: Items, key: str) -> None:
+    """Both keys of a button sort, and the focus stays on the heading."""
+    button = items.button("cost_today")
+    for order in ("ascending", "descending"):
+        button.send_keys(key)
+        assert items.orders() == {"cost_today": order}
+        assert items.driver.switch_to.active_element == button
+
+
+@pytest.mark.parametrize("text", ["bearing", "P0001", "UNLIKE the", "<img", "\"quoted\"", "قطعة", "=1+1", "  lead", "x y z"])
+def test_search_shows_the_rows_that_have_a_text(items: Items, decisions: list[Row], text: str) -> None:
+    """Only rows with the text are shown, whatever its case, and the page counts them."""
+    wanted = [row for row in decisions if any(text.lower() in row[name].lower() for name in SEARCHED)]
+    items.search(text)
+    assert by_item(items.shown()) == by_item(wanted)
+    assert items.count() == f"{len(wanted)} of {len(decisions)}"
+
+
+def test_lists_show_the_rows_of_a_choice(items: Items, decisions: list[Row]) -> None:
+    """Each verdict, with or without a warning, shows just its rows. Sorting keeps the choice, and it can be undone."""
+    for verdict in sorted({row["verdict"] for row in decisions}):
+        items.choose("verdict", verdict)
+        for warning in ("with", "without", ""):
+            items.choose("warning", warning)
+            wanted = [row for row in decisions if row["verdict"] == verdict
+                      and (not warning or (row["warnings"] != "") == (warning == "with"))]
+            assert by_item(items.shown()) == by_item(wanted)
+            assert items.count() == f"{len(wanted)} of {len(decisions)}"
+    items.button("s_today").click()
+    assert by_item(items.shown()) == by_item(wanted)
+    items.choose("verdict", "")
+    assert len(items.shown()) == len(decisions)
+
+
+def test_print_has_the_rows_that_are_shown(items: Items, decisions: list[Row]) -> None:
+    """Print has the rows of the choice alone, below headings that each sheet repeats, and nothing to press."""
+    items.choose("verdict", "cheaper")
+    sheets = items.browser.printed(landscape=True)
+    table = "\f".join(sheets).rpartition("All items")[2]
+    for row in decisions:
+        if row["item"].startswith("P"):
+            assert (row["item"] in table) == (row["verdict"] == "cheaper"), row["item"]
+    assert all("verdict" in sheet for sheet in table.split("\f") if "P0" in sheet)
+    assert "item, description, class or warning" not in table and "second click" not in table
+
+
+def test_page_of_thousands_is_small(pages: Pages) -> None:
+    """The page of three thousand items can be sent by mail."""
+    assert pages("catalogue of thousands").stat().st_size < MOST_BYTES
+
+
+@pytest.mark.serial
+def test_thousands_are_sorted_at_once(browser: Browser, pages: Pages) -> None:
+    """A click on a heading and the layout after it take a short time, in the median over the headings."""
+    browser.open(pages("catalogue of thousands"))
+    times = browser.run("return [...document.querySelectorAll('#items thead button')].map((button) => {"
+                        "const began = performance.now(); button.click(); document.body.offsetHeight;"
+                        "return performance.now() - began; });")
+    assert statistics.median(times) / 1000 < LONGEST_SORT, times
