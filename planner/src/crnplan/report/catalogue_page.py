@@ -1,6 +1,7 @@
 """Draws the plan of a catalogue as one HTML page: what it saves, the exchange curve, what is left out, all items."""
 from __future__ import annotations
 
+import math
 from collections import Counter
 from collections.abc import Mapping, Sequence
 from dataclasses import dataclass
@@ -49,6 +50,8 @@ COLUMNS = (
     Column("saving_high", "saving to"), Column("fill_today", "met at once today"),
     Column("fill_chosen", "met at once chosen"), Column("value_today", "stock value today"),
     Column("value_chosen", "stock value chosen"), Column("warnings", "warnings", 60, True))
+# The padding of a cell, and the width of a letter, in digits.
+PADDING, LETTER = 2, 1.25
 VERDICT_STYLES = {"cheaper": "better", "dearer": "worse"}
 KINDS = {"item": "Items left out", "row": "Rows rejected", "suspicious": "Suspicious rows, which count all the same"}
 
@@ -219,10 +222,14 @@ def columns_of(rows: Sequence[Row]) -> list[Column]:
 
 
 def widths(columns: Sequence[Column], rows: Sequence[Row]) -> list[int]:
-    """Returns how many characters wide each column of the table is, with its padding: it has room for its texts up to
-    a limit, and for each word of its heading with the sign of its order."""
-    return [2 + max(min(it.most, max((len(row[it.name]) for row in rows), default=0)),
-                    *(len(word) + 2 for word in it.heading.split())) for it in columns]
+    """Returns how many digits wide each column of the table is, with its padding: it has room for its texts up to a
+    limit, and for each word of its heading with the sign of its order."""
+    def width(its: Column) -> int:
+        """Returns the width of a column."""
+        longest = min(its.most, max((len(row[its.name]) for row in rows), default=0))
+        words = (len(word) + 2 for word in its.heading.split())
+        return PADDING + max(math.ceil(longest * (LETTER if its.is_text else 1)), *words)
+    return [width(it) for it in columns]
 
 
 def catalogue_page(its: Contents) -> str:
