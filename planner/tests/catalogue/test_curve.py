@@ -6,6 +6,7 @@ import json
 import re
 import shutil
 import sqlite3
+from dataclasses import replace
 from pathlib import Path
 
 import numpy as np
@@ -13,8 +14,8 @@ import pandas as pd
 import pytest
 
 import crnplan as crn
-from crnplan.catalogue.curve import CURVE, LEFT_OUT, POLICIES, Drawn, draw_curve
-from crnplan.catalogue.exchange import Budget
+from crnplan.catalogue.curve import CURVE, LEFT_OUT, POLICIES, Drawn, draw_curve, points_of
+from crnplan.catalogue.exchange import Budget, chosen_by, with_more_orders
 from crnplan.catalogue.gathering import CANDIDATES
 from crnplan.catalogue.planning import figures_of, question_of, theory_of
 from crnplan.catalogue.store import READ, Catalogued
@@ -74,6 +75,21 @@ def test_named_points(twenty: Path) -> None:
     assert curve.fill["same service"] >= today.fill - 1e-6 and curve.value["same service"] < today.value
     assert curve.value["same stock"] <= today.value * (1 + 1e-6) and curve.fill["same stock"] > today.fill
     assert (curve.gap >= 0).all() and curve.gap["today"] > curve.gap["same stock"]
+
+
+@pytest.mark.parametrize("times", [1.2, 2.0])
+def test_named_points_are_as_good_as_many_small_orders(plan: Path, times: float) -> None:
+    """Has points that are better than today's also if that has more service than the curve, with more orders."""
+    its = drawn(plan).gathered
+    plain = chosen_by(its.items, Budget(value=20_000)).point
+    found = with_more_orders(its.items, Budget(value=20_000, orders=times * plain.orders)).point
+    today = found._replace(fill=found.fill - 0.005, value=found.value * 1.03)
+    assert chosen_by(its.items, Budget(fill=today.fill)).point.value > today.value
+    points, missing = points_of(replace(its, points={**its.points, "today": today}), Budget())
+    stock, service = points["same stock"].point, points["same service"].point
+    assert not missing and max(stock.orders, service.orders) <= today.orders * (1 + 1e-9)
+    assert stock.fill > today.fill and stock.value <= today.value * (1 + 1e-9)
+    assert service.fill >= today.fill - 1e-9 and service.value < today.value
 
 
 def test_curve_rises(plan: Path) -> None:

@@ -10,7 +10,7 @@ from typing import TYPE_CHECKING, Any
 from ..errors import Refused
 from .candidates import PRICES
 from .confirming import Confirmation, confirmed
-from .exchange import Budget, Choice, Ladder, Point, chosen_by, gap_of, judged
+from .exchange import NEAR, Budget, Choice, Ladder, Point, chosen_by, gap_of, judged, with_more_orders
 from .gathering import Gathered, gather
 from .lock import alone
 from .planned import read_planned
@@ -76,12 +76,19 @@ def points_of(its: Gathered, budget: Budget) -> tuple[dict[str, Choice], dict[st
 
 
 def _as_today(its: Gathered, asked: Mapping[str, float]) -> Choice:
-    """Returns the choice with today's stock or service. If the curve begins above it, with no more orders than today.
-    """
+    """Returns the choice with today's stock or service. With many small orders today may be better than the curve, which
+    has fewer; or the curve begins above it. Then the choice has more orders, at most today's."""
+    today = its.points[TODAY]
     try:
-        return chosen_by(its.items, Budget(**asked))
+        choice = chosen_by(its.items, Budget(**asked))
     except Refused:
-        return chosen_by(its.items, Budget(**asked, orders=its.points[TODAY].orders))
+        return with_more_orders(its.items, Budget(**asked, orders=today.orders))
+    if choice.point.fill >= today.fill * (1 - NEAR) and choice.point.value <= today.value * (1 + NEAR):
+        return choice
+    try:
+        return with_more_orders(its.items, Budget(**asked, orders=today.orders))
+    except Refused:
+        return choice
 
 
 def curve_points(its: Gathered) -> list[tuple[float, Point]]:

@@ -306,6 +306,13 @@ def chosen_by(items: Items, budget: Budget) -> Choice:
     return judged(items, found.rows, found.dearer)
 
 
+def with_more_orders(items: Items, budget: Budget) -> Choice:
+    """Returns the choice for a budget with dearer stock, so that all orders that are allowed are used. Raises Refused if
+    no choice keeps it."""
+    found = _less_stock(items, budget, budget.choice(items, AS_IS))
+    return judged(items, found.rows, found.dearer)
+
+
 def _amounts(extras: Floats) -> list[float]:
     """Returns extra costs that are doubled up to the greatest of a variant."""
     return [0.0, *(float(extras.max()) / 2.0**np.arange(DOUBLINGS, -1, -1)).tolist()]

@@ -26,7 +26,8 @@ def command(folder: Path, value: float | None, fill: float | None, orders: float
 
     FOLDER is that of crnplan catalogue. One price for a unit of value that is not met at once chooses the policy of
     each item. The points are today's stock, the one chosen item by item, today's stock value with the best service, and
-    today's service with the least stock.
+    today's service with the least stock. If today's many small orders do better than the curve, these two have more
+    orders than it, at most today's.
 
     FOLDER gets curve.csv (the points), curve_policies.csv (s and S of each item for your budget; without one, for
     today's service with the least stock) and curve_left_out.csv (items without a price or a plan). For each point it is
