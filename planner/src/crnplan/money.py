@@ -10,8 +10,9 @@ from . import formats
 from .document.values import shown
 from .errors import Refused
 
-# Costs are scaled by a power of ten from -8 to 8.
+# Costs are scaled by a power of ten from -8 to 8, the nearest to 0 that can be.
 MOST_DECIMALS = 8
+SCALES = [Fraction(10)**power for power in sorted(range(-MOST_DECIMALS, MOST_DECIMALS + 1), key=abs)]
 
 
 def exact(value: Any) -> Fraction | None:
@@ -83,11 +84,10 @@ def scaled_costs(costs: Mapping[str, Any]) -> tuple[dict[str, int], Fraction]:
     whole. Raises Refused if no scale makes all costs whole and keeps them within their ranges.
     """
     amounts = {name: _amount(value, name) for name, value in costs.items()}
-    scales = [Fraction(10)**power for power in sorted(range(-MOST_DECIMALS, MOST_DECIMALS + 1), key=abs)]
-    scale = next((it for it in scales if not _beyond(amounts, it)), None)
+    scale = next((it for it in SCALES if not _beyond(amounts, it)), None)
     if scale is None:
         finest = max(amounts, key=lambda name: amounts[name].denominator)
-        scale = next(it for it in scales if it >= 1 and all((one * it).denominator == 1 for one in amounts.values()))
+        scale = next(it for it in SCALES if it >= 1 and all((one * it).denominator == 1 for one in amounts.values()))
         name = _beyond(amounts, scale)
         if scale > 1:
             most = formats.limits("costs", name)[1]
