@@ -163,17 +163,31 @@ def test_names_stand_as_they_are(plain: Counter[str], tmp_path: Path, names: lis
     assert elements(page) == plain
 
 
-def test_column_of_policies_alone(folder: Path) -> None:
-    """The policies of items alone are shown if there are any."""
+def change(folder: Path, cells: Row) -> str:
+    """Changes cells of an item in decisions.csv, and returns its name."""
     rows = rows_of(folder / "decisions.csv")
-    rows[3] |= {"s_alone": "7", "S_alone": "19"}
+    rows[30] |= cells
     with (folder / "decisions.csv").open("w", encoding="utf-8", newline="") as file:
         out = csv.DictWriter(file, list(rows[0]))
         out.writeheader()
         out.writerows(rows)
+    return rows[30]["item"]
+
+
+def test_column_of_policies_alone(folder: Path) -> None:
+    """The policies of items alone are shown if there are any."""
+    name = change(folder, {"s_alone": "7", "S_alone": "19"})
     page = Page(crn.report(folder))
     assert {"s_alone", "S_alone"} < set(page.columns)
-    assert {name: its["S_alone"] for name, its in page.items.items() if its["S_alone"]} == {rows[3]["item"]: "19"}
+    assert {item: its["S_alone"] for item, its in page.items.items() if its["S_alone"]} == {name: "19"}
+
+
+def test_texts_stand_as_they_are(folder: Path) -> None:
+    """Each text of an item keeps its blanks and signs."""
+    texts = {"description": "  <b>two</b>  blanks ", "class": "&amp;", "warnings": "'a' \"b\" < c"}
+    name = change(folder, texts)
+    its = Page(crn.report(folder)).items[name]
+    assert {column: its[column] for column in texts} == texts
 
 
 def test_totals(large: Path) -> None:
@@ -277,11 +291,12 @@ def test_bytes_are_the_same(hostile: Path, tmp_path: Path) -> None:
 def test_greatest_are_shown_of_very_many(folder: Path, monkeypatch: pytest.MonkeyPatch) -> None:
     """If there are too many items, those with the greatest saving or loss are shown, and it is said where all are."""
     monkeypatch.setattr(catalogue_page, "MOST_ROWS", 10)
+    loss = change(folder, {"saving": "-9999.99"})
     page, rows = Page(crn.report(folder)), rows_of(folder / "decisions.csv")
-    wanted = sorted(rows, key=lambda row: -abs(float(row["saving"])))[:10]
-    assert set(page.items) == {row["item"] for row in wanted}
+    wanted = {row["item"] for row in sorted(rows, key=lambda row: -abs(float(row["saving"])))[:10]}
+    assert set(page.items) == wanted and loss in wanted
     assert "The 10 items with the greatest saving or loss are shown. The other 50 stand in decisions.csv" in page.text
-    assert f"{sum(Decimal(row['saving']) for row in rows):.2f}" in page.text
+    assert f"{sum(Decimal(row['saving']) for row in rows):,.0f}".replace("-", "\u2212") in page.text
 
 
 def test_curve(large: Path) -> None:
