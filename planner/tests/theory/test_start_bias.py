@@ -8,10 +8,12 @@ from pathlib import Path
 
 import numpy as np
 import pytest
+from hypothesis import given, settings
+from hypothesis import strategies as st
 
 from crnplan.scenario import Costs, Policy, Scenario
 from crnplan.theory.lattice import NoTheory
-from crnplan.theory.start_bias import start_bias
+from crnplan.theory.start_bias import Runs, start_bias, theory_of
 from planner.tests.theory.chain import by_chain
 from planner.tests.theory.finite import expected
 from planner.tests.theory.scenarios import Pair, scenario_of
@@ -99,6 +101,20 @@ def test_many_periods(case: str, monkeypatch: pytest.MonkeyPatch) -> None:
     monkeypatch.setattr("crnplan.theory.reviews.MOST_DENSE", 0)
     assert start_bias(asked).biases == pytest.approx(dense.biases, abs=1e-7)
     assert shorter.biases == pytest.approx(dense.biases, abs=1e-7)
+
+
+@settings(max_examples=25, deadline=None)
+@given(st.lists(st.integers(0, 9), min_size=2, max_size=40).filter(lambda it: any(it[1:])),
+       st.sampled_from([([1], [1]), ([5], [1]), ([2, 3, 7], [1, 5, 2])]), st.integers(0, 150), st.integers(0, 250),
+       st.integers(0, 400), st.sampled_from([1, 2, 6, 7, 8, 300]))
+def test_all_reviews_at_once(weights: list[int], lead: Pair, s: int, gap: int, initial: int, periods: int) -> None:
+    """The biases are those of reviews one by one, which are computed if items come back."""
+    asked = replace(scenario_of((range(len(weights)), [it + (place == 1) for place, it in enumerate(weights)]), lead),
+                    costs=COSTS, periods=periods, initial=initial, policies=(Policy("it", s, s + gap),))
+    runs = Runs(theory_of(asked), asked)
+    at_once = runs.bias(asked.policies[0], gap)
+    runs.falls = None
+    assert at_once == pytest.approx(runs.bias(asked.policies[0], gap), rel=1e-8, abs=1e-7)
 
 
 def test_no_long_run() -> None:
