@@ -76,8 +76,11 @@ def run_program(program: Path, text: str, *words: str) -> str:
 
 def run_all(program: Path, texts: Iterable[str], *words: str, jobs: int = JOBS) -> list[str]:
     """Runs the program on each text, several at a time, and returns the outputs in the order of the texts."""
+    given = list(texts)
+    if len(given) == 1:  # as for most items of a catalogue: threads would take longer than the run
+        return [run_program(program, given[0], *words)]
     with ThreadPoolExecutor(jobs) as pool:
-        running = [pool.submit(run_program, program, text, *words) for text in texts]
+        running = [pool.submit(run_program, program, text, *words) for text in given]
         try:
             return [it.result() for it in running]
         finally:
