@@ -11,15 +11,16 @@ from collections.abc import Iterable, Mapping, Sequence
 from typing import Any, NamedTuple
 
 import numpy as np
+import numpy.typing as npt
 
 from ..demand.borrowing import Prior
 from ..formats import MOST_ITEMS
 from ..theory.long_run import LongRun, gap_grid
-from .hull import Floats, Whole, lower_hull, slopes
+from .hull import Floats, Whole, slopes, vertices
 from .planning import Question, Settings, question_of, text_of_answer, theory_of
 
 # Answers of other versions are not used again.
-VERSION = 1
+VERSION = 2
 # Prices of a unit of value that is not met at once, in units of value: eight a decade.
 PRICES: Floats = 10.0**(np.arange(-40, 33) / 8)
 DIGITS = 10  # of a figure that is kept
@@ -31,11 +32,17 @@ STOCK = (1, 4, 16)
 
 
 class Best(NamedTuple):
-    """The best level of a gap for each cost of stock and each price, with its figures: arrays of that shape."""
+    """Gaps with their best levels for each cost of stock and each price: arrays of that shape, a row for each gap."""
 
+    gaps: Whole
     level: Whole
     stock: Floats
     unmet: Floats
+
+    def joined(self, other: Best) -> Best:
+        """Returns these and others, by rising gap."""
+        order = np.argsort(np.concatenate([self.gaps, other.gaps]))
+        return Best(*(np.concatenate(its)[order] for its in zip(self, other)))
 
 
 class Policies:
@@ -45,54 +52,65 @@ class Policies:
     """
 
     def __init__(self, theory: LongRun, holding: float, value: float) -> None:
-        """Takes the theory of an item, what it costs to hold a unit, and a unit's price."""
+        """Takes the theory of an item, what it costs to hold a unit, and a unit's price. Looks at a grid of gaps."""
         self.theory, self.holding, self.value = theory, holding, value
-        self.known: dict[int, Best] = {}
-
-    def of_gap(self, gap: int) -> Best | None:
-        """Returns the best levels of a gap; None if s or S is out of its range with each."""
-        theory = self.theory
-        least, unmet = int(theory.items(gap)), np.clip(theory.unmet_of(gap), 0, None)
-        if least > MOST_ITEMS:
-            return None
-        levels = theory.step * np.arange(len(unmet))
-        allowed = (levels >= least) & (levels <= MOST_ITEMS)
-        # The least level that s may have can lie above all that is ever owed.
-        levels, unmet = (levels[allowed], unmet[allowed]) if allowed.any() else (np.array([least]), np.zeros(1))
-        stock = theory.surpluses(gap)[0].left(levels)
-        kept = lower_hull(np.zeros(len(levels), np.int64), stock, unmet)
-        prices = slopes(kept * 0, self.holding * stock[kept], self.value * unmet[kept])[:-1]
-        places = kept[np.searchsorted(prices, PRICES / np.array(STOCK)[:, None])]
-        return Best(levels[places], stock[places], unmet[places])
+        none = np.zeros((0, len(STOCK), len(PRICES)))
+        self.known = Best(np.zeros(0, int), none.astype(int), none, none)
+        self.look_at(gap_grid(theory.most))
 
     def look_at(self, gaps: Iterable[int]) -> None:
-        """Computes the best levels of gaps."""
-        new = sorted({*gaps} - self.known.keys())
-        self.theory.prepare(new)
-        self.known |= {gap: best for gap in new if (best := self.of_gap(gap)) is not None}
+        """Computes the best levels of gaps. Those are left out with which S is out of its range."""
+        new = {*gaps} - {*self.known.gaps.tolist()}
+        for some in self.theory.parts(sorted(gap for gap in new if self.theory.items(gap) <= MOST_ITEMS)):
+            self.known = self.known.joined(self.best_of(some))
 
-    def best_gaps(self, costs: Sequence[tuple[float, float]]) -> list[Whole]:
-        """Returns the best gap for each price, for each cost of orders and of stock in the order of `VARIANTS`."""
-        gaps, found = sorted(self.known), []
-        orders = np.array([1 / self.theory.periods(gap) for gap in gaps])[:, None]
-        stock, unmet = (np.stack([self.known[gap][place] for gap in gaps]) for place in (1, 2))
+    def best_of(self, gaps: Whole) -> Best:
+        """Returns rising gaps with their best levels."""
+        levels, stock, unmet = self.theory.tables_of(gaps)
+        owner, place = np.nonzero(self.may_be_best(gaps, levels, stock, unmet))
+        stock, unmet = stock[owner, place], unmet[owner, place]
+        kept = vertices(owner, stock, unmet, np.arange(len(owner)))
+        prices = slopes(owner[kept], stock[kept], unmet[kept]) * (self.holding / self.value)
+        asked, ends = PRICES / np.array(STOCK)[:, None], np.searchsorted(owner[kept], np.arange(len(gaps) + 1))
+        its = np.stack([kept[first + np.searchsorted(prices[first:end - 1], asked)] for first, end in zip(ends, ends[1:])])
+        return Best(gaps, levels[place[its]], stock[its], unmet[its])
+
+    def may_be_best(self, gaps: Whole, levels: Whole, stock: Floats, unmet: Floats) -> npt.NDArray[np.bool_]:
+        """Returns for each gap which levels may be best for a price: the least, and those that meet more demand than
+        all lower ones and than the one before for no more than the highest price."""
+        least = self.theory.floor(gaps)[:, None] * self.theory.step
+        is_allowed = (levels >= least) & (levels <= np.maximum(least, MOST_ITEMS))
+        before = np.minimum.accumulate(np.where(is_allowed, unmet, np.inf), axis=1)[:, :-1]
+        is_better = (unmet[:, 1:] < before) & (self.holding * np.diff(stock) <= self.value * PRICES[-1]
+                                               * (unmet[:, :-1] - unmet[:, 1:]))
+        found: npt.NDArray[np.bool_] = is_allowed & ((levels == least) | np.pad(is_better, ((0, 0), (1, 0))))
+        return found
+
+    def best_places(self, costs: Sequence[tuple[float, float]]) -> Whole:
+        """Returns the place of the best gap for each cost of orders and of stock in the order of `VARIANTS`, and for
+        each price."""
+        gaps, _, stock, unmet = self.known
+        orders, found = self.orders()[:, None], []
         for (order, holding), (_, times) in zip(costs, VARIANTS):
             place = STOCK.index(times)
             totals = order * orders + holding * stock[:, place] + PRICES * self.value * unmet[:, place]
-            found.append(np.array(gaps)[totals.argmin(axis=0)])
-        return found
+            found.append(totals.argmin(axis=0))
+        return np.array(found)
 
-    def search(self, costs: Sequence[tuple[float, float]]) -> list[Whole]:
-        """Returns what `best_gaps` does, of gaps that are looked at ever finer beside the best."""
-        self.look_at(gap_grid(self.theory.most))
+    def orders(self) -> Floats:
+        """Returns the orders of a period for each gap."""
+        gaps = self.known.gaps
+        orders: Floats = 1 / (self.theory.span * np.cumsum(self.theory.lows_of(int(gaps[-1]))))[gaps]
+        return orders
+
+    def search(self, costs: Sequence[tuple[float, float]]) -> Whole:
+        """Returns what `best_places` does, of gaps that are looked at ever finer beside the best."""
         while True:
-            gaps, count = sorted(self.known), len(self.known)
-            found = self.best_gaps(costs)
-            for gap in {int(it) for its in found for it in its}:
-                place = gaps.index(gap)
-                below, above = gaps[max(place - 1, 0)], gaps[min(place + 1, len(gaps) - 1)]
-                self.look_at([(below + gap) // 2, (gap + above + 1) // 2])
-            if len(self.known) == count:
+            gaps, found = self.known.gaps, self.best_places(costs)
+            places = np.unique(found)
+            below, above = gaps[np.maximum(places - 1, 0)], gaps[np.minimum(places + 1, len(gaps) - 1)]
+            self.look_at([*((below + gaps[places]) // 2).tolist(), *((gaps[places] + above + 1) // 2).tolist()])
+            if len(self.known.gaps) == len(gaps):
                 return found
 
 
@@ -121,16 +139,21 @@ def candidates_of(name: str, facts: Mapping[str, Any], price: float, settings: S
     demand = float(question.demand.table.mean)
     policies = Policies(theory_of(question, settings), holding, price * box)
     rows = []
-    for variant, gaps in enumerate(policies.search(variants_of(setup, holding, demand))):
-        before, stock_place = None, STOCK.index(VARIANTS[variant][1])
-        for place, gap in enumerate(gaps.tolist()):
-            level, stock, unmet = (its[stock_place, place].item() for its in policies.known[gap])
-            if (gap, level) != before:
-                figures = (stock * box, unmet * box, 1 / policies.theory.periods(gap))
-                rows.append([variant, place, (level - int(policies.theory.items(gap))) * box, level * box,
-                             *(float(f"{it:.{DIGITS}g}") for it in figures)])
-                before = gap, level
+    for variant, places in enumerate(policies.search(variants_of(setup, holding, demand))):
+        rows += rows_of(policies, variant, places, box)
     return {"demand": demand * box, "setup": setup, "holding": holding / box, "rows": rows}
+
+
+def rows_of(policies: Policies, variant: int, places: Whole, box: int) -> list[list[float]]:
+    """Returns the rows of `candidates_of` for a variant, from the places of the best gap for each price."""
+    prices, known = np.arange(len(PRICES)), policies.known
+    levels, stock, unmet = (its[places, STOCK.index(VARIANTS[variant][1]), prices] for its in known[1:])
+    gaps, orders = known.gaps[places], policies.orders()[places]
+    is_new = np.append(True, (np.diff(gaps) != 0) | (np.diff(levels) != 0))
+    points = levels - policies.theory.items(gaps)
+    figures = ([float(f"{it:.{DIGITS}g}") for it in row] for row in zip(stock * box, unmet * box, orders))
+    whole = zip(prices.tolist(), (points * box).tolist(), (levels * box).tolist())
+    return [[variant, *row, *its] for new, row, its in zip(is_new, whole, figures) if new]
 
 
 def candidates_batch(batch: Sequence[tuple[str, str, float]], settings: Settings,

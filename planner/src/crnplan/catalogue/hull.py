@@ -41,10 +41,18 @@ def slopes(owner: Whole, cost: Floats, unmet: Floats) -> Floats:
 def lower_hull(owner: Whole, cost: Floats, unmet: Floats) -> Whole:
     """Returns the places of the vertices of each owner's lower hull: by owner, with rising cost and falling unmet.
 
-    `owner` has whole numbers from 0 on. Prices rise strictly from each vertex to the next. A point that is not below
-    the line through the points beside it is no vertex, so all such points are left out at once, until there are none.
+    `owner` has whole numbers from 0 on. Prices rise strictly from each vertex to the next.
     """
-    kept = _undominated(owner, cost, unmet)
+    return vertices(owner, cost, unmet, _undominated(owner, cost, unmet))
+
+
+def vertices(owner: Whole, cost: Floats, unmet: Floats, kept: Whole) -> Whole:
+    """Returns those of some places that are vertices of their owner's lower hull: they are by owner, with rising cost
+    and falling unmet.
+
+    A point that is not below the line through the points beside it is no vertex, so all such points are left out at
+    once, until there are none.
+    """
     while True:
         prices = slopes(owner[kept], cost[kept], unmet[kept])
         is_first = np.append(True, owner[kept][1:] != owner[kept][:-1])

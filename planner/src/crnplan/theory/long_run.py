@@ -20,15 +20,17 @@ from collections.abc import Callable, Iterable, Iterator, Sequence
 from typing import NamedTuple
 
 import numpy as np
+from scipy import fft
 
 from ..formats import MOST_ITEMS
 from ..scenario import Scenario
-from .laws import Floats, Law, Places, Surplus, Whole, reflected, sum_of
+from .laws import Floats, Law, Places, Surplus, Whole, reflected, room_for, sum_of
 from .means import GapLevels, Levels, LevelsOf, Means
 from .walk import Walk
 
 GRID_GROWTH = 1.15
 SMALL_GAP = 8
+MOST_CELLS = 50_000  # of tables with a row for each of many gaps
 CLOSE = 1 + 1e-9  # Costs whose ratio is at most this are equal but for rounding.
 NEAR = 1e-12  # Shares, and costs by their ratio, that differ by less are equal but for rounding.
 
@@ -108,8 +110,10 @@ class LongRun(Walk, ABC):
         """Returns the share of periods without backlog that is best for a newsvendor, but for rounding."""
         return self.backlog / (self.backlog + self.holding) * (1 - NEAR)
 
-    def start_from(self, under_way: Law) -> None:
-        """Takes the law of what is independently lost of a stock before a period's net demand."""
+    def start_from(self, under_way: Law, beside: int) -> None:
+        """Takes the law of what is independently lost of a stock before a period's net demand. A gap's row in a table
+        has about so many cells beside those of the gap."""
+        self.beside = beside
         self.after, self.before = sum_of(under_way, self.net), sum_of(under_way, reflected(self.back))
         self.one_period, self.one_before = Surplus(self.after, self.step), Surplus(self.before, self.step)
 
@@ -243,7 +247,12 @@ class LongRun(Walk, ABC):
 
     def parts(self, gaps: Sequence[int]) -> Iterator[Whole]:
         """Yields rising gaps in parts, whose tables are small."""
-        yield np.array(gaps, int)
+        left = np.array(gaps, int)
+        while len(left):
+            cells = np.arange(1, len(left) + 1) * (self.beside + left)
+            count = max(1, int(np.searchsorted(cells, MOST_CELLS, "right")))
+            yield left[:count]
+            left = left[count:]
 
     def costed(self, levels_of: LevelsOf, gaps: Sequence[int]) -> Levels:
         """Returns levels of rising gaps with their costs. They are found part by part."""
@@ -255,6 +264,21 @@ class LongRun(Walk, ABC):
             found.append(levels_of(Means(self.figures_from, low, rows, top), some))
         levels, costs = zip(*found)
         return np.concatenate(levels), np.concatenate(costs)
+
+    def tables_of(self, gaps: Whole) -> tuple[Whole, Floats, Floats]:
+        """Returns levels S from 0 on, in items, in steps of a cell and up to one with which nothing is ever owed, and
+        their mean stock and unmet demand in a period, in items: a row for each of some rising gaps."""
+        low, rows = self.rows_of(gaps)
+        width = max(map(len, rows))
+        top = max(int(self.floor(gaps[-1])), low + width + self.after.high)
+        chances, stocks = np.zeros((len(rows), width)), self.step * np.arange(1 - width - low, top - low + 1)
+        for row, its in zip(chances, rows):
+            row[:len(its)] = its
+        room = room_for(len(stocks))  # what is beyond comes round to the places before the first level
+        moved = fft.rfft(chances, room)
+        stock, unmet = (fft.irfft(moved * fft.rfft(its, room), room)[:, width - 1:len(stocks)]
+                        for its in (self.one_period.left(stocks), self.unmet_at(stocks)))
+        return self.step * np.arange(top + 1), stock, np.maximum(unmet, 0)
 
     def best_levels(self, means: Means, gaps: Whole, share: float) -> Levels:
         """Returns the cheapest levels that meet a share of demand at once: those, or the newsvendor's if higher."""

@@ -118,7 +118,8 @@ class OneLead(LongRun):
         """Makes the laws of the net demand while an order is under way."""
         super().__init__(scenario, step, exact, most)
         lead, = (it for it, weight in zip(scenario.lead.values, scenario.lead.weights) if weight)
-        self.start_from(sum_of(power_of(self.net, lead), self.above_low))
+        under_way = sum_of(power_of(self.net, lead), self.above_low)
+        self.start_from(under_way, under_way.high)
         self.found: Candidate | None = None
 
     def laws(self, gap: int) -> tuple[Law, Law]:

@@ -41,7 +41,6 @@ from .means import Levels, LevelsOf, Means
 Transforms = npt.NDArray[np.complex128]
 
 LEAST_CHANCE = 1e-16  # Transforms round chances by about as much.
-MOST_CELLS = 50_000  # of the transforms of many gaps, for each of some tables
 MOST_WORK = 20_000_000  # for all gaps of a search, by `work_of`
 FEW = 4  # Of the gaps of a grid, one in so many is looked at for a first policy.
 # In percent: how much dearer than the best of all a policy of a search was in planner/studies/search.csv.
@@ -143,10 +142,10 @@ class SeveralLeads(LongRun):
         total = sum(lead.weights)
         self.chances = {value: weight / total for value, weight in zip(lead.values, lead.weights) if weight}
         self.late = lateness(self.chances)
-        self.start_from(power_of(self.net, min(self.chances)))
         self.amount = power_of(self.net, max(self.chances)).high
-        self.widest_late = max(self.net.high, power_of(self.net, len(self.late)).high)
         self.above = -self.above_low.low + len(self.late) * max(0, -self.net.low)
+        late_amount = max(self.net.high, power_of(self.net, len(self.late)).high)
+        self.start_from(power_of(self.net, min(self.chances)), self.above + late_amount)
         self.shorts: dict[int, Floats] = {}
 
     def laws(self, gap: int) -> tuple[Law, Law]:
@@ -163,19 +162,10 @@ class SeveralLeads(LongRun):
             for gap, row, end in zip(some.tolist(), rows, ends.tolist()):
                 self.shorts[gap] = row[:end]
 
-    def parts(self, gaps: Sequence[int]) -> Iterator[Whole]:
-        """Yields rising gaps in parts, whose tables are small."""
-        left = np.array(gaps, int)
-        while len(left):
-            cells = np.arange(1, len(left) + 1) * (self.above + self.widest_late + left)
-            count = max(1, int(np.searchsorted(cells, MOST_CELLS, "right")))
-            yield left[:count]
-            left = left[count:]
-
     def shortfalls(self, gaps: Whole) -> Floats:
         """Returns the chances of the shortfalls of rising gaps, a row each, from the cell -above on."""
         most, count = int(gaps[-1]), len(self.late)
-        room = Room(room_for(self.above + most + self.widest_late + 1), self.above)
+        room = Room(room_for(most + self.beside + 1), self.above)
         lows = self.lows_of(most)
         if self.net.low >= 0:
             states = falling(lows, gaps, self.net, count, room)
