@@ -41,11 +41,11 @@ class Form:
         return f"{self.medium}-{self.scheme}-{self.width}"
 
 
-# The width of A4 between the margins of print, in CSS pixels, upright.
-PAPER = 718
+# The width of A4 between the margins of print, in CSS pixels, upright; and a height that whole pages have room in.
+PAPER, TALL = 718, 12_000
 WIDE = Form(1280)
-FORMS = (*(Form(width, scheme) for width in (1280, 390) for scheme in ("light", "dark")),
-         *(Form(PAPER, scheme, "print") for scheme in ("light", "dark")))
+FORMS = (*(Form(width, scheme, height=TALL) for width in (1280, 390) for scheme in ("light", "dark")),
+         *(Form(PAPER, scheme, "print", TALL) for scheme in ("light", "dark")))
 
 
 def commands() -> dict[str, str]:

@@ -1,18 +1,30 @@
 """Fixtures of the tests of pages: a browser, and the pages that it shows."""
 from __future__ import annotations
 
-from collections.abc import Callable, Iterator
+import csv
+import datetime
+import random
+from collections.abc import Callable, Iterable, Iterator
 from pathlib import Path
 
 import pytest
 
+from crnplan import item
+from crnplan.catalogue import plan, read_catalogue
+from crnplan.catalogue.item_files import file_of
 from crnplan.catalogue.page import report
 from planner.tests.browser.browser import Browser
+from planner.tests.catalogue.conftest import SETTINGS
+from planner.tests.item.conftest import furnished
 from planner.tests.report.made_catalogue import made_folder
 
 # Names of items that are markup, a formula, a path, written from the right, or that no line has room for.
-HOSTILE = ("<img src=x onerror=alert(1)>", "</script><script>alert(2)</script>", "\"quoted\" 'twice' & &amp;", "=1+1",
-           "  leading blanks", "50%/../x?#", "قطعة غيار 12", "long " * 59 + "names", "W" * 300)
+MARKUP, ARABIC, WIDE = "<img src=x onerror=alert(1)>", "قطعة غيار 12", "W" * 300
+HOSTILE = (MARKUP, ARABIC, WIDE, "</script><script>alert(2)</script>", "\"quoted\" 'twice' & &amp;", "=1+1",
+           "  leading blanks", "50%/../x?#", "long " * 59 + "names")
+PLANNED = (MARKUP, ARABIC, WIDE)
+MASTERS = ("item", "description", "setup", "holding", "backlog", "fill", "lead", "s", "S", "stock", "price")
+MONDAY = datetime.date(2025, 1, 6)
 Pages = Callable[[str], Path]
 
 
@@ -28,17 +40,51 @@ def browser(tmp_path_factory: pytest.TempPathFactory) -> Iterator[Browser]:
 
 
 @pytest.fixture(scope="session")
-def pages(tmp_path_factory: pytest.TempPathFactory) -> Pages:
+def pages(tmp_path_factory: pytest.TempPathFactory, request: pytest.FixtureRequest, top: Path) -> Pages:
     """Returns a function that makes a page of some name, once in a session, and returns its path."""
+    def program() -> Path:
+        """Returns the program, for the pages that need it."""
+        found: Path = request.getfixturevalue("program")
+        return found
     makers: dict[str, Callable[[Path], Path]] = {
         "catalogue": lambda folder: report(made_folder(folder, 40, HOSTILE)),
         "catalogue without a curve": lambda folder: report(made_folder(folder, 12, has_curve=False)),
-        "catalogue of thousands": lambda folder: report(made_folder(folder, 3_000, HOSTILE))}
+        "catalogue of thousands": lambda folder: report(made_folder(folder, 3_000, HOSTILE)),
+        "planned catalogue": lambda folder: report(planned(folder, program()), PLANNED, program=program()),
+        "item": lambda folder: planned_item(furnished(folder, top, program()))}
     made: dict[str, Path] = {}
 
     def page(name: str) -> Path:
-        """Returns the page, and makes it if it is not there."""
+        """Returns a page, and makes it if it is not there. An item of the planned catalogue has a page as well."""
+        if name in PLANNED:
+            return file_of(page("planned catalogue").parent, name)
         if name not in made:
             made[name] = makers[name](tmp_path_factory.mktemp("page"))
         return made[name]
     return page
+
+
+def planned_item(folder: Path) -> Path:
+    """Plans the item of a folder and returns its page."""
+    plan = item.plan_item(folder / "history.csv", folder / "settings.toml", folder / "plan", program=folder / "program")
+    return plan.folder / "summary.html"
+
+
+def write_table(path: Path, rows: Iterable[Iterable[object]]) -> None:
+    """Writes rows as CSV."""
+    with path.open("w", encoding="utf-8", newline="") as file:
+        csv.writer(file).writerows(rows)
+
+
+def planned(folder: Path, program: Path) -> Path:
+    """Plans a catalogue of few items with hostile names, and returns its folder."""
+    source = random.Random(1)
+    demand = [(name, MONDAY + datetime.timedelta(weeks=week), source.choice((0, 0, 1, 2, 5)))
+              for name in PLANNED for week in range(60)]
+    masters = [(name, "of a shelf", 45, 0.6, "" if name == ARABIC else 9, 0.95 if name == ARABIC else "", 2, 6, 20, 9, 30)
+               for name in PLANNED]
+    write_table(folder / "demand.csv", [("item", "date", "quantity"), *demand])
+    write_table(folder / "items.csv", [MASTERS, *masters])
+    plan(read_catalogue(folder / "demand.csv", folder / "items.csv"), folder / "plan", jobs=1, program=program,
+         **SETTINGS)
+    return folder / "plan"

@@ -11,7 +11,7 @@ from selenium.webdriver.common.by import By
 from selenium.webdriver.remote.webelement import WebElement
 from selenium.webdriver.support.ui import Select
 
-from planner.tests.browser.browser import Browser, Form
+from planner.tests.browser.browser import Browser
 
 # A text that Python puts into the same order as the collation of Unicode: it begins with a letter of ASCII.
 PLAIN = re.compile(r"[A-Za-z][ -~]*")
@@ -21,8 +21,6 @@ const shown = () => [...document.querySelectorAll("#items tbody tr")].filter((it
     .map((row) => [...row.cells].map((it) => it.innerText));
 return new Promise((done) => requestAnimationFrame(() => requestAnimationFrame(() => done(shown()))));
 """
-# A window in which tens of rows are in view at once.
-TALL = Form(1280, height=16_000)
 Row = dict[str, str]
 
 

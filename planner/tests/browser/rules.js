@@ -20,8 +20,9 @@ const rules = (() => {
   const isTiny = (element) => element instanceof HTMLElement && getComputedStyle(element).display !== "inline"
     && Math.max(element.clientWidth, element.clientHeight) <= 1;
 
-  const isShown = (element) => element.checkVisibility({visibilityProperty: true, opacityProperty: true})
-    && !isTiny(element);
+  // What the browser leaves out far below the window is not judged.
+  const isShown = (element) => !isTiny(element)
+    && element.checkVisibility({visibilityProperty: true, opacityProperty: true, contentVisibilityAuto: true});
 
   const all = (selector) => [...document.querySelectorAll(selector)].filter(isShown);
 

@@ -4,11 +4,12 @@ from __future__ import annotations
 import statistics
 
 import pytest
+from selenium.webdriver.common.by import By
 from selenium.webdriver.common.keys import Keys
 
-from planner.tests.browser.browser import Browser
-from planner.tests.browser.conftest import Pages
-from planner.tests.browser.items import PLAIN, TALL, Items, Row, decisions_of, in_order, is_number
+from planner.tests.browser.browser import TALL, Browser, Form
+from planner.tests.browser.conftest import PLANNED, Pages
+from planner.tests.browser.items import PLAIN, Items, Row, decisions_of, in_order, is_number
 
 SEARCHED = ("item", "description", "class", "warnings")
 COLUMNS = ("item", "description", "class", "verdict", "s_today", "S_today", "s_chosen", "S_chosen", "cost_today",
@@ -22,7 +23,7 @@ MOST_BYTES = 2_000_000
 @pytest.fixture
 def items(browser: Browser, pages: Pages) -> Items:
     """Returns the table of a page that has just been loaded."""
-    browser.open(pages("catalogue"), TALL)
+    browser.open(pages("catalogue"), Form(1280, height=TALL))
     return Items(browser)
 
 
@@ -111,6 +112,16 @@ def test_print_has_the_rows_that_are_shown(items: Items, decisions: list[Row]) -
             assert (row["item"] in table) == (row["verdict"] == "cheaper"), row["item"]
     assert all("verdict" in sheet for sheet in table.split("\f") if "P0" in sheet)
     assert "item, description, class or warning" not in table and "second click" not in table
+
+
+@pytest.mark.parametrize("name", PLANNED, ids=["markup", "arabic", "long"])
+def test_link_leads_to_the_page_of_the_item(browser: Browser, pages: Pages, name: str) -> None:
+    """An item's name leads to its own page, whatever signs it has, and that page names it as it is."""
+    browser.open(pages("planned catalogue"), Form(1280, height=TALL))
+    (link,) = (it for it in browser.driver.find_elements(By.CSS_SELECTOR, "#items a") if it.text == name)
+    link.click()
+    assert browser.driver.current_url == pages(name).as_uri()
+    assert name in browser.driver.find_element(By.TAG_NAME, "main").text
 
 
 def test_page_of_thousands_is_small(pages: Pages) -> None:

@@ -4,10 +4,11 @@ from __future__ import annotations
 import pytest
 
 from planner.tests.browser.browser import FORMS, WIDE, Browser, Form
-from planner.tests.browser.conftest import Pages
+from planner.tests.browser.conftest import PLANNED, Pages
 from planner.tests.browser.rules import faults_of
 
-NAMES = ("catalogue", "catalogue without a curve")
+NAMES = ("catalogue", "catalogue without a curve", "planned catalogue", "item", *PLANNED)
+IDS = [*NAMES[:4], "item of markup", "item in Arabic", "item of a long name"]
 # What a script of another would do: run in an element, in a handler, and from elsewhere.
 INJECTED = """
 window.ran = [];
@@ -24,7 +25,7 @@ return new Promise((done) => setTimeout(() => done([window.ran, window.refused])
 
 
 @pytest.mark.parametrize("form", FORMS, ids=str)
-@pytest.mark.parametrize("name", NAMES)
+@pytest.mark.parametrize("name", NAMES, ids=IDS)
 def test_page_has_no_fault(browser: Browser, pages: Pages, name: str, form: Form) -> None:
     """No rule finds a fault."""
     browser.open(pages(name), form)
@@ -38,7 +39,7 @@ def test_page_of_thousands_has_no_fault(browser: Browser, pages: Pages, form: Fo
     assert faults_of(browser, "console", "requests", "overflow") == []
 
 
-@pytest.mark.parametrize("name", NAMES)
+@pytest.mark.parametrize("name", NAMES, ids=IDS)
 def test_script_of_another_is_refused(browser: Browser, pages: Pages, name: str) -> None:
     """The policy refuses scripts, handlers and pictures that are put into the page."""
     browser.open(pages(name), WIDE)
