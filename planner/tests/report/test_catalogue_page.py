@@ -22,11 +22,12 @@ from hypothesis import strategies as st
 
 import crnplan as crn
 from crnplan.catalogue import page as catalogue_page
+from crnplan.catalogue import planning
 from crnplan.catalogue.item_files import file_of
 from crnplan.catalogue.page import NO_CURVE, OLD_CURVE
 from crnplan.catalogue.store import READ, Writer
 from crnplan.report.catalogue_figures import Totals, price_of, reasons_of
-from crnplan.report.catalogue_page import COLUMNS, LARGE, clipped
+from crnplan.report.catalogue_page import CHEAPER, COLUMNS, DEARER, LARGE, SERVICE, clipped
 from planner.tests.catalogue.conftest import FILES, SETTINGS, leave_few
 from planner.tests.catalogue.made import TODAY, made
 from planner.tests.conftest import Command
@@ -206,6 +207,8 @@ def test_totals(large: Path) -> None:
     assert f"cost {sums['cost_today']:,.0f} a week with today's policies, and {sums['cost_chosen']:,.0f}" in page.text
     assert f"{sums['value_chosen']:,.0f} value of the mean stock {sums['value_today']:,.0f} today" in page.text.replace(
         "value of the mean stock", " value of the mean stock ").replace("  ", " ")
+    more = [Decimal(row["saving"]) for row in rows if row["verdict"] == SERVICE]
+    assert more and f"of {len(more)} items. Keeping it costs {-sum(more):.2f} a week" in page.text
     counts = Counter(row["verdict"] for row in rows)
     verdicts = next(it for it in page.tables if it[0][0] == "verdict")
     assert {row[0]: int(row[1].replace(",", "")) for row in verdicts[1:]} == counts
@@ -371,6 +374,12 @@ def test_lost_items_are_said(folder: Path) -> None:
         lines = (folder / name).read_text("utf-8").splitlines()
         (folder / name).write_text("\n".join(lines[:-1]) + "\n", "utf-8")
     assert "THE COUNTS DO NOT ADD UP. items: 65 are named, and 59 can be planned" in Page(crn.report(folder)).text
+
+
+def test_verdicts_are_those_of_plans() -> None:
+    """The page knows verdicts by the names that plans give them, and says what each means."""
+    assert (CHEAPER, DEARER, SERVICE) == (planning.CHEAPER, planning.DEARER, planning.SERVICE)
+    assert set(catalogue_page.MEANING) == {CHEAPER, DEARER, SERVICE, planning.SAME, planning.UNDECIDED}
 
 
 def test_command(folder: Path, crnplan: Command) -> None:

@@ -87,11 +87,12 @@ def curve_of(folder: Path, decimals: int) -> tuple[list[Place], str]:
 def has_values(folder: Path, values: Mapping[str, float], decimals: int) -> bool:
     """Returns whether today's stock and the chosen one of the decisions are worth what the points of the curve say."""
     left = {row["item"] for row in rows_of(folder / LEFT_OUT)}
-    rows = [row for row in rows_of(folder / DECISIONS) if row["item"] not in left]
+    stocks = [[float(row[f"value_{it}"] or 0) for it in (TODAY, CHOSEN)] for row in rows_of(folder / DECISIONS)
+              if row["item"] not in left]
     # Each value is rounded to the smallest unit of money.
-    rounding = (len(rows) + 1) * 10.0**-decimals
-    return all(abs(sum(float(row[f"value_{it}"] or 0) for row in rows) - values[it]) <= rounding
-               for it in (TODAY, CHOSEN))
+    rounding = (len(stocks) + 1) * 10.0**-decimals
+    return all(abs(sum(its[place] for its in stocks) - values[name]) <= rounding
+               for place, name in enumerate((TODAY, CHOSEN)))
 
 
 def pages_of(folder: Path, rows: Sequence[Row]) -> dict[str, str]:

@@ -52,7 +52,8 @@ COLUMNS = (
     Column("value_chosen", "stock value chosen"), Column("warnings", "warnings", 60, True))
 # The padding of a cell, and the width of a letter, in digits.
 PADDING, LETTER = 2, 1.25
-VERDICT_STYLES = {"cheaper": "better", "dearer": "worse"}
+CHEAPER, DEARER, SERVICE = "cheaper", "dearer", "more service"
+VERDICT_STYLES = {CHEAPER: "better", DEARER: "worse"}
 KINDS = {"item": "Items left out", "row": "Rows rejected", "suspicious": "Suspicious rows, which count all the same"}
 
 
@@ -114,13 +115,23 @@ def headline(its: Contents) -> str:
 
 
 def meaning(its: Contents) -> str:
-    """Returns what the headline means, in two sentences."""
+    """Returns what the headline means."""
     low, high = map(its.money, its.ends)
     sums = its.totals.sums
     return (f"In the long run the {its.totals.items:,} planned items cost {its.money(sums['cost_today'])} a "
             f"{its.every} with today's policies, and {its.money(sums['cost_chosen'])} with the chosen ones. The "
             f"difference is {its.money(sums['saving'])}, from {low} to {high} ({100 * its.level:g}% interval of the "
-            "runs), if demand keeps to the laws that were fitted to its history.")
+            f"runs), if demand keeps to the laws that were fitted to its history.{service(its)}")
+
+
+def service(its: Contents) -> str:
+    """Returns a sentence on the items that get more service; none if there are no such items."""
+    count, saving = its.totals.verdicts[SERVICE], its.totals.savings[SERVICE]
+    if not count:
+        return ""
+    amount = its.money(abs(saving))
+    return (f" Today's policies miss the wanted service of {count:,} items. Keeping it "
+            f"{'saves' if saving > 0 else 'costs'} {amount} a {its.every}, which is part of the difference.")
 
 
 def cards(its: Contents) -> list[dict[str, str]]:
