@@ -43,5 +43,7 @@ def test_words() -> None:
 
 
 def test_words_of_the_guide() -> None:
-    """The guide has at most 3,500 words."""
-    assert len(text_of("docs/GUIDE.md").split()) <= 3_500
+    """The guide has at most 3,500 words beside its section on many items, which has at most 600."""
+    text = text_of("docs/GUIDE.md")
+    section, = re.findall(r"^## Many items\n.*?(?=^## )", text, re.MULTILINE | re.DOTALL)
+    assert len(section.split()) <= 600 and len(text.replace(section, "").split()) <= 3_500
