@@ -169,6 +169,15 @@ def test_no_interval_without_spread(program: Path) -> None:
     assert found.warnings == ("no interval for equal: the difference is the same in all replications",)
 
 
+@pytest.mark.parametrize("initial, said", [
+    (21, ""), (25, ", but the bias of the start is rounded to steps of 5 items")], ids=["on it", "beside it"])
+def test_a_start_beside_the_packs_is_said(initial: int, said: str, program: Path) -> None:
+    """Both policies order up to a whole number of packs above 21."""
+    asked = replace(PART, demand=Table((0, 5, 10), (5, 3, 1)), initial=initial,
+                    policies=(Policy("today", 4, 11), Policy("more", 9, 26)))
+    assert corrected_decision(asked.run(program=program).rows, asked).theory == "exact but for rounding" + said
+
+
 def test_disagreement_with_theory_is_said(report: LongRunReport, monkeypatch: pytest.MonkeyPatch) -> None:
     """Theory is made wrong by a fifth of setup, and then said to be on a coarse lattice."""
     theory = long_run.theory_of(PART)

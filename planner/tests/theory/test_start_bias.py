@@ -83,6 +83,21 @@ def test_steps_of_several_items(case: str, monkeypatch: pytest.MonkeyPatch) -> N
     assert coarse.biases != pytest.approx(exact.biases, rel=1e-9)
 
 
+@pytest.mark.parametrize("lead", [([2], [1]), ([1, 3], [1, 1])], ids=["one lead time", "two lead times"])
+def test_starts_on_and_beside_the_lattice(lead: Pair) -> None:
+    """With demand in packs the bias is exact if the start is some packs below S, or too low, and says so."""
+    asked = replace(scenario_of(([0, 5, 10], [5, 3, 1]), lead), costs=COSTS, periods=30,
+                    policies=(Policy("it", 4, 11),))
+    usual, errors = by_chain(asked)[0], {}
+    for initial in (2, 5, 6, 11, 13, 16):
+        found = start_bias(replace(asked, initial=initial))
+        assert found.theory.step == 5 and found.on_lattice == (initial in (2, 6, 11, 16))
+        wanted = sum(expected(replace(asked, initial=initial))) - 30 * (usual + COSTS.unit * float(asked.demand.mean))
+        errors[initial] = abs(found.biases[0] - wanted)
+    assert max(errors[it] for it in (2, 6, 11, 16)) < 1e-5 < min(errors[5], errors[13])
+    assert max(errors.values()) < usual
+
+
 def test_costs_of_0() -> None:
     """The laws do not depend on costs, so the bias is linear in each."""
     asked = replace(CASES["several lead times"], periods=12, initial=30, policies=(Policy("it", 4, 11),))

@@ -24,6 +24,7 @@ from ..errors import Refused
 from ..report.tables import aligned, named
 from ..scenario import BY_ITS_LAWS, Policy, Scenario
 from ..theory.lattice import NoTheory
+from ..theory.long_run import exactness_of
 from ..theory.start_bias import StartBias, exactness, start_bias, theory_of
 from .intervals import Compared, checked_level, own_variance, t_quantile, with_verdict
 from .keys import policies_of, sentence_of
@@ -291,7 +292,11 @@ def corrected_decision(rows: Sequence[Row], scenario: Scenario, level: float = 0
                         f"is above {MOST_EFFECT} standard errors")
     title = (f"from a common stock of {scenario.initial:,} over {periods:,} periods, less the bias of that start by "
              "theory, which so is no check of it")
-    said = bias.exactness + ", and so is the bias of the start" * (not bias.theory.exact)
+    said = bias.exactness
+    if not bias.theory.exact:
+        said += ", and so is the bias of the start"
+    elif not bias.on_lattice:
+        said += f", but the bias of the start is {exactness_of(bias.theory.step, False)}"
     return LongRunDecision(tuple(sorted(found, key=lambda it: it.diff)), rows[0].policy, replications, level, title,
                            said, tuple(warnings))
 

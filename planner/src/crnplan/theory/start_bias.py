@@ -1,7 +1,8 @@
 """Computes what the start of a run adds to its expected cost, beside the same number of periods of the long run.
 
 A run starts with the stock `initial` and nothing on order. The expected cost of its periods less that of as many of the
-long run is the bias of the start. It is exact on the lattice of the theory:
+long run is the bias of the start. It is exact on the lattice of the theory. A start between two cells is shared by
+both. The bias has three parts:
 
 - The position after each review gives the expected orders (`reviews.py`).
 - It gives the expected costs of stock and backlog too, after the longest lead time (`stock_bias.py`).
@@ -100,11 +101,13 @@ class Runs:
 
 class StartBias(NamedTuple):
     """What the start adds to the expected cost of a replication of each policy, and what a period of the long run
-    costs; both in the scenario's money. `theory` says on which lattice."""
+    costs; both in the scenario's money. `theory` says on which lattice, and `on_lattice` whether each start is on it.
+    """
 
     biases: tuple[float, ...]
     costs: tuple[float, ...]
     theory: LongRun
+    on_lattice: bool
 
     @property
     def exactness(self) -> str:
@@ -121,4 +124,7 @@ def start_bias(scenario: Scenario) -> StartBias:
     theory = theory_of(scenario, MOST_BIAS_GAPS)
     runs = Runs(theory, scenario)
     biases = (sum(share * runs.bias(it, gap) for gap, share in theory.gaps_of(it.s, it.S)) for it in scenario.policies)
-    return StartBias(tuple(biases), tuple(theory.figures(it.s, it.S).cost for it in scenario.policies), theory)
+    on_lattice = all(scenario.initial < it.s or (it.S - scenario.initial) % theory.step == 0
+                     for it in scenario.policies)
+    return StartBias(tuple(biases), tuple(theory.figures(it.s, it.S).cost for it in scenario.policies), theory,
+                     on_lattice)
