@@ -96,14 +96,14 @@ class _Parts:
     def __init__(self, paths: Sequence[Path]) -> None:
         """Opens all part files."""
         self.files: list[IO[str]] = [it.open("w", encoding="utf-8", newline="") for it in paths]
-        self.writers: list[Any] = [csv.writer(it, lineterminator="\n") for it in self.files]
+        self.writers: list[Any] = [csv.writer(it, lineterminator="\n").writerow for it in self.files]
         self.of_item: dict[str, Any] = {}
 
     def writer(self, item: str) -> Any:
         """Returns what writes a row into the part of an item."""
         its = self.of_item.get(item)
         if its is None:
-            its = self.of_item[item] = self.writers[zlib.crc32(item.encode()) % len(self.writers)].writerow
+            its = self.of_item[item] = self.writers[zlib.crc32(item.encode()) % len(self.writers)]
         return its
 
     def close(self) -> None:
