@@ -203,7 +203,7 @@ def test_learned_law_stands_beside_the_items_own(learned: Path, program: Path) -
     assert laws[2] == "the law of this item alone"
     picture = next(text for title, text in page.pictures.items() if title.startswith("In how many weeks"))
     assert "the law of this item alone: " in picture
-    assert "learned from the whole catalogue" in page.words and "without a confidence" in page.words
+    assert "Learned from the whole catalogue" in page.words and "without a confidence" in page.words
     row = rows[name]
     levels = [f"({row[f's_{it}']}, {row[f'S_{it}']})" for it in ("today", "chosen", "alone")]
     assert len({*levels}) < 3 or [row["s_alone"], row["S_alone"]] in [it[1:3] for it in page.tables[ALL]]

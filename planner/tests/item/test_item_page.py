@@ -62,7 +62,7 @@ TABLES: dict[str, Callable[[Path], list[list[str]]]] = {
                                                   for name, row in rows_of(plan, "decision.csv").items()],
     "Each policy under the laws that the history allows": lambda plan: [
         doubted(row) for row in [*rows_of(plan, "doubt.csv").values()][:10]],
-    "The best policy in each case, and what it costs to keep best": lambda plan: [
+    "The best policy in each case, and what it costs to keep the chosen one": lambda plan: [
         moved(row) for row in rows_of(plan, "sensitivity.csv").values()]}
 
 

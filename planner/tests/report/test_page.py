@@ -39,6 +39,13 @@ def test_chances_stand_in_their_order(chances: list[float]) -> None:
     assert steps == pytest.approx([UNITS / len(steps)] * len(steps), abs=0.11)
 
 
+@pytest.mark.parametrize("values, inner", [
+    ([20], []), ([-4], []), ([150_000], ["50,000", "100,000"]), ([-1_500], ["\u22121,000", "\u2212500"])])
+def test_narrow_pages_have_room_for_marks(values: list[float], inner: list[str]) -> None:
+    """If the texts at an axis are long, a narrow page shows the outer ones and 0 alone."""
+    assert [text for _, text, css in Scale.of(values).marks if css == "inner"] == inner
+
+
 def test_scale_of_nothing() -> None:
     """A history without demand has a scale too."""
     assert (Scale.of([0, 0]).at(0), Scale.of([0]).at(1)) == (0, UNITS)

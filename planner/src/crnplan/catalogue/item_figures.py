@@ -76,6 +76,13 @@ class ItemFigures:
         """Returns how many items are counted as one."""
         return self.question.box
 
+    def items(self, policy: Policy) -> Levels:
+        """Returns s and S of a policy in items: today's as the master has them."""
+        if policy.name == TODAY:
+            s, S = self.kept.shown["today"]
+            return s, S
+        return policy.s * self.box, policy.S * self.box
+
     @property
     def chosen(self) -> str:
         """Returns the name under which the chosen policy is shown: today's if it is that."""
@@ -150,7 +157,7 @@ class ItemFigures:
             shift = cost - self.money(row.cost)  # theory's start counts on a coarser lattice if a gap is wide
             ends = self.money(row.cost_low) + shift, self.money(row.cost_high) + shift
             verdict = "base" if it.name == TODAY else verdict_of(difference)
-            found.append(Compared(it.name, (it.s * self.box, it.S * self.box),
+            found.append(Compared(it.name, self.items(it),
                                   {**theory, **answer["theory"].get(it.name, {})}, cost, ends, difference, verdict))
         return sorted(found, key=lambda its: its.difference[0])
 
@@ -172,7 +179,8 @@ class ItemFigures:
         except NoTheory:
             return []
         doubt = Doubt(scenario, self.policies, WITHIN, AllowedLaws({}, demands), None, figures)
-        return [{**row, "s": self.box * row["s"], "S": self.box * row["S"]} for row in doubt.records]
+        levels = {it.name: self.items(it) for it in self.policies}
+        return [{**row, **dict(zip(("s", "S"), levels[row["policy"]]))} for row in doubt.records]
 
     def _costed(self) -> Scenario:
         """Returns the scenario; without a backlog cost, with the one by which a newsvendor would meet the wanted share.

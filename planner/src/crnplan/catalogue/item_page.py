@@ -27,6 +27,7 @@ from .planning import ALONE, CHEAPER, CHOSEN, DEARER, SAME, SERVICE, TODAY, UNDE
 from .store import told_of
 from .tables import spelt
 
+QUANTILES = ", quantiles "  # in a note that has but figures
 MOST_CARDS = 6  # have room in a line
 OF_ALONE = "of-alone"  # the class of the line of the law of the item alone
 VERDICTS = {CHEAPER: "cheaper than today's policy ({})", DEARER: "dearer than today's policy ({})",
@@ -122,6 +123,11 @@ class _Page:
         law = self.question.demand
         return history_plot(counts, names, self.every, levels_of(law.values, law.weights, box, self.every))
 
+    def notes(self) -> list[str]:
+        """Returns what is to be said of the history, and of how its law was fitted. The table of laws has figures."""
+        lines = (it.removeprefix("demand: ") for it in notes_of(self.question.demand, "demand") if QUANTILES not in it)
+        return [f"{it[0].upper()}{it[1:]}." for it in (*self.kept.shown["notes"], *lines)]
+
     def _law_rows(self) -> list[dict[str, str]]:
         """Returns the table of the law of demand, with that of the item alone below."""
         law = self.question.demand
@@ -170,7 +176,7 @@ class _Page:
         """Returns the figures of all policies."""
         headings = ["policy", "s", "S", f"cost a {self.every}, theory", "met at once", f"{self.every}s short",
                     "mean stock", f"orders a {self.every}", "cost, crnsim", "its interval"]
-        single = " alone is the policy that the item would get by its own history alone." * any(
+        single = " The row alone is the policy that the item would get by its own history alone." * any(
             it.name == ALONE for it in self.compared)
         costs = "" if self.question.has_backlog else " Costs are those of orders and of stock, since no backlog has one."
         note = (f"Columns up to orders are by theory, rounded and unproved. The cost by crnsim is proved for its stream, "
@@ -196,7 +202,7 @@ class _Page:
         sure = settings.confidence is not None and self.question.fill is not None
         notes = [*found.notes, *(["best policies meet the fill rate by their law, without a confidence"] if sure else [])]
         heading, *rows = found.rows
-        return moves_grid([dict(zip(heading, row)) for row in rows], found.kept, self.every, self.money, notes)
+        return moves_grid([dict(zip(heading, row)) for row in rows], self.every, self.money, notes)
 
     def tables(self) -> list[Grid]:
         """Returns the item's figures of decisions.csv and of exact.csv, as they are spelt there."""
@@ -221,7 +227,7 @@ class _Page:
                         f"unproved. All are by {words}.",
             facts=history_facts(self.kept.name, self.question.counts, sum(back or []), self.question.leads, self.every),
             history=self.history(),
-            notes=[*self.kept.shown["notes"], *notes_of(self.question.demand, "demand")], law=self.law(),
+            notes=self.notes(), law=self.law(),
             laws=self.laws(), stock=stock_plot(self.its.stocks(), self.its.chosen, self.every),
             about_stock=f"Replication 0 of the plan's run, which starts with {start:,} items in stock. Both policies meet "
                         "the same demand and lead times.",

@@ -95,13 +95,13 @@ def regret_range(row: Mapping[str, Any], is_marked: bool) -> Range:
                  f"{bound:.1f}% at most", label, is_marked)
 
 
-def doubt_text(row: Mapping[str, Any], name: str, has_costs: bool) -> str:
-    """Returns what the doubt says of the chosen policy, under its name or in words."""
+def doubt_text(row: Mapping[str, Any], has_costs: bool) -> str:
+    """Returns what the doubt says of the chosen policy."""
     met = f"meets at least {percent(row['fill_10'])} of demand at once"
     if not has_costs:
-        return f"Under 90% of the laws that this history allows {name} {met}."
-    return (f"Under 90% of the laws {name} costs at most {100 * float(row['regret_90']):.1f}% more than the best of "
-            f"these policies, and under 90% it {met}.")
+        return f"Under 90% of the laws that this history allows the chosen policy {met}."
+    return (f"Under 90% of the laws the chosen policy costs at most {100 * float(row['regret_90']):.1f}% more than the "
+            f"best of these policies, and under 90% it {met}.")
 
 
 def doubt_part(rows: Sequence[Mapping[str, Any]], chosen: str, period: str, count: int, money: Money | None,
@@ -112,13 +112,15 @@ def doubt_part(rows: Sequence[Mapping[str, Any]], chosen: str, period: str, coun
     stands.
     """
     shown = [*rows][:MOST_DOUBTED]
-    text = doubt_text(next(row for row in rows if row["policy"] == chosen), chosen, money is not None)
-    headings = ["policy", *([f"mean cost a {period}", f"laws under which it is within {100 * WITHIN:g}% of the best"]
-                            if money else []), "met at once, mean", "met at once under 90% of the laws, at least"]
+    text = doubt_text(next(row for row in rows if row["policy"] == chosen), money is not None)
+    near = f"within {100 * WITHIN:g}%"
+    headings = ["policy", *([f"mean cost a {period}", near] if money else []), "met at once, mean", "met at once, least"]
     cells = [[row["policy"], *([money(row["cost"]), f"{float(row['within']):.0%}"] if money else []),
               percent(row["fill"]), percent(row["fill_10"])] for row in shown]
     grid = Grid("Each policy under the laws that the history allows", headings, cells,
-                f"{count} laws were drawn. {UNPROVED} {more}".strip(), mark=chosen)
+                f"{count} laws were drawn. " + f"{near}: the share of laws under which it is so near to the best. "
+                * (money is not None) + f"least: what it meets under 90% of the laws. {UNPROVED} {more}".strip(),
+                mark=chosen)
     if money is None:
         return DoubtPart(text, None, grid)
     note = ("A mark is what a policy costs more than the best of all policies of this page under the same law, in the "
@@ -137,14 +139,13 @@ def more_of(value: Any) -> str:
     return "-" if math.isnan(float(value)) else f"{number(100 * float(value), 1)}%"
 
 
-def moves_grid(rows: Iterable[Mapping[str, Any]], kept: str, period: str, money: Money, notes: Sequence[str]) -> Grid:
+def moves_grid(rows: Iterable[Mapping[str, Any]], period: str, money: Money, notes: Sequence[str]) -> Grid:
     """Returns the table of the sensitivity from rows with the columns of `sensitivity.COLUMNS`."""
-    headings = ["case", "best s", "best S", f"its cost a {period}", "it meets at once", f"cost if {kept} is kept",
-                "more than the best", f"{kept} meets at once"]
+    headings = ["case", "best s", "best S", f"its cost a {period}", "it meets at once", "chosen: cost", "chosen: more",
+                "chosen: met at once"]
     cells = [[row["case"], number(int(row["s"])), number(int(row["S"])), money(row["cost"]), percent(row["fill"]),
               money(row["kept_cost"]), more_of(row["kept_more"]), percent(row["kept_fill"])] for row in rows]
-    note = " ".join([f"In each case one thing differs and all else is as it is. {UNPROVED}",
+    note = " ".join([f"In each case one thing differs and all else is as it is. chosen: what the chosen policy costs then, "
+                     f"how much more than the best that is, and what it meets. {UNPROVED}",
                      *(f"{it[0].upper()}{it[1:]}." for it in notes)])
-    return Grid(f"The best policy in each case, and what it costs to keep {kept}", headings, cells, note)
-
-
+    return Grid("The best policy in each case, and what it costs to keep the chosen one", headings, cells, note)

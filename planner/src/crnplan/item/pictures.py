@@ -147,8 +147,9 @@ def law_plot(seen: Sequence[int], laws: Mapping[str, tuple[str, Counts]], period
     lines = {"what was seen": (TODAY, counted)} | {name: its for name, its in laws.items() if [*its[1]] != counted}
     scale = Chances.of(min(its[-1][1] / sum(count for _, count in its) for _, its in lines.values()))
     across = Scale.of([its[-1][0] for _, its in lines.values()], is_whole=True)
-    marks = [(across.at(it), tick(it), "first" if it == 0 else "last" if across.at(it) == UNITS else "")
-             for it in across.ticks]
+    css = {across.ticks[-1]: "last" if across.at(across.ticks[-1]) == UNITS else "", 0.0: "first"}
+    inner = across.ticks[-2::-2]  # A narrow page has no room for them.
+    marks = [(across.at(it), tick(it), css.get(it, "inner" if it in inner else "")) for it in across.ticks]
     return Plot("law", f"In how many {period}s demand is so large, as it was seen and by the law",
                 "; ".join(tail_words(name, its, across) for name, (_, its) in lines.items()) + ".", scale, marks,
                 f"{unit} that a {period} asks for, at least",

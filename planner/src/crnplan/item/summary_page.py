@@ -90,7 +90,7 @@ def _doubt(figures: Figures) -> DoubtPart:
 
 def _moves(figures: Figures) -> Grid:
     """Returns how the best policy moves."""
-    return moves_grid(rows_of(figures.item.text("sensitivity.csv")), figures.chosen, figures.settings.period,
+    return moves_grid(rows_of(figures.item.text("sensitivity.csv")), figures.settings.period,
                       lambda cost: number(figures.money(cost), 2), figures.unmoved)
 
 

@@ -19,6 +19,7 @@ if TYPE_CHECKING:
 
 UNITS = 1000
 MOST_TICKS = 5
+MOST_SIGNS = 12  # of texts at an axis that have room on a narrow page
 
 
 @dataclass(frozen=True)
@@ -49,8 +50,13 @@ class Scale:
 
     @property
     def marks(self) -> list[tuple[float, str, str]]:
-        """Returns the places at an axis below a picture, their texts and no class."""
-        return [(self.at(it), tick(it), "") for it in self.ticks]
+        """Returns the places at an axis below a narrow picture, their texts and their class: that of inner ones, which
+        a narrow page leaves out, if there is no room for all."""
+        texts = [tick(it) for it in self.ticks]
+        outer = {0.0, self.ticks[0], self.ticks[-1]}
+        is_long = sum(map(len, texts)) > MOST_SIGNS
+        return [(self.at(it), text, "inner" if is_long and it not in outer else "")
+                for it, text in zip(self.ticks, texts)]
 
 
 @dataclass(frozen=True)
