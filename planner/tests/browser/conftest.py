@@ -49,6 +49,7 @@ def pages(tmp_path_factory: pytest.TempPathFactory, request: pytest.FixtureReque
     makers: dict[str, Callable[[Path], Path]] = {
         "catalogue": lambda folder: report(made_folder(folder, 40, HOSTILE)),
         "catalogue without a curve": lambda folder: report(made_folder(folder, 12, has_curve=False)),
+        "catalogue of hundreds": lambda folder: report(made_folder(folder, 230, HOSTILE)),
         "catalogue of thousands": lambda folder: report(made_folder(folder, 3_000, HOSTILE)),
         "planned catalogue": lambda folder: report(planned(folder, program()), PLANNED, program=program()),
         "item": lambda folder: planned_item(furnished(folder, top, program()))}

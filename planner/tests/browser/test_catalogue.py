@@ -4,6 +4,7 @@ from __future__ import annotations
 import statistics
 
 import pytest
+from selenium.webdriver.common.action_chains import ActionChains
 from selenium.webdriver.common.by import By
 from selenium.webdriver.common.keys import Keys
 
@@ -17,20 +18,20 @@ COLUMNS = ("item", "description", "class", "verdict", "s_today", "S_today", "s_c
            "value_chosen", "warnings")
 # Seconds in which thousands of items are sorted on a quiet machine.
 LONGEST_SORT = 0.3
-MOST_BYTES = 2_000_000
+MOST_BYTES, MOST_LAYOUTS = 2_000_000, 100
 
 
 @pytest.fixture
 def items(browser: Browser, pages: Pages) -> Items:
     """Returns the table of a page that has just been loaded."""
-    browser.open(pages("catalogue"), Form(1280, height=TALL))
+    browser.open(pages("catalogue of hundreds"), Form(1280, height=TALL))
     return Items(browser)
 
 
 @pytest.fixture
 def decisions(pages: Pages) -> list[Row]:
     """Returns the rows of the file that the page shows."""
-    return decisions_of(pages("catalogue").parent)
+    return decisions_of(pages("catalogue of hundreds").parent)
 
 
 def by_item(rows: list[Row]) -> dict[str, Row]:
@@ -127,6 +128,32 @@ def test_link_leads_to_the_page_of_the_item(browser: Browser, pages: Pages, name
 def test_page_of_thousands_is_small(pages: Pages) -> None:
     """The page of three thousand items can be sent by mail."""
     assert pages("catalogue of thousands").stat().st_size < MOST_BYTES
+
+
+def test_rows_of_thousands_that_are_found_stand_together(browser: Browser, pages: Pages) -> None:
+    """Few of thousands are seen without scrolling, wherever they stood."""
+    browser.open(pages("catalogue of thousands"))
+    items = Items(browser)
+    items.search("P0020")
+    assert sorted(row["item"] for row in items.shown()) == [f"P0020{it}" for it in range(10)]
+    heights = browser.run("const rows = [...document.querySelectorAll('#items tr')].filter((it) => !it.hidden);"
+                          "return [document.getElementById('items').offsetHeight,"
+                          "rows.reduce((sum, it) => sum + it.offsetHeight, 0)];")
+    assert heights[0] == pytest.approx(heights[1], abs=2)
+
+
+def test_tab_lays_thousands_out_in_few_steps(browser: Browser, pages: Pages) -> None:
+    """The first press of Tab looks at each element of the page. If it laid out each row alone, it would take a minute."""
+    def layouts() -> float:
+        """Returns how often the page has been laid out so far."""
+        metrics = browser.command("Performance.getMetrics")["metrics"]
+        return next(float(it["value"]) for it in metrics if it["name"] == "LayoutCount")
+    browser.command("Performance.enable")
+    browser.open(pages("catalogue of thousands"))
+    before = layouts()
+    ActionChains(browser.driver).send_keys(Keys.TAB).perform()
+    assert browser.run("return document.activeElement !== document.body;")
+    assert layouts() - before < MOST_LAYOUTS
 
 
 @pytest.mark.serial

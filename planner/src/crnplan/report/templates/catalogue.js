@@ -1,8 +1,9 @@
 "use strict";
 // Sorts and filters the table of items. The rows stand in the page already, so it can be read without this script.
 const table = document.getElementById("items");
-const body = table.tBodies[0];
-const rows = Array.from(body.rows);
+const bodies = Array.from(table.tBodies);
+const sizes = bodies.map((body) => body.rows.length);
+const rows = bodies.flatMap((body) => Array.from(body.rows));
 const headings = Array.from(table.tHead.rows[0].cells);
 const columns = headings.map((heading) => heading.dataset.name);
 const words = document.getElementById("words");
@@ -23,13 +24,25 @@ function order(isText, isDescending) {
   };
 }
 
+let ordered = rows;
+
+// Fills the groups with the rows in their order, those that are shown first. A group without any has no height.
+function fill() {
+  const filled = [...ordered.filter((row) => !row.hidden), ...ordered.filter((row) => row.hidden)];
+  bodies.forEach((body, place) => {
+    body.replaceChildren(...filled.splice(0, sizes[place]));
+    body.hidden = body.rows[0].hidden;
+  });
+}
+
 function sortBy(heading) {
   const isDescending = heading.getAttribute("aria-sort") === "ascending";
   const place = headings.indexOf(heading);
   const compare = order(heading.classList.contains("left"), isDescending);
   const keyed = rows.map((row) => [row.cells[place].textContent, row]);
   keyed.sort((one, other) => compare(one[0], other[0]));
-  body.replaceChildren(...keyed.map(([, row]) => row));
+  ordered = keyed.map(([, row]) => row);
+  fill();
   headings.forEach((it) => it.removeAttribute("aria-sort"));
   heading.setAttribute("aria-sort", isDescending ? "descending" : "ascending");
 }
@@ -47,6 +60,7 @@ function filter() {
     row.hidden = !isShown;
     count += isShown;
   });
+  fill();
   document.getElementById("count").textContent = `${count.toLocaleString("en")} of ${rows.length.toLocaleString("en")}`;
 }
 
