@@ -57,7 +57,7 @@ def check(scenario: Scenario, found: Candidate, pairs: np.ndarray, share: float 
 
 @settings(max_examples=10)
 @given(demand=laws(7, 3).filter(lambda it: max(it[0]) > 0), back=st.none() | laws(1, 2),
-       lead=st.sampled_from([[1], [2], [3], [1, 3], [1, 2, 4]]),
+       lead=st.sampled_from([[1], [2], [3], [1, 3], [1, 2, 4], [2, 4]]),
        costs=st.builds(Costs, st.integers(0, 60), st.just(0), st.integers(2, 9), st.integers(1, 40)))
 @example(([0, 6], [3, 1]), [2], None, Costs(20, 0, 2, 9))
 @example(([0, 6], [3, 1]), [1, 3], None, Costs(20, 0, 2, 9))
@@ -89,6 +89,33 @@ def test_the_second_fill_is_that_of_a_chain(demand: Pair, back: Pair | None, lev
     short = shortfall_of(scenario, levels[1] - levels[0])
     fill, = fills_of(scenario, short, np.array([levels[1]]))
     assert fill == pytest.approx(by_chain(scenario)[1], abs=1e-7)
+
+
+@pytest.mark.parametrize("costs", [Costs(700, 0, 1, 5), Costs(9000, 0, 1, 2)], ids=["s above 0", "s of 0"])
+@pytest.mark.parametrize("lead", [[3], [2, 4]], ids=["one lead time", "several"])
+@pytest.mark.parametrize("step", [2, 3, 10])
+def test_the_best_of_a_lattice(step: int, lead: list[int], costs: Costs) -> None:
+    """No policy costs less than the best on a coarse lattice: with each gap, some levels near the best are tried."""
+    scenario = scenario_of((range(41), [1 + it % 5 for it in range(41)]), (lead, [1] * len(lead)), costs=costs)
+    theory = theory_on(scenario, shape_of(scenario), step, False)
+    found = theory.best()
+    assert (found.point < step) == (costs.backlog == 2)
+    theory.prepare(range(1200 // step))
+    every = [theory.policy(gap, level) for gap in range(1200 // step)
+             for level in (found.level, found.level + 1, theory.items(gap), theory.best_of_gap(gap).level)]
+    assert found.cost == pytest.approx(min(every).cost, rel=1e-9)
+
+
+@pytest.mark.parametrize("lead", [[2], [1, 3]], ids=["one lead time", "several"])
+@pytest.mark.parametrize("demand, setup", [([5, 7], 0), ([0, 4, 9], 5), ([0, 4, 9], 10), ([0, 4, 9], 30)])
+def test_the_first_of_equal_gaps(demand: list[int], setup: int, lead: list[int]) -> None:
+    """If the position never stands between two places, a gap up to the first of them is as good as a wider one."""
+    theory = theory_of(scenario_of((demand, [1] * len(demand)), (lead, [1] * len(lead)), costs=Costs(setup, 0, 2, 9)))
+    found = theory.best()
+    gap = found.level - found.point
+    costs = [theory.figures(found.level - it, found.level).cost / found.cost for it in range(gap + 2)]
+    assert costs[gap + 1] == pytest.approx(1, rel=1e-12)
+    assert min(costs[:gap], default=math.inf) > 1 + 1e-9
 
 
 @pytest.mark.parametrize("share", (0.95, 0.995))

@@ -71,8 +71,9 @@ class Policies:
         stock, unmet = stock[owner, place], unmet[owner, place]
         kept = vertices(owner, stock, unmet, np.arange(len(owner)))
         prices = slopes(owner[kept], stock[kept], unmet[kept]) * (self.holding / self.value)
-        asked, ends = PRICES / np.array(STOCK)[:, None], np.searchsorted(owner[kept], np.arange(len(gaps) + 1))
-        its = np.stack([kept[first + np.searchsorted(prices[first:end - 1], asked)] for first, end in zip(ends, ends[1:])])
+        ends, asked = np.searchsorted(owner[kept], np.arange(len(gaps) + 1)), PRICES / np.array(STOCK)[:, None]
+        its = np.stack([kept[first + np.searchsorted(prices[first:end - 1], asked)]
+                        for first, end in zip(ends, ends[1:])])
         return Best(gaps, levels[place[its]], stock[its], unmet[its])
 
     def may_be_best(self, gaps: Whole, levels: Whole, stock: Floats, unmet: Floats) -> npt.NDArray[np.bool_]:
