@@ -110,12 +110,14 @@ def test_costs_of_0() -> None:
 
 @pytest.mark.parametrize("case", CASES)
 def test_many_periods(case: str, monkeypatch: pytest.MonkeyPatch) -> None:
-    """Matrices of many reviews agree with single reviews, and the bias settles as the periods grow."""
+    """All ways to compute many reviews agree with single reviews, and the bias settles as the periods grow."""
     asked = replace(CASES[case], periods=1024, initial=30, policies=(Policy("it", 4, 11), Policy("other", 9, 9)))
-    dense, shorter = start_bias(asked), start_bias(replace(asked, periods=900))
+    found, shorter = start_bias(asked), start_bias(replace(asked, periods=900))
+    monkeypatch.setattr("crnplan.theory.start_bias.MOST_WIDTH", 0)
+    assert start_bias(asked).biases == pytest.approx(found.biases, abs=1e-7)
     monkeypatch.setattr("crnplan.theory.reviews.MOST_DENSE", 0)
-    assert start_bias(asked).biases == pytest.approx(dense.biases, abs=1e-7)
-    assert shorter.biases == pytest.approx(dense.biases, abs=1e-7)
+    assert start_bias(asked).biases == pytest.approx(found.biases, abs=1e-7)
+    assert shorter.biases == pytest.approx(found.biases, abs=1e-7)
 
 
 @settings(max_examples=25, deadline=None)

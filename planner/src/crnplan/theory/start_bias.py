@@ -28,7 +28,7 @@ from .stock_bias import StockBias
 
 MOST_WORK = 40_000_000  # for late orders of all policies, by `work_of`
 MOST_BIAS_GAPS = 17_000  # with one lead time: the reviews of a run take longer than figures
-
+MOST_WIDTH = 50_000  # cells from the start to an order: for more, all reviews at once would take too much memory
 
 def theory_of(scenario: Scenario, most_gaps: int = MOST_GAPS) -> LongRun:
     """Returns the theory of a scenario, fine enough for its own policies. Costs of 0 are taken too.
@@ -75,9 +75,9 @@ class Runs:
         self.starts = {(it, gap): start_of(theory, scenario.initial, it.s, it.S, gap)
                        for it in scenario.policies for gap, _ in theory.gaps_of(it.s, it.S)}
         self.stock = StockBias(theory, scenario)
+        widest = max(gap - min(start.law.low, 0) for (_, gap), start in self.starts.items())
         self.falls: Falls | None = None
-        if theory.net.low >= 0:
-            widest = max(gap - min(start.law.low, 0) for (_, gap), start in self.starts.items())
+        if theory.net.low >= 0 and widest <= MOST_WIDTH:
             self.falls = Falls(theory.net, widest, scenario.periods)
 
     def reviews(self, start: Start, gap: int) -> Reviews:
