@@ -30,6 +30,7 @@ MOST_WORK = 40_000_000  # for late orders of all policies, by `work_of`
 MOST_BIAS_GAPS = 17_000  # with one lead time: the reviews of a run take longer than figures
 MOST_WIDTH = 50_000  # cells from the start to an order: for more, all reviews at once would take too much memory
 
+
 def theory_of(scenario: Scenario, most_gaps: int = MOST_GAPS) -> LongRun:
     """Returns the theory of a scenario, fine enough for its own policies. Costs of 0 are taken too.
 
