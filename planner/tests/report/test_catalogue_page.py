@@ -422,8 +422,8 @@ def test_plan_of_other_rows_is_refused(folder: Path) -> None:
         crn.report(folder)
 
 
-def test_page_of_a_plan(tmp_path: Path, program: Path) -> None:
-    """A plan writes its page at its end. The totals are those of summary.txt."""
+def test_page_of_a_plan(tmp_path: Path, program: Path, crnplan: Command) -> None:
+    """A plan writes its page at its end. The totals are those of summary.txt. Pages of items are written if asked."""
     made().write(tmp_path)
     leave_few(tmp_path, 6)
     crn.plan(crn.read_catalogue(*(tmp_path / it for it in FILES), today=TODAY), tmp_path / "plan", jobs=1,
@@ -433,3 +433,10 @@ def test_page_of_a_plan(tmp_path: Path, program: Path) -> None:
     assert f"The difference is {saving}, from {low} to {high}" in page.text.replace("\u2212", "-")
     assert len(page.items) == 6 and not (tmp_path / "plan/curve.csv").exists()
     assert json.loads((tmp_path / "plan/planned.json").read_text())["settings"]["seed"] in page.text
+    name, plan = next(iter(page.items)), tmp_path / "plan"
+    status, output, errors = crnplan("report", plan, "--item", name, "--program", program)
+    assert (status, errors) == (0, "") and output.split() == [str(file_of(plan, name)), str(plan / "report.html")]
+    assert {unquote(address) for address in Page(plan / "report.html").links.values()} == {f"items/{name}.html"}
+    assert name in Page(file_of(plan, name)).text
+    status, output, errors = crnplan("report", plan, "--item", "A-999", "--program", program)
+    assert (status, output) == (2, "") and "A-999" in errors
