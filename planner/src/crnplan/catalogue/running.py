@@ -119,8 +119,8 @@ def plan(catalogue: Catalogue, folder: str | Path, *, jobs: int | None = None, c
     Columns (of a period in the long run; money as in the masters): item, description, class, verdict, s and S, cost and
     saving by crnsim with the saving's paired interval, the same by theory, fill (the share of demand met at once), mean
     stock and its value, orders by theory, and warnings. `decisions.csv`, `exact.csv`, `rejects.csv` and `summary.txt`
-    in the folder have all of it. The folder keeps each answer, with all that it depends on: begun again, only what is
-    not there or has changed is planned.
+    in the folder have all of it, and `report.html` shows it: see `report`. The folder keeps each answer, with all that
+    it depends on: begun again, only what is not there or has changed is planned.
 
     `jobs` processes work (by default one for each processor), or the workers of a Dask scheduler, whose address is
     `cluster`; the bytes are the same. `settings` are those of `Settings`:
