@@ -77,15 +77,17 @@ def holding(folder: Path, program: Path) -> Path:
 
 @pytest.fixture
 def start(folder: Path, holding: Path) -> Iterator[Start]:
-    """Returns a function that starts a command, by default a plan, in a process group of its own. What is left of it at the end is ended."""
+    """Returns a function that starts a command, by default a plan, in a process group of its own. What is left of it at
+    the end is ended."""
     begun: list[subprocess.Popen[bytes]] = []
 
     def starting(*words: str, command: Sequence[str] = PLAN[0],
                  before: Callable[[], None] | None = None) -> subprocess.Popen[bytes]:
         """Starts a command."""
         command = [sys.executable, "-m", "crnplan", *command, "--program", str(holding)]
-        begun.append(subprocess.Popen([*command, *words], cwd=folder, stdin=subprocess.DEVNULL, stdout=subprocess.DEVNULL,
-                                      stderr=subprocess.PIPE, start_new_session=True, preexec_fn=before))
+        begun.append(subprocess.Popen(
+            [*command, *words], cwd=folder, stdin=subprocess.DEVNULL, stdout=subprocess.DEVNULL, stderr=subprocess.PIPE,
+            start_new_session=True, preexec_fn=before))
         return begun[-1]
     yield starting
     for process in begun:

@@ -1,4 +1,4 @@
-"""Tests by which law an item is planned: from whom it learns, what it would get alone, and confidence in a fill rate."""
+"""Tests by which law an item is planned: from whom it learns, its policy alone, and confidence in a fill rate."""
 from __future__ import annotations
 
 import json
@@ -62,7 +62,7 @@ def alone_and_chosen(answer: dict[str, Any]) -> tuple[list[int], list[int]]:
 @pytest.mark.parametrize("name", ["I-004", "I-009"])
 @pytest.mark.parametrize("costs", [{}, {"fill": "19/20", "backlog": None}, {"leads": [1, 4, 2]}], ids=str)
 def test_alone_is_the_plan_that_borrows_nothing(prior: Prior, program: Path, name: str, costs: Facts) -> None:
-    """Has beside the chosen policy the one of a plan without borrowing, with its cost and fill under the learned law."""
+    """Has beside the chosen policy that of a plan without borrowing, with its cost and fill under the learned law."""
     facts = CATALOGUE[name] | costs
     single = answer_of(name, facts, Settings(borrow=NONE, **SHORT), Prior(NONE), str(program))
     learned = answer_of(name, facts, Settings(borrow=ALL, **SHORT), prior, str(program))
@@ -103,9 +103,9 @@ def test_an_item_may_learn_from_no_other(prior: Prior, usual: str, said: str) ->
 
 @pytest.mark.parametrize("read, asked, learned, usual", [
     ((ITEMS, {}), None, ALL, ALL), ((ITEMS, {"I-001": "none"}), None, ALL, ALL),
-    ((ITEMS, {"I-001": "class"}), None, CLASS, ALL), ((ITEMS, {}), CLASS, CLASS, CLASS), ((ITEMS, {}), NONE, NONE, NONE),
-    ((ITEMS, {"I-001": "none"}), NONE, NONE, NONE), ((ITEMS, {"I-001": "all"}), NONE, ALL, NONE),
-    ((40, {}), None, NONE, NONE), ((40, {}), ALL, ALL, ALL), ((40, {"I-001": "all"}), None, ALL, NONE)],
+    ((ITEMS, {"I-001": "class"}), None, CLASS, ALL), ((ITEMS, {}), CLASS, CLASS, CLASS),
+    ((ITEMS, {}), NONE, NONE, NONE), ((ITEMS, {"I-001": "none"}), NONE, NONE, NONE),
+    ((ITEMS, {"I-001": "all"}), NONE, ALL, NONE), ((40, {}), None, NONE, NONE), ((40, {}), ALL, ALL, ALL), ((40, {"I-001": "all"}), None, ALL, NONE)],
     indirect=["read"])
 def test_what_is_learned(read: Catalogued, tmp_path: Path, asked: str | None, learned: str, usual: str) -> None:
     """Learns by default from 100 items, and on request of the command or of a master; says which items differ."""
@@ -136,8 +136,10 @@ def kept_under(name: str, facts: Facts, settings: Settings, prior: Prior, levels
 
 
 def test_allowed_laws_are_round_the_law_of_the_item(prior: Prior) -> None:
-    """Draws laws whose mean is that of the item's law, alone or learned from all or from its class; others for each item
-    and each seed."""
+    """Draws laws whose mean is that of the item's law, alone or learned from all or from its class.
+
+    They are others for each item and each seed.
+    """
     means: dict[tuple[str, str, str], float] = {}
     for name, way, seed in (("I-006", NONE, "a"), ("I-006", ALL, "a"), ("I-006", CLASS, "a"), ("I-006", ALL, "b"),
                             ("I-008", ALL, "a")):

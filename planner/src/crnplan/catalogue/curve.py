@@ -76,8 +76,11 @@ def points_of(its: Gathered, budget: Budget) -> tuple[dict[str, Choice], dict[st
 
 
 def _as_today(its: Gathered, asked: Mapping[str, float]) -> Choice:
-    """Returns the choice with today's stock or service. With many small orders today may be better than the curve, which
-    has fewer; or the curve begins above it. Then the choice has more orders, at most today's."""
+    """Returns the choice with today's stock or service.
+
+    With many small orders today may be better than the curve, which has fewer; or the curve begins above it. Then the
+    choice has more orders, at most today's.
+    """
     today = its.points[TODAY]
     try:
         choice = chosen_by(its.items, Budget(**asked))

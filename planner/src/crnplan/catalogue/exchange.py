@@ -307,8 +307,10 @@ def chosen_by(items: Items, budget: Budget) -> Choice:
 
 
 def with_more_orders(items: Items, budget: Budget) -> Choice:
-    """Returns the choice for a budget with dearer stock, so that all orders that are allowed are used. Raises Refused if
-    no choice keeps it."""
+    """Returns the choice for a budget with dearer stock, so that all orders that are allowed are used.
+
+    Raises Refused if no choice keeps it.
+    """
     found = _less_stock(items, budget, budget.choice(items, AS_IS))
     return judged(items, found.rows, found.dearer)
 

@@ -33,7 +33,7 @@ def drawn_names(read: Catalogued, most: int | None) -> frozenset[str]:
 
 
 def histories_of(read: Catalogued, most: int | None = None) -> Iterator[tuple[Any, str]]:
-    """Yields the history, as an array, and the class of each item that is not counted in boxes, of so many or of all."""
+    """Yields the history, as an array, and the class of each item not counted in boxes, of so many or of all."""
     import numpy as np
     drawn = drawn_names(read, most)
     for name, facts in read.facts_of_items():

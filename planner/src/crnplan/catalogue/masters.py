@@ -53,7 +53,8 @@ def decimals_of(number: Fraction) -> int:
 def borrowed_from(text: str) -> str:
     """Returns from whom an item learns its law. Raises Unreadable."""
     if text.casefold() not in BORROW:
-        raise Unreadable(f"{shown(text)!r} is not {', '.join(BORROW[:-1])} or {BORROW[-1]}; write one of them, or nothing")
+        known = f"{', '.join(BORROW[:-1])} or {BORROW[-1]}"
+        raise Unreadable(f"{shown(text)!r} is not {known}; write one of them, or nothing")
     return text.casefold()
 
 

@@ -68,13 +68,13 @@ class Settings:
         if self.borrow not in (None, *BORROW):
             raise Refused(f"--borrow {self.borrow!r} is not one of {', '.join(BORROW)}")
         if self.fit != "auto" and self.borrow not in (None, NONE):
-            raise Refused(f"--fit {self.fit} fits each item alone, and --borrow {self.borrow} learns from others; leave "
-                          "one out")
+            raise Refused(f"--fit {self.fit} fits each item alone, and --borrow {self.borrow} learns from others; "
+                          "leave one out")
         if not 0 < self.level < 1:
             raise Refused(f"--level {self.level:g} is not between 0 and 1; write 0.95 for 95 of 100 samples")
         if self.confidence is not None and not 0 < self.confidence < 1:
-            raise Refused(f"--confidence {self.confidence:g} is not between 0 and 1; write 0.8 for 80% of the laws that "
-                          "a history allows")
+            raise Refused(f"--confidence {self.confidence:g} is not between 0 and 1; write 0.8 for 80% of the laws "
+                          "that a history allows")
         for name, value, least, most in (("periods", self.periods, 1, MOST_PERIODS),
                                          ("replications", self.replications, 2, MOST_REPLICATIONS)):
             if not least <= value <= most:

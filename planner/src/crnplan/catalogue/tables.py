@@ -152,8 +152,8 @@ def summary_text(counts: Mapping[str, Any], totals: Totals, settings: Settings, 
         "theory"]
     if settings.confidence is not None:
         lines.append(f"fill rates kept under {settings.confidence:.0%} of the laws that the histories allow: "
-                     f"{totals.promised:,} items, which cost {money(totals.sums['theory_cost_confidence'])} a {every} more "
-                     "than without, by theory")
+                     f"{totals.promised:,} items, which cost {money(totals.sums['theory_cost_confidence'])} a {every} "
+                     "more than without, by theory")
     lines += ["", f"Laws: {learned}.", *NOTES]
     if totals.without_interval:
         lines.append(f"{totals.without_interval:,} items have no interval, since one of their policies hardly orders; "

@@ -54,12 +54,18 @@ def command(**asked: Any) -> int:
 
     DEMAND.csv has a row for each movement: item, date, quantity, and perhaps returned. ITEMS.csv has a row for each
     item: item, setup, holding, backlog or a wanted fill rate, lead time in periods, today's s and S, and perhaps
-    description, stock, price, class, and borrow (none, class or all). Costs are for one item and one period. Columns are found by their names; what
-    was found is printed as lines for crnplan.toml that state it.
+    description, stock, price, class, and borrow (none, class or all). Costs are for one item and one period. Columns
+    are found by their names; what was found is printed as lines for crnplan.toml that state it.
 
     FOLDER gets decisions.csv (an item a row), exact.csv (crnsim's figures as fractions), rejects.csv (all that was left
-    out, with place, reason and advice) and summary.txt. Run again, only items that have changed are planned; after an
-    interruption it goes on. The bytes do not depend on how many processes or workers there are.
+    out, with place, reason and advice), summary.txt, and report.html with all of it. Run again, only items that have
+    changed are planned; after an interruption it goes on. The bytes do not depend on how many processes or workers
+    there are.
+
+    Items learn which laws of demand there are from one another (--borrow). Beside the policy of each item stands the
+    one that it would get by its own history alone (s_alone, S_alone), with cost and fill rate under the law that it
+    has. With --confidence, policies with a wanted fill rate are sought under 100 laws that the history allows, which
+    takes a few times as long.
 
     The exit status is 3 if the counts of rows or items do not add up.
     """
