@@ -10,6 +10,7 @@ from pathlib import Path
 
 import pytest
 
+import crnplan
 from crnplan.catalogue import plan, read_catalogue
 from crnplan.catalogue.item_files import file_of
 from crnplan.catalogue.item_page import item_page
@@ -77,6 +78,9 @@ def test_figures_are_those_of_the_tables(folder: Path, pages: dict[str, Page]) -
         wanted += [[words, "", row[it] or "-"] for words, it in SAVINGS.items()]
         assert page.tables[PAIRS][1:] == wanted
         assert page.tables[EXACT][1:] == [[*it] for it in exact[name].items()]
+        version = 2 if name == "A-006" else 1  # This item alone has returns.
+        assert f"Key {exact[name]['key']}; scenario of version {version}. " in page.words
+        assert f"Written by crnplan {crnplan.__version__}." in page.words
 
 
 def test_tables_of_policies_have_them_too(folder: Path, pages: dict[str, Page]) -> None:

@@ -136,6 +136,8 @@ def test_page_stands_alone(whole: Path, long_run: Path) -> None:
         for it in Scenario.read(plan / "suggested.toml").policies:
             assert page.words.count(f" {it.name} ") >= 3
         assert f"Cost compared with today's policy, {horizon}" in page.words
+        scenario = Scenario.read(plan / "suggested.toml")
+        assert f"Key {' '.join(scenario.key)}; scenario of version {scenario.version}. " in page.words
         counts = [row["demand"] for row in rows_of(plan, "demand.csv").values()]
         assert text.count('class="bar"') == len(counts) - counts.count("0")
 

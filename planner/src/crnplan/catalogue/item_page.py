@@ -232,7 +232,7 @@ class _Page:
             about_stock=f"Replication 0 of the plan's run, which starts with {start:,} items in stock. Both policies meet "
                         "the same demand and lead times.",
             decided=self.decided(), policies=self.policies(), doubt=self.doubt(),
-            moves=self.moves(), checked=None, tables=self.tables(), key=self.kept.exact["key"])
+            moves=self.moves(), checked=None, tables=self.tables(), scenario=self.its.scenario)
 
 
 def item_page(folder: Path, name: str, program: str | Path | None = None) -> Path:

@@ -10,6 +10,7 @@ from typing import Any
 
 from ..decision.doubt import WITHIN
 from ..report.page import number, percent, rendered
+from ..scenario import Scenario
 from .pictures import Plot, Range, Ranges
 
 MOST_DOUBTED = 10  # policies of which the page shows the doubt
@@ -50,7 +51,8 @@ class DoubtPart:
 
 @dataclass(frozen=True)
 class ItemPage:
-    """What the page of an item shows. `said` are sentences below the headline, `tables` stand at the end."""
+    """What the page of an item shows. `said` are sentences below the headline, `tables` stand at the end, with the key
+    and the version of the scenario that was run."""
 
     title: str
     headline: str
@@ -71,7 +73,7 @@ class ItemPage:
     moves: Grid
     checked: Ranges | None
     tables: Sequence[Grid]
-    key: str
+    scenario: Scenario
 
     @property
     def text(self) -> str:

@@ -130,4 +130,4 @@ def page_of(figures: Figures) -> ItemPage:
         checked=_differences(figures, figures.checked.values(), chosen,
                              f"Check on new random numbers: cost compared with {chosen}, {horizon}",
                              size_of(figures, "check")),
-        tables=[], key=" ".join(figures.scenario.key))
+        tables=[], scenario=figures.scenario)
