@@ -10,11 +10,13 @@ import numpy as np
 import pytest
 
 import crnplan as crn
-from crnplan.catalogue import Settings
+from crnplan.catalogue import Settings, planning
 from crnplan.catalogue.learning import prior_of
 from crnplan.catalogue.planning import ALL, CLASS, NONE, allowed_by, answer_of, question_of
 from crnplan.catalogue.store import Catalogued, Writer
+from crnplan.catalogue.tables import row_of
 from crnplan.demand.borrowing import Prior, law_of
+from crnplan.theory.long_run import NO_POLICY
 from planner.tests.theory.long_run_costs import fills_of, shortfall_of
 
 WEEKS, ITEMS = 40, 120
@@ -105,8 +107,8 @@ def test_an_item_may_learn_from_no_other(prior: Prior, usual: str, said: str) ->
     ((ITEMS, {}), None, ALL, ALL), ((ITEMS, {"I-001": "none"}), None, ALL, ALL),
     ((ITEMS, {"I-001": "class"}), None, CLASS, ALL), ((ITEMS, {}), CLASS, CLASS, CLASS),
     ((ITEMS, {}), NONE, NONE, NONE), ((ITEMS, {"I-001": "none"}), NONE, NONE, NONE),
-    ((ITEMS, {"I-001": "all"}), NONE, ALL, NONE), ((40, {}), None, NONE, NONE), ((40, {}), ALL, ALL, ALL), ((40, {"I-001": "all"}), None, ALL, NONE)],
-    indirect=["read"])
+    ((ITEMS, {"I-001": "all"}), NONE, ALL, NONE), ((40, {}), None, NONE, NONE), ((40, {}), ALL, ALL, ALL),
+    ((40, {"I-001": "all"}), None, ALL, NONE)], indirect=["read"])
 def test_what_is_learned(read: Catalogued, tmp_path: Path, asked: str | None, learned: str, usual: str) -> None:
     """Learns by default from 100 items, and on request of the command or of a master; says which items differ."""
     prior, found, note = prior_of(tmp_path, read, Settings(borrow=asked), False)
@@ -169,6 +171,29 @@ def test_confidence_is_one_in_a_wanted_fill_rate(prior: Prior, program: Path) ->
     with_it, without = (answer_of("I-004", CATALOGUE["I-004"], Settings(borrow=ALL, confidence=its, **SHORT), prior,
                                   str(program)) for its in (0.8, None))
     assert with_it == without
+
+
+def test_a_promise_that_no_policy_keeps(prior: Prior, program: Path, monkeypatch: pytest.MonkeyPatch) -> None:
+    """Plans an item by its own law, and says so, if no policy keeps its fill rate under enough laws."""
+    monkeypatch.setattr(planning, "promised", lambda *_: NO_POLICY)
+    facts = CATALOGUE["I-006"] | {"fill": "9/10", "backlog": None}
+    plain = answer_of("I-006", facts, Settings(borrow=NONE, **SHORT), prior, str(program))
+    sure = answer_of("I-006", facts, Settings(borrow=NONE, confidence=0.8, **SHORT), prior, str(program))
+    assert sure["levels"] == plain["levels"] and sure["confidence_cost"] == 0
+    assert [*{*sure["warnings"]} - {*plain["warnings"]}] == [
+        "its fill rate holds for its own law: no policy keeps it under 80% of the laws that its history allows"]
+
+
+def test_an_item_without_a_policy_alone(prior: Prior, program: Path, monkeypatch: pytest.MonkeyPatch) -> None:
+    """Leaves the cells of the policy alone empty if the item's own law has none."""
+    def refused(_: planning.Question) -> planning.Question:
+        """Refuses the item."""
+        raise crn.Refused("no policy is best")
+    monkeypatch.setattr(planning, "alone_of", refused)
+    answer = answer_of("I-004", CATALOGUE["I-004"], Settings(borrow=ALL, **SHORT), prior, str(program))
+    shown = {"price": None, "today": [3, 12], "description": "", "notes": []}
+    row = row_of("I-004", CATALOGUE["I-004"], shown, answer)
+    assert row["s_alone"] is row["theory_cost_alone"] is None and row["s_chosen"] is not None
 
 
 def test_items_with_one_demand_are_marked(prior: Prior, program: Path) -> None:

@@ -270,8 +270,8 @@ def levels_of(question: Question, choice: Choice, settings: Settings, prior: Pri
     """Returns s and S of each policy. There is none of the item alone if its own law has no best policy."""
     levels = {TODAY: question.levels, CHOSEN: choice.levels, ALONE: choice.levels}
     if learns(question):
-        single = alone_of(question)
         try:
+            single = alone_of(question)
             levels[ALONE] = choice_of(theory_of(single, settings), single, settings, prior).levels
         except Refused:
             del levels[ALONE]
