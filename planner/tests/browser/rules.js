@@ -223,6 +223,12 @@ const rules = (() => {
     ...all(DRAWN).filter((it) => !isHidden(it) && !it.parentElement.closest("[role=img]")),
     ...all(CONTROLS).filter((it) => it.tabIndex >= 0 && !isHidden(it))];
 
+  // Returns parts of tables with the role of each, which it must keep whatever its display is.
+  const partsOfTables = () => all("table").flatMap((table) => [
+    ["table", table], ["row", table.querySelector("tbody tr")],
+    ["columnheader", table.querySelector("th[scope=col]")], ["cell", table.querySelector("tbody td")],
+  ]).filter(([, element]) => element && isShown(element));
+
   const toReach = () => all(CONTROLS).filter((it) => it.tabIndex >= 0 && !it.disabled);
 
   // Returns how an element looks at its edge, which must change if it has the focus.
@@ -244,5 +250,6 @@ const rules = (() => {
     return edges.size;
   }
 
-  return {place, overflow, clipped, overlaps, contrast, tables, headings, page, policy, regions, toName, watch};
+  return {place, overflow, clipped, overlaps, contrast, tables, headings, page, policy, regions, toName, partsOfTables,
+    watch};
 })();

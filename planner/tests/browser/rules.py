@@ -42,6 +42,14 @@ def names(browser: Browser) -> Faults:
             yield f"{browser.run('return rules.place(arguments[0]);', element)}: it has no name"
 
 
+def roles(browser: Browser) -> Faults:
+    """Yields parts of tables that the browser does not tell a screen reader as such (WCAG 2.1, 1.3.1)."""
+    for role, element in browser.run("return rules.partsOfTables();")[:MOST]:
+        if element.aria_role != role:
+            place = browser.run("return rules.place(arguments[0]);", element)
+            yield f"{place}: its role is {element.aria_role}, not {role}"
+
+
 def keyboard(browser: Browser) -> Faults:
     """Yields controls that Tab does not reach, or whose focus is not seen (WCAG 2.1, 2.1.1 and 2.4.7)."""
     count = min(browser.run("return rules.watch();"), MOST)
@@ -50,7 +58,7 @@ def keyboard(browser: Browser) -> Faults:
 
 
 RULES: dict[str, Rule] = {
-    "console": console, "requests": requests, "names": names, "keyboard": keyboard,
+    "console": console, "requests": requests, "names": names, "roles": roles, "keyboard": keyboard,
     **{it: by_script(it) for it in ("overflow", "clipped", "overlaps", "contrast", "tables", "headings", "page",
                                     "policy", "regions")}}
 
