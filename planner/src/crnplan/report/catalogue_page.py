@@ -10,7 +10,7 @@ from itertools import groupby
 from typing import Any
 
 from .catalogue_figures import Place, Reason, Row, Totals
-from .page import MOST_TICKS, UNITS, Scale, number, rendered
+from .page import UNITS, Scale, number, rendered
 
 MOST_ROWS = 5_000  # items in the table
 MOST_SAVINGS = 15
@@ -61,8 +61,9 @@ KINDS = {"item": "Items left out", "row": "Rows rejected", "suspicious": "Suspic
 class Contents:
     """What the page of a catalogue says.
 
-    `sources` has the counts of rows of each file by its kind, `named` how many items there are in them. `verdicts` says
-    what each verdict means, `said` what each point of the curve is. `curve` has the named points and the others, or
+    `run` says of how many runs costs are, at which `level` intervals hold. `sources` has the counts of rows of each file
+    by its kind, `named` how many items there are in them. `rows` are those of the table. `verdicts` says what each
+    verdict means, `said` what each point of the curve is. `curve` has the named points and the others, or
     nothing: `no_curve` then says why. `pages` has the address of the page of each item that has one. `lost` says which
     counts do not add up.
     """
@@ -150,13 +151,6 @@ def cards(its: Contents) -> list[dict[str, str]]:
              "beside": f"{demand['with_item']:,} more left out with their item"}]
 
 
-def between(low: float, high: float) -> Scale:
-    """Returns the scale from one value to another, with round numbers in it."""
-    from matplotlib.ticker import MaxNLocator
-    ticks = MaxNLocator(MOST_TICKS, steps=[1, 2, 2.5, 5, 10]).tick_values(low, high)
-    return Scale(low, high, tuple(float(it) for it in ticks if low <= it <= high))
-
-
 def unit_of(most: float) -> tuple[float, str]:
     """Returns in which unit an axis counts money up to an amount, and the name of the unit."""
     return next(((unit, name) for unit, name in ((1e6, ", millions"), (1e3, ", thousands")) if most >= 2 * unit),
@@ -180,7 +174,7 @@ def exchange_plot(its: Contents) -> dict[str, Any]:
     unit, unit_name = unit_of(max(it.value for it in named))
     right = ROOM * max(it.value for it in named) / unit
     bottom = max(0.0, 100 * min(it.fill for it in named) - BELOW)
-    across, up = Scale.of([right or 1.0]), between(bottom, 100.0)
+    across, up = Scale.of([right or 1.0]), Scale.between(bottom, 100.0)
     line = clipped([(it.value / unit, 100 * it.fill) for it in its.curve if it.row["point"] not in its.said],
                    across.high, bottom)
     points = [{"name": its.said[it.row["point"]], "css": f"point-{place}", "form": FORMS[place],

@@ -33,9 +33,13 @@ class Scale:
     @classmethod
     def of(cls, values: Sequence[float], is_whole: bool = False) -> Scale:
         """Returns the scale of these values and 0. `is_whole` keeps its round numbers whole."""
-        from matplotlib.ticker import MaxNLocator
         low, high = min(0.0, *values), max(0.0, *values)
-        high = high if high > low else low + 1
+        return cls.between(low, high if high > low else low + 1, is_whole)
+
+    @classmethod
+    def between(cls, low: float, high: float, is_whole: bool = False) -> Scale:
+        """Returns the scale from a value to a greater one. `is_whole` keeps its round numbers whole."""
+        from matplotlib.ticker import MaxNLocator
         locator = MaxNLocator(MOST_TICKS, steps=[1, 2, 2.5, 5, 10], integer=is_whole)
         return cls(low, high, tuple(float(it) for it in locator.tick_values(low, high) if low <= it <= high))
 
