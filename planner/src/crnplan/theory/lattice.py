@@ -21,7 +21,7 @@ from .one_lead import OneLead
 from .overtaking import SeveralLeads, work_of
 from .walk import Walk
 
-# Tables of this size are searched in about half a second: gaps with one lead time, and work for late orders with
+# Tables of this size are searched in at most half a second: gaps with one lead time, and work for late orders with
 # several, by `work_of`.
 MOST_GAPS = 60_000
 MOST_WORK = 60_000_000

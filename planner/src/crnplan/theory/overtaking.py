@@ -128,7 +128,7 @@ def lateness(chances: Mapping[int, float]) -> Floats:
 
 
 def work_of(room: float, last: int) -> float:
-    """Returns how much work the laws of a gap are, by the longest lead time: a million takes about 1 ms."""
+    """Returns how much work the laws of a gap are, by the longest lead time: a million takes about 2 ms."""
     return room * (last * (last + 10) + 40)
 
 
