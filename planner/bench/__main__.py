@@ -20,7 +20,7 @@ from planner.bench.stored import circumstances, keep
 @click.option("--store", is_flag=True, help="Store the figures in figures.json.")
 def main(items: int, jobs: int, store: bool) -> None:
     """Plan the items of a made catalogue by crnplan and by the published algorithm, and print a table."""
-    measured = circumstances() | {"items": items, "jobs": jobs}
+    measured = circumstances() | {"jobs": jobs}
     with tempfile.TemporaryDirectory(prefix="crnplan-bench-") as folder:
         rows = all_figures(compare(Path(folder), items, jobs))
     if store:

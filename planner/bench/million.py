@@ -22,9 +22,8 @@ from crnplan.catalogue.page import PAGE
 from crnplan.catalogue.planned import read_planned
 from crnplan.catalogue.store import ANSWERS, READ, Catalogued
 from crnplan.catalogue.tables import DECISIONS, EXACT
-from crnplan.catalogue.work import BATCH
 from planner.bench.made import Made
-from planner.bench.page import million_table
+from planner.bench.page import ARRAYS, FIRST_PASS, LOOP, SENT, TRANSACTIONS, million_table
 from planner.bench.part import FILES, PLAN
 from planner.bench.rates import loop_rates, split_seconds, transactions
 from planner.bench.stored import circumstances, keep
@@ -47,20 +46,22 @@ def array_bytes(items: Items) -> int:
 def bytes_of(folder: Path, items: int) -> Iterator[Measured]:
     """Yields what is sent and kept for an item."""
     sent, plans, curve = folder / READ, folder / ANSWERS, folder / CANDIDATES
-    yield "an item's facts, to a worker", mean_bytes(sent, "facts", "items"), "bytes an item"
+    facts, answer, candidates = SENT
+    yield facts, mean_bytes(sent, "facts", "items"), "bytes an item"
     yield "what was learned, with each batch", len(pickle.dumps(read_planned(folder).prior)), "bytes"
-    yield "the answer of a plan, back", mean_bytes(plans, "answer", "answers"), "bytes an item"
-    yield "candidates of the curve, back", mean_bytes(curve, "answer", "answers"), "bytes an item"
-    for path in (sent, plans, curve, folder / DECISIONS, folder / EXACT, folder / PAGE):
+    yield answer, mean_bytes(plans, "answer", "answers"), "bytes an item"
+    yield candidates, mean_bytes(curve, "answer", "answers"), "bytes an item"
+    for path in (sent, plans, curve, folder / DECISIONS, folder / EXACT):
         yield f"{path.name}, on disk", path.stat().st_size / items, "bytes an item"
+    yield f"{PAGE}, up to 5,000 items", (folder / PAGE).stat().st_size / items, "bytes an item"
 
 
 def rates_of(folder: Path, read: Catalogued) -> Iterator[Measured]:
     """Yields how fast the main process of a planned folder sends out items and keeps answers."""
     text = int(mean_bytes(folder / ANSWERS, "answer", "answers")) * "x"
-    yield f"SQLite: transactions of {BATCH} answers", transactions(folder, text), "a second"
+    yield TRANSACTIONS, transactions(folder, text), "a second"
     for where, rate in loop_rates(folder, read, read_planned(folder), text):
-        yield f"the loop of the main process, with workers in {where}", rate, "items a second"
+        yield f"{LOOP}, with {where}", rate, "items a second"
 
 
 def measured_of(folder: Path) -> Iterator[Measured]:
@@ -68,13 +69,13 @@ def measured_of(folder: Path) -> Iterator[Measured]:
     plan = folder / PLAN
     with contextlib.closing(Catalogued(plan / READ)) as read:
         rows, items = read.fact("counts")["files"]["demand"]["read"], sum(1 for _ in read.facts_of_items())
-        yield "reading, the first pass", 1e6 * split_seconds(plan, Made(folder / FILES).paths) / rows, "µs a row"
+        yield FIRST_PASS, 1e6 * split_seconds(plan, Made(folder / FILES).paths) / rows, "µs a row"
         yield from bytes_of(plan, items)
         yield from rates_of(plan, read)
     start = time.process_time()
     gathered = gather(plan, read_planned(plan), 1, None, False)
     yield "reading all candidates", 1e6 * (time.process_time() - start) / items, "µs an item"
-    yield "candidates, as arrays", array_bytes(gathered.items) / len(gathered.items.names), "bytes an item"
+    yield ARRAYS, array_bytes(gathered.items) / len(gathered.items.names), "bytes an item"
 
 
 def rounded(number: float) -> float | int:

@@ -2,7 +2,7 @@
 from __future__ import annotations
 
 import itertools
-from collections.abc import Callable, Mapping, Sequence
+from collections.abc import Callable, Iterator, Mapping, Sequence
 from operator import itemgetter
 from pathlib import Path
 from typing import Any
@@ -13,6 +13,11 @@ from planner.bench.stored import stored
 from planner.studies.page import markdown, page_with
 
 PAGE = Path(__file__).with_name("README.md")
+MILLION = 1_000_000
+# What some stored figures are.
+FIRST_PASS, LOOP = "reading, the first pass", "the loop of the main process"
+TRANSACTIONS, ARRAYS = "SQLite: transactions of 8 answers", "candidates, as arrays"
+SENT = ("an item's facts, to a worker", "the answer of a plan, back", "candidates of the curve, back")
 SUMS, MOSTS = ("wall", "processor", "bytes"), ("own", "all")
 Rows = Sequence[Mapping[str, Any]]
 
@@ -56,6 +61,27 @@ def million_table(rows: Rows) -> str:
                                       for row in rows])))
 
 
+def needs_of(figures: Mapping[str, Any]) -> Iterator[tuple[str, float, str]]:
+    """Yields what a million items would need, in proportion to stored figures: what it is, the amount, and the unit."""
+    its = {row["what"]: row["figure"] for row in figures["million"]["rows"]}
+    read, = figures["reading"]["rows"]
+    whole = figures["whole"]["rows"]
+    parts = {row["part"]: row for row in whole if row["items"] == max(it["items"] for it in whole)}
+    read_minutes = read["processor"] / read["items"] * MILLION / 60
+    first = its[FIRST_PASS] / 1e6 * read["rows"] / read["processor"]
+    yield "reading, one process", read_minutes, f"minutes ({first:.0%} of them the first pass)"
+    for part in ("plan", "curve"):
+        hours = parts[part]["processor"] / parts[part]["items"] * MILLION / 3600
+        yield f"{part}, processor time", hours, f"hours ({60 * hours / 100:.0f} minutes on 100 workers)"
+    for what, rate in its.items():
+        if what.startswith(LOOP):
+            yield what, MILLION / rate / 60, "minutes"
+    yield "SQLite alone", MILLION / its[TRANSACTIONS] / 8 / 60, "minutes"
+    yield "to workers and back, plan and curve", sum(its[name] for name in SENT) / 1000, "GB"
+    yield "kept in the folder", sum(its[name] for name in its if name.endswith("on disk")) / 1000, "GB"
+    yield "the curve's candidates as arrays", its[ARRAYS] / 1000, "GB of memory"
+
+
 TABLES: dict[str, Callable[[Rows], str]] = {"compared": compared_table, "whole": whole_table, "four": whole_table,
                                             "reading": whole_table, "million": million_table}
 
@@ -68,9 +94,14 @@ def measured_line(measured: Mapping[str, Any]) -> str:
 
 
 def all_tables() -> dict[str, str]:
-    """Returns the tables of the stored figures by name, each with a line on the circumstances."""
-    return {name: f"{measured_line(part['measured'])}\n\n{TABLES[name](part['rows'])}"
-            for name, part in stored().items()}
+    """Returns the tables of the stored figures by name, each with a line on the circumstances, and what follows for a
+    million items."""
+    figures = stored()
+    needs = [{"at a million items": what, "amount": f"{amount:.3g}", "unit": unit}
+             for what, amount, unit in needs_of(figures)]
+    return {"needs": str(markdown(pd.DataFrame(needs))),
+            **{name: f"{measured_line(part['measured'])}\n\n{TABLES[name](part['rows'])}"
+               for name, part in figures.items()}}
 
 
 if __name__ == "__main__":

@@ -72,6 +72,6 @@ def loop_rate(folder: Path, read: Catalogued, planned: Planned, text: str,
 
 def loop_rates(folder: Path, read: Catalogued, planned: Planned, text: str) -> Iterator[tuple[str, float]]:
     """Yields where the workers are, and how many items a second go through the main process."""
-    for where, given in (("this process", processes(1)), (f"{WORKERS} processes", processes(WORKERS)),
+    for where, given in (("no other process", processes(1)), (f"{WORKERS} processes", processes(WORKERS)),
                          (f"{WORKERS} Dask workers", dask())):
         yield where, loop_rate(folder, read, planned, text, given)

@@ -57,12 +57,13 @@ def measured_parts(folder: Path, items: int, jobs: int, parts: Sequence[str]) ->
 @click.option("--folder", type=click.Path(path_type=Path), help="Keep the catalogues in this folder.")
 @click.option("--store", metavar="NAME", help="Store the figures by this name in figures.json.")
 def main(sizes: Sequence[int], jobs: int, only: Sequence[str], folder: Path | None, store: str | None) -> None:
-    """Measure the whole way of made catalogues, part by part, and print a table."""
-    measured = circumstances() | {"items": max(sizes), "jobs": jobs}
+    """Measure the whole way of made catalogues, part by part, and print a table. Each size is stored as it is done."""
+    measured, rows = circumstances() | {"jobs": jobs}, list[dict[str, Any]]()
     with room(folder) as place:
-        rows = [row for size in sizes for row in measured_parts(place / str(size), size, jobs, only or [*PARTS])]
-    if store:
-        keep(store, measured, rows)
+        for size in sizes:
+            rows += measured_parts(place / str(size), size, jobs, only or [*PARTS])
+            if store:
+                keep(store, measured, rows)
     click.echo(whole_table(rows), nl=False)
 
 
