@@ -54,8 +54,9 @@ METHODS = ("empirical", "predictive", "auto", "borrowed", "class")
 BANDS = {"2 or 3": (2, 3), "4 to 7": (4, 7), "8 to 15": (8, 15), "16 or more": (16, 10**6)}  # of periods with demand
 FOLDER = Path(__file__).parent
 STORED, STORED_ODD = FOLDER / "borrowing.csv", FOLDER / "borrowing_odd.csv"
-SMALL: dict[str, Any] = {"kinds": ("intermittent", "shop"), "periods": (26,), "most": 3}  # of `study`
-SMALL_ODD: dict[str, Any] = {"names": ("large sizes",), "periods": (52,), "histories": 4}  # of `odd_study`
+# The small parts of `study` and `odd_study`.
+SMALL: dict[str, Any] = {"kinds": ("intermittent", "shop"), "periods": (26,), "most": 6, "seeds": SEEDS[:1]}
+SMALL_ODD: dict[str, Any] = {"names": ("large sizes",), "periods": (52,), "histories": 4}
 # The laws of an odd item in a catalogue of demand in 15% of periods with geometric sizes of mean 5.
 ODD: dict[str, Floats] = {
     "one of them": hurdle(0.15, negative_binomial(4, 1)), "large sizes": hurdle(0.15, negative_binomial(29, 1)),
@@ -184,12 +185,13 @@ def mapped(work: Callable[..., Found], cells: list[tuple[Any, ...]], jobs: int) 
         return [*tqdm(pool.map(work, *zip(*cells)), total=len(cells), disable=None)]
 
 
-def study(kinds: Iterable[str], periods: Iterable[int], most: int | None = None, jobs: int = 1) -> pd.DataFrame:
+def study(kinds: Iterable[str], periods: Iterable[int], most: int | None = None, seeds: Iterable[int] = SEEDS,
+          jobs: int = 1) -> pd.DataFrame:
     """Returns the figures of each kind of catalogue, and of parts of all designed and of all unseen ones."""
     rows: list[dict[str, Any]] = []
     groups: dict[tuple[str, int], list[Judgement]] = {}
     cells = [(kind, count, most or JUDGED[count], seed)
-             for kind, count, seed in itertools.product(kinds, periods, SEEDS)]
+             for kind, count, seed in itertools.product(kinds, periods, seeds)]
     its: dict[tuple[str, int], list[Judgement]] = {}
     for (kind, count, *_), found in zip(cells, mapped(judgements, cells, jobs)):
         its.setdefault((kind, count), []).extend(found)
