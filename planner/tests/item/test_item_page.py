@@ -148,7 +148,7 @@ def test_tables_and_pictures_are_named(whole: Path) -> None:
     assert text.count("<table>") == text.count("<caption>") == len(page.tables)
     assert all(page.tables) and all(page.pictures.values())
     assert not re.search("<th(?![^>]*scope=)[ >]", text)
-    assert not re.search('<div class="scroll"(?! tabindex="0" role="region" aria-label="[^"]+">)', text)
+    assert not re.search('<div class="scroll[^"]*"(?! tabindex="0" role="region" aria-label="[^"]+">)', text)
 
 
 def test_page_escapes_texts(room: Path, crnplan: Command, program: Path) -> None:
