@@ -128,7 +128,8 @@ class Browser:
         """Reads what the page has printed and requested since the last time."""
         self._messages += [it["message"] for it in self.driver.get_log("browser")]
         events = (json.loads(it["message"])["message"] for it in self.driver.get_log("performance"))
-        self._requests += [it["params"]["request"]["url"] for it in events if it["method"] == "Network.requestWillBeSent"]
+        sent = (it["params"] for it in events if it["method"] == "Network.requestWillBeSent")
+        self._requests += [it["request"]["url"] for it in sent]
 
     def printed(self, landscape: bool = False) -> list[str]:
         """Prints the page on A4 and returns the text of each sheet."""

@@ -34,7 +34,7 @@ def browser(tmp_path_factory: pytest.TempPathFactory) -> Iterator[Browser]:
     try:
         started = Browser(tmp_path_factory.mktemp("browser"))
     except FileNotFoundError as fault:
-        pytest.fail(str(fault), pytrace=False)
+        raise pytest.fail.Exception(str(fault), pytrace=False) from None
     yield started
     assert started.close() == [], "the browser has left processes behind"
 
@@ -82,8 +82,8 @@ def planned(folder: Path, program: Path) -> Path:
     source = random.Random(1)
     demand = [(name, MONDAY + datetime.timedelta(weeks=week), source.choice((0, 0, 1, 2, 5)))
               for name in PLANNED for week in range(60)]
-    masters = [(name, "of a shelf", 45, 0.6, "" if name == ARABIC else 9, 0.95 if name == ARABIC else "", 2, 6, 20, 9, 30)
-               for name in PLANNED]
+    wanted = {name: ("", 0.95) if name == ARABIC else (9, "") for name in PLANNED}
+    masters = [(name, "of a shelf", 45, 0.6, *wanted[name], 2, 6, 20, 9, 30) for name in PLANNED]
     write_table(folder / "demand.csv", [("item", "date", "quantity"), *demand])
     write_table(folder / "items.csv", [MASTERS, *masters])
     plan(read_catalogue(folder / "demand.csv", folder / "items.csv"), folder / "plan", jobs=1, program=program,

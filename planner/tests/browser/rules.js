@@ -233,9 +233,10 @@ const rules = (() => {
 
   // Returns how an element looks at its edge, which must change if it has the focus.
   function edge(element) {
-    const {outlineStyle, outlineWidth, outlineColor, boxShadow, borderColor, backgroundColor} = getComputedStyle(element);
-    const outline = outlineStyle === "none" ? "none" : [outlineStyle, outlineWidth, outlineColor];
-    return [outline, boxShadow, borderColor, backgroundColor].join(" ");
+    const style = getComputedStyle(element);
+    const isOutlined = style.outlineStyle !== "none";
+    const outline = isOutlined ? [style.outlineStyle, style.outlineWidth, style.outlineColor] : "none";
+    return [outline, style.boxShadow, style.borderColor, style.backgroundColor].join(" ");
   }
 
   // Notes which controls get the focus from now on, and returns how many there are.

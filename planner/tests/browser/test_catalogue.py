@@ -40,7 +40,7 @@ def by_item(rows: list[Row]) -> dict[str, Row]:
 
 
 def test_cells_are_those_of_the_file(items: Items, decisions: list[Row]) -> None:
-    """The page shows each cell as the file spells it, also names that are markup, formulas or written from the right."""
+    """The page shows each cell as the file spells it, also a name that is markup, a formula or Arabic."""
     assert tuple(items.columns) == COLUMNS
     assert by_item(items.shown()) == by_item(decisions)
 
@@ -78,7 +78,8 @@ def test_heading_is_pressed_by_keyboard(items: Items, key: str) -> None:
         assert items.driver.switch_to.active_element == button
 
 
-@pytest.mark.parametrize("text", ["bearing", "P0001", "UNLIKE the", "<img", "\"quoted\"", "قطعة", "=1+1", "  lead", "x y z"])
+@pytest.mark.parametrize("text", ["bearing", "P0001", "UNLIKE the", "<img", "\"quoted\"", "قطعة", "=1+1", "  lead",
+                                  "x y z"])
 def test_search_shows_the_rows_that_have_a_text(items: Items, decisions: list[Row], text: str) -> None:
     """Only rows with the text are shown, whatever its case, and the page counts them."""
     wanted = [row for row in decisions if any(text.lower() in row[name].lower() for name in SEARCHED)]
@@ -143,7 +144,7 @@ def test_rows_of_thousands_that_are_found_stand_together(browser: Browser, pages
 
 
 def test_tab_lays_thousands_out_in_few_steps(browser: Browser, pages: Pages) -> None:
-    """The first press of Tab looks at each element of the page. If it laid out each row alone, it would take a minute."""
+    """The first press of Tab looks at each element. If that laid out each row alone, it would take a minute."""
     def layouts() -> float:
         """Returns how often the page has been laid out so far."""
         metrics = browser.command("Performance.getMetrics")["metrics"]
