@@ -18,7 +18,7 @@ from crnplan.catalogue.work import BATCH, Work
 from crnplan.catalogue.workers import Workers, cluster, processes
 
 SECONDS = 10
-WORKERS = 4
+WORKERS, LEAST_ITEMS = 4, 3_000
 
 
 def transactions(folder: Path, text: str) -> float:
@@ -60,12 +60,15 @@ def dask() -> Iterator[Workers]:
 def loop_rate(folder: Path, read: Catalogued, planned: Planned, text: str,
               given: AbstractContextManager[Workers]) -> float:
     """Returns how many items a second the main process sends out, gets back and keeps, if workers answer at once."""
-    names = {name: 32 * "0" for name, _ in read.facts_of_items()}
+    items = [name for name, _ in read.facts_of_items()]
+    names = {f"{name} {again}": 32 * "0" for again in range(-(-LEAST_ITEMS // len(items)))
+             for name in items}
     with (tempfile.TemporaryDirectory(dir=folder) as path, contextlib.closing(Answers(Path(path))) as answers,
           given as workers):
-        list(workers.executor.submit(len, "all are started").result() for _ in range(WORKERS))
+        started = [workers.executor.submit(instant, [], None, None, text) for _ in range(BATCH * WORKERS)]
+        assert all(it.result() == [] for it in started)
         work, start = Work(answers, names), time.perf_counter()
-        work.finish(instant, lambda name: (name, read.text(name)), planned, text,
+        work.finish(instant, lambda name: (name, read.text(name.rpartition(" ")[0])), planned, text,
                     workers=contextlib.nullcontext(workers), shown=False)
         return len(names) / (time.perf_counter() - start)
 
