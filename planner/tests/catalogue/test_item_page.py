@@ -1,4 +1,4 @@
-"""Tests the page of an item of a catalogue: its figures are those of the tables, and what cannot be shown is refused."""
+"""Tests the page of an item of a catalogue: its figures are those of the tables, and what has no page is refused."""
 from __future__ import annotations
 
 import csv

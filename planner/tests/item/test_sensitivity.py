@@ -56,7 +56,7 @@ def test_all_cases_are_there(moves: Moves) -> None:
 
 
 def test_dearer_things_are_bought_less(moves: Moves) -> None:
-    """Dearer orders make orders larger, dearer stock makes stock lower, and a dearer backlog or more demand raises s."""
+    """Dearer orders make orders larger, dearer stock means less service, and a dearer backlog or more demand more."""
     its = {it.words: it for it in moves.moves}
     assert its["setup halved"].S - its["setup halved"].s < its["setup doubled"].S - its["setup doubled"].s
     assert its["holding doubled"].fill < its[AS_IT_IS].fill < its["backlog doubled"].fill

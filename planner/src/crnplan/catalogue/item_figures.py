@@ -41,8 +41,8 @@ VERDICTS = {True: "worse", False: "better"}
 class Compared:
     """A policy beside today's in the long run: s and S in items, and money of a period.
 
-    `theory` has theory's figures. `cost` is by crnsim, with the interval `ends` by itself; `difference` is the cost less
-    today's, with both ends of its own paired interval. nan stands for no figure.
+    `theory` has theory's figures. `cost` is by crnsim, with the interval `ends` by itself; `difference` is the cost
+    less today's, with both ends of its own paired interval. nan stands for no figure.
     """
 
     name: str

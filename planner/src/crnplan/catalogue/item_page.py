@@ -36,6 +36,8 @@ VERDICTS = {CHEAPER: "cheaper than today's policy ({})", DEARER: "dearer than to
 # The rows of the table of both policies: what they are, and the column of decisions.csv without the policy's name.
 PAIRS = {"s": "s", "S": "S", "cost a {}, crnsim": "cost", "cost a {}, theory": "theory_cost", "met at once": "fill",
          "mean stock": "stock", "value of the mean stock": "value", "orders a {}": "orders"}
+# The rows below, and their columns.
+SAVINGS = {"saving a {}": "saving", "saving a {}, low end": "saving_low", "saving a {}, high end": "saving_high"}
 
 
 def grouped(text: str) -> str:
@@ -111,8 +113,9 @@ class _Page:
         saving = Card(grouped(self.cells["saving"]), f"saved a {self.every}, by crnsim",
                       f"{grouped(self.cells['saving_low'])} to {grouped(self.cells['saving_high'])}")
         named = {"s, S": levels, f"cost a {self.every}, by theory": self.pair("theory_cost"),
-                 "of demand met at once": [self.fill(it) for it in (CHOSEN, TODAY)], "items in stock, mean": self.pair("stock"),
-                 "value of that stock": self.pair("value"), f"orders a {self.every}": self.pair("orders")}
+                 "of demand met at once": [self.fill(it) for it in (CHOSEN, TODAY)],
+                 "items in stock, mean": self.pair("stock"), "value of that stock": self.pair("value"),
+                 f"orders a {self.every}": self.pair("orders")}
         rest = [Card(mine, name, f"{today} today") for name, (mine, today) in named.items() if mine != "-"]
         return [rest[0], saving, *rest[1:]][:MOST_CARDS]
 
@@ -178,9 +181,10 @@ class _Page:
                     "mean stock", f"orders a {self.every}", "cost, crnsim", "its interval"]
         single = " The row alone is the policy that the item would get by its own history alone." * any(
             it.name == ALONE for it in self.compared)
-        costs = "" if self.question.has_backlog else " Costs are those of orders and of stock, since no backlog has one."
-        note = (f"Columns up to orders are by theory, rounded and unproved. The cost by crnsim is proved for its stream, "
-                f"less the effect of the start by theory; each interval is by itself.{costs}{single} All by "
+        costs = "" if self.question.has_backlog else \
+            " Costs are those of orders and of stock, since no backlog has one."
+        note = (f"Columns up to orders are by theory, rounded and unproved. The cost by crnsim is proved for its "
+                f"stream, less the effect of the start by theory; each interval is by itself.{costs}{single} All by "
                 f"{law_words(self.question.demand, self.its.settings.fit)}. The coloured row is the chosen policy.")
         return Grid("All policies in the long run", headings, [self._row(it) for it in self.compared], note,
                     mark=self.its.chosen)
@@ -200,7 +204,8 @@ class _Page:
         """Returns how the best policy moves."""
         found, settings = self.its.moves(), self.its.settings
         sure = settings.confidence is not None and self.question.fill is not None
-        notes = [*found.notes, *(["best policies meet the fill rate by their law, without a confidence"] if sure else [])]
+        notes = [*found.notes,
+                 *(["best policies meet the fill rate by their law, without a confidence"] if sure else [])]
         heading, *rows = found.rows
         return moves_grid([dict(zip(heading, row)) for row in rows], self.every, self.money, notes)
 
@@ -208,13 +213,13 @@ class _Page:
         """Returns the item's figures of decisions.csv and of exact.csv, as they are spelt there."""
         pairs = [[words.format(self.every), *(self.cells[f"{name}_{policy}"] or "-" for policy in (TODAY, CHOSEN))]
                  for words, name in PAIRS.items()]
-        saving = [[f"saving a {self.every}{end and f', {end} end'}", "", self.cells[f"saving{end and f'_{end}'}"] or "-"]
-                  for end in ("", "low", "high")]
+        saving = [[words.format(self.every), "", self.cells[name] or "-"] for words, name in SAVINGS.items()]
         exact = [[name, text] for name, text in self.kept.exact.items()]
-        return [Grid("Today's and the chosen policy, as in decisions.csv", ["figure", TODAY, CHOSEN], [*pairs, *saving]),
+        return [Grid("Today's and the chosen policy, as in decisions.csv", ["figure", TODAY, CHOSEN],
+                     [*pairs, *saving]),
                 Grid("The run's exact figures, as in exact.csv", ["column", "figure"], exact,
-                     "Money is counted in units, of which so many are one of the masters'. Costs and the saving are those "
-                     "of the run itself, with the effect of its start.", left=2)]
+                     "Money is counted in units, of which so many are one of the masters'. Costs and the saving are "
+                     "those of the run itself, with the effect of its start.", left=2)]
 
     def page(self) -> ItemPage:
         """Returns the whole page."""
@@ -229,8 +234,8 @@ class _Page:
             history=self.history(),
             notes=self.notes(), law=self.law(),
             laws=self.laws(), stock=stock_plot(self.its.stocks(), self.its.chosen, self.every),
-            about_stock=f"Replication 0 of the plan's run, which starts with {start:,} items in stock. Both policies meet "
-                        "the same demand and lead times.",
+            about_stock=f"Replication 0 of the plan's run, which starts with {start:,} items in stock. Both policies "
+                        "meet the same demand and lead times.",
             decided=self.decided(), policies=self.policies(), doubt=self.doubt(),
             moves=self.moves(), checked=None, tables=self.tables(), scenario=self.its.scenario)
 

@@ -116,7 +116,8 @@ def doubt_part(rows: Sequence[Mapping[str, Any]], chosen: str, period: str, coun
     shown = [*rows][:MOST_DOUBTED]
     text = doubt_text(next(row for row in rows if row["policy"] == chosen), money is not None)
     near = f"within {100 * WITHIN:g}%"
-    headings = ["policy", *([f"mean cost a {period}", near] if money else []), "met at once, mean", "met at once, least"]
+    costs = [f"mean cost a {period}", near] if money else []
+    headings = ["policy", *costs, "met at once, mean", "met at once, least"]
     cells = [[row["policy"], *([money(row["cost"]), f"{float(row['within']):.0%}"] if money else []),
               percent(row["fill"]), percent(row["fill_10"])] for row in shown]
     grid = Grid("Each policy under the laws that the history allows", headings, cells,
@@ -147,7 +148,7 @@ def moves_grid(rows: Iterable[Mapping[str, Any]], period: str, money: Money, not
                 "chosen: met at once"]
     cells = [[row["case"], number(int(row["s"])), number(int(row["S"])), money(row["cost"]), percent(row["fill"]),
               money(row["kept_cost"]), more_of(row["kept_more"]), percent(row["kept_fill"])] for row in rows]
-    note = " ".join([f"In each case one thing differs and all else is as it is. chosen: what the chosen policy costs then, "
-                     f"how much more than the best that is, and what it meets. {UNPROVED}",
+    note = " ".join(["In each case one thing differs and all else is as it is. chosen: what the chosen policy costs "
+                     f"then, how much more than the best that is, and what it meets. {UNPROVED}",
                      *(f"{it[0].upper()}{it[1:]}." for it in notes)])
     return Grid("The best policy in each case, and what it costs to keep the chosen one", headings, cells, note)

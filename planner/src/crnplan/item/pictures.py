@@ -165,9 +165,9 @@ def path_of(stocks: Sequence[int], scale: Scale) -> str:
 
 def stock_words(name: str, stocks: Sequence[int], period: str) -> str:
     """Returns in words what the stock of a policy was."""
-    owed = sum(it < 0 for it in stocks)
-    return (f"{name}: from {number(min(stocks))} to {number(max(stocks))}, {number(sum(stocks) / len(stocks), 1)} in the "
-            f"mean, items owed at the end of {owed} {period}s")
+    owed, mean = sum(it < 0 for it in stocks), number(sum(stocks) / len(stocks), 1)
+    return (f"{name}: from {number(min(stocks))} to {number(max(stocks))}, {mean} in the mean, items "
+            f"owed at the end of {owed} {period}s")
 
 
 def stock_plot(stocks: Mapping[str, Sequence[int]], chosen: str, period: str) -> Plot:

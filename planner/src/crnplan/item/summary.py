@@ -166,9 +166,10 @@ def headline(figures: Figures) -> str:
 def history_facts(name: str, demand: Sequence[int], returned: int, leads: Sequence[int], period: str) -> str:
     """Returns what is known of a history and of lead times."""
     periods, least, most = f"{period}s", min(leads), max(leads)
-    return (f"{name}: {len(demand):,} {periods}, {sum(demand):,} items{f', {returned:,} returned' if returned else ''}, "
-            f"{[*demand].count(0):,} {periods} without demand. Lead times: {len(leads):,}, of "
-            f"{least if least == most else f'{least} to {most}'} {periods}.")
+    span = least if least == most else f"{least} to {most}"
+    back = f", {returned:,} returned" if returned else ""
+    return (f"{name}: {len(demand):,} {periods}, {sum(demand):,} items{back}, {[*demand].count(0):,} {periods} "
+            f"without demand. Lead times: {len(leads):,}, of {span} {periods}.")
 
 
 def facts(figures: Figures) -> str:

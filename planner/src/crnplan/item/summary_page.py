@@ -62,9 +62,9 @@ def _cells(figures: Figures, row: Row) -> list[str]:
     """Returns the cells of a policy in the table of all policies."""
     theory = figures.theory[row["policy"]]
     low, high = (number(figures.money(row[name]), 2) for name in ("cost_low", "cost_high"))
-    return [row["policy"], *map(number, _levels(row)), number(figures.money(theory["cost"]), 2), percent(theory["fill"]),
-            percent(theory["short"]), number(float(theory["stock"]), 1), number(float(theory["orders"]), 3),
-            number(figures.cost(row), 2), f"{low} to {high}"]
+    return [row["policy"], *map(number, _levels(row)), number(figures.money(theory["cost"]), 2),
+            percent(theory["fill"]), percent(theory["short"]), number(float(theory["stock"]), 1),
+            number(float(theory["orders"]), 3), number(figures.cost(row), 2), f"{low} to {high}"]
 
 
 def _policies(figures: Figures) -> Grid:
@@ -122,8 +122,8 @@ def page_of(figures: Figures) -> ItemPage:
         law=_law(figures),
         laws=laws_grid(rows_of(figures.item.text("laws.csv")), period, "laws.txt says how the laws were fitted."),
         stock=_stock(figures),
-        about_stock=f"Replication 0 of the coming {period}s, from the stock of today. All policies meet the same demand "
-                    "and lead times.",
+        about_stock=f"Replication 0 of the coming {period}s, from the stock of today. All policies meet the same "
+                    "demand and lead times.",
         decided=_differences(figures, figures.decided.values(), figures.today,
                              f"Cost compared with today's policy, {horizon}", size_of(figures, "run")),
         policies=_policies(figures), doubt=_doubt(figures), moves=_moves(figures),
