@@ -17,7 +17,7 @@ from scipy import special, stats
 import crnplan as crn
 from crnplan.demand import DemandLaw, fit_demand, notes_of
 from crnplan.demand.borrowing import Borrowed, Prior, borrowed_laws, em, grid, law_of, learn, learning
-from crnplan.demand.borrowing.likelihoods import Cells, Sums, chunks_of, marginal, of_shares, of_sizes
+from crnplan.demand.borrowing.likelihoods import Cells, chunks_of, marginal
 from crnplan.demand.borrowing.posterior import Posterior
 from crnplan.demand.borrowing.prior import Learned
 from crnplan.demand.families import Floats, Sample
@@ -25,18 +25,7 @@ from crnplan.demand.fitting import share_of
 from crnplan.demand.posterior import allowed_laws
 from crnplan.errors import Refused, RefusedFaults
 from crnplan.history.observed import Observed
-
-RARE = [0, 0, 0, 12, 0, 0, 0, 0, 3, 0, 0, 25, 0, 0, 0, 0, 0, 7, 0, 0, 0, 1, 0, 0, 0, 9]
-TRUE_SHARE, TRUE_MEAN, TRUE_SIZE = 0.2, 4.0, 1.6  # of the items of `known`; the mean is that of sizes less 1
-HISTORIES = st.lists(st.lists(st.integers(0, 60), min_size=1, max_size=30), min_size=2, max_size=12)
-
-
-def history(seed: int, periods: int = 52, share: float = TRUE_SHARE, mean: float = TRUE_MEAN,
-            size: float = TRUE_SIZE) -> list[int]:
-    """Draws a history of the family that the grid has."""
-    random = np.random.default_rng(seed)
-    sizes = 1 + random.negative_binomial(size, size / (size + mean), periods)
-    return [int(it) for it in np.where(random.random(periods) < share, sizes, 0)]
+from planner.tests.demand.made import RARE, TRUE_MEAN, TRUE_SHARE, TRUE_SIZE, history, logarithms
 
 
 @pytest.fixture(scope="module")
@@ -64,73 +53,6 @@ def borrowed(law: DemandLaw) -> Borrowed:
     found = law.diagnostics["borrowed"]
     assert isinstance(found, Borrowed)
     return found
-
-
-def logarithms(numbers: Sequence[int]) -> Floats:
-    """Returns the logarithms of a history's likelihoods by scipy's laws: points of the share, points of the sizes."""
-    sizes = np.array([it for it in numbers if it])[:, None, None] - 1
-    shares = stats.bernoulli.logpmf([[int(it > 0)] for it in numbers], grid.SHARES.ravel()).sum(axis=0)
-    chances = grid.SIZE_DISPERSIONS / (grid.SIZE_DISPERSIONS + grid.SIZE_MEANS)
-    its: Floats = stats.nbinom.logpmf(sizes, grid.SIZE_DISPERSIONS, chances).sum(axis=0)
-    return np.add.outer(shares, its.ravel())
-
-
-@settings(max_examples=20)
-@given(numbers=st.lists(st.integers(0, 300), min_size=1, max_size=60))
-def test_likelihoods(numbers: list[int]) -> None:
-    """The likelihoods at all points are those of scipy's laws, but for a factor."""
-    sums, expected = Sums.of([Sample.of(numbers)]), logarithms(numbers)
-    found = np.outer(of_shares(sums)[0], of_sizes(sums)[0])
-    assert found.max() == 1 and np.allclose(found, np.exp(expected - expected.max()), rtol=1e-6, atol=1e-12)
-
-
-def test_points() -> None:
-    """The points are even in the logit of the share and in the logarithm of the mean, within the ranges."""
-    steps = np.diff(special.logit(grid.SHARES).ravel())
-    assert steps == pytest.approx(12 / 240) and special.logit(grid.SHARES[0, 0]) == pytest.approx(-5.5 + 12 / 480)
-    means = np.log(grid.SIZE_MEANS[::8].ravel())
-    step = math.log(100 / 0.05) / 192
-    assert np.diff(means) == pytest.approx(step) and means[-1] == pytest.approx(math.log(100) - step / 2)
-    assert grid.SIZE_DISPERSIONS[:9, 0].tolist() == [0.4, 0.7, 1, 1.6, 3, 6, 15, 60, 0.4]
-
-
-@pytest.mark.parametrize("cell", [0, 5, 90, 188, 191])
-def test_size_laws(cell: int) -> None:
-    """The laws of sizes are negative binomial from 1 on, all but a tail."""
-    law, size = grid.size_laws()[cell], grid.SIZE_DISPERSIONS[cell, 0]
-    for row, mean in zip(law, grid.SIZE_MEANS[cell]):
-        expected = stats.nbinom.pmf(np.arange(len(row)), size, size / (size + mean))
-        assert np.allclose(row, expected, rtol=0, atol=1e-8) and 1 - expected.sum() < 1.01e-9
-
-
-@settings(max_examples=25)
-@given(histories=HISTORIES, flat=st.sampled_from([0.0, 1.0]))
-def test_each_step_raises_the_likelihood(histories: list[list[int]], flat: float) -> None:
-    """Without a blur no step makes the histories less likely, with the flat items that count beside them."""
-    chunks = chunks_of(Sample.of(it) for it in histories)
-    prior, last = em.FLAT, -math.inf
-    for _ in range(15):
-        likelihood = float(np.log(marginal(chunks, prior)).sum())
-        if flat:
-            likelihood += float(flat * (em.FLAT * np.log(prior)).sum())
-        assert likelihood >= last - 1e-9
-        prior, last = em.estimated(chunks, prior, flat * em.FLAT, steps=1, blur=0), likelihood
-    assert prior.sum() == pytest.approx(1) and prior.min() >= 0
-
-
-@settings(max_examples=20)
-@given(seed=st.integers(0, 1000), part=st.floats(0, 0.3))
-def test_blur(seed: int, part: float) -> None:
-    """The blur is a random walk by one cell on each axis, which stays where it would leave the grid."""
-    prior = np.random.default_rng(seed).dirichlet(np.full(em.FLAT.size, 0.01)).reshape(em.FLAT.shape)
-    walks = []
-    for cells in grid.SHAPE:
-        walk = np.diag(np.full(cells, 1 - 2 * part)) + part * (np.eye(cells, k=1) + np.eye(cells, k=-1))
-        walk[0, 0] += part
-        walk[-1, -1] += part
-        walks.append(walk)
-    expected = np.einsum("abc,ai,bj,ck->ijk", prior.reshape(grid.SHAPE), *walks, optimize=True)
-    assert np.allclose(em.blurred(prior, part).reshape(grid.SHAPE), expected, rtol=0, atol=1e-14)
 
 
 def test_learned_prior(mixed: dict[str, list[int]]) -> None:

@@ -8,7 +8,7 @@ from __future__ import annotations
 
 import dataclasses
 import math
-from collections.abc import Iterator, Mapping, Sequence
+from collections.abc import Mapping
 from dataclasses import dataclass
 from fractions import Fraction
 from functools import cached_property
@@ -27,11 +27,11 @@ from ..item.sensitivity import Case, Found, Levels, Moves, moves_of
 from ..item.work import MOST_DRAWN
 from ..scenario import Policy, Scenario, Table
 from ..theory.lattice import NoTheory
-from ..theory.long_run import Candidate, Figures, LongRun
+from ..theory.long_run import Candidate, Figures
 from ..theory.many_laws import figures_of_laws
 from ..theory.suggestions import Chosen, add_fills, chosen_policies
 from .item_kept import Kept
-from .planning import (ALONE, CHOSEN, TODAY, Question, Settings, allowed_by, alone_of, choice_of, figures_of, learns,
+from .planning import (ALONE, CHOSEN, TODAY, Question, allowed_by, alone_of, choice_of, figures_of, learns,
                        question_of, scenario_of, theory_of)
 
 VERDICTS = {True: "worse", False: "better"}

@@ -61,11 +61,11 @@ KINDS = {"item": "Items left out", "row": "Rows rejected", "suspicious": "Suspic
 class Contents:
     """What the page of a catalogue says.
 
-    `run` says of how many runs costs are, at which `level` intervals hold. `sources` has the counts of rows of each file
-    by its kind, `named` how many items there are in them. `rows` are those of the table. `verdicts` says what each
-    verdict means, `said` what each point of the curve is. `curve` has the named points and the others, or
-    nothing: `no_curve` then says why. `pages` has the address of the page of each item that has one. `lost` says which
-    counts do not add up.
+    `run` says of how many runs costs are, at which `level` intervals hold. `sources` has the counts of rows of each
+    file by its kind, `named` how many items there are in them. `rows` are those of the table. `verdicts` says what each
+    verdict means, `said` what each point of the curve is. `curve` has the named points and the others, or nothing:
+    `no_curve` then says why. `pages` has the address of the page of each item that has one. `lost` says which counts do
+    not add up.
     """
 
     every: str
