@@ -168,12 +168,15 @@ def test_command(plan: Path, crnplan: Command, program: Path) -> None:
     told = crnplan(*words, "--confirm", "9", "--program", program, "--plot", plan / "curve.svg")
     assert told.status == 0, told.errors
     assert "18 items are on the curve; 2 are left out, as A-036: it has no price above 0" in told.output
-    line, = (it for it in told.output.splitlines() if it.startswith("crnsim: the stock of 9 of 18 items"))
-    runs, error, theory = (float(it.replace(",", "")) for it in re.findall(r"[\d,]+\.\d+(?=[ ,)])", line))
-    assert abs(runs - theory) < min(0.02 * theory, 5 * error) and "more than 2%" not in line
+    table, (heading, *lines) = told.output.splitlines()[3:8], told.output.splitlines()[-6:]
+    assert heading == "crnsim: the stock of 9 of 18 items, taken at random, is worth"
+    assert "look at these items" not in told.output
+    for row, line in zip(table, lines, strict=True):
+        runs, error, theory = (float(it.replace(",", "")) for it in re.findall(r"[\d,]+\.\d+(?=[ ,)])", line))
+        assert row.startswith(line.split("  ")[0]) and abs(runs - theory) < min(0.02 * theory, 5 * error)
     point = json.loads(pd.read_csv(plan / CURVE).query("point == 'budget'").iloc[0].to_json())
-    shown, = (it for it in told.output.splitlines() if it.startswith("your budget"))
-    assert shown.split()[2] == f"{point['value']:,.2f}" and "95.0" in shown
+    shown = table[-1]
+    assert shown.startswith("your budget") and shown.split()[2] == f"{point['value']:,.2f}" and "95.0" in shown
     picture = (plan / "curve.svg").read_text("utf-8")
     assert all(it in picture for it in ("your budget: ", "today: ", "one price for all items", "demand met at once"))
     told = crnplan(*words, "--confirm", "0", "--csv")

@@ -9,7 +9,7 @@ from typing import TYPE_CHECKING, Any
 
 from ..errors import Refused
 from .candidates import PRICES
-from .confirming import Confirmation, confirmed
+from .confirming import Confirmed, confirmed
 from .exchange import NEAR, Budget, Choice, Ladder, Point, chosen_by, gap_of, judged, with_more_orders
 from .gathering import Gathered, gather
 from .lock import alone
@@ -44,7 +44,7 @@ class Drawn:
     missing: dict[str, str]
     written: str
     choice: Choice
-    confirmation: Confirmation | None
+    confirmed: Confirmed | None
 
     @property
     def named(self) -> dict[str, Point]:
@@ -126,7 +126,7 @@ def _drawn(folder: Path, its: Gathered, budget: Budget, confirm: int, program: s
     written = next((name for name in (BUDGET, SAME_SERVICE, SAME_STOCK) if name in found), ON_CURVE)
     # If neither of today's figures is on the curve, the policies are those of its beginning.
     choice = found[written] if found else judged(its.items, Ladder(its.items).with_price(float(PRICES[0])))
-    sample = confirmed(folder, its, choice, confirm, program) if confirm else None
+    sample = confirmed(folder, its, found, confirm, program) if confirm else None
     said = {name: SAID[name] + (how_of(found[name]) if name in found else "") for name in points}
     return Drawn(its, curve_points(its), points, said, missing, written, choice, sample)
 
@@ -182,7 +182,8 @@ def curve_text(drawn: Drawn, folder: Path) -> str:
     lines += ["", *(f"{SAID[name]}: there is no such point: {why}" for name, why in drawn.missing.items()), *NOTES]
     policies = SAID.get(drawn.written, "the least stock")
     lines.append(f'{CURVE} has the curve; {POLICIES} has the policies of "{policies}", in {folder}.')
-    return "\n".join([*lines, *([drawn.confirmation.text] if drawn.confirmation else [])]) + "\n"
+    lines += ["", *drawn.confirmed.lines(drawn.said)] if drawn.confirmed else []
+    return "\n".join(lines) + "\n"
 
 
 NOTES = (
@@ -209,7 +210,8 @@ def exchange_curve(folder: str | Path, *, stock_value: float | None = None, fill
     with orders alone the service is today's. `curve.csv` in the folder has the table, `curve_policies.csv` the policies
     of the budget (without one, of today's service with the least stock), `curve_left_out.csv` the items that are left
     out: those without a price or a plan. Candidates are kept in the folder, and are computed by `jobs` processes or a
-    Dask `cluster`; the bytes are the same. `confirm` items are counted by crnsim, found as `program` says.
+    Dask `cluster`; the bytes are the same. Of `confirm` items crnsim, found as `program` says,
+    counts the stock at each named point.
 
     Raises Refused for a folder without a plan and a budget that no policies keep, and ProgramError.
     Source: Silver, Pyke and Thomas, Inventory and Production Management in Supply Chains, 2017, exchange curves.

@@ -33,7 +33,7 @@ def command(folder: Path, value: float | None, fill: float | None, orders: float
     today's service with the least stock) and curve_left_out.csv (items without a price or a plan). For each point it is
     said how far its setup and holding are at most above the best with that service.
 
-    All of it is by theory. --confirm has crnsim count the stock of a sample of items.
+    All of it is by theory. --confirm has crnsim count the stock of a sample of items at each named point.
     """
     picture = picture_path(plot) if plot else None
     from ..catalogue.curve import CURVE, curve_text, draw_curve
