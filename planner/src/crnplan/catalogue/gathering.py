@@ -10,6 +10,8 @@ from fractions import Fraction
 from pathlib import Path
 from typing import Any
 
+import numpy as np
+
 from ..errors import Refused
 from .candidates import VERSION, candidates_batch
 from .exchange import Items, Point
@@ -105,7 +107,8 @@ class Gathering:
                 self.left_out.append((name, reason, advice))
                 continue
             sums.add(self.plans.answer(name), its, float(price))
-            found.append((name, its, float(price)))
+            # As lists, the rows of thousands of items take ten times as much memory.
+            found.append((name, its | {"rows": np.array(its["rows"], float)}, float(price)))
             shown.append(self.read.item(name)[1])
             prices.append(price)
         if not found:
