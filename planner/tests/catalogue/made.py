@@ -19,7 +19,7 @@ MASTERS = ("Artikel;Bezeichnung;Bestellkosten;Lagerkosten;Fehlmengenkosten;Servi
            "Höchstbestand;Bestand;Preis;Klasse")
 ORDERS = "Artikel;Bestellt;Geliefert"
 # Texts in place of a quantity, or of a date, for which the row is rejected.
-BAD_QUANTITIES = ["n/a", "", "3,5", "-2", "zwei", "1.234"]
+BAD_QUANTITIES = ["n/a", "", "3,5", "-2", "zwei", "1.2.3"]
 BAD_DATES = ["", "31.02.2026", "bald", "2062-03-04", "1999-01-04", "45678"]
 # Changes of a master for which the item is left out.
 BAD_MASTERS: list[dict[str, str]] = [

@@ -100,7 +100,7 @@ def fast_mover() -> Case:
         if source.random() >= 0.025:
             lines.append(f"{day.isoformat()}\tWater 0.5 l\t{units:,}\t{units * 0.39:,.2f}")
     leads = ["Delivery\tDays", *(f"{number}\t{source.choices([2, 3, 4], [50, 35, 15])[0]}" for number in range(1, 61))]
-    words = ["sales.txt", "--demand", "Units sold", "--box", "48", "--lead", "deliveries.txt", "Days"]
+    words = ["sales.txt", "--demand", "Units sold", "--decimal", ".", "--box", "48", "--lead", "deliveries.txt", "Days"]
     head = head_of(version=1, number=2, periods=364, initial=750, setup=9000, holding=8, backlog=120, s=600, S=1500)
     return Case("fast_mover", head, words, {"sales.txt": "\r\n".join([*lines, ""]).encode("utf-8-sig"),
                                             "deliveries.txt": "\r\n".join([*leads, ""]).encode("utf-8-sig")})

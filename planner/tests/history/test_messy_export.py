@@ -86,20 +86,19 @@ def test_first_command_says_all(export: Export, path: Path, answer: Callable[...
     """The first command is refused, with each fault of the file at its line, and with what to say."""
     status, output, errors = answer([path, *WORDS])
     assert (status, output) == (2, "")
-    odd, first = export.odd, export.movements[0][1]
+    odd = export.odd
     places = {"no day": ":1: column 'Datum'", "total": ":1: column 'Datum'"}
     for name, what in {
             "no day": "'31.02.2026' is no day of the calendar; correct it, or leave the row out",
             "empty": "the cell is empty; write 0 where nothing was asked for",
             "n/a": "'n/a' is not a number; write digits, as 12\n",
             "correction": "-1,000 is negative; say --net to take it off its week",
-            "thousand": "'1.000,000' is not a number; write digits, as 12, or say --decimal ,",
             "total": "the row looks like a total of the rows above (it has 'Summe'); leave it out"}.items():
         assert f":{odd[name]}{places.get(name, MENGE)}: {what}" in errors
     assert f":{odd['correction']}:26: the byte 0xfc is not UTF-8; say --encoding latin-1" in errors
-    assert f":5{MENGE}: '{first},000' is read as {first}000 (if the comma is a decimal sign, say --decimal ,)" in errors
-    assert "crnplan: 7 faults in 6 rows; " in errors
-    assert len(errors.splitlines()) == 7 + 1 + 3
+    assert "column 'Menge': the decimal sign is the comma in 1.000,000\n" in errors
+    assert "crnplan: 6 faults in 5 rows; " in errors
+    assert len(errors.splitlines()) == 6 + 1 + 3
 
 
 def test_second_command_gives_tables(export: Export, path: Path, answer: Callable[..., Any], tmp_path: Path) -> None:

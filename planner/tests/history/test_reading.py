@@ -238,7 +238,7 @@ def test_span_needs_dates(file: Files, answer: Answers) -> None:
         "1000)"]),
     ("5.000 7.000 1.000 9.000", "--decimal .", []),
     ("1,111 2,222 3,333 500", "--decimal .", []),
-    ("1,111 2,222 3,333 500", "", [":2:3: column 'n': '1,111' is read as 1111 (if the comma is a decimal sign, say "]),
+    ("1,111 2,222 3,333 500.0", "", ["column 'n': the decimal sign is the point in 500.0"]),
     ("5 1,234,567 7", "--decimal .", ["1234567 is 176366 times 7"]),
     # The last row has the sum of the others.
     ("1 0 2 1 0 3 7", "", [

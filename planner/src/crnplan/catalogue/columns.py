@@ -5,11 +5,10 @@ A name that is found is said as a guess. Two columns that could both be meant ar
 from __future__ import annotations
 
 import re
-from collections.abc import Iterable, Iterator, Mapping, Sequence
+from collections.abc import Callable, Iterable, Iterator, Mapping, Sequence
 from dataclasses import dataclass
 
 from ..errors import Fault
-from ..history.dates import EVERY
 
 ITEM = ("item", "item number", "item no", "item id", "part", "part number", "part no", "sku", "article number",
         "material", "material number", "product", "product id", "unique id", "artikel", "artikelnummer", "artikel nr",
@@ -25,6 +24,18 @@ class Role:
     needed: bool
     names: tuple[str, ...]
 
+
+# Words of headings that name a unit of time, and how the numbers of a role are counted.
+UNITS = {"day": ("day", "days", "daily", "tag", "tage", "tagen", "täglich", "jour", "jours", "día", "días", "giorno",
+                 "giorni", "dag", "dagen", "dni"),
+         "week": ("week", "weeks", "weekly", "woche", "wochen", "wöchentlich", "semaine", "semaines", "semana", "semanas",
+                  "settimana", "settimane", "weken"),
+         "month": ("month", "months", "monthly", "monat", "monate", "monaten", "monatlich", "mois", "mes", "meses",
+                   "mese", "mesi", "maand", "maanden"),
+         "year": ("year", "years", "annual", "yearly", "jahr", "jahre", "jährlich", "pa", "an", "année", "annuel", "año",
+                  "años", "anual", "anno", "anni", "annuo", "jaar")}
+COUNTED = {"lead": "in {every}s", "holding": "for one item and {every}", "backlog": "for one item and {every}",
+           "setup": "for one order", "price": "for one item", "s": "in items", "S": "in items", "stock": "in items"}
 
 # The files of a catalogue, with the roles of their columns. The names s and S differ by their case.
 FILES: dict[str, tuple[Role, ...]] = {
@@ -56,7 +67,7 @@ FILES: dict[str, tuple[Role, ...]] = {
         Role("fill", False, ("fill", "fill rate", "wanted fill rate", "target fill rate", "service level",
                              "servicegrad", "lieferbereitschaftsgrad", "taux de service", "nivel de servicio",
                              "livello di servizio", "servicegraad")),
-        Role("lead", False, ("lead", "lead time", "lead times", *(f"lead {it}s" for it in EVERY), "lieferzeit",
+        Role("lead", False, ("lead", "lead time", "lead times", "lieferzeit",
                              "wiederbeschaffungszeit", "délai de livraison", "délai", "plazo de entrega",
                              "tempo di consegna", "levertijd")),
         Role("s", True, ("s", "reorder point", "reorder level", "rop", "bestellpunkt", "meldebestand",
@@ -99,18 +110,29 @@ def plain_name(name: str) -> str:
     return words[0] if words in (["s"], ["S"]) else " ".join(words).casefold()
 
 
-def usual_names(kind: str, cells: Iterable[str]) -> list[str]:
-    """Returns those cells that are usual names of columns of a file, by which its heading is found."""
-    known = {name for role in FILES[kind] for name in role.names}
-    return [cell for cell in cells if plain_name(cell) in known]
+def role_of(kind: str) -> Callable[[str], str | None]:
+    """Returns the function that gives the role of a cell if that is a usual name of a column, by which the heading of a
+    file is found."""
+    known = {name: role.name for role in FILES[kind] for name in role.names}
+    return lambda cell: known.get(plain_name(cell))
 
 
-def _fits(role: Role, heading: Sequence[str], free: Sequence[int], every: str) -> list[int]:
+def unit_fault(role: str, heading: str, every: str) -> str | None:
+    """Returns what is wrong with a column whose heading names a unit in which its role is not counted."""
+    words = re.findall(r"[^\W_]+", heading.casefold())
+    for unit, names in (*UNITS.items(), ("100", ())) if role in COUNTED else ():
+        word = next((it for it in words if it in names or unit == "100" and it.isdecimal() and int(it) > 1), None)
+        if word is not None and unit != every:
+            return (f"the column {heading!r} says {word!r}, and the {role} is {COUNTED[role].format(every=every)}; convert "
+                    "its numbers, and leave the word out of the heading")
+    return None
+
+
+def _fits(role: Role, heading: Sequence[str], free: Sequence[int]) -> list[int]:
     """Returns the places of the columns that may have a role: those with its very name, else those that begin so."""
-    names = {it for it in role.names if it not in {f"lead {unit}s" for unit in EVERY if unit != every}}
-    exact = [place for place in free if plain_name(heading[place]) in names]
+    exact = [place for place in free if plain_name(heading[place]) in role.names]
     return exact or [place for place in free if any(
-        len(name) > 1 and plain_name(heading[place]).startswith(f"{name} ") for name in names)]
+        len(name) > 1 and plain_name(heading[place]).startswith(f"{name} ") for name in role.names)]
 
 
 def _stated(kind: str, stated: Mapping[str, str], heading: Sequence[str]) -> Iterator[tuple[str, Column | str]]:
@@ -145,7 +167,7 @@ def columns_of(kind: str, heading: Sequence[str], stated: Mapping[str, str],
         taken = {it.place for it in found.values()}
         others = {place for place, cell in enumerate(heading)
                   if plain_name(cell) in known and plain_name(cell) not in role.names}
-        places = _fits(role, heading, [it for it in range(len(heading)) if it not in taken | others], every)
+        places = _fits(role, heading, [it for it in range(len(heading)) if it not in taken | others])
         if len(places) > 1:
             both = " and ".join(repr(heading[it]) for it in places)
             wrong.append(f"the columns {both} may both be the {role.name}; say --column {kind}.{role.name}=NAME")
@@ -154,6 +176,7 @@ def columns_of(kind: str, heading: Sequence[str], stated: Mapping[str, str],
         elif role.needed:
             wrong.append(f"no column looks like the {role.name}; say --column {kind}.{role.name}=NAME; the columns "
                          f"are: {_listed(heading)}")
+    wrong += filter(None, (unit_fault(role, its.name, every) for role, its in found.items()))
     return found, wrong
 
 

@@ -4,14 +4,14 @@ from __future__ import annotations
 import json
 from collections.abc import Iterator, Mapping
 
-from ..history.faults import Unreadable, shown
-from .amounts import AmountReader
+from ..history.amounts import NAMES, AmountReader
+from ..history.faults import Unreadable, on_one_line
 from .columns import FILES
+from .masters import AMOUNTS
 from .record import Record
 from .sources import Source
 from .splitting import DateCounts, Split
 
-SIGNS = {".": "the point", ",": "the comma", "\t": "tab"}
 
 
 def found_text(sources: Mapping[str, Source], split: Split, record: Record) -> str:
@@ -21,14 +21,13 @@ def found_text(sources: Mapping[str, Source], split: Split, record: Record) -> s
     for kind, source in sources.items():
         lines += ["", f"[catalogue.{kind}]", *_file_lines(source, split.rows[kind], split.blank[kind]),
                   *_date_lines(split.dates[kind])]
-        if kind == "items":
-            lines += _amount_lines(split.amounts)
+        lines += _amount_lines({role: split.amounts[role] for role in AMOUNTS[kind]})
     return "\n".join(lines) + "\n"
 
 
 def _file_lines(source: Source, rows: int, blank: int) -> Iterator[str]:
     """Yields lines on a file: how it is written, its columns and its first rows."""
-    sign = SIGNS["\t"] if source.delimiter == "\t" else source.delimiter
+    sign = "tab" if source.delimiter == "\t" else source.delimiter
     yield (f"# {source.name}: {source.encoding}, delimiter {sign}, heading in line {source.line}, {rows:,} rows"
            + f" and {blank:,} blank ones" * (blank > 0))
     if source.titles:
@@ -45,7 +44,7 @@ def _file_lines(source: Source, rows: int, blank: int) -> Iterator[str]:
     if unused:
         yield f"# not used: {', '.join(unused)}"
     for row in source.first_rows:
-        yield f"# row: {' | '.join(map(shown, row))}"
+        yield f"# row: {' | '.join(map(on_one_line, row))}"
 
 
 def _date_lines(dates: DateCounts) -> Iterator[str]:
@@ -74,9 +73,9 @@ def _date_lines(dates: DateCounts) -> Iterator[str]:
 
 def _amount_lines(amounts: Mapping[str, AmountReader]) -> Iterator[str]:
     """Yields what decides the decimal signs of amounts."""
-    if stated := next(iter(amounts.values())).stated:
-        yield f"# the decimal sign is {SIGNS[stated]}, as stated"
+    if amounts and (stated := next(iter(amounts.values())).stated):
+        yield f"# the decimal sign is {NAMES[stated]}, as stated"
     for role, its in amounts.items():
-        signs = " and ".join(f"{SIGNS[sign]} in {text}" for sign, text in sorted(its.sides.items()))
+        signs = " and ".join(f"{NAMES[sign]} in {text}" for sign, text in sorted(its.sides.items()))
         if signs:
             yield f"# the decimal sign of {role} is {signs}"

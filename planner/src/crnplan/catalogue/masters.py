@@ -7,12 +7,14 @@ from fractions import Fraction
 from typing import Any
 
 from ..demand.borrowing.prior import BORROW
-from ..history.faults import Unreadable, shown
+from ..history.amounts import AmountReader
+from ..history.faults import UNPRINTABLE, Unreadable, shown
 from ..money import MOST_DECIMALS
-from .amounts import AmountReader, leads_of
+from .amounts import leads_of
 
-# The roles with amounts, and those with money, whose decimals say what the smallest unit is.
-AMOUNTS = ("setup", "holding", "backlog", "fill", "s", "S", "stock", "price")
+# The roles with amounts by file, and those with money, whose decimals say what the smallest unit is.
+AMOUNTS = {"items": ("setup", "holding", "backlog", "fill", "s", "S", "stock", "price"),
+           "demand": ("quantity", "returned"), "orders": ()}
 MONEY = ("setup", "holding", "backlog", "price")
 
 
@@ -88,9 +90,9 @@ def master_of(line: int, cells: Mapping[str, str], amounts: Mapping[str, AmountR
     if faults:
         raise Faulty(faults)
     money = [read[it] for it in MONEY if read[it] is not None]
-    return Master(line, cells.get("description", ""), read["setup"], read["holding"], read["backlog"], read["fill"],
+    return Master(line, UNPRINTABLE.sub(" ", cells.get("description", "")), read["setup"], read["holding"], read["backlog"], read["fill"],
                   tuple(read["lead"] or observed), (read["s"], read["S"]), read["stock"], read["price"],
-                  cells.get("class", ""), read["borrow"] or "", max(map(decimals_of, money)))
+                  UNPRINTABLE.sub(" ", cells.get("class", "")), read["borrow"] or "", max(map(decimals_of, money)))
 
 
 def _joint_faults(read: Mapping[str, Any], cells: Mapping[str, str],

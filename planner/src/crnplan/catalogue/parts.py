@@ -11,11 +11,11 @@ from pathlib import Path
 from typing import Any, NamedTuple
 
 from ..formats import MOST_DEMAND, MOST_ITEMS
-from ..history.amounts import amount_of
+from ..history.amounts import AmountReader
 from ..history.dates import DateReader, period_of
-from ..history.faults import Unreadable, named_lines, shown
+from ..history.faults import Unreadable, named_lines, on_one_line, shown
 from ..history.suspicions import MOST_FAR, TIMES_NEXT, TOTAL
-from .amounts import AmountReader, checked_lead
+from .amounts import checked_lead
 from .columns import ROLES
 from .masters import Faulty, Master, master_of
 from .record import Record
@@ -134,11 +134,10 @@ class Reader:
     """Reads the parts of a catalogue one by one, and writes what is in them."""
 
     def __init__(self, sources: Mapping[str, Source], dates: Mapping[str, DateReader],
-                 amounts: Mapping[str, AmountReader], record: Record, rules: tuple[Ways, str | None],
-                 writer: Writer) -> None:
-        """Takes how dates and amounts are read. `rules` are the ways of taking rows, and a stated decimal sign."""
+                 amounts: Mapping[str, AmountReader], record: Record, ways: Ways, writer: Writer) -> None:
+        """Takes how dates and amounts are read, and the ways of taking rows."""
         self.sources, self.dates, self.amounts, self.record, self.writer = sources, dates, amounts, record, writer
-        self.ways, self.decimal = rules
+        self.ways = ways
         self.counts = Counts()
         # The values of texts that were read before, by file and role.
         self.known: defaultdict[tuple[str, str], dict[str, int]] = defaultdict(dict)
@@ -157,7 +156,7 @@ class Reader:
                 return (role == "date" and self.record.outside(day)) or period_of(day, self.record.every)
             if role == "returned" and not text:
                 return 0
-            number = amount_of(text, self.decimal)
+            number = self.amounts[role].whole(text)
             if number < 0 and (role == "returned" or not self.ways.net):
                 return f"{shown(text)!r} is negative; correct it, or say --net to take it off its {self.record.every}"
             return number
@@ -189,7 +188,7 @@ class Reader:
         """Returns columns, texts, reasons and advice of faults, each joined."""
         split = [with_advice(message) for _, _, message in faults]
         columns = ", ".join(self._column(kind, role) for role, _, _ in faults)
-        return (columns, ", ".join(shown(text) for _, text, _ in faults), " and ".join(reason for reason, _ in split),
+        return (columns, ", ".join(on_one_line(text) for _, text, _ in faults), " and ".join(reason for reason, _ in split),
                 " and ".join(dict.fromkeys(advice for _, advice in split)))
 
     @without_collection()

@@ -11,7 +11,7 @@ from pathlib import Path
 from typing import TYPE_CHECKING, Any
 
 from ..errors import Fault, Refused, RefusedFaults
-from ..history.cells import Rules
+from ..history.cells import Rules, whole_file
 from ..history.dates import EVERY, DateReader
 from ..history.faults import Unreadable
 from .columns import FILES
@@ -199,17 +199,19 @@ def _writer(folder: Path) -> Iterator[tuple[Writer, Path]]:
 def read_into(folder: Path, paths: Mapping[str, str | Path | None], words: Words) -> Path:
     """Reads a catalogue into a folder, and returns the file of what was read. Raises as `read_catalogue` does."""
     start, end = words.ends
-    sources = open_sources(paths, words)
-    with _writer(folder) as (writer, parts):
+    with _writer(folder) as (writer, parts), contextlib.ExitStack() as stack:
+        files = {kind: stack.enter_context(whole_file(path, parts)) for kind, path in paths.items() if path is not None}
+        sources = open_sources(files, words)
         split = split_sources(sources, parts, writer, words.rules.date_formats, words.rules.decimal, words.part_bytes)
         record = record_of(split.dates["demand"].days(), words.every, start, end, words.today)
         dates = {kind: its.date_reader() for kind, its in split.dates.items()}
-        reader = Reader(sources, dates, split.amounts, record, (words.ways, words.rules.decimal), writer)
+        reader = Reader(sources, dates, split.amounts, record, words.ways, writer)
         for part in split.parts:
             reader.read_part(part)
         facts = {"counts": counts_of(sources, split, reader), "every": words.every, "decimals": reader.counts.decimals,
                  "periods": [record.periods.start, record.periods.stop], "found": found_text(sources, split, record)}
-        return writer.finish(facts)
+        path = writer.finish(facts)
+    return path
 
 
 def counts_of(sources: Mapping[str, Source], split: Split, reader: Reader) -> dict[str, Any]:

@@ -8,10 +8,10 @@ from dataclasses import dataclass
 from pathlib import Path
 
 from ..errors import Fault, Refused, RefusedFaults
-from ..history.cells import (DELIMITERS, TITLE_ROWS, Rules, decoded, delimiter_of, encoding_of, heading_of, raw_rows,
-                             rows_of_lines, sample)
+from ..history.cells import (DELIMITERS, Rules, decoded, delimiter_of, encoding_of, heading_of, raw_rows, rows_of_lines,
+                             sample)
 from ..history.faults import shown
-from .columns import Column, column_faults, columns_of, usual_names
+from .columns import Column, column_faults, columns_of, role_of
 
 HEAD_BYTES = 1_000_000
 SHOWN_ROWS = 3
@@ -95,9 +95,9 @@ def open_source(kind: str, path: str | Path, rules: Rules, stated: Mapping[str, 
     encoding, text = _head_of(path, rules)
     name = str(path)
     names = [*stated.values()]
-    delimiter = DELIMITERS[rules.delimiter] if rules.delimiter else delimiter_of(name, text, _wanted(kind, text, names))
+    delimiter = DELIMITERS[rules.delimiter] if rules.delimiter else delimiter_of(name, text, names, role_of(kind))
     rows = sample(text, delimiter)
-    place = heading_of(rows, names + usual_names(kind, itertools.chain(*rows[:TITLE_ROWS])))
+    place = heading_of(rows, names, role_of(kind))
     lines = [line for line, _ in itertools.islice(raw_rows(name, text, delimiter), place + 1)]
     if not rows:
         raise RefusedFaults([Fault("there is no row below the heading; export the file again, with its rows", name, 1)])
@@ -107,9 +107,3 @@ def open_source(kind: str, path: str | Path, rules: Rules, stated: Mapping[str, 
     titles = tuple(shown(" ".join(filter(None, it))) for it in rows[:place])
     return Source(kind, path, encoding, delimiter, lines[place], tuple(rows[place]), columns, titles,
                   tuple(map(tuple, rows[place + 1:place + 1 + SHOWN_ROWS])))
-
-
-def _wanted(kind: str, text: str, stated: list[str]) -> list[str]:
-    """Returns names that the heading may have, whatever the delimiter is."""
-    cells = (cell for sign in (",", ";", "\t") for row in sample(text, sign)[:TITLE_ROWS] for cell in row)
-    return list(dict.fromkeys([*stated, *usual_names(kind, cells)]))

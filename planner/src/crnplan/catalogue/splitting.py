@@ -15,10 +15,10 @@ from dataclasses import dataclass, field
 from pathlib import Path
 from typing import IO, Any
 
+from ..history.amounts import AmountReader
 from ..history.cells import long_reason
 from ..history.dates import DateReader, bare_date
-from ..history.faults import Unreadable, shown
-from .amounts import AmountReader
+from ..history.faults import UNPRINTABLE, Unreadable, on_one_line
 from .columns import ROLES
 from .masters import AMOUNTS
 from .sources import Source
@@ -96,7 +96,7 @@ class _Parts:
     def __init__(self, paths: Sequence[Path]) -> None:
         """Opens all part files."""
         self.files: list[IO[str]] = [it.open("w", encoding="utf-8", newline="") for it in paths]
-        self.writers: list[Any] = [csv.writer(it, lineterminator="\n").writerow for it in self.files]
+        self.writers: list[Any] = [csv.writer(it).writerow for it in self.files]
         self.of_item: dict[str, Any] = {}
 
     def writer(self, item: str) -> Any:
@@ -117,7 +117,7 @@ def split_sources(sources: Mapping[str, Source], folder: Path, writer: Writer, p
     """Splits the files into part files of a folder. Rows without an item, and with too many cells, are rejected."""
     count = min(MOST_PARTS, 1 + sum(it.size for it in sources.values()) // part_bytes)
     split = Split([folder / f"part-{number:03}.csv" for number in range(count)],
-                  amounts={role: AmountReader(decimal) for role in AMOUNTS})
+                  amounts={role: AmountReader(decimal) for roles in AMOUNTS.values() for role in roles})
     parts = _Parts(split.parts)
     try:
         for kind, source in sources.items():
@@ -134,7 +134,7 @@ def _split(kind: str, source: Source, split: Split, parts: _Parts, writer: Write
     places = [source.columns[it].place if it in source.columns else -1 for it in ROLES[kind]]
     dates = [place for place, role in enumerate(ROLES[kind]) if role in DATES[kind]]
     looks = [(split.amounts[role].look, place) for place, role in enumerate(ROLES[kind])
-             if role in split.amounts and kind == "items"]
+             if role in AMOUNTS[kind]]
     add, letter, writer_of, rows, blank = kept.add, kind[0], parts.writer, 0, 0
     for line, texts in source.rows():
         if len(texts) != width:
@@ -153,10 +153,15 @@ def _split(kind: str, source: Source, split: Split, parts: _Parts, writer: Write
                 blank += 1
             continue
         rows += 1
+        if cells[0] not in parts.of_item and not cells[0].isprintable() and UNPRINTABLE.search(cells[0]):
+            _reject(source, split, writer, (line, "item", cells[0], "the name of the item has a line break or another "
+                                            "control character; write it in one line"))
+            continue
         for place in dates:
             add(cells[place])
         for look, place in looks:
-            look(cells[place])
+            if "," in cells[place] or "." in cells[place]:
+                look(cells[place])
         writer_of(cells[0])([letter, line, hash(tuple(texts)), *cells])
     kept.count()
     split.rows[kind], split.blank[kind] = rows, blank
@@ -167,7 +172,7 @@ def _reject(source: Source, split: Split, writer: Writer, what: tuple[int, str, 
     line, role, text, message = what
     split.rejected[source.kind] += 1
     column = source.columns[role].name if role else ""
-    writer.reject(Reject("row", source.name, line, "", column, shown(text), *with_advice(message),
+    writer.reject(Reject("row", source.name, line, "", column, on_one_line(text), *with_advice(message),
                          int(source.kind == "demand")))
 
 

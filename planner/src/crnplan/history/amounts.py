@@ -1,20 +1,25 @@
-"""Reads whole numbers as people write them: 3, 3.0, 1,234, 1 234, 1'234, -5.
+"""Reads numbers as people write them: 3, 3.0, 1,234.5, 1 234, 1'234, -5. All numbers of a column together decide its
+decimal sign.
 
-A number that could mean two things is rejected, never guessed.
+A number that could mean two things is rejected, never guessed: 1,234 is read only if its column has a number such as
+0.05 or 1,234,567, which has one reading alone, or if the sign is stated.
 """
 from __future__ import annotations
 
 import re
+from fractions import Fraction
 
+from ..money import MOST_DECIMALS
 from .faults import Unreadable, shown
 
 DECIMALS = (".", ",")
 # Between groups of three digits: blanks (also no-break, thin and narrow no-break), apostrophes, and the other sign.
 GROUPS = " \u00a0\u2009\u202f'\u2019"
 MINUS = "-\u2212"
-MOST_DIGITS = 15
+# A number is below 10 to this power, and a text of more letters is none.
+MOST_DIGITS, MOST_LETTERS = 15, 60
 NO_DEMAND = "write 0 where nothing was asked for"
-NO_NUMBER = "is not a number; write digits, as 12"
+NAMES = {".": "the point", ",": "the comma"}
 
 
 def _form(decimal: str) -> re.Pattern[str]:
@@ -28,45 +33,120 @@ def _form(decimal: str) -> re.Pattern[str]:
 FORMS = {decimal: _form(decimal) for decimal in DECIMALS}
 
 
-def _could_be_group(found: re.Match[str]) -> bool:
-    """Returns whether the decimal sign of a number may also stand between thousands, as in 1.234."""
-    return len(found["part"] or "") == 3 and re.fullmatch("[1-9][0-9]{0,2}", found["whole"]) is not None
+def readings(text: str) -> dict[str, Fraction]:
+    """Returns the numbers that a text may be, by decimal sign."""
+    numbers = {}
+    for sign in DECIMALS if len(text) <= MOST_LETTERS else ():
+        form = FORMS[sign].fullmatch(text)
+        if form is None or form["sign"] and form["after"]:
+            continue
+        digits, part = re.sub("[^0-9]", "", form["whole"]), form["part"] or ""
+        number = Fraction(int(digits + part), 10**len(part))
+        is_negative = form["after"] or form["sign"] and form["sign"] in MINUS
+        numbers[sign] = -number if is_negative else number
+    return numbers
 
 
-def _two_readings(found: re.Match[str], text: str, sign: str) -> Unreadable:
-    """Returns the error of a number whose sign may be a decimal sign, or stand between thousands."""
-    digits = found["whole"] + found["part"]
-    point = "count in a smaller unit if it is a decimal sign" if found["part"].strip("0") else \
-        f"say --decimal {sign} if it is a decimal sign"
-    return Unreadable(f"{shown(text)!r} may be {digits} or a number with three decimals; write {digits} or say "
-                      f"--decimal {DECIMALS[sign == '.']} if {sign!r} stands between thousands; {point}")
+def spelt(number: Fraction) -> str:
+    """Returns a number in digits, with a point if it is not whole."""
+    return f"{float(number):.15g}" if number.denominator > 1 else str(number)
 
 
-def amount_of(text: str, decimal: str | None = None, if_empty: str = NO_DEMAND) -> int:
-    """Returns the whole number of a text, which may be negative.
+class AmountReader:
+    """Reads the amounts of a column. `sides` has the first text for each decimal sign that has one reading alone."""
 
-    Without a stated decimal sign it is the point, and a point before three digits is rejected, since it may stand
-    between thousands. Raises Unreadable.
-    """
-    sign = decimal or "."
-    if not text:
-        raise Unreadable(f"the cell is empty; {if_empty}")
-    found = FORMS[sign].fullmatch(text)
-    if found is None or (found["sign"] and found["after"]):
-        other = DECIMALS[sign == "."]
-        hint = f", or say --decimal {other} if the decimal sign is {other!r}" if FORMS[other].fullmatch(text) else ""
-        raise Unreadable(f"{shown(text)!r} {NO_NUMBER}{hint}")
-    part = (found["part"] or "").strip("0")
-    if _could_be_group(found) and (decimal is None or part):
-        raise _two_readings(found, text, sign)
-    if part:
-        raise Unreadable(f"{shown(text)!r} is not a whole number; count in a smaller unit, as grams for kilograms, and "
-                         "then in boxes of many (--box)")
-    digits = re.sub("[^0-9]", "", found["whole"]).lstrip("0") or "0"
-    if len(digits) > MOST_DIGITS:
-        raise Unreadable(f"{shown(text)!r} has more than {MOST_DIGITS} digits; correct it")
-    negative = found["after"] or found["sign"] and found["sign"] in MINUS
-    return -int(digits) if negative else int(digits)
+    def __init__(self, stated: str | None = None) -> None:
+        """Begins without any text. A stated decimal sign decides all."""
+        self.stated = stated
+        self.sides: dict[str, str] = {}
+        # The first text that may be two numbers.
+        self.doubtful: str | None = None
+
+    def look(self, text: str) -> None:
+        """Looks at a text of the column for its decimal sign."""
+        if self.stated is None and ("," in text or "." in text):
+            numbers = readings(text.rstrip("% "))
+            if len(numbers) == 1:
+                self.sides.setdefault(next(iter(numbers)), text)
+            elif len({*numbers.values()}) > 1:
+                self.doubtful = self.doubtful or text
+
+    @property
+    def sign(self) -> str | None:
+        """Returns the decimal sign: the stated one, or the only one that the column has; None if it is not known."""
+        return self.stated or (next(iter(self.sides)) if len(self.sides) == 1 else None)
+
+    @property
+    def decided(self) -> str | None:
+        """Returns what decides a number that could be two, as `the comma in 2,5`; None if there is none, or nothing
+        does."""
+        if self.doubtful is None or self.sign is None:
+            return None
+        return f"{NAMES[self.sign]} in {shown(self.sides[self.sign])}"
+
+    def number(self, text: str) -> Fraction:
+        """Returns the number of a text. Raises Unreadable."""
+        if not text:
+            raise Unreadable("the cell is empty; write a number, as 12.50")
+        numbers = readings(text)
+        if self.stated is not None:
+            numbers = {sign: number for sign, number in numbers.items() if sign == self.stated}
+        elif len({*numbers.values()}) > 1:
+            both = " or ".join(spelt(number) for number in sorted(numbers.values(), key=abs, reverse=True))
+            numbers = {sign: number for sign, number in numbers.items() if sign == self.sign}
+            if not numbers:
+                signs = " and ".join(repr(shown(it)) for it in self.sides.values())
+                why = f"the column has both signs, as {signs}" if signs else "no other number of the column decides it"
+                raise Unreadable(f"{shown(text)!r} may be {both}, and {why}; say --decimal . or --decimal ,")
+        if not numbers:
+            other = DECIMALS[self.stated == "."]
+            hint = f", or say --decimal {other} if the decimal sign is {other!r}" if self.stated and FORMS[
+                other].fullmatch(text) else ""
+            raise Unreadable(f"{shown(text)!r} is not a number; write digits, as 12{hint}")
+        number = next(iter(numbers.values()))
+        if abs(number) >= 10**MOST_DIGITS:
+            raise Unreadable(f"{shown(text)!r} has more than {MOST_DIGITS} digits; correct it")
+        return number
+
+    def whole(self, text: str, if_empty: str = NO_DEMAND) -> int:
+        """Returns the whole number of a text, which may be negative. Raises Unreadable."""
+        if not text:
+            raise Unreadable(f"the cell is empty; {if_empty}")
+        number = self.number(text)
+        if number.denominator != 1:
+            raise Unreadable(f"{shown(text)!r} is not a whole number; count in a smaller unit, as grams for kilograms, "
+                             "and then in boxes of many (--box)")
+        return int(number)
+
+    def amount(self, text: str) -> Fraction:
+        """Returns an amount of money that is not below 0. Raises Unreadable."""
+        number = self.number(text)
+        if number < 0:
+            raise Unreadable(f"{shown(text)!r} is below 0; write 0 or more")
+        if (number * 10**MOST_DECIMALS).denominator != 1:
+            raise Unreadable(f"{shown(text)!r} has more than {MOST_DECIMALS} decimals; round it")
+        return number
+
+    def positive(self, text: str) -> Fraction:
+        """Returns an amount of money above 0. Raises Unreadable."""
+        number = self.amount(text)
+        if number == 0:
+            raise Unreadable("it is 0, so that stock, or being short, costs nothing; write an amount above 0")
+        return number
+
+    def share(self, text: str) -> Fraction:
+        """Returns a share between 0 and 1, which may be written in percent. Raises Unreadable."""
+        number = self.number(text.rstrip("% ")) / (100 if text.endswith("%") else 1)
+        if not 0 < number < 1:
+            raise Unreadable(f"{shown(text)!r} is no share between 0 and 1; write it as 0.95 or 95%")
+        return number
+
+    def items(self, text: str) -> int:
+        """Returns a whole number of items. Raises Unreadable."""
+        number = self.number(text)
+        if number < 0 or number.denominator != 1:
+            raise Unreadable(f"{shown(text)!r} is not a whole number from 0; correct it")
+        return int(number)
 
 
 def other_reading(text: str, decimal: str | None) -> str | None:
@@ -77,10 +157,11 @@ def other_reading(text: str, decimal: str | None) -> str | None:
     such sign.
     """
     sign = decimal or "."
-    found = FORMS[sign].fullmatch(text)
-    if found is None:
+    form = FORMS[sign].fullmatch(text)
+    if form is None:
         return None
-    whole, _, part = found["whole"].partition(DECIMALS[sign == "."])
+    whole, _, part = form["whole"].partition(DECIMALS[sign == "."])
     if len(part) == 3:
         return f"{whole}.{part}".rstrip("0").rstrip(".")
-    return found["whole"] + found["part"] if _could_be_group(found) else None
+    could_be_group = len(form["part"] or "") == 3 and re.fullmatch("[1-9][0-9]{0,2}", form["whole"]) is not None
+    return form["whole"] + form["part"] if could_be_group else None

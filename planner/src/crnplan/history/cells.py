@@ -6,13 +6,17 @@ once, and 400,000 rows take a few megabytes.
 from __future__ import annotations
 
 import codecs
+import contextlib
 import csv
 import io
 import itertools
 import re
+import shutil
 import sys
+import tempfile
 from array import array
-from collections.abc import Iterable, Iterator, Mapping, Sequence
+from collections import Counter
+from collections.abc import Callable, Iterable, Iterator, Mapping, Sequence
 from dataclasses import dataclass, field
 from functools import cached_property
 from pathlib import Path
@@ -146,6 +150,22 @@ def place_of(text: str, offset: int) -> tuple[int, int]:
     return text.count("\n", 0, offset) + 1, offset - text.rfind("\n", 0, offset)
 
 
+@contextlib.contextmanager
+def whole_file(path: str | Path, folder: Path | None = None) -> Iterator[Path]:
+    """Gives a file that can be read several times: the named one, or a copy of what a pipe gives once, in a folder or
+    for the time of the block. `-` is standard input. A name of no file is given as it is."""
+    named = Path(path)
+    if named.is_file() or named.is_dir() or not named.exists() and str(path) != "-":
+        yield named
+        return
+    with tempfile.TemporaryDirectory(prefix="crnplan-", dir=folder) as room:
+        copy = Path(room) / ("stdin" if str(path) == "-" else named.name)
+        with contextlib.ExitStack() as stack:
+            source = sys.stdin.buffer if str(path) == "-" else stack.enter_context(named.open("rb"))
+            shutil.copyfileobj(source, stack.enter_context(copy.open("xb")))
+        yield copy
+
+
 def read_bytes(path: str | Path) -> tuple[str, bytes]:
     """Returns the name of a file in messages, and its bytes. `-` is standard input."""
     name = "standard input" if str(path) == "-" else str(path)
@@ -226,29 +246,46 @@ def sample(text: str, delimiter: str) -> list[list[str]]:
     return rows
 
 
-def heading_of(rows: Sequence[Sequence[str]], wanted: Sequence[str]) -> int:
-    """Returns the place of the heading among the first rows: the row with most of the wanted names, else with most
-    texts."""
-    fits = [(sum(name in row for name in wanted), sum(map(bool, row))) for row in rows[:TITLE_ROWS]]
+RoleOf = Callable[[str], str | None]
+
+
+def no_role(cell: str) -> None:
+    """Says of any cell that it is no usual name of a column."""
+
+
+def heading_of(rows: Sequence[Sequence[str]], wanted: Iterable[str], role_of: RoleOf = no_role) -> int:
+    """Returns the place of the heading among the first rows: the row with most of the wanted names, else with usual
+    names of most roles, else with most texts.
+
+    A cell that other rows have in the same column is data and no name, unless the whole row comes again.
+    """
+    cells = Counter(it for row in rows for it in enumerate(row))
+    again = Counter(tuple(row) for row in rows)
+    fits = []
+    for row in rows[:TITLE_ROWS]:
+        names = {cell for place, cell in enumerate(row) if cells[place, cell] == again[tuple(row)]}
+        roles = {role_of(cell) for cell in names} - {None}
+        fits.append((sum(name in row for name in wanted), len(roles), sum(map(bool, row))))
     return fits.index(max(fits)) if fits else 0
 
 
-def fit_of(text: str, delimiter: str, wanted: Sequence[str]) -> tuple[int, bool, float]:
-    """Returns how well a delimiter fits, to compare: the wanted columns that the heading has, whether it has several
-    columns, and the share of rows with as many cells as the heading."""
+def fit_of(text: str, delimiter: str, wanted: Iterable[str], role_of: RoleOf) -> tuple[int, int, bool, float]:
+    """Returns how well a delimiter fits, to compare: the wanted columns that the heading has, those with usual names,
+    whether it has several columns, and the share of rows with as many cells as the heading."""
     rows = sample(text, delimiter)
-    place = heading_of(rows, wanted)
+    place = heading_of(rows, wanted, role_of)
     heading, rows = (rows[place], rows[place + 1:]) if rows else ([], [])
     alike = sum(len(row) == len(heading) for row in rows)
-    return sum(name in heading for name in wanted), len(heading) > 1, alike / max(1, len(rows))
+    roles = {role_of(cell) for cell in heading} - {None}
+    return sum(name in heading for name in wanted), len(roles), len(heading) > 1, alike / max(1, len(rows))
 
 
-def delimiter_of(name: str, text: str, wanted: Sequence[str]) -> str:
+def delimiter_of(name: str, text: str, wanted: Iterable[str], role_of: RoleOf = no_role) -> str:
     """Returns the delimiter that fits the heading and the rows best."""
-    fits = {delimiter: fit_of(text, delimiter, wanted) for delimiter in (",", ";", "\t")}
+    fits = {delimiter: fit_of(text, delimiter, wanted, role_of) for delimiter in (",", ";", "\t")}
     best = max(fits.values())
     fitting = [delimiter for delimiter, fit in fits.items() if fit == best]
-    if len(fitting) > 1 and best[1]:
+    if len(fitting) > 1 and best[2]:
         named = [word for word, it in DELIMITERS.items() if it in fitting and word != "\t"]
         raise RefusedFaults([Fault(f"{' and '.join(named)} may both be the delimiter; say --delimiter {named[0]} or "
                                    f"--delimiter {named[1]}", name, 1)])

@@ -2,6 +2,7 @@
 from __future__ import annotations
 
 import csv
+import re
 from collections.abc import Iterator, Sequence
 from dataclasses import dataclass
 from pathlib import Path
@@ -12,6 +13,7 @@ from ..errors import Fault, Refused, RefusedFaults
 # So many faults are printed, and so many lines are named in a note. The rejects have all.
 MOST_PRINTED = 20
 MOST_NAMED = 8
+UNPRINTABLE = re.compile(r"[\x00-\x1f\x7f-\x9f\u2028\u2029]+")
 
 
 class Unreadable(ValueError):
@@ -42,6 +44,11 @@ class Place(NamedTuple):
 def shown(text: str) -> str:
     """Returns a text, cut if it is long."""
     return text if len(text) <= 30 else f"{text[:30]}..."
+
+
+def on_one_line(text: str) -> str:
+    """Returns a text, cut if it is long, with escapes for its control characters."""
+    return UNPRINTABLE.sub(lambda it: it[0].encode("unicode_escape").decode(), shown(text))
 
 
 def named_lines(lines: Sequence[int]) -> str:
@@ -78,6 +85,6 @@ def write_rejects(path: Path, faults: Sequence[Fault]) -> None:
         with path.open("w", encoding="utf-8", newline="") as file:
             out = csv.writer(file, lineterminator="\n")
             out.writerow(["file", "line", "column", "what", "row"])
-            out.writerows([it.file, it.line, it.column, it.what, getattr(it, "row", "")] for it in faults)
+            out.writerows([it.file, it.line, it.column, it.what, getattr(it, "row", "").replace("\r", "\\r")] for it in faults)
     except OSError as fault:
         raise Refused(f"{path}: {fault.strerror}; name another file after --rejects") from fault

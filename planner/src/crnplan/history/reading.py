@@ -9,7 +9,7 @@ from typing import Any, TypeVar
 from ..errors import Fault, Refused, RefusedFaults
 from ..formats import MOST_WEIGHT
 from . import suspicions
-from .amounts import amount_of
+from .amounts import AmountReader
 from .cells import Rules, read_sheet
 from .dates import DateReader
 from .faults import MOST_NAMED, Place, RefusedFiles, Unreadable, named_lines, shown
@@ -23,7 +23,6 @@ class Reading:
     def __init__(self, path: str | Path, wanted: Sequence[str], rules: Rules, own_item: bool = False) -> None:
         """Reads the cells. Only the history must have the columns of the item; other files may be of one item alone."""
         self.rules = rules
-        self.amount_names: list[str] = []
         self.sheet = read_sheet(path, [*wanted, *(() if own_item else rules.item)], rules, list(rules.item))
         self.notes = self.sheet.notes
         rows = self._item_rows()
@@ -90,9 +89,7 @@ class Reading:
         self.faults.sort(key=lambda it: (it.line, it.column))
         of_file = [self.sheet.fault] if self.sheet.fault else []
         if of_file or self.faults and not self.rules.leave_out:
-            signs = [] if self.rules.decimal else [note for name in self.amount_names for note in suspicions.sign_notes(
-                self.sheet, name, rows, [columns[name][it] or 0 for it in places], None)]
-            raise RefusedFiles([*of_file, *self.faults], [*self.notes, *signs])
+            raise RefusedFiles([*of_file, *self.faults], self.notes)
         if self.faults:
             lines = list(dict.fromkeys(self.sheet.lines[row] for row in sorted({*self.rows, *self.long} - set(rows))))
             self.note(f"rows left out: {len(lines):,} of {len(self.rows) + len(self.long):,} ({named_lines(lines)})")
@@ -105,8 +102,9 @@ class Reading:
         totals = list(suspicions.total_notes(self.sheet, name, rows, numbers))
         if totals:
             rows, numbers = rows[:-1], numbers[:-1]
-        self.notes += [*totals, *suspicions.far_notes(self.sheet, name, rows, numbers),
-                       *suspicions.sign_notes(self.sheet, name, rows, numbers, self.rules.decimal)]
+        self.notes += [*totals, *suspicions.far_notes(self.sheet, name, rows, numbers)]
+        if self.rules.decimal:
+            self.notes += suspicions.sign_notes(self.sheet, name, rows, numbers, self.rules.decimal)
 
     def note_forms(self, name: str, rows: Sequence[int], dates: Sequence[tuple[datetime.date, str]],
                    reader: DateReader) -> None:
@@ -122,11 +120,15 @@ class Reading:
 
     def amounts(self, name: str, below: str, least: int | None, **words: str) -> list[int | None]:
         """Returns the amounts of a column. One that is below the least is a fault, with this reason."""
-        self.amount_names.append(name)
+        reader = AmountReader(self.rules.decimal)
+        for text in self.sheet.columns[name].index:
+            reader.look(text)
+        if reader.decided:
+            self.note(f"column {name!r}: the decimal sign is {reader.decided}")
 
         def amount(text: str) -> int:
             """Reads one."""
-            number = amount_of(text, self.rules.decimal, **words)
+            number = reader.whole(text, **words)
             if least is not None and number < least:
                 raise Unreadable(f"{shown(text)} {below}")
             return number

@@ -56,24 +56,19 @@ def far_notes(sheet: Sheet, name: str, rows: Sequence[int], numbers: Sequence[in
             return
 
 
-def sign_notes(sheet: Sheet, name: str, rows: Sequence[int], numbers: Sequence[int],
-               decimal: str | None) -> Iterator[str]:
-    """Yields a note on the first number that another decimal sign would make a thousand times smaller, or larger.
-
-    If the decimal sign is stated, a way of writing is suspicious only if few numbers are written so.
-    """
+def sign_notes(sheet: Sheet, name: str, rows: Sequence[int], numbers: Sequence[int], decimal: str) -> Iterator[str]:
+    """Yields a note on the first number that another decimal sign would make a thousand times smaller, or larger, if
+    few numbers are written so. The sign is stated."""
     column, group = sheet.columns[name], "." if decimal == "," else ","
     texts = [it for it in column.index if ("," in it or "." in it) and other_reading(it, decimal)]
     for is_grouped in (True, False):
         codes = {column.index[it] for it in texts if (group in it) == is_grouped}
         found = [place for place, row in enumerate(rows) if column.codes[row] in codes] if codes else []
-        if not found or decimal is not None and len(found) > max(1, len(rows) // RARE):
+        if not 0 < len(found) <= max(1, len(rows) // RARE):
             continue
         text, number = column.text(rows[found[0]]), numbers[found[0]]
-        advice = "if the comma is a decimal sign, say --decimal ,"
-        if decimal is not None:
-            advice = f"{len(found)} of {len(rows)} rows are written so; with another decimal sign it would be " \
-                     f"{other_reading(text, decimal)}"
+        advice = f"{len(found)} of {len(rows)} rows are written so; with another decimal sign it would be " \
+                 f"{other_reading(text, decimal)}"
         yield _note(sheet, rows[found[0]], name, f"{shown(text)!r} is read as {number} ({advice})")
 
 

@@ -6,6 +6,7 @@ from dataclasses import dataclass
 from pathlib import Path
 
 from ..engine.program import find_program
+from ..history.cells import whole_file
 from . import comparison, work
 from .settings import TABLES, read_settings
 from .steps import Folder, Step, run_steps
@@ -78,8 +79,9 @@ def plan_item(history: str | Path, settings: str | Path, out: str | Path, *, pro
     faults of the settings or of the history, Refused for a folder that has other files, and ProgramError.
     """
     read, path = read_settings(settings), find_program(program)
-    item = Item(Path(history), read, Folder(Path(out)), path)
-    done = run_steps(item.folder, STEPS, item, told)
+    with whole_file(history) as file:
+        item = Item(file, read, Folder(Path(out)), path)
+        done = run_steps(item.folder, STEPS, item, told)
     holds = "better" not in {row["verdict"] for row in rows_of(item.text("check.csv"))}
     return Plan(item.folder.path, tuple(done), item.text("summary.txt"), holds)
 
