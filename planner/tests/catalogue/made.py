@@ -24,7 +24,7 @@ BAD_DATES = ["", "31.02.2026", "bald", "2062-03-04", "1999-01-04", "45678"]
 # Changes of a master for which the item is left out.
 BAD_MASTERS: list[dict[str, str]] = [
     {"Bestellkosten": ""}, {"Bestellpunkt": "90", "Höchstbestand": "5"}, {"Lagerkosten": "0"}, {"Lieferzeit": "n/a"},
-    {"Fehlmengenkosten": "", "Servicegrad": ""}, {"Lieferzeit": "0"}, {"Bestellkosten": "45,00 EUR"},
+    {"Fehlmengenkosten": "", "Servicegrad": ""}, {"Lieferzeit": "0"}, {"Bestellkosten": "45,00 Stk"},
     {"Fehlmengenkosten": "", "Servicegrad": "120%"}, {"Preis": "teuer", "Bestellkosten": "-3"}]
 
 

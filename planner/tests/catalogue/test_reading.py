@@ -77,7 +77,7 @@ def test_columns_of_faulty_masters(rejects: pd.DataFrame) -> None:
     assert list(found.column[[name_of(it) for it in range(20, 29)]]) == [
         "Bestellkosten", "Bestellpunkt", "Lagerkosten", "Lieferzeit", "Fehlmengenkosten", "Lieferzeit",
         "Bestellkosten", "Servicegrad", "Bestellkosten, Preis"]
-    assert found.text["A-026"] == "45,00 EUR" and "120%" in found.text["A-027"]
+    assert found.text["A-026"] == "45,00 Stk" and "120%" in found.text["A-027"]
 
 
 def test_sums_of_a_second_program(catalogue: Catalogue, second: Audit) -> None:

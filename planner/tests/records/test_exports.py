@@ -2,9 +2,12 @@
 is lost."""
 from __future__ import annotations
 
+import contextlib
 import csv
 import datetime
+import json
 import os
+import sqlite3
 import sys
 import threading
 from collections.abc import Callable, Sequence
@@ -56,6 +59,13 @@ def item(crnplan: Answers, tmp_path: Path) -> Answers:
     return run
 
 
+def read_items(folder: Path) -> dict[str, Any]:
+    """Returns the facts of the items that were read into the folder `plan`."""
+    base = sqlite3.connect(folder / "plan" / "catalogue.sqlite")
+    with contextlib.closing(base):
+        return {name: json.loads(facts) for name, facts in base.execute("SELECT item, facts FROM items")}
+
+
 @pytest.mark.parametrize("texts, both", [
     (["1,000", "2,000"], "1000 or 1"), (["1.000", "2.000"], "1000 or 1"), (["1.234", "7"], "1234 or 1.234"),
     (["12,500", "3"], "12500 or 12.5")])
@@ -94,6 +104,27 @@ def test_a_number_that_decides_may_be_none_itself(check: Answers, crnplan: Answe
     assert {row["text"] for row in rejects if row["kind"] == "row"} == {"12,5"}
     its = crnplan("history", tmp_path / "demand.csv", "--demand", "quantity")
     assert its.status == 2 and "'12,5' is not a whole number" in its.errors and "'1,000'" not in its.errors
+
+
+@pytest.mark.parametrize("text", ["$45.00", "45 EUR", "EUR 45", "45,00 €", "zł45", "45", "045.000000", "US$ 45.0"])
+def test_money_with_its_currency(text: str, check: Answers, tmp_path: Path) -> None:
+    """An amount of money may have its currency. It is read as without."""
+    _, rejects = check(demand_of(["2", "3"]), masters=f'{MASTERS}\nA,"{text}",1,10,2,3,9\n')
+    assert not rejects and read_items(tmp_path)["A"]["setup"] in (45, "45")
+
+
+@pytest.mark.parametrize("text, quantity", [("(3)", -3), ("3-", -3), ("\u22123", -3), ("1'000", 1000), ("1 000", 1000)])
+def test_quantities_as_people_write_them(text: str, quantity: int, check: Answers, tmp_path: Path) -> None:
+    """Amounts below 0 may stand in parentheses or have the minus behind; thousands may have an apostrophe."""
+    _, rejects = check(demand_of([text, "7000"]), "--net", "--every", "month", "--least", "2")
+    counts = read_items(tmp_path)["A"]["counts"]
+    assert not rejects and sum(counts) == WEEKS // 2 * (7000 + quantity)
+
+
+def test_two_currencies_are_refused(check: Answers) -> None:
+    """Amounts in two currencies, also of two columns, are rejected with both."""
+    _, rejects = check(demand_of(["2", "3"]), masters=f"{MASTERS},price\nA,45 EUR,1,10,2,3,9,$3\n")
+    assert [row["kind"] for row in rejects] == ["item"] and "'45 EUR' and '$3'" in rejects[0]["reason"]
 
 
 @pytest.mark.parametrize("decimal, value", [(".", "1000"), (",", "1")])

@@ -20,7 +20,7 @@ from ..history.cells import long_reason
 from ..history.dates import DateReader, bare_date
 from ..history.faults import UNPRINTABLE, Unreadable, on_one_line
 from .columns import ROLES
-from .masters import AMOUNTS
+from .masters import AMOUNTS, MONEY
 from .sources import Source
 from .store import Reject, Writer, with_advice
 
@@ -116,8 +116,10 @@ def split_sources(sources: Mapping[str, Source], folder: Path, writer: Writer, p
                   decimal: str | None, part_bytes: int = PART_BYTES) -> Split:
     """Splits the files into part files of a folder. Rows without an item, and with too many cells, are rejected."""
     count = min(MOST_PARTS, 1 + sum(it.size for it in sources.values()) // part_bytes)
+    currencies: dict[str, str] = {}
     split = Split([folder / f"part-{number:03}.csv" for number in range(count)],
-                  amounts={role: AmountReader(decimal) for roles in AMOUNTS.values() for role in roles})
+                  amounts={role: AmountReader(decimal, currencies if role in MONEY else None)
+                           for roles in AMOUNTS.values() for role in roles})
     parts = _Parts(split.parts)
     try:
         for kind, source in sources.items():
@@ -160,7 +162,7 @@ def _split(kind: str, source: Source, split: Split, parts: _Parts, writer: Write
         for place in dates:
             add(cells[place])
         for look, place in looks:
-            if "," in cells[place] or "." in cells[place]:
+            if not cells[place].isdecimal():
                 look(cells[place])
         writer_of(cells[0])([letter, line, hash(tuple(texts)), *cells])
     kept.count()

@@ -20,6 +20,13 @@ MINUS = "-\u2212"
 MOST_DIGITS, MOST_LETTERS = 15, 60
 NO_DEMAND = "write 0 where nothing was asked for"
 NAMES = {".": "the point", ",": "the comma"}
+# Signs and codes of money, before or behind an amount, and the code that a sign stands for.
+CODES = ("AED AUD BGN BRL CAD CHF CNY CZK DKK EUR GBP HKD HUF IDR ILS INR JPY KRW MXN MYR NOK NZD PHP PLN RON RUB SAR "
+         "SEK SGD THB TRY TWD UAH USD VND ZAR").split()
+SIGNS = {"€": "EUR", "£": "GBP", "₹": "INR", "zł": "PLN", "Kč": "CZK", "US$": "USD", "R$": "BRL", "元": "CNY", "円": "JPY",
+         "₽": "RUB", "₺": "TRY", "₩": "KRW", "₪": "ILS", "Ft": "HUF"}
+CURRENCY = "|".join(map(re.escape, [*SIGNS, *CODES, "$", "¥", "kr", "Fr."]))
+MONEY = re.compile(rf"(?P<sign>[{MINUS}+]?) ?(?P<before>{CURRENCY})? ?(?P<number>.*?) ?(?P<behind>{CURRENCY})?")
 
 
 def _form(decimal: str) -> re.Pattern[str]:
@@ -52,20 +59,41 @@ def spelt(number: Fraction) -> str:
     return f"{float(number):.15g}" if number.denominator > 1 else str(number)
 
 
-class AmountReader:
-    """Reads the amounts of a column. `sides` has the first text for each decimal sign that has one reading alone."""
+def unwrapped(text: str) -> str:
+    """Returns a number in parentheses, which is below 0, with a minus."""
+    return f"-{text[1:-1].strip()}" if text[:1] == "(" and text[-1:] == ")" else text
 
-    def __init__(self, stated: str | None = None) -> None:
+
+def split_money(text: str) -> tuple[str, str]:
+    """Returns an amount without its currency, and the currency; the empty text if it has none."""
+    parts = MONEY.fullmatch(unwrapped(text))
+    if parts is None or parts["before"] and parts["behind"]:
+        return text, ""
+    currency = parts["before"] or parts["behind"] or ""
+    return (parts["sign"] + parts["number"] if currency else unwrapped(text)), SIGNS.get(currency, currency)
+
+
+class AmountReader:
+    """Reads the amounts of a column. `sides` has the first text for each decimal sign that has one reading alone.
+
+    Amounts of money may have a currency. `currencies` has the first text of each, and is shared by all columns of money.
+    """
+
+    def __init__(self, stated: str | None = None, currencies: dict[str, str] | None = None) -> None:
         """Begins without any text. A stated decimal sign decides all."""
         self.stated = stated
+        self.currencies = currencies
         self.sides: dict[str, str] = {}
         # The first text that may be two numbers.
         self.doubtful: str | None = None
 
     def look(self, text: str) -> None:
         """Looks at a text of the column for its decimal sign."""
+        bare, currency = (text, "") if self.currencies is None else split_money(text)
+        if currency and self.currencies is not None:
+            self.currencies.setdefault(currency, text)
         if self.stated is None and ("," in text or "." in text):
-            numbers = readings(text.rstrip("% "))
+            numbers = readings(unwrapped(bare.rstrip("% ")))
             if len(numbers) == 1:
                 self.sides.setdefault(next(iter(numbers)), text)
             elif len({*numbers.values()}) > 1:
@@ -88,7 +116,10 @@ class AmountReader:
         """Returns the number of a text. Raises Unreadable."""
         if not text:
             raise Unreadable("the cell is empty; write a number, as 12.50")
-        numbers = readings(text)
+        numbers = readings(unwrapped(text) if self.currencies is None else split_money(text)[0])
+        if self.currencies and len(self.currencies) > 1:
+            both = " and ".join(repr(shown(it)) for it in self.currencies.values())
+            raise Unreadable(f"amounts of money are in several currencies, as {both}; convert them into one")
         if self.stated is not None:
             numbers = {sign: number for sign, number in numbers.items() if sign == self.stated}
         elif len({*numbers.values()}) > 1:
