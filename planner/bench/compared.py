@@ -15,11 +15,11 @@ from typing import Any, NamedTuple, TypeVar
 import numpy as np
 import pandas as pd
 
-from crnplan.catalogue.learning import prior_of
-from crnplan.catalogue.planning import ALL, Question, Settings, question_of, theory_of
-from crnplan.catalogue.reading import Words, check_folder, read_into
-from crnplan.catalogue.store import Catalogued
-from crnplan.catalogue.workers import answers_of, processes
+from crnplan.plan.learning import prior_of
+from crnplan.plan.planning import ALL, Question, Settings, question_of, theory_of
+from crnplan.records.catalogue_reading import Words, check_folder, read_into
+from crnplan.records.store import Catalogued
+from crnplan.plan.workers import answers_of, processes
 from crnplan.demand.borrowing import Prior
 from crnplan.scenario import Table
 from planner.bench.made import make

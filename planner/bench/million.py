@@ -16,12 +16,12 @@ from typing import Any
 
 import click
 
-from crnplan.catalogue.exchange import Items
-from crnplan.catalogue.gathering import CANDIDATES, gather
-from crnplan.catalogue.page import PAGE
-from crnplan.catalogue.planned import read_planned
-from crnplan.catalogue.store import ANSWERS, READ, Catalogued
-from crnplan.catalogue.tables import DECISIONS, EXACT
+from crnplan.curve.exchange import Items
+from crnplan.curve.gathering import CANDIDATES, gather
+from crnplan.pages.report import PAGE
+from crnplan.plan.planned import read_planned
+from crnplan.records.store import ANSWERS, READ, Catalogued
+from crnplan.plan.tables import DECISIONS, EXACT
 from planner.bench.made import Made
 from planner.bench.page import ARRAYS, FIRST_PASS, LOOP, SENT, TRANSACTIONS, million_table
 from planner.bench.part import FILES, PLAN

@@ -12,9 +12,9 @@ from pathlib import Path
 
 import click
 
-from crnplan.catalogue.planning import Settings
-from crnplan.catalogue.reading import Words, check_folder, read_into
-from crnplan.catalogue.store import READ, Catalogued
+from crnplan.plan.planning import Settings
+from crnplan.records.catalogue_reading import Words, check_folder, read_into
+from crnplan.records.store import READ, Catalogued
 from planner.bench.made import Made
 
 FILES, PLAN = "files", "plan"
@@ -28,27 +28,27 @@ def read(folder: Path, jobs: int) -> None:
 
 def learn(folder: Path, jobs: int) -> None:
     """Learns laws of demand from all items, which the plan then uses."""
-    from crnplan.catalogue.learning import prior_of
+    from crnplan.plan.learning import prior_of
     with contextlib.closing(Catalogued(folder / PLAN / READ)) as its:
         prior_of(folder / PLAN, its, Settings(), True)
 
 
 def plan(folder: Path, jobs: int) -> None:
     """Plans all items, and writes the tables."""
-    from crnplan.catalogue.running import plan_into
+    from crnplan.plan.running import plan_into
     plan_into(folder / PLAN, Settings(), jobs=jobs)
 
 
 def curve(folder: Path, jobs: int) -> None:
     """Draws the exchange curve."""
-    from crnplan.catalogue.curve import draw_curve
-    from crnplan.catalogue.exchange import Budget
+    from crnplan.curve.exchange_curve import draw_curve
+    from crnplan.curve.exchange import Budget
     draw_curve(folder / PLAN, Budget(), jobs=jobs)
 
 
 def page(folder: Path, jobs: int) -> None:
     """Writes the page of all items."""
-    from crnplan.catalogue.page import report
+    from crnplan.pages.report import report
     report(folder / PLAN)
 
 

@@ -10,12 +10,12 @@ from contextlib import AbstractContextManager
 from pathlib import Path
 from typing import Any
 
-from crnplan.catalogue.planned import Planned
-from crnplan.catalogue.reading import Words, open_sources
-from crnplan.catalogue.splitting import split_sources
-from crnplan.catalogue.store import Answers, Catalogued, Writer
-from crnplan.catalogue.work import BATCH, Work
-from crnplan.catalogue.workers import Workers, cluster, processes
+from crnplan.plan.planned import Planned
+from crnplan.records.catalogue_reading import Words, open_sources
+from crnplan.records.splitting import split_sources
+from crnplan.records.store import Answers, Catalogued, Writer
+from crnplan.plan.work import BATCH, Work
+from crnplan.plan.workers import Workers, cluster, processes
 
 SECONDS = 10
 WORKERS, LEAST_ITEMS = 4, 3_000

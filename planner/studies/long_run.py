@@ -24,12 +24,12 @@ import click
 import numpy as np
 from scipy.special import ndtr
 
-from crnplan.decision.intervals import t_quantile
-from crnplan.engine.long_run import keys_of, long_run_of
-from crnplan.engine.program import find_program
+from crnplan.decide.intervals import t_quantile
+from crnplan.crnsim.long_run import keys_of, long_run_of
+from crnplan.crnsim.program import find_program
 from crnplan.errors import CrnplanError, Refused
 from crnplan.formats import MOST_ITEMS, MOST_PERIODS
-from crnplan.report.tables import aligned
+from crnplan.table import aligned
 from crnplan.scenario import Costs, Policy, Scenario
 from crnplan.theory.lattice import late_work, shape_of, theories_of, theory_on, values_of
 from crnplan.theory.start_bias import start_bias

@@ -19,7 +19,7 @@ from hypothesis import given
 from hypothesis import strategies as st
 
 from crnplan import formats
-from crnplan.document.faults import faults_of
+from crnplan.toml.faults import faults_of
 from crnplan.errors import ProgramError, Refused, ScenarioError
 from crnplan.scenario import Costs, Policy, Scenario, Table, policies_of, read_policies
 from planner.tests.conftest import Command

@@ -6,7 +6,7 @@ from pathlib import Path
 from typing import NamedTuple
 
 import pytest
-from crnplan import document, formats
+from crnplan import toml as document, formats
 
 from tests.documents.page_folder import Folder
 from tests.hostile import second_reader

@@ -11,7 +11,7 @@ from collections.abc import Callable, Iterator
 from typing import Any
 
 import pytest
-from crnplan import document, formats
+from crnplan import toml as document, formats
 from crnplan.formats import Key
 
 from tests.documents.conftest import Ask

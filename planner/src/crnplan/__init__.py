@@ -22,12 +22,12 @@ _HOMES = {
     "Policy": "scenario",
     "Scenario": "scenario",
     "Table": "scenario",
-    "LongRunReport": "engine.long_run",
-    "Report": "engine.report",
-    "find_program": "engine.program",
-    "History": "history",
-    "read_history": "history",
-    "read_lead_times": "history",
+    "LongRunReport": "crnsim.long_run",
+    "Report": "crnsim.report",
+    "find_program": "crnsim.program",
+    "History": "records",
+    "read_history": "records",
+    "read_lead_times": "records",
     "Checks": "demand",
     "check_history": "demand",
     "DemandLaw": "demand",
@@ -36,36 +36,38 @@ _HOMES = {
     "fit_lead": "demand",
     "Prior": "demand.borrowing",
     "learn": "demand.borrowing",
-    "check_keys": "decision.keys",
-    "doubt": "decision.doubt",
-    "sensitivity": "decision.sensitivity",
+    "check_keys": "decide.keys",
+    "doubt": "decide.doubt",
+    "sensitivity": "decide.sensitivity",
     "sweep": "sweep",
-    "trajectories": "engine.trajectory",
-    "plan_item": "item",
-    "Catalogue": "catalogue",
-    "read_catalogue": "catalogue",
-    "plan": "catalogue",
-    "exchange_curve": "catalogue",
-    "report": "catalogue.page",
+    "trajectories": "crnsim.trajectory",
+    "plan_item": "plan.item",
+    "Catalogue": "records.catalogue_reading",
+    "read_catalogue": "records.catalogue_reading",
+    "plan": "plan.running",
+    "exchange_curve": "curve.exchange_curve",
+    "report": "pages.report",
 }
 
 __all__ = ["__version__", *_HOMES]
 
 if TYPE_CHECKING:
-    from .catalogue import Catalogue, exchange_curve, plan, read_catalogue
-    from .catalogue.page import report
-    from .decision.doubt import doubt
-    from .decision.keys import check_keys
-    from .decision.sensitivity import sensitivity
+    from .records.catalogue_reading import Catalogue, read_catalogue
+    from .curve.exchange_curve import exchange_curve
+    from .plan.running import plan
+    from .pages.report import report
+    from .decide.doubt import doubt
+    from .decide.keys import check_keys
+    from .decide.sensitivity import sensitivity
     from .demand import Checks, DemandLaw, LeadLaw, check_history, fit_demand, fit_lead
     from .demand.borrowing import Prior, learn
-    from .engine.program import find_program
-    from .engine.long_run import LongRunReport
-    from .engine.report import Report
-    from .engine.trajectory import trajectories
+    from .crnsim.program import find_program
+    from .crnsim.long_run import LongRunReport
+    from .crnsim.report import Report
+    from .crnsim.trajectory import trajectories
     from .errors import CrnplanError, Fault, ProgramError, Refused, ScenarioError
-    from .history import History, read_history, read_lead_times
-    from .item import plan_item
+    from .records import History, read_history, read_lead_times
+    from .plan.item import plan_item
     from .scenario import Costs, Policy, Scenario, Table
     from .sweep import sweep
 

@@ -7,7 +7,7 @@ from fractions import Fraction
 from typing import Any
 
 from . import formats
-from .document.values import shown
+from .toml.values import shown
 from .errors import Refused
 
 # Costs are scaled by a power of ten from -8 to 8, the nearest to 0 that can be.

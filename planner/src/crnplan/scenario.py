@@ -17,17 +17,17 @@ from pathlib import Path
 from typing import TYPE_CHECKING, Any
 
 from . import formats
-from .document import reading
-from .document.values import shown
-from .document.writing import toml_text
+from .toml import reading
+from .toml.values import shown
+from .toml.writing import toml_text
 from .errors import Refused
 from .money import scaled_costs, whole
 
 if TYPE_CHECKING:
     import pandas as pd
 
-    from .engine.long_run import LongRunReport
-    from .engine.report import Report
+    from .crnsim.long_run import LongRunReport
+    from .crnsim.report import Report
 
 Tree = dict[str, Any]
 # What is said of all figures of a scenario.
@@ -223,7 +223,7 @@ class Scenario:
         pairs, or a table with the columns s and S, and `policy` as a column or its index. More than 16 go in several
         runs with the base in each. Raises Refused, ScenarioError with all faults, and ProgramError.
         """
-        from .engine.report import report_of
+        from .crnsim.report import report_of
         return report_of(self if policies is None else self._with_base(policies), program)
 
     def long_run(self, policies: Any = None, *, keys: int = 48, program: str | Path | None = None) -> LongRunReport:
@@ -233,7 +233,7 @@ class Scenario:
         the others than the base, as in `run`. The stock, the periods and the replications of the scenario play no part,
         and `unit` is left out. Raises what `run` raises, and Refused if there is no long run.
         """
-        from .engine.long_run import long_run_of
+        from .crnsim.long_run import long_run_of
         return long_run_of(self if policies is None else self._with_base(policies), keys, program)
 
 

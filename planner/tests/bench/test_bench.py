@@ -7,7 +7,7 @@ from typing import Any
 
 import pytest
 
-from crnplan.catalogue import read_catalogue
+from crnplan.records.catalogue_reading import read_catalogue
 from planner.bench import page, whole
 from planner.bench.compared import all_figures, compare
 from planner.bench.made import Made, make

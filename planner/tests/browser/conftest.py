@@ -9,14 +9,15 @@ from pathlib import Path
 
 import pytest
 
-from crnplan import item
-from crnplan.catalogue import plan, read_catalogue
-from crnplan.catalogue.item_files import file_of
-from crnplan.catalogue.page import report
+from crnplan.plan import item
+from crnplan.plan.running import plan
+from crnplan.records.catalogue_reading import read_catalogue
+from crnplan.pages.item_files import file_of
+from crnplan.pages.report import report
 from planner.tests.browser.browser import Browser
 from planner.tests.catalogue.conftest import SETTINGS
 from planner.tests.item.conftest import furnished
-from planner.tests.report.made_catalogue import made_folder
+from planner.tests.pages.made_catalogue import made_folder
 
 # Names of items that are markup, a formula, a path, written from the right, or that no line has room for.
 MARKUP, ARABIC, WIDE = "<img src=x onerror=alert(1)>", "قطعة غيار 12", "W" * 300

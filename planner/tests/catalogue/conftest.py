@@ -8,7 +8,8 @@ from typing import Any
 
 import pytest
 
-from crnplan.catalogue import Catalogue, plan, read_catalogue
+from crnplan.records.catalogue_reading import Catalogue, read_catalogue
+from crnplan.plan.running import plan
 from planner.tests.catalogue.made import NO_PLAN, TODAY, Made, made
 
 FILES = ("Bewegungen.csv", "Artikel.csv", "Bestellungen.csv")

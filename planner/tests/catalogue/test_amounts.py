@@ -8,11 +8,11 @@ from hypothesis import assume, given, settings
 from hypothesis import strategies as st
 
 from crnplan import formats
-from crnplan.catalogue.amounts import leads_of
-from crnplan.catalogue.planning import finest
+from crnplan.records.catalogue_amounts import leads_of
+from crnplan.plan.planning import finest
 from crnplan.errors import Refused
-from crnplan.history.amounts import AmountReader, readings
-from crnplan.history.faults import Unreadable
+from crnplan.records.amounts import AmountReader, readings
+from crnplan.records.faults import Unreadable
 from crnplan.money import rounded_costs
 
 AMOUNTS = st.decimals(0, 10**8, places=4, allow_nan=False)

@@ -14,11 +14,11 @@ import pandas as pd
 import pytest
 
 import crnplan as crn
-from crnplan.catalogue.curve import CURVE, LEFT_OUT, POLICIES, Drawn, draw_curve, points_of
-from crnplan.catalogue.exchange import Budget, chosen_by, with_more_orders
-from crnplan.catalogue.gathering import CANDIDATES
-from crnplan.catalogue.planning import figures_of, question_of, theory_of
-from crnplan.catalogue.store import READ, Catalogued
+from crnplan.curve.exchange_curve import CURVE, LEFT_OUT, POLICIES, Drawn, draw_curve, points_of
+from crnplan.curve.exchange import Budget, chosen_by, with_more_orders
+from crnplan.curve.gathering import CANDIDATES
+from crnplan.plan.planning import figures_of, question_of, theory_of
+from crnplan.records.store import READ, Catalogued
 from planner.tests.catalogue.conftest import FILES, SETTINGS, leave_few
 from planner.tests.catalogue.made import NO_PLAN, TODAY, Made
 from planner.tests.conftest import Command

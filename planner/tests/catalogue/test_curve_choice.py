@@ -12,12 +12,12 @@ import pytest
 from hypothesis import given, settings
 from hypothesis import strategies as st
 
-from crnplan.catalogue.candidates import DEARER_ORDERS, DEARER_STOCK, PRICES, VARIANTS, candidates_of, variants_of
-from crnplan.catalogue.exchange import Budget, Dearer, Items, Ladder, chosen_by, gap_of
-from crnplan.catalogue.hull import lower_hull, slopes
-from crnplan.catalogue.planned import read_planned
-from crnplan.catalogue.planning import question_of, theory_of
-from crnplan.catalogue.store import READ, Catalogued
+from crnplan.curve.candidates import DEARER_ORDERS, DEARER_STOCK, PRICES, VARIANTS, candidates_of, variants_of
+from crnplan.curve.exchange import Budget, Dearer, Items, Ladder, chosen_by, gap_of
+from crnplan.curve.hull import lower_hull, slopes
+from crnplan.plan.planned import read_planned
+from crnplan.plan.planning import question_of, theory_of
+from crnplan.records.store import READ, Catalogued
 from crnplan.errors import Refused
 
 NUMBERS = st.integers(0, 30)

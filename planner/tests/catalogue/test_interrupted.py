@@ -16,12 +16,14 @@ from pathlib import Path
 
 import pytest
 
-from crnplan.catalogue import exchange_curve, plan, read_catalogue
-from crnplan.catalogue.curve import CURVE, LEFT_OUT, POLICIES, draw_curve
-from crnplan.catalogue.exchange import Budget
-from crnplan.catalogue.gathering import CANDIDATES
-from crnplan.catalogue.store import ANSWERS
-from crnplan.catalogue.work import BATCH
+from crnplan.curve.exchange_curve import exchange_curve
+from crnplan.plan.running import plan
+from crnplan.records.catalogue_reading import read_catalogue
+from crnplan.curve.exchange_curve import CURVE, LEFT_OUT, POLICIES, draw_curve
+from crnplan.curve.exchange import Budget
+from crnplan.curve.gathering import CANDIDATES
+from crnplan.records.store import ANSWERS
+from crnplan.plan.work import BATCH
 from planner.tests.catalogue.conftest import FILES, SETTINGS, TABLES, WORDS, leave_few
 from planner.tests.catalogue.made import Made
 from planner.tests.conftest import Command

@@ -11,13 +11,14 @@ from pathlib import Path
 import pytest
 
 import crnplan
-from crnplan.catalogue import plan, read_catalogue
-from crnplan.catalogue.item_files import file_of
-from crnplan.catalogue.item_page import item_page
+from crnplan.plan.running import plan
+from crnplan.records.catalogue_reading import read_catalogue
+from crnplan.pages.item_files import file_of
+from crnplan.pages.planned_item import item_page
 from crnplan.errors import CrnplanError, Refused
 from planner.tests.catalogue.conftest import FILES, SETTINGS
 from planner.tests.catalogue.made import NO_PLAN, TODAY, made
-from planner.tests.report.page_reader import Page, digest_of
+from planner.tests.pages.page_reader import Page, digest_of
 
 PAIRS = "Today's and the chosen policy, as in decisions.csv"
 EXACT = "The run's exact figures, as in exact.csv"

@@ -10,11 +10,12 @@ import numpy as np
 import pytest
 
 import crnplan as crn
-from crnplan.catalogue import Settings, planning
-from crnplan.catalogue.learning import prior_of
-from crnplan.catalogue.planning import ALL, CLASS, NONE, allowed_by, answer_of, question_of
-from crnplan.catalogue.store import Catalogued, Writer
-from crnplan.catalogue.tables import row_of
+from crnplan.plan.planning import Settings
+from crnplan.plan import planning
+from crnplan.plan.learning import prior_of
+from crnplan.plan.planning import ALL, CLASS, NONE, allowed_by, answer_of, question_of
+from crnplan.records.store import Catalogued, Writer
+from crnplan.plan.tables import row_of
 from crnplan.demand.borrowing import Prior, law_of
 from crnplan.theory.long_run import NO_POLICY
 from planner.tests.theory.long_run_costs import fills_of, shortfall_of

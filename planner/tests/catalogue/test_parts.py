@@ -5,7 +5,7 @@ import gc
 
 import pytest
 
-from crnplan.catalogue.parts import without_collection
+from crnplan.records.staging import without_collection
 
 
 @pytest.mark.parametrize("was_enabled", [True, False])

@@ -17,7 +17,7 @@ import pandas as pd
 import pytest
 
 import crnplan as crn
-from crnplan.catalogue.planning import Settings
+from crnplan.plan.planning import Settings
 from planner.tests.catalogue.audit import audit
 from planner.tests.catalogue.conftest import FILES, SETTINGS, TABLES, WORDS, leave_few
 from planner.tests.catalogue.made import NO_PLAN, START, TITLES, WEEKS, Made

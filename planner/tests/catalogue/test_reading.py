@@ -9,11 +9,11 @@ from typing import Any
 import pandas as pd
 import pytest
 
-from crnplan.catalogue import Catalogue, read_catalogue
-from crnplan.catalogue.parts import Reader, far_above
-from crnplan.catalogue.reading import Words, read_into
+from crnplan.records.catalogue_reading import Catalogue, read_catalogue
+from crnplan.records.staging import Reader, far_above
+from crnplan.records.catalogue_reading import Words, read_into
 from crnplan.errors import Refused, RefusedFaults
-from crnplan.history.dates import period_of
+from crnplan.records.dates import period_of
 from planner.tests.catalogue.audit import Audit, audit
 from planner.tests.catalogue.conftest import FILES
 from planner.tests.catalogue.made import ITEMS, START, TITLES, TODAY, WEEKS, Made, name_of

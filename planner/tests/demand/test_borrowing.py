@@ -24,7 +24,7 @@ from crnplan.demand.families import Floats, Sample
 from crnplan.demand.fitting import share_of
 from crnplan.demand.posterior import allowed_laws
 from crnplan.errors import Refused, RefusedFaults
-from crnplan.history.observed import Observed
+from crnplan.records.observed import Observed
 from planner.tests.demand.made import RARE, TRUE_MEAN, TRUE_SHARE, TRUE_SIZE, history, logarithms
 
 

@@ -14,7 +14,7 @@ from hypothesis import strategies as st
 
 from crnplan.demand import DemandLaw, fit_demand, fit_lead
 from crnplan.errors import Refused, RefusedFaults
-from crnplan.history import read_history, read_lead_times
+from crnplan.records import read_history, read_lead_times
 from crnplan.scenario import Table
 
 

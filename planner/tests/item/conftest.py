@@ -7,7 +7,7 @@ from pathlib import Path
 
 import pytest
 
-from crnplan import item
+from crnplan.plan import item
 from planner.tests.conftest import Answer, Command
 
 HERE = Path(__file__).parent

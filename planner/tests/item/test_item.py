@@ -10,20 +10,21 @@ from pathlib import Path
 
 import pytest
 
-from crnplan import Scenario, item
-from crnplan.decision import long_run
-from crnplan.decision.doubt import doubt
-from crnplan.decision.long_run import check_long_run
+from crnplan import Scenario
+from crnplan.plan import item
+from crnplan.decide import long_run
+from crnplan.decide.doubt import doubt
+from crnplan.decide.long_run import check_long_run
 from crnplan.demand import checks_of, fit_demand, fit_lead, lines_of
 from crnplan.demand.posterior import allowed_laws, allowed_leads
-from crnplan.item import comparison, steps
-from crnplan.item.work import as_settings
+from crnplan.plan import comparison, steps
+from crnplan.plan.item_work import as_settings
 from crnplan.theory.long_run import LongRun
 from crnplan.theory.start_bias import theory_of
 from crnplan.theory.suggestions import suggestions_of
 from planner.tests.conftest import Command
 from planner.tests.item.conftest import HERE, Plan
-from planner.tests.report.page_reader import Page
+from planner.tests.pages.page_reader import Page
 
 STEPS = ["tables", "scenario", "suggestions", "doubt", "run", "decision", "check", "trajectory", "sensitivity",
          "summary"]

@@ -12,7 +12,7 @@ import pytest
 from crnplan import Scenario
 from planner.tests.conftest import Command
 from planner.tests.item.conftest import Plan
-from planner.tests.report.page_reader import Page, digest_of
+from planner.tests.pages.page_reader import Page, digest_of
 
 UNITS = 10  # of the scenario's money, in one of the settings'
 Row = Mapping[str, str]
@@ -69,7 +69,7 @@ TABLES: dict[str, Callable[[Path], list[list[str]]]] = {
 @pytest.fixture(scope="module")
 def long_run(whole: Path, tmp_path_factory: pytest.TempPathFactory) -> Path:
     """Returns the folder of a plan in the long run, by the script at once."""
-    from crnplan.item import plan_item
+    from crnplan.plan.item import plan_item
     room = tmp_path_factory.mktemp("long")
     shutil.copytree(whole.parent, room, dirs_exist_ok=True, ignore=shutil.ignore_patterns("plan"))
     text = (room / "settings.toml").read_text()

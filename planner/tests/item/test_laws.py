@@ -6,7 +6,7 @@ import numpy as np
 import pytest
 
 from crnplan.demand import DemandLaw, LeadLaw, fit_demand, fit_lead
-from crnplan.item.laws import law_words, rows_of_laws
+from crnplan.plan.laws import law_words, rows_of_laws
 
 RANDOM = np.random.default_rng(2)
 ERRATIC = RANDOM.negative_binomial(1.5, 1 / 3, 104).tolist()

@@ -10,7 +10,7 @@ from hypothesis import given
 from hypothesis import strategies as st
 
 from crnplan.errors import Fault, RefusedFaults
-from crnplan.item.settings import TABLES, read_settings
+from crnplan.plan.settings import TABLES, read_settings
 from planner.tests.conftest import Command
 
 GOOD = (Path(__file__).parent / "settings.toml").read_text()

@@ -1,4 +1,4 @@
 """Gives the tests of sweeps their fixtures."""
-from planner.tests.decision.answers import crnplan, room
+from planner.tests.decide.answers import crnplan, room
 
 __all__ = ["crnplan", "room"]

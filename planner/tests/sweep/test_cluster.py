@@ -9,7 +9,7 @@ from typing import NamedTuple
 import pytest
 
 from planner.tests.conftest import Answer, Command
-from planner.tests.decision.answers import priced
+from planner.tests.decide.answers import priced
 from planner.tests.sweep.clusters import LOOPBACK, SECONDS, WORKERS, Cluster
 
 # A sweep of eight scenarios, for two workers.

@@ -14,7 +14,7 @@ import pytest
 
 import crnplan as crn
 from planner.tests.conftest import Command
-from planner.tests.decision.answers import changed, priced
+from planner.tests.decide.answers import changed, priced
 
 COUNTING = '#!/bin/sh\necho >> "{room}/runs"\n{how}"{program}"\n'
 GRID = ["--s", "10", "60", "10", "--S", "40", "90", "10", "--jobs", "1", "--program", "./counting"]

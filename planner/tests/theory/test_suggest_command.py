@@ -13,7 +13,7 @@ from pathlib import Path
 import pytest
 
 from planner.tests.conftest import Command
-from planner.tests.decision.answers import changed, priced
+from planner.tests.decide.answers import changed, priced
 from planner.tests.theory.scenarios import large
 
 DEMAND = "values = [0, 1, 2, 3, 4, 5, 6, 7, 8, 10, 12]\nweights = [4, 8, 13, 17, 18, 15, 10, 7, 4, 3, 1]"

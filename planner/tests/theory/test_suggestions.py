@@ -8,7 +8,7 @@ import pytest
 from hypothesis import given, settings
 from hypothesis import strategies as st
 
-from crnplan.engine.program import run_program
+from crnplan.crnsim.program import run_program
 from crnplan.scenario import Costs, Policy, Scenario
 from crnplan.theory.behaviour import Depths
 from crnplan.theory.suggestions import Suggestions, suggested, suggested_text, suggestions_of

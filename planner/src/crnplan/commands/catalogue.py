@@ -7,8 +7,8 @@ from typing import Any
 import click
 
 from ..demand.fitting import METHODS
-from ..history.amounts import DECIMALS
-from ..history.dates import EVERY
+from ..records.amounts import DECIMALS
+from ..records.dates import EVERY
 
 TAKEN = ("keep", "leave-out")
 
@@ -69,5 +69,5 @@ def command(**asked: Any) -> int:
 
     The exit status is 3 if the counts of rows or items do not add up.
     """
-    from ..catalogue.commanded import commanded
+    from .catalogue_words import commanded
     return commanded(asked, lambda line: click.echo(line, nl=False), lambda line: click.echo(line, err=True, nl=False))

@@ -10,8 +10,8 @@ import click
 from click.core import ParameterSource
 
 from .. import formats
-from ..decision.keys import check_keys
-from ..decision.verdicts import records_of, table_of
+from ..decide.keys import check_keys
+from ..decide.verdicts import records_of, table_of
 from ..scenario import Scenario
 from .long_run import horizon_options, print_decision, read_for
 
@@ -35,7 +35,7 @@ class Keys(click.Command):
 def check_in_long_run(scenario: Scenario, best: str, form: str | None, replications: int, out: str | None,
                       **options: Any) -> int:
     """Checks in the long run, and returns the exit status."""
-    from ..decision.long_run import check_long_run
+    from ..decide.long_run import check_long_run
     context = click.get_current_context()
     if out is not None or context.get_parameter_source("replications") == ParameterSource.COMMANDLINE:
         raise click.UsageError("--long-run has no --replications and no --out: more keys give more", context)

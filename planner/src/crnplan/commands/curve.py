@@ -5,7 +5,7 @@ from pathlib import Path
 
 import click
 
-from ..report.pictures import picture_path
+from ..pages.pictures import picture_path
 
 
 @click.command(epilog="Example: crnplan curve plan --fill 0.95 --plot curve.png")
@@ -36,12 +36,12 @@ def command(folder: Path, value: float | None, fill: float | None, orders: float
     All of it is by theory. --confirm has crnsim count the stock of a sample of items at each named point.
     """
     picture = picture_path(plot) if plot else None
-    from ..catalogue.curve import CURVE, curve_text, draw_curve
-    from ..catalogue.exchange import Budget
+    from ..curve.exchange_curve import CURVE, curve_text, draw_curve
+    from ..curve.exchange import Budget
     drawn = draw_curve(folder, Budget(value, fill, orders), jobs=jobs, address=cluster, program=program,
                        confirm=confirm, shown=True)
     if picture:
-        from ..report.curve_pictures import draw_exchange
-        from ..report.pictures import open_pyplot
+        from ..pages.curve_pictures import draw_exchange
+        from ..pages.pictures import open_pyplot
         draw_exchange(open_pyplot(), drawn.curve, drawn.named, picture)
     click.echo((folder / CURVE).read_text("utf-8") if is_csv else curve_text(drawn, folder), nl=False)

@@ -9,13 +9,12 @@ from typing import Any
 
 import click
 
-from ..decision.intervals import Compared, with_intervals
-from ..decision.reports import check_policies, read_report
-from ..decision.verdicts import (MOST_ROWS, decision_text, heading_of, horizon_of, listed, records_of, table_of,
-                                 table_text)
-from ..engine.report import Row
+from ..decide.intervals import Compared, with_intervals
+from ..decide.reports import check_policies, read_report
+from ..decide.verdicts import MOST_ROWS, decision_text, heading_of, horizon_of, listed, records_of, table_of, table_text
+from ..crnsim.report import Row
 from ..errors import Refused
-from ..report.pictures import picture_path
+from ..pages.pictures import picture_path
 from ..scenario import Scenario
 from .long_run import print_decision
 
@@ -23,8 +22,8 @@ from .long_run import print_decision
 def pictures(rows: Sequence[Compared], base: Row, sample: tuple[int, int, float], plot: str | None,
              of_costs: str | None) -> None:
     """Draws the pictures that are asked for."""
-    from ..report.decision_pictures import draw_differences, draw_map
-    from ..report.pictures import open_pyplot
+    from ..pages.decision_pictures import draw_differences, draw_map
+    from ..pages.pictures import open_pyplot
     pyplot = open_pyplot()
     if plot:
         draw_differences(pyplot, listed(rows), base, sample, plot)
@@ -102,13 +101,13 @@ def command(report: str, scenario_path: str | None, sweep: bool, replications: i
     if scenario is not None:
         check_policies(given, scenario.policies, (report, str(scenario_path)), sweep)
     if long_run and scenario is not None:
-        from ..decision.long_run import corrected_decision
+        from ..decide.long_run import corrected_decision
         print_decision(corrected_decision(given, scenario, level), form)
         return
     rows = with_intervals(given, replications, level)
     warnings: list[str] = []
     if scenario is not None:
-        from ..decision.long_run import horizon_warnings
+        from ..decide.long_run import horizon_warnings
         warnings = horizon_warnings(given, rows, scenario)
     if plot or of_costs:
         pictures(rows, given[0], (replications, len(rows) - 1, level), plot, of_costs)

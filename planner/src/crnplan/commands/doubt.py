@@ -9,10 +9,10 @@ from typing import Any
 
 import click
 
-from ..decision.doubt import MOST, TIMES, WITHIN, Doubt, doubt
-from ..document.lines import places_of
+from ..decide.doubt import MOST, TIMES, WITHIN, Doubt, doubt
+from ..toml.lines import places_of
 from ..errors import Fault, RefusedFaults
-from ..report.pictures import picture_path
+from ..pages.pictures import picture_path
 from ..scenario import Scenario
 from .reading import Attempts, demand_option, file_options, read_files, record_options, rejects_in, rules_of
 
@@ -36,8 +36,8 @@ def doubt_of(scenario: Scenario, asked: dict[str, Any], attempts: Attempts) -> D
 
 def draw(found: Doubt, path: Path) -> None:
     """Draws the regrets of all policies."""
-    from ..report.doubt_pictures import draw_regrets
-    from ..report.pictures import open_pyplot
+    from ..pages.doubt_pictures import draw_regrets
+    from ..pages.pictures import open_pyplot
     policies = [found.policies[it] for it in found.order]
     draw_regrets(open_pyplot(), policies, found.regrets_shown, found.within, MOST, path)
 

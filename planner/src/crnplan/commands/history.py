@@ -8,8 +8,8 @@ import click
 from ..demand import Law, checks_of, fit_demand, fit_lead, lines_of, notes_of
 from ..demand.fitting import METHODS
 from ..errors import Refused
-from ..history import History
-from ..history.cells import Rules, column_names
+from ..records import History
+from ..records.cells import Rules, column_names
 from .reading import Attempts, demand_option, file_options, read_files, record_options, rejects_in, rules_of, stripped
 
 VERSION = "# A scenario with the table [returns] has version = 2.\n"

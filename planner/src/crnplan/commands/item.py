@@ -34,7 +34,7 @@ def command(history: str, settings: str, out: str, program: str | None) -> int:
     finished step. If an input has changed, it runs what depends on that. The exit status is 1 if the chosen policy does
     not hold on new random numbers.
     """
-    from ..item import plan_item
+    from ..plan.item import plan_item
 
     def told(step: str) -> None:
         """Names a step on a terminal."""

@@ -9,11 +9,11 @@ from typing import TYPE_CHECKING, Any, TypeVar
 
 import click
 
-from ..decision.verdicts import horizon_of
+from ..decide.verdicts import horizon_of
 from ..scenario import Scenario
 
 if TYPE_CHECKING:
-    from ..decision.long_run import LongRunDecision
+    from ..decide.long_run import LongRunDecision
 
 Command = TypeVar("Command", bound=Callable[..., Any])
 

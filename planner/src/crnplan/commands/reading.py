@@ -9,11 +9,11 @@ from typing import Any
 import click
 
 from ..errors import Fault, Refused, RefusedFaults
-from ..history import History, read_history, read_lead_times
-from ..history.amounts import DECIMALS
-from ..history.dates import EVERY
-from ..history.faults import RefusedFiles, printed, write_rejects
-from ..history.observed import LeadTimes, Observed
+from ..records import History, read_history, read_lead_times
+from ..records.amounts import DECIMALS
+from ..records.dates import EVERY
+from ..records.faults import RefusedFiles, printed, write_rejects
+from ..records.observed import LeadTimes, Observed
 
 Decorator = Callable[[Callable[..., Any]], Callable[..., Any]]
 

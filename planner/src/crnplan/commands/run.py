@@ -42,7 +42,7 @@ def command(scenario: str, words: tuple[str, ...], horizon: int | None, stock: i
     asked = read_for(scenario, horizon, stock, long_run, is_table=False)
     policies = [policy for word in words for policy in read_policies(word)] if words else None
     if long_run:
-        from ..decision.long_run import long_run_decision
+        from ..decide.long_run import long_run_decision
         report = asked.long_run(policies, program=program, **{} if keys is None else {"keys": keys})
         print_decision(long_run_decision(report, 0.95 if level is None else level), form)
         return

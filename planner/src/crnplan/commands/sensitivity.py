@@ -7,7 +7,7 @@ import sys
 
 import click
 
-from ..decision.sensitivity import sensitivity
+from ..decide.sensitivity import sensitivity
 from .long_run import horizon_options, read_for
 
 

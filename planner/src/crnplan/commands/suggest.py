@@ -9,9 +9,9 @@ from typing import TYPE_CHECKING, Any
 import click
 from click.core import ParameterSource
 
-from ..document.lines import places_of
+from ..toml.lines import places_of
 from ..errors import Fault, RefusedFaults
-from ..report.tables import aligned
+from ..table import aligned
 from ..scenario import Scenario, Table
 from .reading import Attempts, demand_option, file_options, read_files, record_options, rejects_in, rules_of
 

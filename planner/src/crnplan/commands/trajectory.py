@@ -8,9 +8,9 @@ from pathlib import Path
 
 import click
 
-from ..engine.trajectory import MOST_DRAWN, Period, chosen, shown_periods, trajectories
-from ..report.pictures import open_pyplot, picture_path
-from ..report.tables import aligned
+from ..crnsim.trajectory import MOST_DRAWN, Period, chosen, shown_periods, trajectories
+from ..pages.pictures import open_pyplot, picture_path
+from ..table import aligned
 from ..scenario import Policy, Scenario
 
 COLUMNS = ("policy", "period", *Period._fields)
@@ -43,7 +43,7 @@ def command(scenario: str, names: tuple[str, ...], periods: int | None, program:
     pyplot = open_pyplot() if out else None
     found = trajectories(read.with_policies(policies), count, program=program)
     if out:
-        from ..report.trajectory_pictures import draw_trajectories
+        from ..pages.trajectory_pictures import draw_trajectories
         draw_trajectories(pyplot, policies, found, read.initial, out)
     rows = rows_of(policies, found)
     if is_json:

@@ -4,7 +4,7 @@ from __future__ import annotations
 import click
 
 from .. import __version__
-from ..engine.program import program_and_reason, writes_known_report
+from ..crnsim.program import program_and_reason, writes_known_report
 
 
 @click.command(epilog="Example: crnplan where")

@@ -5,7 +5,7 @@ import json
 
 import click
 
-from ..document.reading import read_bytes, read_scenario
+from ..toml.reading import read_bytes, read_scenario
 
 
 @click.command(epilog="Example: crnplan why scenario.toml")

@@ -6,7 +6,7 @@ from collections.abc import Iterable
 from dataclasses import dataclass, field
 from typing import TYPE_CHECKING, Any
 
-from ..history.observed import History, Observed
+from ..records.observed import History, Observed
 from ..money import whole
 from .laws import numbers_of
 from .seasons import seasons_of

@@ -8,8 +8,8 @@ from functools import cached_property, partial
 
 import numpy as np
 
-from ..history.dates import first_day
-from ..history.observed import History
+from ..records.dates import first_day
+from ..records.observed import History
 from .checks import FALSE_ALARMS, Check
 from .permutation import (Floats, Orders, autocorrelations, bound_of, centred, p_value, places_of, squares_of,
                           statistics_of, steps, trend)

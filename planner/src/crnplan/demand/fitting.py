@@ -12,7 +12,7 @@ from typing import TYPE_CHECKING, Any
 
 from ..errors import Refused
 from ..formats import MOST_DEMAND, MOST_WEIGHT
-from ..history.observed import Observed
+from ..records.observed import Observed
 from .laws import DemandLaw, check, empirical, numbers_of
 
 if TYPE_CHECKING:

@@ -9,8 +9,8 @@ from typing import Any
 
 from ..errors import Fault, Refused
 from ..formats import MOST_WEIGHT
-from ..history.faults import Place, RefusedFiles
-from ..history.observed import Observed
+from ..records.faults import Place, RefusedFiles
+from ..records.observed import Observed
 from ..money import whole
 from ..scenario import Table
 

@@ -7,7 +7,7 @@ from typing import Any
 
 from ..errors import Refused
 from ..formats import MOST_LEAD
-from ..history.observed import Observed
+from ..records.observed import Observed
 from .fitting import fields_of, weights_of
 from .laws import LeadLaw, check, empirical, numbers_of
 

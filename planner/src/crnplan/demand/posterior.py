@@ -30,7 +30,7 @@ from scipy import special
 
 from ..errors import Refused
 from ..formats import MOST_LEAD, MOST_WEIGHT
-from ..history.observed import Observed
+from ..records.observed import Observed
 from ..scenario import Table
 from .families import Fit, Floats, Sample, cut, fits_of, scaled, unpacked
 from .fitting import LEAST_DEMANDS, WORSE, fit_demand, weights_of

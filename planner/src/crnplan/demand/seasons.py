@@ -5,8 +5,8 @@ import datetime
 from dataclasses import dataclass
 
 from ..errors import Refused
-from ..history.dates import first_day
-from ..history.observed import History
+from ..records.dates import first_day
+from ..records.observed import History
 
 WEEKDAYS = tuple(f"on {it}s" for it in ("Monday", "Tuesday", "Wednesday", "Thursday", "Friday", "Saturday", "Sunday"))
 QUARTERS = ("from January to March", "from April to June", "from July to September", "from October to December")

@@ -8,8 +8,8 @@ from concurrent import futures
 from pathlib import Path
 from typing import Any
 
-from ..engine.program import find_program
-from ..engine.report import Report, Row
+from ..crnsim.program import find_program
+from ..crnsim.report import Report, Row
 from ..errors import ProgramError, Refused
 from ..scenario import Policy, Scenario
 from . import worker

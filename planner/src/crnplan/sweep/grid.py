@@ -8,9 +8,9 @@ from pathlib import Path
 from typing import Any
 
 from .. import formats
-from ..document.reading import checked_tree
-from ..document.writing import plain_text
-from ..engine.report import Row, report_text, rows_of
+from ..toml.reading import checked_tree
+from ..toml.writing import plain_text
+from ..crnsim.report import Row, report_text, rows_of
 from ..errors import ProgramError, Refused
 from ..money import whole
 from ..scenario import Policy, Scenario

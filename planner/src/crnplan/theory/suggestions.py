@@ -11,8 +11,8 @@ from collections.abc import Iterable, Sequence
 from dataclasses import dataclass
 from typing import TYPE_CHECKING, Any
 
-from ..document import read_document
-from ..document.writing import head_of, plain_text
+from ..toml import read_document
+from ..toml.writing import head_of, plain_text
 from ..formats import MOST_ITEMS, POLICIES
 from ..scenario import BY_ITS_LAWS, Policy, Scenario, Table
 from .behaviour import Depths

@@ -9,7 +9,7 @@ from typing import Any
 import numpy as np
 
 from ...formats import MOST_DEMAND
-from ...history.observed import Observed
+from ...records.observed import Observed
 from ..families import Floats, Sample, scaled, unpacked
 from ..fitting import LEAST_DEMANDS, cap_of, fields_of, fit_demand, mixture, share_of, weights_of
 from ..guard import Shares, shares_of

@@ -9,13 +9,14 @@ import numpy as np
 
 from ...errors import Fault, Refused, RefusedFaults
 from ...formats import MOST_DEMAND
-from ...history.observed import Observed
+from ...records.observed import Observed
 from ..families import Floats, Sample
 from ..laws import check, numbers_of
 from . import grid
 from .em import FLAT, estimated
 from .likelihoods import chunks_of, group_of, marginal
-from .prior import BORROW, Learned, Prior
+from ...records.masters import BORROW
+from .prior import Learned, Prior
 
 LEAST_ITEMS, LEAST_ON_REQUEST = 100, 30
 MOST_ITEMS = 3000  # on which a prior is estimated

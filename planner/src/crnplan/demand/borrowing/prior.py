@@ -11,14 +11,14 @@ from typing import Any
 import numpy as np
 
 from ...errors import Refused
+from ...records.masters import BORROW
 from ..families import Floats, Whole
 from .em import FLAT
 
 VERSION = 2  # of the file; another grid is another version
 UNITS = 2**40  # of a chance of 1: the last bits of a sum, which differ by machine, are rounded off
 KIND = "prior of crnplan"
-ALL = "all"  # the name of the prior of the whole catalogue
-BORROW = ("none", "class", ALL)
+ALL = BORROW[-1]  # the name of the prior of the whole catalogue
 
 
 @dataclass(frozen=True, eq=False)

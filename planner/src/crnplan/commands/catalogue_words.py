@@ -1,0 +1,68 @@
+"""Goes the whole way of `crnplan catalogue` for the words of the command and of crnplan.toml."""
+from __future__ import annotations
+
+from collections.abc import Callable, Mapping
+from pathlib import Path
+from typing import Any
+
+from ..records.cells import Rules
+from ..plan.config import read_config
+from ..plan.lock import alone
+from ..records.staging import KEEP, LEAVE_OUT, Ways
+from ..plan.planning import Settings
+from ..records.catalogue_reading import Catalogue, Words, check_folder, kinds_of, read_into
+from ..plan.running import Lost, plan_into
+from ..records.store import Reject
+from ..plan.tables import REJECTS, counted, reject_rows, write_rows
+
+SETTINGS = ("seed", "fit", "borrow", "confidence", "level", "periods", "replications")
+RULES = ("delimiter", "encoding", "decimal", "date_formats")
+FOUND = "found.toml"
+
+
+def words_of(asked: Mapping[str, Any], config: Mapping[str, Any]) -> tuple[Words, Settings]:
+    """Returns how files are read and how items are planned: by the command's words, else by the configuration."""
+    named = kinds_of(asked["columns"])
+    columns = {kind: {**config.get(kind, {}), **named.get(kind, {})} for kind in {*named, "demand", "items", "orders"}}
+    config = {**config, "start": config.get("from"), "end": config.get("to")}
+    its = {name: config.get(name) if asked.get(name) in (None, ()) else asked[name]
+           for name in ("every", "start", "end", "net", "twice", "far", "least", *RULES, *SETTINGS)}
+    rules = Rules(its["delimiter"], its["encoding"], its["decimal"], tuple(its["date_formats"] or ()))
+    ways = Ways(bool(its["net"]), its["twice"] or KEEP, its["far"] or LEAVE_OUT, its["least"] or Ways().least)
+    settings = Settings(**{name: its[name] for name in SETTINGS if its[name] is not None})
+    return Words(its["every"] or "week", columns, rules, its["start"], its["end"], ways), settings
+
+
+def commanded(asked: Mapping[str, Any], say: Callable[[str], None], note: Callable[[str], None]) -> int:
+    """Reads and plans a catalogue, and returns the exit status. `say` prints a result, `note` what is beside it."""
+    config = read_config(asked["config"])
+    words, settings = words_of(asked, config)
+    folder = Path(asked["out"])
+    check_folder(folder)
+    with alone(folder):
+        return _planned(asked, config, words, settings, say, note)
+
+
+def _planned(asked: Mapping[str, Any], config: Mapping[str, Any], words: Words, settings: Settings,
+             say: Callable[[str], None], note: Callable[[str], None]) -> int:
+    """Does what `commanded` does, in a folder of its own."""
+    folder = Path(asked["out"])
+    path = read_into(folder, {kind: asked[kind] for kind in ("demand", "items", "orders")}, words)
+    catalogue = Catalogue(path)
+    (folder / FOUND).write_text(catalogue.found, "utf-8")
+    if not any(name in config for name in ("demand", "items")) and not asked["columns"]:
+        note(f"{catalogue.found}\n")
+    if asked["only_read"]:
+        with catalogue.opened() as read:
+            write_rows(folder / REJECTS, Reject._fields, reject_rows(read.rejects()))
+        say("".join(f"{line}\n" for line in counted(catalogue.counts)))
+        missing = catalogue.missing
+    else:
+        done = plan_into(folder, settings, jobs=asked["jobs"], address=asked["cluster"], program=asked["program"],
+                         again=asked["again"], shown=True)
+        note(f"{folder}: {done.planned:,} items planned, {done.kept:,} kept from before\n")
+        say(done.summary)
+        missing = list(done.missing)
+    for line in missing:
+        note(f"crnplan: {line}\n")
+    return Lost.status if missing else 0

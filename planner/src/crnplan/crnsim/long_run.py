@@ -1,0 +1,234 @@
+"""Computes costs of the long run by the program: each policy starts from a state of its own.
+
+A run starts with one stock for all policies and counts costs from period 0. The effect of that start falls only as 1
+over the number of periods, and for an item with few orders it is larger than the sampling error. Here it is left out:
+
+- Each of the keys is one replication. A uniform number of that key puts each policy on a position even over s to S.
+- 256 periods of our own follow, with the same demands, lead times and returns for all policies. They are drawn by the
+  program's rule from streams of the same key that the program does not use.
+- Stock and outstanding orders then stand in a checkpoint with cost 0. The program resumes it and counts what is left of
+  its 1,024 periods.
+
+So the cost of each key is exact and proved for its stream, from a start that is not. Costs leave `unit` out: in the
+long run it adds unit times the mean net demand to every policy.
+"""
+from __future__ import annotations
+
+from collections.abc import Sequence
+from dataclasses import dataclass, replace
+from fractions import Fraction
+from pathlib import Path
+from typing import TYPE_CHECKING, NamedTuple
+
+import numpy as np
+
+from .. import formats
+from ..toml.reading import checked_tree
+from ..toml.writing import plain_text
+from ..errors import ProgramError, Refused
+from ..scenario import Costs, Scenario, Table, key_words
+from .checkpoints import MOST_STOCK, PERIODS_OF_BLOCK, State, checkpoint_text, resume_all
+from .keys import Key
+from .pooling import Sums, pooled_row
+from .program import find_program
+from .report import Row, rows_of
+from .words import Whole, Words, drawn, places_of, stream_words, words_of_keys
+
+if TYPE_CHECKING:
+    import pandas as pd
+
+KEYS = 48
+MOST_KEYS = formats.MOST_REPLICATIONS
+OWN_PERIODS = 256
+# The streams of our own periods, in the order of formats.DRAWS, and that of the start.
+OWN_STREAMS = (3, 4, 5)
+START_STREAM = 6
+AGES = formats.MOST_LEAD + 1
+COUNT_ORDERS = Costs(1, 0, 0, 0)
+# With fewer orders in all replications of our own periods, those of the counted periods are counted too.
+FEW_ORDERS = 20
+
+
+class Settled(NamedTuple):
+    """What our own periods lead to, by key and policy: stocks, what arrives in the next periods (first axis), and the
+    orders that were placed."""
+
+    stocks: Whole
+    due: Whole
+    orders: Whole
+
+
+@dataclass(frozen=True)
+class LongRunReport:
+    """Exact costs of the long run. `costs` has a row for each key, with a cost for each policy, over `periods` periods.
+
+    `orders` has the orders of each policy in the counted periods of all keys; None if there are many. `scenario` is the
+    one that was asked for, and its first policy the base.
+    """
+
+    scenario: Scenario
+    costs: tuple[tuple[int, ...], ...]
+    periods: int
+    orders: tuple[int | None, ...]
+
+    @property
+    def keys(self) -> int:
+        """Returns the number of keys: each is a replication."""
+        return len(self.costs)
+
+    def plus(self, other: LongRunReport) -> LongRunReport:
+        """Returns the report on the keys of both. The other is of the same scenario under another key."""
+        orders = tuple(None if one is None or two is None else one + two for one, two in zip(self.orders, other.orders))
+        return replace(self, costs=self.costs + other.costs, orders=orders)
+
+    @property
+    def rows(self) -> list[Row]:
+        """Returns the rows of a report on so many replications of so many periods, in exact figures."""
+        base = [its[0] for its in self.costs]
+        rows = []
+        for policy, costs in zip(self.scenario.policies, zip(*self.costs)):
+            squares = sum((cost - other)**2 for cost, other in zip(costs, base))
+            products = sum(cost * other for cost, other in zip(costs, base))
+            sums = Sums(self.keys, sum(costs), sum(base), Fraction(squares), Fraction(products))
+            rows.append(pooled_row(policy, sums, self.periods))
+        return rows
+
+    @property
+    def frame(self) -> pd.DataFrame:
+        """Returns a table with index `policy`: s and S in items, and as exact fractions of a period the cost, the
+        difference from the base's cost, and the variance of the mean of that difference."""
+        import pandas as pd
+        rows, square = self.rows, self.periods**2
+        exact = {"cost": [it.per_period for it in rows], "difference": [it.diff_mean / self.periods for it in rows],
+                 "variance": [(it.diff_var or Fraction(0)) / square for it in rows]}
+        return pd.DataFrame({"policy": [it.policy for it in rows], "s": [it.s for it in rows],
+                             "S": [it.S for it in rows],
+                             **{name: pd.Series(its, dtype=object) for name, its in exact.items()}}).set_index("policy")
+
+    def decide(self, level: float = 0.95) -> pd.DataFrame:
+        """Returns all policies by rank, the cheapest first, with paired-t intervals of a period, verdicts, and the
+        figures of theory beside. `level` is above 0, below 1."""
+        from ..decide.long_run import long_run_decision
+        return long_run_decision(self, level).frame
+
+    def _repr_html_(self) -> str:
+        """Shows the decision in a notebook."""
+        return str(self.decide().to_html(float_format="{:,.2f}".format))
+
+
+def keys_of(key: Sequence[str], count: int) -> list[Key]:
+    """Returns the keys that follow from a scenario's key. All words of one follow from all words of the other."""
+    return [tuple(key_words(f"long run {number} {' '.join(key)}")) for number in range(count)]
+
+
+def starts_of(scenario: Scenario, keys: Words) -> Whole:
+    """Returns the position at which each policy starts under each key: even over s to S, by one number of the key."""
+    number = stream_words(keys, 1, START_STREAM)[:, 0]
+    return np.stack([it.s + places_of(number, it.S - it.s + 1) for it in scenario.policies], axis=1)
+
+
+def draws_of(scenario: Scenario, keys: Words) -> list[Whole]:
+    """Returns demands, lead times and returns of our own periods: a row for each key."""
+    laws = [scenario.demand, scenario.lead, scenario.returns or Table((0,), (1,))]
+    blocks = OWN_PERIODS // PERIODS_OF_BLOCK
+    return [drawn(stream_words(keys, blocks, stream), law) for stream, law in zip(OWN_STREAMS, laws)]
+
+
+def settled(scenario: Scenario, keys: Words) -> Settled:
+    """Runs our own periods, as docs/FORMATS.md, "What happens in a period", has them."""
+    demand, lead, back = draws_of(scenario, keys)
+    low, high = (np.array([getattr(it, name) for it in scenario.policies]) for name in "sS")
+    stocks = starts_of(scenario, keys)
+    position = stocks.copy()
+    due, orders, each = np.zeros((AGES, *stocks.shape), np.int64), np.zeros_like(stocks), np.arange(len(keys))
+    for period in range(OWN_PERIODS):
+        place = period % AGES
+        stocks += due[place]
+        due[place] = 0
+        placed = np.where(position < low, high - position, 0)
+        orders += placed > 0
+        due[(period + lead[:, period]) % AGES, each] += placed
+        change = (back[:, period] - demand[:, period])[:, None]
+        stocks += change
+        position += placed + change
+    return Settled(stocks, np.roll(due, -OWN_PERIODS % AGES, axis=0)[:-1], orders)
+
+
+def first_block(scenario: Scenario) -> int:
+    """Returns the first block at which a checkpoint may have any stock that can be: its least depends on the block.
+
+    A position after a review is at least s, and all that was on order then has arrived after the longest lead time.
+    """
+    demand, lead = (max(value for value, weight in zip(it.values, it.weights) if weight)
+                    for it in (scenario.demand, scenario.lead))
+    lowest = min(it.s for it in scenario.policies) - (lead + 1) * demand
+    return max(1, -(lowest // (PERIODS_OF_BLOCK * formats.MOST_DEMAND)))
+
+
+def _checked(scenario: Scenario, keys: int) -> None:
+    """Raises Refused if there is no long run of a scenario, and for too few or too many keys."""
+    checked_tree(scenario.tree, any_number=True)
+    if not 2 <= keys <= MOST_KEYS:
+        raise Refused(f"--keys {keys}: the long run takes 2 to {MOST_KEYS} keys")
+    if scenario.demand.mean <= (scenario.returns.mean if scenario.returns else 0):
+        raise Refused("there is no long run: on average as much comes back as is asked for, so that nothing is "
+                      "ordered; look at the tables demand and returns")
+
+
+def _states(its: Settled, key: int, block: int) -> list[State]:
+    """Returns the state of each policy under a key, before a block."""
+    first = block * PERIODS_OF_BLOCK
+    return [State(int(stock), due={first + int(age): int(due[age]) for age in np.flatnonzero(due)})
+            for stock, due in zip(its.stocks[key], its.due[:, key].T)]
+
+
+class _Runs:
+    """The runs of a scenario under its keys, each from its own states."""
+
+    def __init__(self, scenario: Scenario, keys: int, program: Path) -> None:
+        """Runs our own periods. `scenario` is the one that was asked for."""
+        self.program, self.block = program, first_block(scenario)
+        self.keys = keys_of(scenario.key, keys)
+        costs = replace(scenario.costs, unit=0)
+        self.scenario = replace(scenario, periods=formats.MOST_PERIODS, replications=1, initial=0, costs=costs,
+                                ring=formats.RING_SIZES[-1], source=None)
+        self.settled = settled(scenario, words_of_keys(self.keys))
+        room = MOST_STOCK + (self.block * PERIODS_OF_BLOCK * formats.MOST_DEMAND if scenario.returns else 0)
+        if max(self.settled.stocks.max(), (self.settled.stocks + self.settled.due.sum(axis=0)).max()) > room:
+            raise Refused(f"the stock rises above {room:,} items by what comes back, which no checkpoint may have; "
+                          "count in larger units, as boxes")
+
+    @property
+    def periods(self) -> int:
+        """Returns how many periods of each key are counted."""
+        return self.scenario.periods - self.block * PERIODS_OF_BLOCK
+
+    def totals(self, costs: Costs) -> list[tuple[int, ...]]:
+        """Returns the cost of each policy in the counted periods of each key."""
+        count, most = len(self.scenario.policies), formats.POLICIES[1] - 1
+        parts = [[0, *range(first, min(first + most, count))] for first in range(1, max(count, 2), most)]
+        found = [self._part(costs, part) for part in parts]
+        if any(its[0] != first[0] for others in found for its, first in zip(others, found[0])):
+            raise ProgramError(f"{self.program}: the base has not the same cost in all runs; name crnsim with "
+                               "--program")
+        return [(its[0][0], *(cost for part in its for cost in part[1:])) for its in zip(*found)]
+
+    def _part(self, costs: Costs, part: Sequence[int]) -> list[list[int]]:
+        """Returns the cost of some policies in the counted periods of each key."""
+        asked = replace(self.scenario.with_policies(self.scenario.policies[it] for it in part), costs=costs)
+        runs = []
+        for number, key in enumerate(self.keys):
+            its, states = replace(asked, key=key), _states(self.settled, number, self.block)
+            runs.append((plain_text(its.tree), checkpoint_text(its, self.block, [states[it] for it in part])))
+        reports = resume_all(self.program, runs)
+        return [[row.total for row in rows_of(asked.policies, text, str(self.program))] for text in reports]
+
+
+def long_run_of(scenario: Scenario, keys: int = KEYS, program: str | Path | None = None) -> LongRunReport:
+    """Runs the policies of a scenario, whose first one is the base, in the long run: see `Scenario.long_run`."""
+    _checked(scenario, keys)
+    runs = _Runs(scenario, keys, find_program(program))
+    own = runs.settled.orders.sum(axis=0)
+    is_few = own.min() < FEW_ORDERS
+    orders = map(sum, zip(*runs.totals(COUNT_ORDERS))) if is_few else [None] * len(own)
+    return LongRunReport(scenario, tuple(runs.totals(runs.scenario.costs)), runs.periods, tuple(orders))

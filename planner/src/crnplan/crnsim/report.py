@@ -1,0 +1,192 @@
+"""Reads a report of crnsim without rounding: whole numbers are int, fractions are `fractions.Fraction`.
+
+This module is not proved; crnsim's figures are.
+"""
+from __future__ import annotations
+
+import csv
+import io
+import re
+from collections.abc import Iterable, Sequence
+from dataclasses import dataclass
+from fractions import Fraction
+from pathlib import Path
+from typing import TYPE_CHECKING, Any
+
+from .. import formats
+from ..toml.reading import checked_tree
+from ..toml.values import name_faults, shown
+from ..toml.writing import plain_text
+from ..errors import Fault, ProgramError, Refused
+from .program import find_program, run_all
+
+if TYPE_CHECKING:
+    import pandas as pd
+
+    from ..scenario import Policy, Scenario
+
+HEADER = list(formats.COLUMNS)
+WHOLE = re.compile("-?[0-9]{1,40}")
+FRACTION = re.compile("-?[0-9]{1,60}/[1-9][0-9]{0,59}")
+# Columns whose cell may be `-`, which stands for no figure.
+MAY_LACK = ("diff_var", "cov")
+
+
+@dataclass(frozen=True)
+class Row:
+    """A row of a report: a policy (s and S in items), and its exact costs in the scenario's money.
+
+    `per_period` is its mean cost per period. `diff_total` and `diff_mean` are its cost less that of the first policy,
+    in all and by replication. `diff_var` is the variance of that mean, `cov` the covariance of both costs; with one
+    replication, and if they are not known, they are None. docs/FORMATS.md defines all of them.
+    """
+
+    policy: str
+    s: int
+    S: int
+    total: int
+    per_period: Fraction
+    diff_total: int
+    diff_mean: Fraction
+    diff_var: Fraction | None
+    cov: Fraction | None
+
+    @property
+    def cells(self) -> list[str]:
+        """Returns the cells as the program spells them."""
+        return [cell_text(getattr(self, name)) for name in HEADER]
+
+
+def cell_text(value: str | int | Fraction | None) -> str:
+    """Returns a cell as the program spells it."""
+    if isinstance(value, Fraction):
+        return f"{value.numerator}/{value.denominator}"
+    return "-" if value is None else str(value)
+
+
+def report_text(rows: Iterable[Row]) -> str:
+    """Returns rows as the program would write them."""
+    return "".join(",".join(line) + "\n" for line in (HEADER, *(row.cells for row in rows)))
+
+
+def _refused(what: str, place: str, line: int) -> Refused:
+    """Returns the error of a line of a report."""
+    return Refused(str(Fault(what, place or "the report", line)))
+
+
+def _lines(text: str, place: str) -> list[list[str]]:
+    """Returns the rows of a report as lists of cells, without the heading."""
+    try:
+        heading, *rows = list(csv.reader(io.StringIO(text, newline=""))) or [[]]
+    except csv.Error as fault:
+        raise _refused(f"this is no report of crnsim: {fault}", place, 0) from fault
+    if heading != HEADER:
+        raise _refused(f"this is no report of crnsim, whose first line is {formats.HEADER}", place, 1)
+    if not rows:
+        raise _refused("the report has no policy", place, 0)
+    for line, row in enumerate(rows, 2):
+        if len(row) != len(HEADER):
+            raise _refused(f"{len(row)} columns, not {len(HEADER)}", place, line)
+    return rows
+
+
+def _value(name: str, cell: str, place: str, line: int) -> Any:
+    """Returns the value of a cell."""
+    if name == "policy":
+        for _, _, reason in name_faults(("policy",), cell):
+            raise _refused(f"column policy: {reason}", place, line)
+        return cell
+    if cell == "-" and name in MAY_LACK:
+        return None
+    whole = name in formats.WHOLE
+    if not (WHOLE if whole else FRACTION).fullmatch(cell):
+        kind = "a whole number" if whole else "a fraction such as 359/4"
+        raise _refused(f"column {name}: {shown(cell)} is not {kind}; give crnsim's own report", place, line)
+    return int(cell) if whole else Fraction(cell)
+
+
+def read_rows(text: str, place: str = "") -> list[Row]:
+    """Returns the rows of a report, in its order. `place` names the report in an error.
+
+    Raises Refused if a line is none of a report, or if the first policy is not the base. Whether the figures are of so
+    many replications is not checked here.
+    """
+    rows = [Row(**{name: _value(name, cell, place, line) for name, cell in zip(HEADER, cells)})
+            for line, cells in enumerate(_lines(text, place), 2)]
+    if rows[0].diff_total != 0:
+        raise _refused("the first policy is not the base, whose differences are 0", place, 2)
+    return rows
+
+
+def rows_of(policies: Sequence[Policy], text: str, program: str) -> list[Row]:
+    """Returns the rows of the report on these policies. Raises ProgramError if the program's output is no such
+    report."""
+    try:
+        rows = read_rows(text, program)
+    except Refused:
+        rows = []
+    if [(it.policy, it.s, it.S) for it in rows] != [(it.name, it.s, it.S) for it in policies]:
+        raise ProgramError(f"{program}: what it writes is no report of the scenario; name crnsim with --program")
+    return rows
+
+
+@dataclass(frozen=True)
+class Report:
+    """What crnsim reports of a scenario: exact rows, the base first."""
+
+    rows: tuple[Row, ...]
+    scenario: Scenario
+
+    @property
+    def text(self) -> str:
+        """Returns the report as the program writes it."""
+        return report_text(self.rows)
+
+    @property
+    def records(self) -> list[dict[str, str | int | None]]:
+        """Returns the rows as plain data: fractions as texts, None if there is no figure."""
+        def plain(value: Any) -> Any:
+            """Returns a value, or the text of a fraction."""
+            return cell_text(value) if isinstance(value, Fraction) else value
+        return [{name: plain(getattr(row, name)) for name in HEADER} for row in self.rows]
+
+    @property
+    def frame(self) -> pd.DataFrame:
+        """Returns the report with index `policy`: int, `fractions.Fraction`, or None if there is no figure."""
+        import pandas as pd
+        columns = {name: [getattr(row, name) for row in self.rows] for name in HEADER}
+        columns |= {name: pd.Series(columns[name], dtype=object) for name in formats.FRACTIONS}
+        return pd.DataFrame(columns).set_index("policy")
+
+    def floats(self) -> pd.DataFrame:
+        """Returns the frame with rounded floats in place of fractions, and nan in place of None."""
+        return self.frame.astype({name: float for name in formats.FRACTIONS})
+
+    def decide(self, level: float = 0.95) -> pd.DataFrame:
+        """Returns all policies by rank, the cheapest first, with paired-t intervals and verdicts. `level` is above 0,
+        below 1."""
+        from ..decide.verdicts import decided
+        return decided(self.rows, self.scenario.replications, level)
+
+    def _repr_html_(self) -> str:
+        """Shows the decision in a notebook."""
+        return str(self.decide().to_html(float_format="{:,.2f}".format))
+
+
+def report_of(scenario: Scenario, program: str | Path | None = None) -> Report:
+    """Runs a scenario, whose first policy is the base, on any number of policies: at most 16 in a run, with the base in
+    each.
+
+    Raises ScenarioError with all faults, and ProgramError.
+    """
+    checked_tree(scenario.tree, any_number=True)
+    base, *others = scenario.policies
+    most = formats.POLICIES[1] - 1
+    starts = range(0, max(1, len(others)), most)
+    parts = [scenario.with_policies([base, *others[start:start + most]]) for start in starts]
+    found = find_program(program)
+    texts = run_all(found, [plain_text(it.tree) for it in parts])
+    reports = [rows_of(part.policies, text, str(found)) for part, text in zip(parts, texts)]
+    if any(rows[0] != reports[0][0] for rows in reports):
+        raise ProgramError(f"{found}: the base has not the same row in all reports; name crnsim with --program")
+    return Report((reports[0][0], *(row for rows in reports for row in rows[1:])), scenario)

@@ -1,0 +1,164 @@
+"""Computes the candidates of an item for the exchange curve: the best policy by theory for each of a grid of prices.
+
+A price is what a unit of value costs that is not met at once, beside the item's setup and holding costs. The candidates
+are vertices of the item's own convex hull: of all order-up-to levels and of gaps S - s on a grid that is refined beside
+those that are best. There are candidates for dearer orders too, of which fewer are then bought, and for dearer stock.
+"""
+from __future__ import annotations
+
+import json
+from collections.abc import Iterable, Mapping, Sequence
+from typing import Any, NamedTuple
+
+import numpy as np
+import numpy.typing as npt
+
+from ..demand.borrowing import Prior
+from ..formats import MOST_ITEMS
+from ..theory.long_run import LongRun, gap_grid
+from .hull import Floats, Whole, slopes, vertices
+from ..plan.planning import Question, Settings, question_of, text_of_answer, theory_of
+
+# Answers of other versions are not used again.
+VERSION = 2
+# Prices of a unit of value that is not met at once, in units of value: eight a decade.
+PRICES: Floats = 10.0**(np.arange(-40, 33) / 8)
+DIGITS = 10  # of a figure that is kept
+# How many times the setup an order costs, and how many times the holding stock costs. With the dearest orders, gaps are
+# 8^(1/2) times as wide (the economic order quantity), which is within those that theory looks at.
+VARIANTS = ((1.0, 1), (1.5, 1), (3.0, 1), (8.0, 1), (1.0, 4), (1.0, 16))
+DEARER_ORDERS, DEARER_STOCK = (0, 1, 2, 3), (0, 4, 5)
+STOCK = (1, 4, 16)
+
+
+class Best(NamedTuple):
+    """Gaps with their best levels for each cost of stock and each price: arrays of that shape, a row for each gap."""
+
+    gaps: Whole
+    level: Whole
+    stock: Floats
+    unmet: Floats
+
+    def joined(self, other: Best) -> Best:
+        """Returns these and others, by rising gap."""
+        order = np.argsort(np.concatenate([self.gaps, other.gaps]))
+        return Best(*(np.concatenate(its)[order] for its in zip(self, other)))
+
+
+class Policies:
+    """The best policies of an item, gap by gap, for each of `STOCK` and each of the prices, in the units of theory.
+
+    Of a gap these are vertices of the hull of all its levels. Of all gaps the best is taken.
+    """
+
+    def __init__(self, theory: LongRun, holding: float, value: float) -> None:
+        """Takes the theory of an item, what it costs to hold a unit, and a unit's price. Looks at a grid of gaps."""
+        self.theory, self.holding, self.value = theory, holding, value
+        none = np.zeros((0, len(STOCK), len(PRICES)))
+        self.known = Best(np.zeros(0, int), none.astype(int), none, none)
+        self.look_at(gap_grid(theory.most))
+
+    def look_at(self, gaps: Iterable[int]) -> None:
+        """Computes the best levels of gaps. Those are left out with which S is out of its range."""
+        new = {*gaps} - {*self.known.gaps.tolist()}
+        for some in self.theory.parts(sorted(gap for gap in new if self.theory.items(gap) <= MOST_ITEMS)):
+            self.known = self.known.joined(self.best_of(some))
+
+    def best_of(self, gaps: Whole) -> Best:
+        """Returns rising gaps with their best levels."""
+        levels, stock, unmet = self.theory.tables_of(gaps)
+        owner, place = np.nonzero(self.may_be_best(gaps, levels, stock, unmet))
+        stock, unmet = stock[owner, place], unmet[owner, place]
+        kept = vertices(owner, stock, unmet, np.arange(len(owner)))
+        prices = slopes(owner[kept], stock[kept], unmet[kept]) * (self.holding / self.value)
+        ends, asked = np.searchsorted(owner[kept], np.arange(len(gaps) + 1)), PRICES / np.array(STOCK)[:, None]
+        its = np.stack([kept[first + np.searchsorted(prices[first:end - 1], asked)]
+                        for first, end in zip(ends, ends[1:])])
+        return Best(gaps, levels[place[its]], stock[its], unmet[its])
+
+    def may_be_best(self, gaps: Whole, levels: Whole, stock: Floats, unmet: Floats) -> npt.NDArray[np.bool_]:
+        """Returns for each gap which levels may be best for a price: the least, and those that meet more demand than
+        all lower ones and than the one before for no more than the highest price."""
+        least = self.theory.floor(gaps)[:, None] * self.theory.step
+        is_allowed = (levels >= least) & (levels <= np.maximum(least, MOST_ITEMS))
+        before = np.minimum.accumulate(np.where(is_allowed, unmet, np.inf), axis=1)[:, :-1]
+        is_better = (unmet[:, 1:] < before) & (self.holding * np.diff(stock) <= self.value * PRICES[-1]
+                                               * (unmet[:, :-1] - unmet[:, 1:]))
+        found: npt.NDArray[np.bool_] = is_allowed & ((levels == least) | np.pad(is_better, ((0, 0), (1, 0))))
+        return found
+
+    def best_places(self, costs: Sequence[tuple[float, float]]) -> Whole:
+        """Returns the place of the best gap for each cost of orders and of stock in the order of `VARIANTS`, and for
+        each price."""
+        gaps, _, stock, unmet = self.known
+        orders, found = self.orders()[:, None], []
+        for (order, holding), (_, times) in zip(costs, VARIANTS):
+            place = STOCK.index(times)
+            totals = order * orders + holding * stock[:, place] + PRICES * self.value * unmet[:, place]
+            found.append(totals.argmin(axis=0))
+        return np.array(found)
+
+    def orders(self) -> Floats:
+        """Returns the orders of a period for each gap."""
+        gaps = self.known.gaps
+        orders: Floats = 1 / (self.theory.span * np.cumsum(self.theory.lows_of(int(gaps[-1]))))[gaps]
+        return orders
+
+    def search(self, costs: Sequence[tuple[float, float]]) -> Whole:
+        """Returns what `best_places` does, of gaps that are looked at ever finer beside the best."""
+        while True:
+            gaps, found = self.known.gaps, self.best_places(costs)
+            places = np.unique(found)
+            below, above = gaps[np.maximum(places - 1, 0)], gaps[np.minimum(places + 1, len(gaps) - 1)]
+            self.look_at([*((below + gaps[places]) // 2).tolist(), *((gaps[places] + above + 1) // 2).tolist()])
+            if len(self.known.gaps) == len(gaps):
+                return found
+
+
+def variants_of(setup: float, holding: float, demand: float) -> list[tuple[float, float]]:
+    """Returns what an order and an item of stock cost in each of `VARIANTS`.
+
+    If setup is free, a dearer order costs the holding of a period's demand, a number of times.
+    """
+    return [(setup + (orders - 1) * (setup or holding * demand), holding * stock) for orders, stock in VARIANTS]
+
+
+def costs_of(question: Question) -> tuple[float, float]:
+    """Returns the setup cost, and the holding cost of an item of theory (a box), in money."""
+    return question.rates["setup"] / float(question.scale), question.rates["holding"] / float(question.scale)
+
+
+def candidates_of(name: str, facts: Mapping[str, Any], price: float, settings: Settings,
+                  prior: Prior) -> dict[str, Any]:
+    """Returns the candidates of an item, with its mean demand and its costs. Raises Refused if it has no theory.
+
+    Each row has the place of the variant, the place of the first price that it is best for, s and S, stock and
+    unmet demand in items, and orders, of a period.
+    """
+    question = question_of(name, facts, settings, prior)
+    (setup, holding), box = costs_of(question), question.box
+    demand = float(question.demand.table.mean)
+    policies = Policies(theory_of(question, settings), holding, price * box)
+    rows = []
+    for variant, places in enumerate(policies.search(variants_of(setup, holding, demand))):
+        rows += rows_of(policies, variant, places, box)
+    return {"demand": demand * box, "setup": setup, "holding": holding / box, "rows": rows}
+
+
+def rows_of(policies: Policies, variant: int, places: Whole, box: int) -> list[list[float]]:
+    """Returns the rows of `candidates_of` for a variant, from the places of the best gap for each price."""
+    prices, known = np.arange(len(PRICES)), policies.known
+    levels, stock, unmet = (its[places, STOCK.index(VARIANTS[variant][1]), prices] for its in known[1:])
+    gaps, orders = known.gaps[places], policies.orders()[places]
+    is_new = np.append(True, (np.diff(gaps) != 0) | (np.diff(levels) != 0))
+    points = levels - policies.theory.items(gaps)
+    figures = ([float(f"{it:.{DIGITS}g}") for it in row] for row in zip(stock * box, unmet * box, orders))
+    whole = zip(prices.tolist(), (points * box).tolist(), (levels * box).tolist())
+    return [[variant, *row, *its] for new, row, its in zip(is_new, whole, figures) if new]
+
+
+def candidates_batch(batch: Sequence[tuple[str, str, float]], settings: Settings,
+                     prior: Prior) -> list[tuple[str, str]]:
+    """Returns the candidates of items, each as its name and a text. An item without any has its fault."""
+    return [(name, text_of_answer(lambda: candidates_of(name, json.loads(facts), price, settings, prior)))
+            for name, facts, price in batch]

@@ -1,0 +1,115 @@
+"""Has crnsim count the stock of the points beside an exchange curve, for a sample of items, and compares theory."""
+from __future__ import annotations
+
+import contextlib
+import hashlib
+import json
+import math
+from collections.abc import Iterable, Mapping, Sequence
+from dataclasses import dataclass
+from pathlib import Path
+from typing import Any
+
+import numpy as np
+
+from ..crnsim.counts import counting
+from ..crnsim.long_run import long_run_of
+from ..scenario import Policy
+from .exchange import Choice
+from .gathering import Gathered
+from .hull import Floats
+from ..plan.planning import Question, Settings, question_of
+from ..records.store import READ, Answers, Catalogued
+
+# Runs of each item, of 1,024 periods each.
+KEYS = 8
+# Stock by runs is as theory says if it differs by no more.
+CLOSE = 0.02
+
+Levels = tuple[int, int]
+
+
+@dataclass(frozen=True)
+class Confirmation:
+    """The value of the mean stock of some items: by theory, and by crnsim with its standard error."""
+
+    theory: float = 0.0
+    runs: float = 0.0
+    error: float = 0.0
+
+    @property
+    def share(self) -> float:
+        """Returns the difference of the runs from theory, as a share of it; 0 if there is no stock."""
+        return self.runs / self.theory - 1 if self.theory else 0.0
+
+    def with_item(self, theory: float, runs: Floats) -> Confirmation:
+        """Returns it with one more item: the value of its stock by theory, and by each run."""
+        error = math.hypot(self.error, math.sqrt(float(runs.var(ddof=1)) / len(runs)))
+        return Confirmation(self.theory + theory, self.runs + float(runs.mean()), error)
+
+
+@dataclass(frozen=True)
+class Confirmed:
+    """What crnsim counts for each named point, for so many of all items that are on the curve."""
+
+    points: Mapping[str, Confirmation]
+    sample: int
+    items: int
+
+    def lines(self, said: Mapping[str, str]) -> list[str]:
+        """Returns a line on each point. `said` says what it is for a reader."""
+        wide = max(map(len, said.values()))
+        far = [said[name] for name, it in self.points.items() if abs(it.share) > CLOSE]
+        return [f"crnsim: the stock of {self.sample:,} of {self.items:,} items, taken at random, is worth", *(
+            f"{said[name].ljust(wide)}  {it.runs:,.2f} by runs (standard error {it.error:,.2f}), {it.theory:,.2f} by "
+            f"theory ({it.share:+.2%})" for name, it in self.points.items()),
+                *([f"More than {CLOSE:.0%} apart, so look at these items: {', '.join(far)}."] if far else [])]
+
+
+def sample_of(names: Sequence[str], seed: str, count: int) -> list[int]:
+    """Returns the places of so many names, chosen by a digest of the seed and the name: the same in each run."""
+    order = sorted(range(len(names)),
+                   key=lambda place: hashlib.sha256(f"{seed}\nconfirm\n{names[place]}".encode()).digest())
+    return sorted(order[:count])
+
+
+def stocks_by_run(question: Question, settings: Settings, asked: Iterable[Levels],
+                  program: str | Path | None) -> dict[Levels, Floats]:
+    """Returns the mean stock of each policy in each run. All meet the same demands; each run starts from a state of its
+    own. Raises ProgramError."""
+    levels = list(dict.fromkeys(asked))
+    policies = [Policy(f"policy{number}", *its) for number, its in enumerate(levels)]
+    report = long_run_of(counting(question.scenario(settings, 0).with_policies(policies), "holding"), KEYS, program)
+    return dict(zip(levels, np.array(report.costs, float).T * question.box / report.periods))
+
+
+def _policies(its: Gathered, place: int, choices: Mapping[str, Choice],
+              answer: Mapping[str, Any]) -> dict[str, tuple[Levels, float]]:
+    """Returns the levels of an item at each named point, in items, and the value of its stock by theory."""
+    items, price = its.items, float(its.prices[place])
+    found = {name: ((answer["levels"][name][0], answer["levels"][name][1]), price * answer["theory"][name]["stock"])
+             for name in its.points}
+    rows = {name: int(choice.rows[place]) for name, choice in choices.items()}
+    return found | {name: ((int(items.point[row]), int(items.level[row])), float(items.value[row]))
+                    for name, row in rows.items()}
+
+
+def confirmed(folder: Path, its: Gathered, choices: Mapping[str, Choice], count: int,
+              program: str | Path | None) -> Confirmed:
+    """Counts the mean stock of a sample of items in the long run: today's, the chosen, and that of each choice.
+
+    Raises Refused and ProgramError.
+    """
+    names, settings = its.items.names, its.planned.settings
+    sample = sample_of(names, settings.seed, count)
+    with (contextlib.closing(Catalogued(folder / READ)) as read, contextlib.closing(Answers(folder)) as plans):
+        given = [(place, read.text(names[place]), plans.answer(names[place])) for place in sample]
+    points = dict.fromkeys([*its.points, *choices], Confirmation())
+    for place, facts, answer in given:
+        question = question_of(names[place], json.loads(facts), settings, its.planned.prior)
+        asked = {name: ((point // question.box, level // question.box), value)
+                 for name, ((point, level), value) in _policies(its, place, choices, answer).items()}
+        stocks = stocks_by_run(question, settings, (levels for levels, _ in asked.values()), program)
+        points |= {name: points[name].with_item(value, float(its.prices[place]) * stocks[levels])
+                   for name, (levels, value) in asked.items()}
+    return Confirmed(points, len(sample), len(names))

@@ -1,0 +1,279 @@
+"""Says how sure a choice among policies is, if the demand is known from a short history alone.
+
+Laws are drawn that the history allows (`demand/posterior.py`), and each policy's long run is computed under each of
+them (`theory/many_laws.py`). The mean cost over these laws is the cost to promise, since it includes the doubt about
+the law. The regret of a policy under a law is its cost over that of the best of the policies, less 1. Through crnsim
+the same laws are scenarios with one key, for the coming periods. How often such statements hold was measured:
+planner/studies/README.md, "Doubt".
+
+What theory computes is rounded and unproved; crnsim's figures are exact and proved for its stream, and the decimals
+made of them are rounded.
+"""
+from __future__ import annotations
+
+import dataclasses
+import math
+from collections.abc import Iterable, Sequence
+from dataclasses import dataclass
+from functools import cached_property
+from pathlib import Path
+from typing import TYPE_CHECKING, Any
+
+from ..toml.reading import checked_tree
+from ..crnsim.report import report_of
+from ..errors import Refused
+from ..records.observed import Observed
+from ..table import aligned
+from ..scenario import Policy, Scenario, Table, policies_of
+from .intervals import own_variance
+from .verdicts import horizon_of
+
+if TYPE_CHECKING:
+    import pandas as pd
+
+    from ..demand.posterior import AllowedLaws
+    from ..theory.laws import Floats
+    from ..theory.many_laws import LawFigures
+
+TIMES = 10, 2_000  # laws that can be asked for
+WITHIN = 0.03  # as near as that to the best is near, unless another share is asked for
+MOST = 0.9  # of the laws, under which a regret stays within its bound, and a fill rate above its own
+TIE = 1 + 1e-9  # Costs whose ratio is at most this are equal but for rounding.
+# How often the bounds held in the study planner/studies/doubt.py, in percent of all cases: the least and the most of
+# histories of 26, 52, 104 and 208 periods.
+HELD = {"regret": (89, 96), "fill": (79, 90)}
+# The columns of the table that are percentages, with their decimals.
+DECIMALS = {"regret": 2, "regret_90": 2, "own_regret": 2, "own_regret_90": 2, "within": 0, "own_within": 0,
+            "is_best": 0, "fill": 2, "fill_10": 2}
+
+
+@dataclass(frozen=True, eq=False)
+class Spreads:
+    """Costs of a period from crnsim: `costs` has a row for each law and a column for each policy. `luck` is the
+    standard deviation of the cost of one replication, by policy; nan with a single replication."""
+
+    costs: Floats
+    luck: Floats
+
+    @property
+    def law(self) -> Floats:
+        """Returns the standard deviation of each policy's cost over the laws, whose runs share their key."""
+        spread: Floats = self.costs.std(axis=0, ddof=1)
+        return spread
+
+
+@dataclass(frozen=True, eq=False)
+class Doubt:
+    """The figures of policies under the laws that a history allows. `lead` is None if lead times are the scenario's.
+
+    `laws` counts those that were drawn; `figures` may have fewer, if some have no long run.
+    """
+
+    scenario: Scenario
+    policies: tuple[Policy, ...]
+    within: float
+    demand: AllowedLaws
+    lead: AllowedLaws | None
+    figures: LawFigures
+    spreads: Spreads | None = None
+
+    @cached_property
+    def regrets(self) -> Floats:
+        """Returns the regret of each policy (column) under each law (row) against the best of the policies."""
+        cost = self.figures.cost
+        regrets: Floats = cost / cost.min(axis=1, keepdims=True) - 1
+        return regrets
+
+    @cached_property
+    def own_regrets(self) -> Floats:
+        """Returns the regrets against the best of all policies under each law; nan if it was not looked for."""
+        regrets: Floats = (self.figures.cost / self.figures.least[:, None] - 1).clip(min=0.0)
+        return regrets
+
+    @cached_property
+    def columns(self) -> dict[str, Floats]:
+        """Returns the columns of the table with a figure for each policy."""
+        import numpy as np
+        regrets, own, fill = self.regrets, self.own_regrets, self.figures.fill
+        columns = {"cost": self.figures.cost.mean(axis=0), "regret": regrets.mean(axis=0),
+                   "regret_90": np.quantile(regrets, MOST, axis=0), "within": (regrets <= self.within).mean(axis=0),
+                   "is_best": (1 + regrets <= TIE).mean(axis=0)}
+        if not np.isnan(own).any():
+            columns |= {"own_regret": own.mean(axis=0), "own_regret_90": np.quantile(own, MOST, axis=0),
+                        "own_within": (own <= self.within).mean(axis=0)}
+        columns |= {"fill": fill.mean(axis=0), "fill_10": np.quantile(fill, 1 - MOST, axis=0)}
+        if self.spreads is not None:
+            columns |= {"run_cost": self.spreads.costs.mean(axis=0), "law_spread": self.spreads.law,
+                        "luck_spread": self.spreads.luck}
+        return columns
+
+    @cached_property
+    def order(self) -> list[int]:
+        """Returns the places of the policies by their mean cost, the cheapest first."""
+        return [int(it) for it in self.columns["cost"].argsort(kind="stable")]
+
+    @property
+    def regrets_shown(self) -> Floats:
+        """Returns the regrets for a picture, the cheapest policy first: of a single policy those against all."""
+        return self.regrets[:, self.order] if len(self.policies) > 1 else self.own_regrets
+
+    @property
+    def records(self) -> list[dict[str, Any]]:
+        """Returns the table as data, the cheapest policy first. None stands for no figure."""
+        return [{"policy": self.policies[place].name, "s": self.policies[place].s, "S": self.policies[place].S,
+                 **{name: _plain(column[place]) for name, column in self.columns.items()}} for place in self.order]
+
+    @property
+    def frame(self) -> pd.DataFrame:
+        """Returns the table, indexed by `policy`, the cheapest first.
+
+        Columns: s and S in items; cost, the mean of a period of the long run over the laws, without `unit`; regret (its
+        mean) and regret_90 (what it does not exceed under 90% of the laws), within and is_best (shares of laws);
+        own_regret, own_regret_90 and own_within against the best of all policies under each law; fill (its mean) and
+        fill_10 (what it reaches under 90% of the laws). With runs: run_cost (mean cost of a coming period), law_spread
+        and luck_spread (standard deviations).
+        """
+        import pandas as pd
+        return pd.DataFrame(self.records).set_index("policy")
+
+    @property
+    def sentence(self) -> str:
+        """Returns one sentence on the cheapest policy."""
+        best, columns = self.order[0], self.columns
+        among = f"the best of these {len(self.policies)} policies" if len(self.policies) > 1 else "the best of all"
+        share = columns["within" if len(self.policies) > 1 else "own_within"][best]
+        return (f"{self.policies[best].name} is within {100 * self.within:g}% of {among} under {share:.0%} of the laws "
+                "that this history allows.")
+
+    @property
+    def bounds(self) -> str:
+        """Returns what is said of the cheapest policy with a stated chance."""
+        best, columns = self.order[0], self.columns
+        name, among = ("own_regret_90", "all policies") if "own_regret" in columns else ("regret_90", "these")
+        regret, fill = columns[name][best], columns["fill_10"][best]
+        (least, most), (least_fill, most_fill) = HELD["regret"], HELD["fill"]
+        return (f"Under {MOST:.0%} of the laws it costs at most {regret:.1%} more than the best of {among}, and under "
+                f"{MOST:.0%} its fill rate is at least {fill:.1%}. In a study with known laws such a bound held in "
+                f"{least} to {most}% of cases for the cost, and in {least_fill} to {most_fill}% for the fill rate.")
+
+    @property
+    def notes(self) -> list[str]:
+        """Returns lines on the laws, on the lattice, and on what does not fit."""
+        return [*_law_notes(self), *_error_notes(self.figures), *_mean_notes(self)]
+
+    @property
+    def text(self) -> str:
+        """Returns the table with its heading, the sentences and the notes."""
+        spreads = "" if self.spreads is None else (
+            f"\nrun_cost, law_spread, luck_spread: a period of the {horizon_of(self.scenario)}, by crnsim, all laws "
+            "with one key: mean cost, its standard deviation over the laws, and that of one replication under a law\n")
+        rows = [["policy", "s", "S", *self.columns],
+                *([row["policy"], str(row["s"]), str(row["S"]), *(_cell(it, row[it]) for it in self.columns)]
+                  for row in self.records)]
+        heading = f"The long run under {len(self.figures.laws)} laws that the history allows"
+        notes = "".join(f"{note}\n" for note in self.notes)
+        return f"{heading}\n\n{aligned(rows)}{spreads}\n{self.sentence} {self.bounds}\n\n{notes}"
+
+
+def _plain(value: float) -> float | None:
+    """Returns a figure with ten digits, None for nan."""
+    return None if math.isnan(value) else float(f"{value:.10g}")
+
+
+def _cell(name: str, value: float | None) -> str:
+    """Returns a cell of the table."""
+    if value is None:
+        return "-"
+    return f"{100 * value:.{DECIMALS[name]}f}%" if name in DECIMALS else f"{value:.2f}"
+
+
+def _law_notes(doubt: Doubt) -> Iterable[str]:
+    """Yields where the laws come from, and how many have no long run."""
+    families = ", ".join(f"{count} {name}" for name, count in doubt.demand.families.items())
+    yield f"laws of demand: {families} (history: its periods with random weights)"
+    if doubt.lead is None:
+        yield "lead times: those of the scenario under each law"
+    else:
+        yield f"laws of lead times: {', '.join(f'{count} {name}' for name, count in doubt.lead.families.items())}"
+    drawn, kept = len(doubt.demand.laws), len(doubt.figures.laws)
+    if kept < drawn:
+        yield f"{drawn - kept} laws of {drawn} are left out: under them as much comes back as is asked for"
+
+
+def _error_notes(figures: LawFigures) -> Iterable[str]:
+    """Yields what is known of the error of the figures."""
+    yield "cost: a period of the long run, without unit; by theory, rounded and unproved"
+    if figures.error is not None:
+        yield (f"counted in steps of up to {figures.step} items: costs are right to about "
+               f"{max(figures.error, 1e-4):.2%}, by which steps twice as large change them at most")
+
+
+def _mean_notes(doubt: Doubt) -> Iterable[str]:
+    """Yields a doubt whether the history is the scenario's."""
+    scenario = doubt.scenario
+    for name, own, its in (("demand", scenario.demand, doubt.demand), ("lead time", scenario.lead, doubt.lead)):
+        means = [float(law.mean) for law in its.laws] if its else []
+        if means and not min(means) <= float(own.mean) <= max(means):
+            yield (f"the mean {name} of the scenario is {float(own.mean):.4g}, but {min(means):.4g} to "
+                   f"{max(means):.4g} under the laws of the history; is it this item's history, in the same periods "
+                   "and boxes?")
+
+
+def candidates_of(scenario: Scenario, policies: Any) -> tuple[Policy, ...]:
+    """Returns the policies to be looked at: the given ones, or the scenario's. Raises ScenarioError with all faults."""
+    if policies is None:
+        return scenario.policies
+    asked = tuple(dict.fromkeys(policies_of(policies)))
+    if not asked:
+        raise Refused("policies: there is none; give at least one")
+    checked_tree(scenario.with_policies(asked).tree, any_number=True)
+    return asked
+
+
+def laws_with_leads(demand: AllowedLaws, lead: AllowedLaws | None, scenario: Scenario) -> list[tuple[Table, Table]]:
+    """Returns pairs of laws of demand and of lead times."""
+    leads: Sequence[Table] = lead.laws if lead else [scenario.lead] * len(demand.laws)
+    return [*zip(demand.laws, leads)]
+
+
+def spreads_of(scenario: Scenario, laws: Iterable[tuple[Table, Table]], program: str | Path | None) -> Spreads:
+    """Runs crnsim on a scenario with each law of demand and of lead times, all with the scenario's key."""
+    import numpy as np
+    costs, variances = [], []
+    for demand, lead in laws:
+        rows = report_of(dataclasses.replace(scenario, demand=demand, lead=lead), program).rows
+        costs.append([float(row.per_period) for row in rows])
+        if scenario.replications > 1:
+            variances.append([float(own_variance(row, rows[0], scenario.replications)) for row in rows])
+    luck = np.sqrt(np.mean(variances, axis=0)) / scenario.periods if variances else np.full(len(costs[0]), np.nan)
+    return Spreads(np.array(costs), luck)
+
+
+def doubt(scenario: Scenario, history: Observed | Iterable[Any], leads: Observed | Iterable[Any] | None = None, *,
+          policies: Any = None, times: int = 100, within: float = WITHIN, seed: int = 1, box: int = 1,
+          runs: bool = False, program: str | Path | None = None) -> Doubt:
+    """Returns what each policy costs, and how well it fills, under the laws that a history allows.
+
+    `history` is the demand of the scenario by period, `leads` are observed lead times (without them those of the
+    scenario hold); both are what `fit_demand` and `fit_lead` take, `box` too. `policies` are in any form of
+    `Scenario.run`, by default the scenario's own. `times` laws are drawn, 10 to 2,000; the same `seed` gives the same.
+    `within` is a share, as 0.03: under how many laws is a policy as near as that to the best? With `runs`, crnsim runs
+    the scenario under each law. `print(doubt(...).text)` shows all; `frame` is the table.
+
+    How often the stated 90% bounds of regret and fill rate hold, and how near the mean cost is to the true one, was
+    measured for laws that are known: planner/studies/README.md, "Doubt". Raises Refused, ScenarioError for a policy out
+    of range, NoTheory if there is no long run, and ProgramError.
+    """
+    from ..demand.posterior import allowed_laws, allowed_leads
+    from ..theory.many_laws import figures_of_laws
+    if not TIMES[0] <= times <= TIMES[1]:
+        raise Refused(f"--times {times}: there can be {TIMES[0]:,} to {TIMES[1]:,} laws")
+    if not 0 <= within < math.inf:
+        raise Refused(f"--within {within:g}: it is a share of at least 0, as 0.03 for 3%")
+    candidates = candidates_of(scenario, policies)
+    demand = allowed_laws(history, times=times, box=box, seed=seed)
+    lead = None if leads is None else allowed_leads(leads, times=times, seed=seed)
+    laws = laws_with_leads(demand, lead, scenario)
+    figures = figures_of_laws(scenario, laws, candidates)
+    spreads = spreads_of(scenario.with_policies(candidates), laws, program) if runs else None
+    return Doubt(scenario, candidates, within, demand, lead, figures, spreads)

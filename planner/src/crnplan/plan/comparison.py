@@ -1,0 +1,88 @@
+"""Runs, decides and checks an item's policies: in the long run, or for the coming periods from the stock of today.
+
+The settings choose one of both by `[run] horizon`, and all files of a plan are on that one.
+"""
+from __future__ import annotations
+
+from ..crnsim.long_run import LongRunReport
+from ..scenario import Scenario
+from .steps import digest_of
+from .item_work import Item, csv_text, rows_of
+
+COSTS = ("policy", "s", "S", "periods", "orders")
+COST = "cost_"
+
+
+def costs_text(report: LongRunReport) -> str:
+    """Returns the exact costs of a report on the long run as CSV: a row for each policy, a column for each key.
+
+    `orders` are those of the counted periods of all keys; `-` stands for many.
+    """
+    heading = [*COSTS, *(f"{COST}{number}" for number in range(1, report.keys + 1))]
+    rows = ([it.name, it.s, it.S, report.periods, "-" if orders is None else orders, *costs]
+            for it, orders, costs in zip(report.scenario.policies, report.orders, zip(*report.costs)))
+    return csv_text([heading, *rows])
+
+
+def report_of_costs(text: str, scenario: Scenario) -> LongRunReport:
+    """Returns the report on the long run of a scenario that was written by `costs_text`."""
+    rows = rows_of(text)
+    costs = zip(*([int(value) for name, value in row.items() if name.startswith(COST)] for row in rows))
+    orders = tuple(None if row["orders"] == "-" else int(row["orders"]) for row in rows)
+    return LongRunReport(scenario, tuple(costs), int(rows[0]["periods"]), orders)
+
+
+def make_report(item: Item) -> dict[str, str]:
+    """Runs the policies."""
+    scenario = item.scenario("suggested.toml")
+    if item.settings.is_long_run:
+        report = scenario.long_run(keys=item.settings["run"]["replications"], program=item.program)
+        return {"long_run.csv": costs_text(report)}
+    return {"report.csv": scenario.run(program=item.program).text}
+
+
+def make_decision(item: Item) -> dict[str, str]:
+    """Says which policies are better than today's by more than chance."""
+    from ..decide.long_run import horizon_warnings, long_run_decision
+    from ..decide.intervals import with_intervals
+    from ..decide.verdicts import decision_text, heading_of, table_of, table_text
+    from ..crnsim.report import read_rows
+    run, scenario = item.settings["run"], item.scenario("suggested.toml")
+    if item.settings.is_long_run:
+        found = long_run_decision(report_of_costs(item.text("long_run.csv"), scenario), run["level"])
+        return {"decision.txt": found.text, "decision.csv": csv_text(found.cells)}
+    given = read_rows(item.text("report.csv"), "report.csv")
+    rows = with_intervals(given, run["replications"], run["level"])
+    text = heading_of(scenario) + table_text(rows) + decision_text(rows, "today", run["replications"], run["level"],
+                                                                   len(rows))
+    warnings = "".join(f"\n{it}" for it in horizon_warnings(given, rows, scenario))
+    return {"decision.txt": text + warnings, "decision.csv": csv_text(table_of(rows))}
+
+
+def keys_of(item: Item) -> list[list[str]]:
+    """Returns the keys of the check: the one that is given first, and others that follow from it or from the run's
+    key."""
+    from ..crnsim.keys import key_of
+    run = item.scenario("suggested.toml").key
+    asked, count = item.settings["check"]["key"], item.settings["check"]["keys"]
+    given = [] if asked is None else [list(key_of([asked] if isinstance(asked, str) else asked, run))]
+    seed = " ".join(given[0] if given else run)
+    drawn = ([digest_of(f"{seed} {number}".encode())[place:place + 16] for place in range(0, 64, 16)]
+             for number in range(len(given), count))
+    return [*given, *drawn]
+
+
+def make_check(item: Item) -> dict[str, str]:
+    """Runs the chosen policy and all others on new random numbers."""
+    from ..decide.keys import check_keys
+    from ..decide.long_run import check_long_run
+    from ..decide.verdicts import table_of
+    scenario, replications = item.scenario("suggested.toml"), item.settings["check"]["replications"]
+    level = item.settings["run"]["level"]
+    if item.settings.is_long_run:
+        its = check_long_run(scenario, item.chosen, keys=keys_of(item), runs=replications, level=level,
+                             program=item.program)
+        return {"check.txt": its.text, "check.csv": csv_text(its.decision.cells)}
+    found = check_keys(scenario, item.chosen, keys=keys_of(item), replications=replications, level=level,
+                       program=item.program)
+    return {"check.txt": found.text, "check.csv": csv_text(table_of(found.rows))}

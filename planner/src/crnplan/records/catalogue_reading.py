@@ -1,0 +1,236 @@
+"""Reads a catalogue: two files or three to items that can be planned. Nothing is lost, or it is said what."""
+from __future__ import annotations
+
+import contextlib
+import datetime
+import shutil
+import tempfile
+from collections.abc import Iterator, Mapping, Sequence
+from dataclasses import asdict, dataclass, field
+from pathlib import Path
+from typing import TYPE_CHECKING, Any
+
+from ..errors import Fault, Refused, RefusedFaults
+from .cells import Rules, whole_file
+from .dates import EVERY, DateReader
+from .faults import Unreadable
+from .columns import FILES
+from .stated import found_text
+from .staging import KEEP, LEAVE_OUT, Reader, Ways
+from .span import record_of
+from .sources import Source, open_source
+from .splitting import PART_BYTES, Split, split_sources
+from .store import ANSWERS, READ, Catalogued, Reject, Writer, told_of
+
+if TYPE_CHECKING:
+    import pandas as pd
+
+Day = datetime.date
+PARTS = "parts"
+
+
+@dataclass(frozen=True)
+class Words:
+    """How the files of a catalogue are read: periods, columns by file and role, ways of writing, the ends of the
+    record, and how rows are taken. Raises Refused for what can't be meant."""
+
+    every: str = "week"
+    columns: Mapping[str, Mapping[str, str]] = field(default_factory=dict)
+    rules: Rules = field(default_factory=Rules)
+    start: Day | str | None = None
+    end: Day | str | None = None
+    ways: Ways = field(default_factory=Ways)
+    today: Day = field(default_factory=datetime.date.today)
+    part_bytes: int = PART_BYTES
+
+    def __post_init__(self) -> None:
+        """Checks the words one by one."""
+        if self.every not in EVERY:
+            raise Refused(f"--every {self.every!r} is not one of {', '.join(EVERY)}")
+        for name, value in (("--twice", self.ways.twice), ("--far", self.ways.far)):
+            if value not in (KEEP, LEAVE_OUT):
+                raise Refused(f"{name} {value!r} is not {KEEP} or {LEAVE_OUT}")
+        for kind, its in self.columns.items():
+            roles = {role.name for role in FILES.get(kind, ())}
+            wrong = next((it for it in its if it not in roles), None)
+            if kind not in FILES or wrong is not None:
+                known = ", ".join(f"{it}.{role.name}" for it in FILES for role in FILES[it])
+                raise Refused(f"--column {kind}{f'.{wrong}' if wrong else ''}: there is no such column; they are "
+                              f"{known}")
+
+    @property
+    def ends(self) -> tuple[Day | None, Day | None]:
+        """Returns the stated ends of the record."""
+        first, last = _day_of(self.start, "--from"), _day_of(self.end, "--to")
+        if first and last and first > last:
+            raise Refused(f"--from {first} is after --to {last}; change one of them")
+        return first, last
+
+
+def _day_of(day: Day | str | None, option: str) -> Day | None:
+    """Returns the day that an option names."""
+    try:
+        return DateReader([day]).read(day)[0] if isinstance(day, str) else day
+    except Unreadable as fault:
+        raise Refused(f"{option}: {fault}") from fault
+
+
+@dataclass(frozen=True)
+class Catalogue:
+    """A catalogue that was read: its items, what was left out, and the counts that say that nothing is lost."""
+
+    path: Path
+    # A folder for the time that the catalogue is used, if it was not read into a named one.
+    room: tempfile.TemporaryDirectory[str] | None = field(default=None, repr=False, compare=False)
+
+    def opened(self) -> contextlib.closing[Catalogued]:
+        """Returns what was read, to be closed after use."""
+        return contextlib.closing(Catalogued(self.path))
+
+    def fact(self, name: str) -> Any:
+        """Returns a fact: `counts`, `found`, `every`, `decimals` or `periods`."""
+        with self.opened() as its:
+            return its.fact(name)
+
+    @property
+    def counts(self) -> dict[str, Any]:
+        """Returns how many rows of each file there are, by what became of them, and how many items."""
+        its: dict[str, Any] = self.fact("counts")
+        return its
+
+    @property
+    def found(self) -> str:
+        """Returns what was found in the files, as TOML that states it."""
+        return str(self.fact("found"))
+
+    @property
+    def missing(self) -> list[str]:
+        """Returns what is lost: one line for each file, and for the items, whose counts do not add up."""
+        counts = self.counts
+        return missing_of(counts, counts["items"]["ready"])
+
+    @property
+    def rejects(self) -> pd.DataFrame:
+        """Returns what was left out or is suspicious: kind (row, item, suspicious), file, line, item, column, text,
+        reason, advice, and rows (of demand that are left out)."""
+        import pandas as pd
+        with self.opened() as its:
+            return pd.DataFrame(its.rejects(), columns=list(Reject._fields))
+
+
+def missing_of(counts: Mapping[str, Any], answered: int) -> list[str]:
+    """Returns a line for each file, and for the items, whose counts do not add up. `answered` items have an answer."""
+    lines = []
+    for kind, its in counts["files"].items():
+        rest = its["read"] - its["used"] - its["rejected"] - its["with_item"]
+        if rest:
+            lines.append(f"{kind}: {its['read']:,} rows were read, and {its['used']:,} used, {its['rejected']:,} "
+                         f"rejected and {its['with_item']:,} left out with their item: {rest:+,} rows are lost")
+    items = counts["items"]
+    rest = items["named"] - answered - items["left_out"]
+    if rest:
+        lines.append(f"items: {items['named']:,} are named, and {answered:,} can be planned and {items['left_out']:,} "
+                     f"are left out: {rest:+,} items are lost")
+    return lines
+
+
+def read_catalogue(demand: str | Path, items: str | Path, orders: str | Path | None = None, *,
+                   every: str = "week", columns: Mapping[str, Mapping[str, str]] | None = None,
+                   start: Day | str | None = None, end: Day | str | None = None, net: bool = False, twice: str = KEEP,
+                   far: str = LEAVE_OUT, least: int = 13, today: Day | None = None, **rules: Any) -> Catalogue:
+    """Reads a catalogue from CSV files, of any size.
+
+    `demand` has a row for each movement (item, date, quantity, perhaps returned), `items` one for each item (item,
+    setup, holding, backlog or fill, lead, s, S, perhaps description, stock, price and class), `orders` the dates of
+    orders (item, ordered, received). `columns` names columns by file and role, as {"demand": {"quantity": "Menge"}};
+    others are found by usual names. Periods are `every` day, week or month. The record is that of the whole file, or
+    from `start` to `end`; rows after `today` are rejected. With `net` quantities below 0 are taken off their period.
+    Rows that stand `twice` and items with amounts `far` above all others are kept or left out ("keep", "leave-out"). An
+    item needs a history of `least` periods. Further words are `delimiter`, `encoding`, `decimal` and `date_formats`.
+
+    Raises Refused and RefusedFaults for files that can't be read. Rows and items with faults are in `rejects`.
+    """
+    words = Words(every, columns or {}, Rules(**rules), start, end, Ways(net, twice, far, least),
+                  today or datetime.date.today())
+    room = tempfile.TemporaryDirectory(prefix="crnplan-")
+    path = read_into(Path(room.name), {"demand": demand, "items": items, "orders": orders}, words)
+    return Catalogue(path, room)
+
+
+def check_folder(folder: Path) -> None:
+    """Makes a folder. Raises Refused if it has files that are of no catalogue: they might be overwritten."""
+    known = {READ, ANSWERS, f"{READ}.part", PARTS, "lock"}
+    with told_of(folder):
+        folder.mkdir(parents=True, exist_ok=True)
+        names = {it.name for it in folder.iterdir()}
+    if names and not names & known:
+        raise Refused(f"{folder}: the folder is not empty, and no catalogue is in it; name a new folder")
+
+
+def open_sources(paths: Mapping[str, str | Path | None], words: Words) -> dict[str, Source]:
+    """Looks at the heads of the files. Raises RefusedFaults with all that is wrong with them."""
+    sources: dict[str, Source] = {}
+    faults: list[Fault] = []
+    for kind, path in paths.items():
+        try:
+            if path is not None:
+                sources[kind] = open_source(kind, path, words.rules, words.columns.get(kind, {}), words.every)
+        except RefusedFaults as refused:
+            faults += refused.faults
+    if faults:
+        raise RefusedFaults(faults)
+    return sources
+
+
+@contextlib.contextmanager
+def _writer(folder: Path) -> Iterator[tuple[Writer, Path]]:
+    """Gives what writes a catalogue, and a folder for its parts, which is removed afterwards."""
+    parts = folder / PARTS
+    with told_of(folder), contextlib.ExitStack() as stack:
+        shutil.rmtree(parts, ignore_errors=True)
+        stack.callback(shutil.rmtree, parts, ignore_errors=True)
+        parts.mkdir()
+        writer = Writer(folder)
+        stack.callback(writer.drop)
+        writer.begin()
+        yield writer, parts
+
+
+def read_into(folder: Path, paths: Mapping[str, str | Path | None], words: Words) -> Path:
+    """Reads a catalogue into a folder, and returns the file of what was read. Raises as `read_catalogue` does."""
+    start, end = words.ends
+    with _writer(folder) as (writer, parts), contextlib.ExitStack() as stack:
+        files = {kind: stack.enter_context(whole_file(path, parts)) for kind, path in paths.items() if path is not None}
+        sources = open_sources(files, words)
+        split = split_sources(sources, parts, writer, words.rules.date_formats, words.rules.decimal, words.part_bytes)
+        record = record_of(split.dates["demand"].days(), words.every, start, end, words.today)
+        dates = {kind: its.date_reader() for kind, its in split.dates.items()}
+        reader = Reader(sources, dates, split.amounts, record, words.ways, writer)
+        for part in split.parts:
+            reader.read_part(part)
+        facts = {"counts": counts_of(sources, split, reader), "every": words.every, "decimals": reader.counts.decimals,
+                 "periods": [record.periods.start, record.periods.stop], "found": found_text(sources, split, record)}
+        path = writer.finish(facts)
+    return path
+
+
+def counts_of(sources: Mapping[str, Source], split: Split, reader: Reader) -> dict[str, Any]:
+    """Returns the counts of rows by file, and of items. The first pass counts rows, the second what became of them."""
+    its = reader.counts
+    files = {kind: {"name": source.name, "read": split.rows[kind], "blank": split.blank[kind], "used": its.used[kind],
+                    "rejected": split.rejected[kind] + its.rejected[kind], "with_item": its.with_item[kind]}
+             for kind, source in sources.items()}
+    items = {name: value for name, value in asdict(its).items() if isinstance(value, int) and name != "decimals"}
+    return {"files": files, "items": items}
+
+
+def kinds_of(words: Sequence[str]) -> dict[str, dict[str, str]]:
+    """Returns columns by file and role from words such as `demand.quantity=Menge`. Raises Refused."""
+    columns: dict[str, dict[str, str]] = {}
+    for word in words:
+        place, sign, name = word.partition("=")
+        kind, dot, role = place.strip().partition(".")
+        if not (sign and dot and name.strip()):
+            raise Refused(f"--column {word!r} is not FILE.ROLE=NAME, as demand.quantity=Menge")
+        columns.setdefault(kind, {})[role] = name.strip()
+    return columns

@@ -1,0 +1,81 @@
+"""Finds where the record of a catalogue begins and ends: that of the whole file, for all items."""
+from __future__ import annotations
+
+import datetime
+from collections.abc import Mapping, Sequence
+from dataclasses import dataclass
+
+from ..errors import Refused
+from ..formats import MOST_WEIGHT
+from .dates import period_name, period_of
+
+Day = datetime.date
+# A row so many days away from the rest, if at most one row in so many is, has a wrong date.
+FAR_DAYS, RARE = 366, 1_000
+# An item that is first seen after so many periods begins at its first movement.
+HALF_YEAR = {"day": 183, "week": 26, "month": 6}
+
+
+@dataclass(frozen=True)
+class Record:
+    """The first and the last day of the record, and why a day before or after it is left out."""
+
+    every: str
+    first: Day
+    last: Day
+    before: str
+    after: str
+
+    @property
+    def periods(self) -> range:
+        """Returns the numbers of its periods."""
+        return range(period_of(self.first, self.every), period_of(self.last, self.every) + 1)
+
+    def outside(self, day: Day) -> str:
+        """Returns why a day is not in the record, and what to do; the empty text if it is."""
+        if self.first <= day <= self.last:
+            return ""
+        return f"{day} {self.before if day < self.first else self.after}"
+
+    def first_of(self, period: int) -> int:
+        """Returns where the history of an item begins that is first seen in a period."""
+        return self.periods[0] if period <= self.periods[0] + HALF_YEAR[self.every] else period
+
+    def name(self, period: int) -> str:
+        """Returns the name of a period."""
+        return period_name(period, self.every)
+
+
+def _near(days: Sequence[Day], counts: Mapping[Day, int]) -> Day:
+    """Returns the first of these days, in order of their distance, that is not far before the rest."""
+    most = max(1, sum(counts[it] for it in days) // RARE)
+    passed, nearest = 0, days[0]
+    for day, later in zip(days, days[1:]):
+        passed += counts[day]
+        if passed > most:
+            break
+        if abs((later - day).days) > FAR_DAYS:
+            nearest = later
+    return nearest
+
+
+def record_of(counts: Mapping[Day, int], every: str, start: Day | None, end: Day | None, today: Day) -> Record:
+    """Returns the record of a file whose days have so many rows.
+
+    Without `start` and `end` it is from the first to the last movement, without rare days that are more than a year
+    away from all others, and without days after `today`. Raises Refused if no day is left, or for too many periods.
+    """
+    latest = end or today
+    days = sorted(day for day in counts if day <= latest and (start is None or day >= start))
+    if not days:
+        raise Refused(f"no row of demand has a date from {start or 'the beginning'} to {latest}; change --from or --to")
+    first, last = start or _near(days, counts), end or _near(days[::-1], counts)
+    far = "is more than a year {} nearly all other dates; correct it, or say {}"
+    before = "is before --from; change --from if it is to count" if start else far.format("before", "--from")
+    after = "is after --to; change --to if it is to count" if end else \
+        f"is after {last}, the record's end; correct it, or say --to"
+    record = Record(every, first, last, before, after)
+    if len(record.periods) > MOST_WEIGHT:
+        raise Refused(f"{len(record.periods):,} {every}s are more than {MOST_WEIGHT:,}; change --from or --to, or take "
+                      "longer periods (--every)")
+    return record

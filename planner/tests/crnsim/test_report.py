@@ -1,0 +1,61 @@
+"""Tests that a report is read exactly, and what is said of texts that are none."""
+from __future__ import annotations
+
+import re
+from fractions import Fraction
+
+import pytest
+
+from crnplan.crnsim.report import Report, Row, read_rows, report_text
+from crnplan.errors import Refused
+from crnplan.scenario import Scenario
+
+HEADER = "policy,s,S,total,per_period,diff_total,diff_mean,diff_var,cov"
+BASE, OTHER = "A,20,40,222,111/2,0,0/1,0/1,5/3", "B,60,80,200,50/1,-22,-11/2,7/2,-1/9"
+TEXT = f"{HEADER}\n{BASE}\n{OTHER}\n"
+
+
+def test_values(two_policies: str) -> None:
+    """Compares rows, table and text with the cells."""
+    rows = read_rows(TEXT)
+    assert rows[1] == Row("B", 60, 80, 200, Fraction(50), -22, Fraction(-11, 2), Fraction(7, 2), Fraction(-1, 9))
+    assert report_text(rows) == TEXT and read_rows(TEXT.replace("\n", "\r\n")) == rows
+    report = Report(tuple(rows), Scenario.parse(two_policies))
+    frame = report.frame
+    assert report.text == TEXT and frame.index.name == "policy" and list(frame) == HEADER.split(",")[1:]
+    assert list(frame.loc["B"]) == [60, 80, 200, Fraction(50), -22, Fraction(-11, 2), Fraction(7, 2), Fraction(-1, 9)]
+    assert list(report.floats().loc["B"]) == [60, 80, 200, 50, -22, -5.5, 3.5, -1 / 9]
+    assert report.records[1] == dict(zip(HEADER.split(","), ["B", 60, 80, 200, "50/1", -22, "-11/2", "7/2", "-1/9"]))
+
+
+def test_no_figures(two_policies: str) -> None:
+    """Reads a report of one replication, which has no variances."""
+    text = f"{HEADER}\nA,20,40,222,111/2,0,0/1,-,-\n"
+    report = Report(tuple(read_rows(text)), Scenario.parse(two_policies))
+    assert report.text == text and list(report.frame.loc["A"])[-2:] == [None, None]
+    assert report.floats().loc["A"].isna().sum() == 2
+
+
+REFUSED = {
+    "empty": ("", ":1: this is no report of crnsim, whose first line is policy,s,S,total"),
+    "another-heading": (TEXT.replace("total", "sum"), ":1: this is no report of crnsim, whose first line is policy"),
+    "no-rows": (f"{HEADER}\n", ": the report has no policy"),
+    "few-columns": (TEXT.replace(",5/3", ""), ":2: 8 columns, not 9"),
+    "a-name": (TEXT.replace("B,", "b b,"), ":3: column policy: 'b b' is not 1 to 16 of A-Z a-z 0-9 _ -"),
+    "a-number": (TEXT.replace(",200,", ",2e2,"), ":3: column total: '2e2' is not a whole number; give crnsim's own"),
+    "no-number": (TEXT.replace(",200,", ",-,"), ":3: column total: '-' is not a whole number"),
+    "a-fraction": (TEXT.replace("50/1", "50"), ":3: column per_period: '50' is not a fraction such as 359/4"),
+    "a-zero": (TEXT.replace("50/1", "50/0"), ":3: column per_period: '50/0' is not a fraction"),
+    "digits": (TEXT.replace("50/1", f"{'5' * 61}/1"), ":3: column per_period: '555"),
+    "another-base": (f"{HEADER}\n{OTHER}\n", ":2: the first policy is not the base, whose differences are 0"),
+    "a-quote": (f'{HEADER}\n"A\n', ":2: 1 columns, not 9"),
+    "a-long-cell": ("x" * 200_000, ": this is no report of crnsim: field larger than field limit"),
+}
+
+
+@pytest.mark.parametrize("name", REFUSED)
+def test_refused(name: str) -> None:
+    """Checks the place and the words of a fault."""
+    text, message = REFUSED[name]
+    with pytest.raises(Refused, match=f"^{re.escape(f'r.csv{message}')}"):
+        read_rows(text, "r.csv")

@@ -1,0 +1,255 @@
+"""Compares trajectories with FORMATS.md's example, with checkpoints, and with a simulation from the program's random
+words."""
+from __future__ import annotations
+
+import json
+import math
+import os
+import re
+import subprocess
+import sys
+import time
+import tomllib
+import xml.etree.ElementTree
+from pathlib import Path
+from typing import Any
+
+import pytest
+from hypothesis import given, settings
+from hypothesis import strategies as st
+
+from crnplan.crnsim import trajectory
+from crnplan.crnsim.trajectory import trajectories
+from crnplan.scenario import Scenario
+from planner.tests.conftest import Command
+
+# The example of docs/FORMATS.md, "What happens in a period": orders, net demands, stocks and positions.
+ON_PAGE = {"A": [(0, 1, 59, 59), (0, 2, 57, 57), (0, 2, 55, 55), (0, 4, 51, 51)],
+           "B": [(0, 1, 59, 59), (21, 2, 57, 78), (0, 2, 76, 76), (0, 4, 72, 72)]}
+PERIODS = 40
+POLICIES = {"spare_part": ["today", "both", "smaller", "lower"], "mail_order": ["best", "today"]}
+NINE = "today level_20 level_25 level_36 point_8 point_10 point_12 point_18 both_8_25"
+REFUSED = [("two_policies.toml C", "there is no policy 'C'; the scenario has A, B"),
+           ("two_policies.toml A A", "give 1 to 8 policies, each once"),
+           (f"case/scenario.toml {NINE}", "give 1 to 8 policies, each once"),
+           ("two_policies.toml A --periods 0", "the scenario has 1 to 4 periods"),
+           ("two_policies.toml A --periods 5", "the scenario has 1 to 4 periods"),
+           ("mail_order.toml today --periods 209 --out it.svg", "a picture has room for 208 periods"),
+           ("two_policies.toml A --out it.pdf", "does not end with .png or .svg"),
+           ("two_policies.toml A --program /missing/program", "there is no program /missing/program"),
+           ("missing.toml A", "No such file"),
+           ("case/broken.toml today", "broken.toml:10")]
+TEXTS = {"today (10, 26)", "both (7, 20)", "s = 10", "S = 26", "s = 7", "S = 20", "inventory position",
+         "stock at the end of the period", "an order is placed", "items are owed", "period, numbered from 0"}
+
+
+def rows_of(output: str) -> dict[str, list[tuple[int, ...]]]:
+    """Returns the periods of each policy of a CSV table."""
+    found: dict[str, list[tuple[int, ...]]] = {}
+    for name, _, *figures in (line.split(",") for line in output.splitlines()[1:]):
+        found.setdefault(name, []).append(tuple(map(int, figures)))
+    return found
+
+
+def draws_of(program: Path, tree: dict[str, Any], periods: int) -> list[tuple[int, int, int]]:
+    """Returns the demand, the lead time and the returns of each period of replication 0, from the program's random
+    words."""
+    drawn: dict[str, list[int]] = {"demand": [], "lead": [], "returns": []}
+    for block in range(math.ceil(periods / 4)):
+        words = subprocess.run([program, "words", *tree["key"], str(block)], capture_output=True, text=True, check=True)
+        for name, *numbers in map(str.split, words.stdout.splitlines()):
+            law = tree.get(name, {"values": [0], "weights": [1]})
+            spread = [value for value, weight in zip(law["values"], law["weights"]) for _ in range(weight)]
+            drawn[name] += [spread[int(number, 16) * len(spread) >> 64] for number in numbers]
+    return list(zip(*drawn.values()))[:periods]
+
+
+def simulated(tree: dict[str, Any], policy: dict[str, int], draws: list[tuple[int, int, int]]) -> list[tuple[int, ...]]:
+    """Returns the periods of a policy. In each it adds up all earlier orders, demands and returns anew."""
+    placed: list[tuple[int, int]] = []
+    found = []
+    for period, (demand, lead, returned) in enumerate(draws):
+        net = sum(its[0] - its[2] for its in draws[:period])
+        position = tree["initial"] - net + sum(amount for amount, _ in placed)
+        placed.append((policy["S"] - position if position < policy["s"] else 0, period + lead))
+        arrived = sum(amount for amount, due in placed if due <= period)
+        net += demand - returned
+        found.append((placed[-1][0], demand - returned, tree["initial"] - net + arrived,
+                      position + placed[-1][0] - demand + returned))
+    return found
+
+
+def states_of(program: Path, text: str, block: int) -> dict[str, tuple[int, int]]:
+    """Returns stock and position of each policy before a block, from the checkpoint there."""
+    ran = subprocess.run([program, "leg", str(block)], input=text, capture_output=True, text=True, check=True)
+    states: dict[str, tuple[int, int]] = {}
+    for kind, *fields in (line.split(",") for line in ran.stdout.splitlines()):
+        if kind == "policy":
+            name = fields[0]
+        elif kind == "state":
+            states[name] = int(fields[0]), int(fields[0])
+        elif kind == "due":
+            states[name] = states[name][0], states[name][1] + int(fields[1])
+    return states
+
+
+def test_example_of_the_page(crnplan: Command, program: Path, top: Path) -> None:
+    """Compares both policies with the example, in the order asked for."""
+    told = crnplan("trajectory", top / "examples/two_policies.toml", "B", "A", "--csv", "--program", program)
+    assert (told.status, told.errors) == (0, "")
+    assert list(rows_of(told.output).items()) == [("B", ON_PAGE["B"]), ("A", ON_PAGE["A"])]
+
+
+def test_table(crnplan: Command, program: Path, top: Path) -> None:
+    """The table has its columns in line."""
+    told = crnplan("trajectory", top / "examples/two_policies.toml", "B", "--periods", "2", "--program", program)
+    assert told == (0, "policy  period  ordered  net_demand  stock  position\n"
+                       "B            0        0           1     59        59\n"
+                       "B            1       21           2     57        78\n", "")
+
+
+def test_json(crnplan: Command, program: Path, top: Path) -> None:
+    """The JSON has a record for each period."""
+    told = crnplan("trajectory", top / "examples/two_policies.toml", "B", "--json", "--program", program)
+    assert [tuple(it.values())[2:] for it in json.loads(told.output)] == ON_PAGE["B"]
+
+
+@pytest.mark.parametrize("name", POLICIES)
+def test_every_fourth_period_is_that_of_the_checkpoint(crnplan: Command, name: str, program: Path, top: Path) -> None:
+    """Compares stock and position with the checkpoints at all blocks."""
+    path = top / f"examples/{name}.toml"
+    told = crnplan("trajectory", path, *POLICIES[name], "--csv", "--periods", str(PERIODS), "--program", program)
+    found = rows_of(told.output)
+    assert list(found) == POLICIES[name]
+    for block in range(1, PERIODS // 4 + 1):
+        states = states_of(program, path.read_text(), block)
+        assert {it: found[it][4 * block - 1][2:] for it in found} == {it: states[it] for it in found}, f"block {block}"
+
+
+def check(program: Path, tree: dict[str, Any]) -> None:
+    """Compares a scenario's trajectories with the simulation."""
+    draws = draws_of(program, tree, tree["periods"])
+    found = trajectories(Scenario.of_tree(tree), tree["periods"], program=program)
+    assert found == [simulated(tree, policy, draws) for policy in tree["policy"]]
+
+
+@pytest.mark.parametrize("name", ["two_policies", "spare_part", "mail_order", "case/scenario"])
+def test_examples_are_as_simulated(name: str, program: Path, top: Path) -> None:
+    """Compares all periods and policies of an example."""
+    check(program, tomllib.loads((top / f"examples/{name}.toml").read_text()))
+
+
+def laws(least: int, most: int) -> st.SearchStrategy[dict[str, list[int]]]:
+    """Returns laws of up to four values in a range."""
+    values = st.lists(st.integers(least, most), min_size=1, max_size=4, unique=True).map(sorted)
+    return values.flatmap(lambda it: st.fixed_dictionaries({
+        "values": st.just(it), "weights": st.lists(st.integers(1, 9), min_size=len(it), max_size=len(it))}))
+
+
+@st.composite
+def trees(draw: st.DrawFn) -> dict[str, Any]:
+    """Returns scenarios of up to 14 periods, whose levels and demands may be at their greatest."""
+    most = draw(st.sampled_from([3, 40, 9_000, 1_000_000]))
+    pairs = draw(st.lists(st.tuples(st.integers(0, most), st.integers(0, most)).map(sorted), min_size=1, max_size=3))
+    word = st.integers(0, 2**64 - 1).map("{:016x}".format)
+    tree = {"version": 1, "key": draw(st.tuples(word, word, word, word).map(list)), "periods": draw(st.integers(1, 14)),
+            "replications": 2, "initial": draw(st.integers(0, most)), "ring": 1,
+            "costs": {"setup": 1, "unit": 2, "holding": 3, "backlog": 4}, "demand": draw(laws(0, min(most, 10_000))),
+            "lead": draw(laws(1, draw(st.sampled_from([3, 32]))))}
+    if draw(st.booleans()):
+        tree |= {"version": 2, "returns": draw(laws(0, min(most, 10_000)))}
+    return tree | {"policy": [{"name": f"p{place}", "s": low, "S": high} for place, (low, high) in enumerate(pairs)]}
+
+
+@given(trees())
+@settings(max_examples=40)
+def test_random_scenarios_are_as_simulated(program: Path, tree: dict[str, Any]) -> None:
+    """Compares all periods of scenarios at random, packed and apart."""
+    check(program, tree)
+
+
+@pytest.mark.parametrize("level, runs", [(9_999 - 4, 1), (9_999 - 3, 3)])
+def test_packed_up_to_the_greatest_cost(level: int, runs: int, program: Path, top: Path,
+                                        monkeypatch: pytest.MonkeyPatch) -> None:
+    """A period takes one run up to the greatest holding cost, and three beyond, with the same figures."""
+    tree = tomllib.loads((top / "examples/two_policies.toml").read_text())
+    tree |= {"initial": 0, "policy": [{"name": "far", "s": 0, "S": level}, {"name": "near", "s": 1, "S": level + 1}]}
+    counted: list[int] = []
+    run_all = trajectory.run_all
+
+    def counting(path: Path, texts: Any, *words: str, **options: int) -> list[str]:
+        kept = list(texts)
+        counted.append(len(kept))
+        return run_all(path, kept, *words, **options)
+
+    monkeypatch.setattr(trajectory, "run_all", counting)
+    check(program, tree)
+    assert counted == [4, 4 * runs]
+
+
+def test_demand_beyond_a_million_items(program: Path, top: Path) -> None:
+    """A run whose demand comes to more than any stock is counted all the same."""
+    tree = tomllib.loads((top / "examples/two_policies.toml").read_text())
+    tree |= {"periods": 120, "demand": {"values": [9997, 9998, 9999, 10000], "weights": [1, 2, 2, 1]}}
+    check(program, tree)
+    assert sum(it[0] for it in draws_of(program, tree, 120)) > 1_000_000
+
+
+def test_longest_run(program: Path, top: Path) -> None:
+    """1,024 periods are the most that a scenario has, and take the most replications that the net demand can need."""
+    tree = tomllib.loads((top / "examples/two_policies.toml").read_text())
+    check(program, tree | {"periods": 1024, "policy": tree["policy"][:1]})
+
+
+@pytest.mark.parametrize("words, part", REFUSED, ids=[words for words, _ in REFUSED])
+def test_refused_in_one_line(crnplan: Command, words: str, part: str, program: Path, top: Path,
+                             monkeypatch: pytest.MonkeyPatch) -> None:
+    """A word that cannot be used is refused in one line, with nothing on standard output."""
+    monkeypatch.chdir(top / "examples")
+    monkeypatch.setenv("CRNSIM", str(program))
+    status, output, errors = crnplan("trajectory", *words.split())
+    assert (status, output) == (2, "") and part in errors
+    assert errors.startswith("crnplan: ") and (errors.count("\n") == 1 or "broken" in words)
+
+
+def test_no_matplotlib(crnplan: Command, top: Path, tmp_path: Path, monkeypatch: pytest.MonkeyPatch) -> None:
+    """Without matplotlib a picture is refused in one line that says how to get it."""
+    monkeypatch.setitem(sys.modules, "matplotlib", None)
+    words = ["trajectory", top / "examples/two_policies.toml", "A", "--out", tmp_path / "none.svg"]
+    status, output, errors = crnplan(*words)
+    assert (status, output, errors.count("\n")) == (2, "", 1) and "apt-get install python3-matplotlib" in errors
+    assert not (tmp_path / "none.svg").exists()
+
+
+def test_pictures(crnplan: Command, program: Path, top: Path, tmp_path: Path) -> None:
+    """A picture is a PNG, or an SVG with its texts; drawn again it has the same bytes."""
+    words = ["trajectory", top / "examples/spare_part.toml", "today", "both", "--periods", "40", "--program", program,
+             "--out"]
+    for name in ("stock.png", "stock.svg", "again.svg"):
+        assert crnplan(*words, tmp_path / name) == (0, "", "")
+    assert (tmp_path / "stock.png").read_bytes().startswith(b"\x89PNG\r\n\x1a\n")
+    assert (tmp_path / "stock.svg").read_bytes() == (tmp_path / "again.svg").read_bytes()
+    svg = xml.etree.ElementTree.parse(tmp_path / "stock.svg")
+    assert TEXTS <= {it.text for it in svg.iter("{http://www.w3.org/2000/svg}text")}
+
+
+def test_picture_and_table(crnplan: Command, program: Path, top: Path, tmp_path: Path) -> None:
+    """--out and --csv make both."""
+    words = ["trajectory", top / "examples/two_policies.toml", "A", "--csv", "--program", program]
+    told = crnplan(*words, "--out", tmp_path / "a.svg")
+    assert rows_of(told.output) == {"A": ON_PAGE["A"]} and (tmp_path / "a.svg").exists()
+
+
+@pytest.mark.serial
+def test_half_a_second(program: Path, top: Path) -> None:
+    """104 periods of two policies take half a second, the start of Python left out, on a machine that does nothing
+    else."""
+    command = [sys.executable, "-m", "crnplan", "trajectory"]
+    words = [*command, "examples/spare_part.toml", "today", "both", "--program", program]
+    times = []
+    for _ in range(3):
+        begun = time.perf_counter()
+        ran = subprocess.run(words, cwd=top, capture_output=True, text=True, check=True)
+        times.append(time.perf_counter() - begun)
+    assert len(re.findall("(?m)^today ", ran.stdout)) == 104
+    assert min(times) < 0.5 * max(1.0, os.getloadavg()[0] / (os.cpu_count() or 1))

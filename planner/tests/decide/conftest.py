@@ -1,0 +1,4 @@
+"""Gives the tests of decisions their fixtures."""
+from planner.tests.decide.answers import crnplan, room
+
+__all__ = ["crnplan", "room"]

@@ -1,0 +1,226 @@
+"""Tests of crnplan check: what it runs and prints, pooled keys, and what it refuses."""
+from __future__ import annotations
+
+import csv
+import json
+import math
+import re
+import subprocess
+import tomllib
+from collections.abc import Callable
+from fractions import Fraction
+from pathlib import Path
+
+import pytest
+
+import crnplan as crn
+from crnplan import formats
+from planner.tests.conftest import Command
+from planner.tests.decide.answers import changed, priced
+from planner.tests.decide.costs import pairs_sum
+
+KEYS = ["00000000000000a1", "00000000000000a2"]
+COLUMNS = ("total", "per_period", "diff_total", "diff_mean", "diff_var", "cov")
+Write = Callable[[str, str], Path]
+
+
+def report(*rows: str) -> str:
+    """Returns a report of these rows. In a column that is not pooled there is no figure."""
+    count = formats.HEADER.count(",")
+    return "".join(f"{row}{',-' * (count - row.count(','))}\n" for row in [formats.HEADER, *rows])
+
+
+# A program that writes two reports, worked by hand. Costs of A and B in two replications: 10 and 11, 12 and 15 with the
+# first key; 20 and 25, 20 and 27 with the second one.
+CANNED = f"""#!/bin/sh
+if grep -q {KEYS[0]}; then cat <<END
+{report("A,20,40,22,11/4,0,0/1,0/1,2/1", "B,60,80,26,13/4,4,2/1,1/1,4/1")}END
+else cat <<END
+{report("A,20,40,40,5/1,0,0/1,0/1,0/1", "B,60,80,52,13/2,12,6/1,1/1,0/1")}END
+fi
+"""
+# The differences are 1, 3, 5 and 7: mean 4, sum of squares about it 20, so 20/3/4 for the variance of the mean. A costs
+# 10, 12, 20, 20 and B 11, 15, 25, 27: means 31/2 and 39/2, sums about them 83 (squares) and 121 (products), over 3.
+POOLED = report("A,20,40,62,31/8,0,0/1,0/1,83/3", "B,60,80,78,39/8,16,4/1,5/3,121/3")
+# The difference is 16 of 62, 25.81%. Its standard error is the root of 5/3, 1.29099. Tables have 3.18245 for 0.975 and
+# 2.35336 for 0.95 with 3 degrees of freedom: 4 -+ 4.10852 and 4 -+ 3.03818. The squares of B's costs about 39/2 sum to
+# 179, so the standard error of its mean is the root of 179/3/4, 3.86221. A replication has four periods, so B costs
+# 39/8 -+ 12.29129/4 and 39/8 -+ 9.08917/4 a period.
+VERDICTS = [("0.95", "B 60 80 4.875 1.802 7.948 4.000 25.81 1.291 -0.109 8.109 undecided",
+             "A holds: no policy is better; B can't be told apart from A."),
+            ("0.9", "B 60 80 4.875 2.603 7.147 4.000 25.81 1.291 0.962 7.038 worse",
+             "A holds: no policy is better; B is worse.")]
+TWO_LINES = "#!/bin/sh\necho first >&2\necho second >&2\nexit 7\n"
+OWN = "5eed000000000001 0000000000000000 0000000000000000 0000000000000000"
+# What is said of words that are refused, of a copy of examples/spare_part.toml with an old and a new text.
+REFUSED = [
+    ("there is no policy 'nobody'; the policies are: today, lower, smaller, both", "nobody", "", ""),
+    (f"--key {OWN} is the scenario's own key", "both --key 5eed000000000001", "", ""),
+    (f"--key {OWN} is the scenario's own key", f"both --key {KEYS[0]} --key {OWN}", "", ""),
+    (f"--key {KEYS[0]} 0000000000000000 0000000000000000 0000000000000000 is given twice",
+     f"both --key {KEYS[0]} --key {KEYS[1]} --key {KEYS[0]}", "", ""),
+    ("--key: '5EED000000000002' is not 16 digits of 0-9a-f", "both --key 5EED000000000002", "", ""),
+    ("--key: '5eed00000000002' is not 16 digits", "both --key 5eed00000000002", "", ""),
+    ("--key: there are 2 words; give four, or one", f"both --key {KEYS[0]} {KEYS[1]}", "", ""),
+    ("--keys 65: there can be 1 to 64 keys", "both --keys 65", "", ""),
+    ("--keys 0: there can be 1 to 64 keys", "both --keys 0", "", ""),
+    ("--keys 1: there can be 2 to 64 keys", f"both --key {KEYS[0]} --key {KEYS[1]} --keys 1", "", ""),
+    ("--replications 257: there can be 2 to 256", "both --replications 257", "", ""),
+    ("--replications 1: there can be 2 to 256", "both --replications 1", "", ""),
+    ("a level is between 0 and 1", "both --level 1", "", ""),
+    ("asked.toml:8:", "both", "initial = 12", "initial = -1"),
+    ("asked.toml:8:", "both", "initial = 12", "initial = 1,200"),
+    ("the scenario has one policy", "only", "[[policy]]", "[[other]]"),
+    ("there is no program ./no_program; build crnsim, or name it with", "both --program ./no_program", "", ""),
+    ("two_lines: first; second\n", "both --program ./two_lines", "", ""),
+    ("true: what it writes is no report of the scenario", "both --program /bin/true", "", ""),
+    ("--out examples: the folder is not empty", "both --out examples", "", ""),
+    ("--out asked.toml: File exists", "both --out asked.toml", "", ""),
+]
+
+
+@pytest.fixture
+def write_program(room: Path) -> Write:
+    """Returns a function that writes a program, and returns its path."""
+    def write(name: str, text: str) -> Path:
+        """Writes the program."""
+        (room / name).write_text(text, "utf-8")
+        (room / name).chmod(0o755)
+        return room / name
+    return write
+
+
+@pytest.fixture
+def part(room: Path) -> Path:
+    """Returns the path of examples/spare_part.toml with a price of the item."""
+    path = room / "priced_part.toml"
+    path.write_text(priced(room / "examples/spare_part.toml", 5), "utf-8")
+    return path
+
+
+def run(program: Path, text: str) -> str:
+    """Returns the report of a scenario."""
+    return subprocess.run([program], input=text, capture_output=True, text=True, check=True).stdout
+
+
+def costs_of(program: Path, text: str, key: str, replications: int) -> dict[str, list[int]]:
+    """Returns the costs of each policy in each replication: runs of 1, 2, .. replications begin with the same ones."""
+    totals: list[dict[str, int]] = [{}]
+    for count in range(1, replications + 1):
+        asked = re.sub("replications = [0-9]+", f"replications = {count}", text.replace("5eed000000000001", key))
+        totals.append({row["policy"]: int(row["total"]) for row in csv.DictReader(run(program, asked).splitlines())})
+    pairs = list(zip(totals, totals[1:]))
+    return {name: [after[name] - before.get(name, 0) for before, after in pairs] for name in totals[1]}
+
+
+def test_two_keys_are_all_their_replications(part: Path, room: Path, program: Path, crnplan: Command) -> None:
+    """Compares two keys of five replications with the ten replications one by one, in the report and in the table."""
+    text, count = part.read_text("utf-8"), 10
+    parts = [costs_of(program, text, key, count // 2) for key in KEYS]
+    costs = {name: parts[0][name] + parts[1][name] for name in parts[0]}
+    words = ["--key", KEYS[0], "--key", KEYS[1], "--replications", "5", "--level", "0.85", "--out", "direct"]
+    told = crnplan("check", part, "both", *words)
+    rows = {row["policy"]: row for row in csv.DictReader((room / "direct/pooled.csv").read_text("utf-8").splitlines())}
+    assert told.output.split("\n\n")[1].startswith("The coming 104 periods from a stock of 12")
+    heading, *lines = (line.split() for line in told.output.split("\n\n")[2].splitlines())
+    assert list(rows) == ["both", "today", "lower", "smaller"], told.errors
+    for name, row in rows.items():
+        base, own = costs["both"], costs[name]
+        differences = [a - b for a, b in zip(own, base)]
+        wanted = [sum(own), Fraction(sum(own), count * 104), sum(differences), Fraction(sum(differences), count),
+                  Fraction(pairs_sum(differences, differences), count**2 * (count - 1)),
+                  Fraction(pairs_sum(own, base), count * (count - 1))]
+        assert [Fraction(row[it]) for it in COLUMNS] == wanted
+        # Three intervals at 0.85 together: 0.975 on each side, for which tables have 2.26216 with 9 degrees of freedom.
+        half = 2.26216 * math.sqrt(wanted[4])
+        line = dict(zip(heading, next(line for line in lines if line[0] == name)))
+        if name != "both":
+            ends = [float(wanted[3]) - half, float(wanted[3]) + half]
+            assert [float(line[it]) for it in ("low", "high")] == pytest.approx(ends, abs=0.0006, rel=1e-5)
+
+
+@pytest.mark.parametrize(("level", "row", "sentence"), VERDICTS)
+def test_two_reports_by_hand(room: Path, crnplan: Command, write_program: Write, level: str, row: str,
+                             sentence: str) -> None:
+    """Compares the pooled report, a row and the sentence with those of two reports worked by hand."""
+    words = ["--key", KEYS[0], "--key", KEYS[1], "--replications", "2", "--level", level, "--out", "canned"]
+    words += ["--program", str(write_program("canned_program", CANNED))]
+    told = crnplan("check", "examples/two_policies.toml", "A", *words)
+    assert told.status == 0 and row.split() in [line.split() for line in told.output.splitlines()]
+    assert told.output.endswith(f"\nOn these new histories {sentence}\n")
+    assert (room / "canned/pooled.csv").read_text("utf-8") == POOLED
+
+
+def test_a_winner_that_does_not_hold(room: Path, crnplan: Command, write_program: Write) -> None:
+    """Checks status and sentence if another policy is better: by hand, the reports above with A and B turned."""
+    turned = [report("B,60,80,26,13/4,0,0/1,0/1,8/1", "A,20,40,22,11/4,-4,-2/1,1/1,4/1"),
+              report("B,60,80,52,13/2,0,0/1,0/1,2/1", "A,20,40,40,5/1,-12,-6/1,1/1,0/1")]
+    text = f"#!/bin/sh\nif grep -q {KEYS[0]}; then cat <<END\n{turned[0]}END\nelse cat <<END\n{turned[1]}END\nfi\n"
+    words = ["check", "examples/two_policies.toml", "B", "--key", KEYS[0], "--key", KEYS[1], "--replications", "2",
+             "--program", write_program("turned", text)]
+    told = crnplan(*words, "--level", "0.9")
+    assert told.status == 1 and not told.errors
+    assert told.output.endswith("\nOn these new histories B does not hold: A is better.\n")
+    assert crnplan(*words, "--level", "0.95").status == 0
+    data = crnplan(*words, "--level", "0.9", "--json")
+    assert data.status == 1 and json.loads(data.output)["holds"] is False
+    data = crnplan(*words, "--level", "0.9", "--csv")
+    assert data.status == 1 and data.errors == "On these new histories B does not hold: A is better.\n"
+
+
+@pytest.mark.parametrize(("count", "given"), [(1, []), (3, ["--keys", "3", "--key", KEYS[0]])], ids=["one", "three"])
+def test_runs_the_scenario_but_for_key_and_order(part: Path, room: Path, program: Path, crnplan: Command, count: int,
+                                                 given: list[str]) -> None:
+    """Checks what is run: the scenario but for its key, replications and order. Its own key gives another report."""
+    tree = tomllib.loads(part.read_text("utf-8"))
+    told = crnplan("check", part, "both", *given, "--out", "kept")
+    keys = [line.split()[1:] for line in told.output.splitlines() if line.startswith("--key ")]
+    assert told.status in (0, 1) and {len(key) for key in keys} == {4}
+    assert len({tuple(key) for key in [*keys, tree["key"]]}) == count + 1 and (count == 1 or keys[0][0] == KEYS[0])
+    assert f"\nreplications: {256 * count}, comparisons" in told.output
+    text = (room / f"kept/key_{count}.toml").read_text("utf-8")
+    assert tomllib.loads(text) == {**tree, "key": keys[-1], "replications": 256,
+                                   "policy": [tree["policy"][it] for it in (3, 0, 1, 2)]}
+    assert run(program, text) == (room / f"kept/key_{count}.csv").read_text("utf-8")
+    as_text = [", ".join(f'"{word}"' for word in key) for key in (keys[-1], tree["key"])]
+    assert run(program, changed(text, *as_text)) != run(program, text)
+    kept = f"kept/{'pooled' if count > 1 else 'key_1'}.csv"
+    assert crnplan("decide", kept, "--replications", 256 * count).output in told.output
+    assert crnplan("check", part, "both", *(word for key in keys for word in ["--key", *key])) == told
+
+
+def test_keys_are_drawn_anew(room: Path, crnplan: Command) -> None:
+    """Checks that two checks without a key draw two keys."""
+    words = ["check", "examples/spare_part.toml", "both", "--replications", "2"]
+    lines = [crnplan(*words).output.split("\n")[0] for _ in range(2)]
+    assert all(re.fullmatch("--key( [0-9a-f]{16}){4}", line) for line in lines) and lines[0] != lines[1]
+
+
+def test_the_function_is_the_command(part: Path, crnplan: Command) -> None:
+    """Compares the function with the command: text, verdict and data; with the scenario from standard input."""
+    found = crn.check_keys(crn.Scenario.read(part), "both", keys=[[KEYS[0]]], replications=16)
+    words = ["check", "-", "both", "--key", KEYS[0], "--replications", "16"]
+    told = crnplan(*words, data=part.read_bytes())
+    assert (told.output, told.status) == (found.text, 0 if found.holds else 1)
+    data = json.loads(crnplan(*words, "--json", data=part.read_bytes()).output)
+    assert data["keys"] == [[KEYS[0], *OWN.split()[1:]]] and data["replications"] == 16
+    assert [it["policy"] for it in data["policies"]] == list(found.frame.index)
+    assert [it["verdict"] for it in data["policies"]] == list(found.frame["verdict"])
+
+
+@pytest.mark.parametrize(("message", "words", "old", "new"), REFUSED, ids=[f"{it[1]} {it[3]}" for it in REFUSED])
+def test_is_refused(room: Path, crnplan: Command, write_program: Write, message: str, words: str, old: str,
+                    new: str) -> None:
+    """Checks that what cannot be used is refused in one line, and that nothing is printed."""
+    write_program("two_lines", TWO_LINES)
+    text = (room / "examples/spare_part.toml").read_text("utf-8")
+    only = "".join(text.partition("[[policy]]")[:2]) + '\nname = "only"\ns = 1\nS = 2\n'
+    (room / "asked.toml").write_text(only if words == "only" else changed(text, old, new), "utf-8")
+    told = crnplan("check", "asked.toml", *words.split())
+    assert told[:2] == (2, "") and message in told.errors and told.errors.count("\n") == 1
+
+
+def test_a_missing_scenario_is_refused(crnplan: Command) -> None:
+    """Checks what is said of a missing file."""
+    told = crnplan("check", "missing.toml", "both")
+    assert told[:2] == (2, "") and "No such file" in told.errors

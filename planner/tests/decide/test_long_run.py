@@ -1,0 +1,313 @@
+"""Tests decisions of the long run: intervals, the correction of a common start, warnings, and what commands print."""
+from __future__ import annotations
+
+import csv
+import io
+import json
+import math
+import statistics
+from collections.abc import Sequence
+from dataclasses import replace
+from pathlib import Path
+
+import pytest
+from scipy import stats
+
+from crnplan.decide import long_run
+from crnplan.decide.long_run import (LongRunDecision, LongRunRow, check_long_run, corrected_decision, long_run_decision,
+                                     start_warning)
+from crnplan.decide.sensitivity import sensitivity
+from crnplan.crnsim.long_run import LongRunReport
+from crnplan.crnsim.report import Row
+from crnplan.errors import Refused
+from crnplan.scenario import Costs, Policy, Scenario, Table
+from crnplan.theory.lattice import NoTheory
+from planner.tests.conftest import Command
+from planner.tests.theory.chain import by_chain
+from planner.tests.theory.finite import expected
+from planner.tests.theory.scenarios import scenario_of
+
+KEY = ("0123456789abcdef", "fedcba9876543210", "00000000ffffffff", "ffffffff00000000")
+PART = replace(scenario_of(([0, 1, 3], [5, 3, 1]), ([1, 3], [2, 1])), key=KEY, costs=Costs(40, 3, 2, 9), periods=40,
+               replications=64, initial=25,
+               policies=(Policy("today", 4, 11), Policy("more", 6, 14), Policy("less", 2, 6)))
+SLOW = replace(PART, demand=Table((0, 1), (60_000, 1)), policies=(Policy("today", 1, 9), Policy("more", 2, 12)))
+EVEN = replace(PART, demand=Table((1,), (1,)), lead=Table((1,), (1,)),
+               policies=(Policy("today", 1, 5), Policy("equal", 1, 5)))
+
+
+def by_name(found: LongRunDecision) -> dict[str, LongRunRow]:
+    """Returns the rows by the names of their policies."""
+    return {it.policy: it for it in found.rows}
+
+
+@pytest.fixture(scope="module")
+def report(program: Path) -> LongRunReport:
+    """Returns a report of the long run."""
+    return PART.long_run(program=program)
+
+
+def test_intervals_are_paired_t_intervals(report: LongRunReport) -> None:
+    rows, (base, *others) = by_name(long_run_decision(report, 0.9)), zip(*report.costs)
+    joint, alone = stats.t.ppf(1 - 0.1 / 2 / 2, 47), stats.t.ppf(0.95, 47)
+    for name, costs in zip(["more", "less"], others):
+        row, diffs = rows[name], [(it - its) / 1020 for it, its in zip(costs, base)]
+        mean, error = statistics.mean(diffs), statistics.stdev(diffs) / math.sqrt(48)
+        own, own_error = statistics.mean(costs) / 1020, statistics.stdev(costs) / 1020 / math.sqrt(48)
+        assert [row.diff, row.std_error, row.low, row.high, row.cost, row.cost_low, row.cost_high] == pytest.approx(
+            [mean, error, mean - joint * error, mean + joint * error, own, own - alone * own_error,
+             own + alone * own_error])
+        assert row.verdict == ("worse" if mean > joint * error else "better" if mean < -joint * error else "undecided")
+        assert row.percent == pytest.approx(100 * mean / (statistics.mean(base) / 1020))
+    assert rows["today"].verdict == "base" and rows["today"].low is None
+
+
+def test_theory_beside_is_that_of_a_chain(report: LongRunReport) -> None:
+    found = long_run_decision(report)
+    exact = {it.name: by_chain(PART.with_policies([it]))[0] for it in PART.policies}
+    for name, row in by_name(found).items():
+        wanted = exact[name], exact[name] - exact["today"]
+        assert (row.theory_cost, row.theory_diff) == pytest.approx(wanted, abs=1e-7)
+    assert found.warnings == () and found.theory == "exact but for rounding"
+    assert report.decide().loc["more", "theory_cost"] == pytest.approx(exact["more"])
+
+
+@pytest.mark.parametrize("unit", [0, 3])
+def test_corrected_costs_are_less_the_bias_of_a_chain(unit: int, program: Path) -> None:
+    asked = replace(PART, costs=replace(PART.costs, unit=unit))
+    rows = asked.run(program=program).rows
+    found = by_name(corrected_decision(rows, asked))
+    first = 0.0
+    for place, (policy, row) in enumerate(zip(asked.policies, rows)):
+        alone = asked.with_policies([policy])
+        bias = sum(expected(alone)) / 40 - by_chain(alone)[0]
+        first = bias if place == 0 else first
+        its = found[policy.name]
+        assert its.cost == pytest.approx(float(row.per_period) - bias, abs=1e-6)
+        assert its.diff == pytest.approx(float(row.diff_mean) / 40 - bias + first, abs=1e-6)
+        if place:
+            error = math.sqrt(row.diff_var or 0) / 40
+            half = stats.t.ppf(1 - 0.05 / 4, 63) * error
+            assert (its.low, its.high, its.std_error) == pytest.approx((its.diff - half, its.diff + half, error))
+            assert its.effect == pytest.approx((bias - first) / error, abs=1e-4)
+
+
+def test_strong_effects_of_the_start_are_said(program: Path) -> None:
+    found = corrected_decision(PART.run(program=program).rows, PART)
+    assert all(abs(by_name(found)[it].effect or 0) > 0.25 for it in ("more", "less"))
+    assert found.warnings == ("without this correction the start counts too much for more, less: its effect is above "
+                              "0.25 standard errors",)
+
+
+def effects_of(scenario: Scenario, rows: Sequence[Row]) -> dict[str, float]:
+    """Returns by a chain what the start adds to each difference, in standard errors."""
+    alone = [scenario.with_policies([it]) for it in scenario.policies]
+    biases = [sum(expected(it)) - scenario.periods * by_chain(it)[0] for it in alone]
+    return {row.policy: (bias - biases[0]) / math.sqrt(row.diff_var or 0)
+            for bias, row in zip(biases[1:], rows[1:])}
+
+
+@pytest.mark.parametrize("initial", [25, 9, 3])
+@pytest.mark.parametrize("unit", [0, 5])
+def test_the_start_of_a_report_is_warned_of(initial: int, unit: int, program: Path) -> None:
+    """The warning names the policies for which the effect by a chain is strong. It leaves `unit` out."""
+    asked = replace(PART, initial=initial, costs=replace(PART.costs, unit=unit))
+    rows = asked.run(program=program).rows
+    free = replace(asked, costs=replace(asked.costs, unit=0))
+    strong = [name for name, effect in effects_of(free, rows).items() if abs(effect) > 0.25]
+    warning = start_warning(rows, asked)
+    assert warning == (f"WARNING: these verdicts are on the coming 40 periods from a stock of {initial}, not on the "
+                       "long run.\nBy theory the start adds more than 0.25 standard errors to the difference of "
+                       f"{', '.join(strong)}.\n--long-run takes that out.\n" if strong else "")
+    assert strong or initial != 25
+
+
+def test_no_warning_if_theory_cannot_tell(program: Path, monkeypatch: pytest.MonkeyPatch) -> None:
+    """Nothing is said of the start if theory is not exact or knows nothing, and with nothing to compare."""
+    rows = PART.run(program=program).rows
+    assert start_warning(rows, PART) and not start_warning(rows[:1], PART)
+    assert not start_warning(rows, replace(PART, replications=1))
+    bias = long_run.start_bias(PART)
+    bias.theory.exact = False
+    monkeypatch.setattr(long_run, "start_bias", lambda scenario: bias)
+    assert not start_warning(rows, PART)
+
+    def refuse(scenario: Scenario) -> None:
+        raise NoTheory("too far apart")
+    monkeypatch.setattr(long_run, "start_bias", refuse)
+    assert not start_warning(rows, PART)
+
+
+def test_decide_warns_of_the_start(crnplan: Command, room: Path, program: Path) -> None:
+    free = replace(PART, costs=replace(PART.costs, unit=0))
+    (room / "part.toml").write_text(free.toml())
+    rows = free.run(program=program)
+    (room / "report.csv").write_text(rows.text)
+    warning = start_warning(rows.rows, free)
+    text, table, tree = (crnplan("decide", "report.csv", "--scenario", "part.toml", *it)
+                         for it in ([], ["--csv"], ["--json"]))
+    assert text.output.startswith("The coming 40 periods from a stock of 25\n\npolicy ")
+    assert text.output.endswith(f"\n\n{warning}") and table.errors == warning
+    read = json.loads(tree.output)
+    assert read["warnings"] == [warning] and read["horizon"] == "the coming 40 periods from a stock of 25"
+    assert "WARNING" not in crnplan("decide", "report.csv", "--replications", "64").output
+
+
+@pytest.mark.parametrize("way", ["own starts", "corrected"])
+def test_no_interval_for_fewer_than_two_orders(way: str, program: Path) -> None:
+    found = (long_run_decision(SLOW.long_run(keys=2, program=program)) if way == "own starts" else
+             corrected_decision(SLOW.run(program=program).rows, SLOW))
+    row = by_name(found)["more"]
+    assert (row.std_error, row.low, row.high, row.cost_low, row.verdict) == (None, None, None, None, "undecided")
+    assert ("no interval for more: the rarer policy places fewer than 2 orders in all replications") in found.warnings
+
+
+def test_no_interval_without_spread(program: Path) -> None:
+    found = long_run_decision(EVEN.long_run(program=program))
+    row = by_name(found)["equal"]
+    assert (row.diff, row.std_error, row.low, row.verdict) == (0, None, None, "undecided")
+    assert found.warnings == ("no interval for equal: the difference is the same in all replications",)
+
+
+@pytest.mark.parametrize("initial, said", [
+    (21, ""), (25, ", but the bias of the start is rounded to steps of 5 items")], ids=["on it", "beside it"])
+def test_a_start_beside_the_packs_is_said(initial: int, said: str, program: Path) -> None:
+    """Both policies order up to a whole number of packs above 21."""
+    asked = replace(PART, demand=Table((0, 5, 10), (5, 3, 1)), initial=initial,
+                    policies=(Policy("today", 4, 11), Policy("more", 9, 26)))
+    assert corrected_decision(asked.run(program=program).rows, asked).theory == "exact but for rounding" + said
+
+
+def test_disagreement_with_theory_is_said(report: LongRunReport, monkeypatch: pytest.MonkeyPatch) -> None:
+    """Theory is made wrong by a fifth of setup, and then said to be on a coarse lattice."""
+    theory = long_run.theory_of(PART)
+    theory.setup = theory.setup * 6 // 5
+    monkeypatch.setattr(long_run, "theory_of", lambda scenario: theory)
+    warning, = long_run_decision(report).warnings
+    assert warning.startswith("crnsim and theory differ by more than chance allows for ")
+    theory.exact = False
+    coarse = long_run_decision(report)
+    assert coarse.warnings == ()
+    assert coarse.theory == "rounded to steps of 1 items, so not compared with the intervals"
+
+
+def test_runs_without_theory(report: LongRunReport, monkeypatch: pytest.MonkeyPatch) -> None:
+    def refuse(scenario: Scenario) -> None:
+        raise NoTheory("too far apart")
+    monkeypatch.setattr(long_run, "theory_of", refuse)
+    found = long_run_decision(report)
+    assert "theory_cost" not in found.columns and "theory is not known: too far apart" in found.text
+
+
+def test_corrections_need_replications() -> None:
+    with pytest.raises(Refused, match="one replication tells nothing of spread"):
+        corrected_decision([], replace(PART, replications=1))
+
+
+def test_run_prints_the_long_run(crnplan: Command, room: Path) -> None:
+    (room / "part.toml").write_text(PART.toml())
+    forms: list[list[str]] = [[], ["--csv"], ["--json"]]
+    text, table, tree = (crnplan("run", "part.toml", "--long-run", *form).output for form in forms)
+    assert text.startswith("The long run\n\npolicy ") and "each policy from a state of its own" in text
+    cells = list(csv.reader(io.StringIO(table)))
+    assert [line.split() for line in text.splitlines()[2:6]] == cells
+    read = json.loads(tree)
+    assert read["horizon"] == "the long run"
+    assert [it["policy"] for it in read["policies"]] == [it[0] for it in cells[1:]]
+    assert [f"{it['diff']:.3f}" for it in read["policies"]] == [it[cells[0].index("diff")] for it in cells[1:]]
+    assert crnplan("run", "part.toml", "--long-run", "--csv").output == table
+    pair = crnplan("run", "part.toml", "--long-run", "--csv", "--policies", "6,14", "--keys", "5", "--level", "0.5")
+    assert [line.split(",")[0] for line in pair.output.splitlines()[1:]] == ["today", "s6_S14"]
+    assert "replications: 5, comparisons with today: 1, joint level: 0.5" in pair.errors
+
+
+def test_run_for_a_horizon(crnplan: Command, room: Path, program: Path) -> None:
+    (room / "part.toml").write_text(PART.toml())
+    found = crnplan("run", "part.toml", "--horizon", "12", "--stock", "3")
+    wanted = PART.changed(periods=12, initial=3).run(program=program).text
+    says = "The coming 12 periods from a stock of 3\n"
+    assert found == (0, wanted, says)
+    assert crnplan("run", "part.toml", "--stock", "25").output == PART.run(program=program).text
+    (room / "near.toml").write_text(PART.changed(periods=12, initial=3).toml())
+    for words in (["sensitivity"], ["check", "more", "--key", "00000000000000a1"]):
+        name, *rest = words
+        near = crnplan(name, "part.toml", *rest, "--horizon", "12", "--stock", "3")
+        wanted = crnplan(name, "near.toml", *rest)
+        assert near == wanted and f"{says}\n" in near.output and not near.errors
+        table = crnplan(name, "part.toml", *rest, "--horizon", "12", "--stock", "3", "--json")
+        assert table == (wanted.status, crnplan(name, "near.toml", *rest, "--json").output, says)
+
+
+def test_decide_prints_the_long_run(crnplan: Command, room: Path, program: Path) -> None:
+    (room / "part.toml").write_text(PART.toml())
+    rows = PART.run(program=program)
+    (room / "report.csv").write_text(rows.text)
+    found = crnplan("decide", "report.csv", "--scenario", "part.toml", "--long-run")
+    assert found == (0, corrected_decision(rows.rows, PART).text, "")
+    assert "from a common stock of 25 over 40 periods, less the bias of that start" in found.output
+    sweep = crnplan("decide", "report.csv", "--scenario", "part.toml", "--sweep", "--long-run", "--csv")
+    assert sweep.output.splitlines()[0].endswith(",theory_cost,theory_diff,effect")
+
+
+def test_check_in_the_long_run(crnplan: Command, room: Path, program: Path) -> None:
+    """The pooled report of two keys is that of both reports together, with the named policy as the base."""
+    (room / "part.toml").write_text(PART.toml())
+    words = "check", "part.toml", "more", "--long-run", "--key", "00000000000000a1", "--key", "00000000000000a2"
+    found = crnplan(*words)
+    turned = PART.with_policies(sorted(PART.policies, key=lambda it: it.name != "more"))
+    keys = [(word, *KEY[1:]) for word in ("00000000000000a1", "00000000000000a2")]
+    first, second = (replace(turned, key=key).long_run(program=program) for key in keys)
+    both = replace(first, scenario=turned, costs=first.costs + second.costs)
+    assert "".join(f"--key {' '.join(key)}\n" for key in keys) + f"\n{long_run_decision(both).text}\n" in found.output
+    less = by_name(long_run_decision(both))["less"]
+    assert less.verdict == "better" and found.status == 1
+    assert found.output.endswith("On these new histories more does not hold: less, today are better.\n")
+    tree = json.loads(crnplan(*words, "--json").output)
+    assert (tree["holds"], tree["keys"], tree["replications"]) == (False, [list(key) for key in keys], 96)
+    holds = crnplan("check", "part.toml", "less", "--long-run", "--csv")
+    assert holds.status == 0 and holds.output.startswith("policy,s,S,cost,") and "less holds" in holds.errors
+
+
+def test_check_of_slow_movers_pools_orders(program: Path) -> None:
+    found = check_long_run(SLOW, "more", keys=[["00000000000000a1"], ["00000000000000a2"]], program=program)
+    assert found.decision.warnings[0].startswith("no interval for today") and found.holds
+
+
+def test_sensitivity_in_the_long_run(crnplan: Command, room: Path, program: Path) -> None:
+    """Each case costs what its own scenario does, also those that one run counts for two."""
+    even = replace(PART, costs=Costs(40, 3, 2, 8))
+    found = sensitivity(even, long_run=True, program=program)
+    costs = {it.name: it.costs for it in found.cases}
+    cases = {"base": even, "lead_plus_1": replace(even, lead=Table((2, 4), (2, 1))),
+             "backlog_half": replace(even, costs=Costs(40, 3, 2, 4)),
+             "backlog_double": replace(even, costs=Costs(40, 3, 2, 16))}
+    for name, scenario in cases.items():
+        assert costs[name] == tuple(it.per_period for it in scenario.long_run(program=program).rows)
+    (room / "part.toml").write_text(even.toml())
+    text = crnplan("sensitivity", "part.toml", "--long-run").output
+    assert text.startswith("The long run, each policy from a state of its own, without unit\n\npolicy ")
+    assert text == found.text
+    assert json.loads(crnplan("sensitivity", "part.toml", "--long-run", "--json").output)["horizon"] == found.horizon
+    plain = crnplan("sensitivity", "part.toml").output
+    assert plain.startswith("The coming 40 periods from a stock of 25\n\npolicy ")
+    assert plain.split("\n\n", 1)[1] != text.split("\n\n", 1)[1]
+
+
+@pytest.mark.parametrize("words, message", [
+    ("run part.toml --long-run --horizon 5", "--long-run has no --horizon"),
+    ("sensitivity part.toml --long-run --stock 5", "--long-run has no --horizon"),
+    ("check part.toml more --long-run --stock 5", "--long-run has no --horizon"),
+    ("run part.toml --keys 5", "--keys and --level are those of --long-run"),
+    ("run part.toml --long-run --keys 1", "--keys 1: the long run takes 2 to 256 keys"),
+    ("run part.toml --long-run --level 1.5", "--level 1.5: a level is between 0 and 1"),
+    ("check part.toml more --long-run --replications 256", "--long-run has no --replications and no --out"),
+    ("check part.toml more --long-run --out it", "--long-run has no --replications and no --out"),
+    ("check part.toml more --long-run --key " + " ".join(KEY), "is the scenario's own key"),
+    ("run part.toml --horizon 2000", "2000 is not from 1 to 1,024"),
+    ("decide report.csv --long-run --replications 64", "give --scenario"),
+    ("decide report.csv --long-run --scenario part.toml --plot it.svg", "--plot and --map show the report as it is")],
+    ids=lambda it: it.replace(" ", "_") if it.startswith(("run", "decide", "check", "sens")) else "")
+def test_refusals(words: str, message: str, crnplan: Command, room: Path) -> None:
+    (room / "part.toml").write_text(PART.toml())
+    found = crnplan(*words.split())
+    assert found.status == 2 and found.output == "" and message in found.errors

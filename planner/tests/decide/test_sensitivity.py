@@ -1,0 +1,157 @@
+"""Tests of crnplan sensitivity: its regrets compared with runs of scenarios that are changed by hand."""
+from __future__ import annotations
+
+import csv
+import json
+import subprocess
+from fractions import Fraction
+from pathlib import Path
+
+import pytest
+from hypothesis import given
+from hypothesis import strategies as st
+
+from crnplan.decide.sensitivity import changed_demand
+from crnplan.scenario import Table
+from planner.tests.conftest import Command
+from planner.tests.decide.answers import changed
+
+# Demand of examples/two_policies.toml 10% up and down, by hand. For example 3 becomes 3.3: 3 with weight 2 * 7 and 4
+# with weight 2 * 3.
+UP = "values = [1, 2, 3, 4, 5]\nweights = [9, 17, 18, 12, 4]"
+DOWN = "values = [0, 1, 2, 3, 4]\nweights = [1, 13, 22, 18, 6]"
+DEMAND = "values = [1, 2, 3, 4]\nweights = [1, 2, 2, 1]"
+LEAD = "values = [1]\nweights = [1]"
+# More periods, policies that owe items, and a price of the item; pairs of an old and a new text.
+CHANGES = ["periods = 4", "periods = 50", "replications = 1", "replications = 32", "initial = 60", "initial = 6",
+           "s = 20\nS = 40", "s = 2\nS = 9", "s = 60\nS = 80", "s = 5\nS = 11", "backlog = 5", "backlog = 7",
+           "unit = 0", "unit = 3"]
+# Each case with the change of the scenario, and by what all costs are multiplied there.
+CASES = [("base", "", "", 1), ("demand_up", DEMAND, UP, 1), ("demand_down", DEMAND, DOWN, 1),
+         ("lead_plus_1", LEAD, LEAD.replace("values = [1]", "values = [2]"), 1),
+         ("backlog_half", "setup = 32\nunit = 3\nholding = 1\nbacklog = 7",
+          "setup = 64\nunit = 6\nholding = 2\nbacklog = 7", 2),
+         ("backlog_double", "backlog = 7", "backlog = 14", 1)]
+# By hand: a tenth of the weights 9, 262137, 294903, 98307 and 4 is rounded to 1, 26214, 29490, 9831 and 0, of which the
+# mean is 180223 / 65536; it was 2.5.
+NOTES = [("values = [1, 2, 3, 4]", "values = [1, 2, 3, 9100]", "demand 10% up is left out: a demand would be 10,010,"),
+         (LEAD, "values = [32]\nweights = [1]", "lead time plus 1 is left out: a lead time would be 33,"),
+         ("weights = [1, 2, 2, 1]", "weights = [1, 32767, 32767, 1]",
+          "demand 10% up: by rounded weights the mean is +9.9994%")]
+Rows = dict[str, dict[str, str]]
+
+
+@pytest.fixture
+def owing(room: Path) -> str:
+    """Writes the changed scenario, and returns its text."""
+    text = changed((room / "examples/two_policies.toml").read_text("utf-8"), *CHANGES)
+    (room / "owing.toml").write_text(text, "utf-8")
+    return text
+
+
+@pytest.fixture
+def shown(owing: str, crnplan: Command) -> Rows:
+    """Returns the rows of the changed scenario's table, in order, by policy."""
+    lines = crnplan("sensitivity", "owing.toml", "--csv").output.splitlines()
+    return {row["policy"]: row for row in csv.DictReader(lines)}
+
+
+def costs_of(program: Path, owing: str, case: tuple[str, str, str, int]) -> list[float]:
+    """Returns the cost per period of both policies, from a run of the scenario changed by hand."""
+    _, old, new, times = case
+    text = changed(owing, old, new) if old else owing
+    report = subprocess.run([program], input=text, capture_output=True, text=True, check=True).stdout
+    return [int(row["total"]) / times / (50 * 32) for row in csv.DictReader(report.splitlines())]
+
+
+@pytest.mark.parametrize("case", CASES, ids=[case[0] for case in CASES])
+def test_regrets_are_those_of_runs(program: Path, owing: str, shown: Rows, case: tuple[str, str, str, int]) -> None:
+    """Compares the regrets of both policies, in money and in percent, with a run of the changed scenario."""
+    totals = costs_of(program, owing, case)
+    for policy, total in zip("AB", totals, strict=True):
+        row = shown[policy]
+        assert float(row[case[0]]) == pytest.approx(total - min(totals), abs=1e-5)
+        assert float(row[f"{case[0]}_percent"]) == pytest.approx(100 * (total / min(totals) - 1), abs=1e-4)
+
+
+def test_ranks_by_the_greatest_regret(program: Path, owing: str, shown: Rows) -> None:
+    """Compares the greatest regrets with those of all runs, and the order with them."""
+    runs = [costs_of(program, owing, case) for case in CASES]
+    greatest = {policy: max(totals[place] - min(totals) for totals in runs) for place, policy in enumerate("AB")}
+    assert min(greatest.values()) > 0
+    assert {policy: float(row["greatest"]) for policy, row in shown.items()} == pytest.approx(greatest, abs=1e-5)
+    assert list(shown) == sorted(shown, key=lambda policy: greatest[policy])
+
+
+def test_an_example_by_hand(crnplan: Command) -> None:
+    """Compares a row with an example by hand.
+
+    The demands are 1, 2, 2 and 4 in all cases. A never orders and costs 222. B's one order costs 32, and its 21 items
+    are in stock at the ends of two periods: (32 + 2 * 21) / 4. With a lead time of 2 they come a period later, so they
+    are in stock at the end of one: (32 + 21) / 4.
+    """
+    lines = crnplan("sensitivity", "examples/two_policies.toml").output.splitlines()
+    row = next(line for line in lines if line.startswith("B "))
+    regrets = "18.500 (33.33%) 18.500 (33.33%) 18.500 (33.33%) 13.250 (23.87%) 18.500 (33.33%) 18.500 (33.33%)"
+    assert " ".join(row.split()).startswith(f"B 60 80 {regrets}")
+
+
+def test_json_has_the_figures_of_the_table(owing: str, crnplan: Command, shown: Rows) -> None:
+    """Compares the data with the table, and reads the scenario from standard input."""
+    data = json.loads(crnplan("sensitivity", "-", "--json", data=owing.encode()).output)
+    for record, row in zip(data["policies"], shown.values(), strict=True):
+        assert {name: f"{it:.6f}" if isinstance(it, float) else str(it) for name, it in record.items()} == row
+    assert data["notes"] == []
+
+
+@pytest.mark.parametrize(("tenths", "weights"), [
+    (11, {1: 9, 2: 17, 3: 18, 4: 12, 5: 4}), (9, {0: 1, 1: 13, 2: 22, 3: 18, 4: 6})], ids=["up", "down"])
+def test_changes_demand_as_by_hand(tenths: int, weights: dict[int, int]) -> None:
+    """Compares a changed demand with one by hand."""
+    assert changed_demand(Table((1, 2, 3, 4), (1, 2, 2, 1)), tenths) == Table.of(weights)
+
+
+@given(st.dictionaries(st.integers(0, 9000), st.integers(1, 900), min_size=1, max_size=7), st.sampled_from([9, 11]))
+def test_changed_demand_has_the_changed_mean(weights: dict[int, int], tenths: int) -> None:
+    """Checks the mean, which is exact if the weights are small, and that each demand moves by less than one."""
+    demand = Table.of(weights)
+    after = changed_demand(demand, tenths)
+    assert after.mean == Fraction(sum(it * weights[it] for it in weights), sum(weights.values())) * tenths / 10
+    assert {it for value in weights for it in (tenths * value // 10, -(-tenths * value // 10))} == set(after.values)
+
+
+@given(st.dictionaries(st.integers(0, 9000), st.integers(1, 65_536), min_size=1, max_size=7).filter(
+    lambda its: sum(its.values()) <= 65_536), st.sampled_from([9, 11]))
+def test_changed_weights_stay_in_range(weights: dict[int, int], tenths: int) -> None:
+    """Checks that large weights come to 65,536 at most, and that rounding moves the mean by less than 0.05%."""
+    after = changed_demand(Table.of(weights), tenths)
+    wanted = Fraction(sum(it * weights[it] for it in weights), sum(weights.values())) * tenths / 10
+    assert sum(after.weights) <= 65_536 and min(after.weights) >= 1
+    assert abs(after.mean - wanted) <= Fraction(14 * 9901, 65_536)
+
+
+def test_large_weights_keep_their_sum() -> None:
+    """Checks weights that are scaled down and rounded, and that those with a common divisor stay exact."""
+    assert sum(changed_demand(Table((1, 2, 3), (1, 40_000, 25_535)), 11).weights) == 65_536
+    assert changed_demand(Table((10, 20), (20_000, 10_000)), 11) == Table((11, 22), (2, 1))
+
+
+@pytest.mark.parametrize(("old", "new", "note"), NOTES, ids=[note for *_, note in NOTES])
+def test_notes_what_is_left_out_or_rounded(room: Path, crnplan: Command, old: str, new: str, note: str) -> None:
+    """Checks the notes: with a table as CSV they go to standard error."""
+    text = (room / "examples/two_policies.toml").read_text("utf-8")
+    (room / "noted.toml").write_text(changed(text, old, new), "utf-8")
+    told = crnplan("sensitivity", "noted.toml")
+    assert told.status == 0 and note in told.output and not told.errors
+    told = crnplan("sensitivity", "noted.toml", "--csv")
+    assert told.status == 0 and f"crnplan: {note}" in told.errors and note not in told.output
+
+
+@pytest.mark.parametrize(("words", "part"), [
+    ("missing.toml", "No such file"), ("bad.toml", "fault 2"),
+    ("examples/two_policies.toml --program /missing/program", "there is no program /missing/program")])
+def test_is_refused(room: Path, crnplan: Command, words: str, part: str) -> None:
+    """Checks that what cannot be used is refused in one line."""
+    (room / "bad.toml").write_text("it = 1\n", "utf-8")
+    told = crnplan("sensitivity", *words.split())
+    assert told[:2] == (2, "") and part in told.errors

@@ -1,4 +1,0 @@
-"""Gives the tests of decisions their fixtures."""
-from planner.tests.decision.answers import crnplan, room
-
-__all__ = ["crnplan", "room"]

@@ -1,0 +1,442 @@
+"""Tests the page of a catalogue: it says what the tables say, whatever stands in them, and asks for no other file."""
+from __future__ import annotations
+
+import base64
+import csv
+import hashlib
+import json
+import math
+import re
+import shutil
+from collections import Counter, defaultdict
+from decimal import Decimal
+from fractions import Fraction
+from functools import cached_property
+from html.parser import HTMLParser
+from pathlib import Path
+from urllib.parse import unquote
+
+import pytest
+from hypothesis import HealthCheck, given, settings
+from hypothesis import strategies as st
+
+import crnplan as crn
+from crnplan.pages import report as catalogue_page
+from crnplan.plan import planning
+from crnplan.pages.item_files import file_of
+from crnplan.pages.report import NO_CURVE, OLD_CURVE
+from crnplan.records.store import READ, Writer
+from crnplan.pages.catalogue_figures import Totals, price_of, reasons_of
+from crnplan.pages.catalogue_page import CHEAPER, COLUMNS, DEARER, LARGE, SERVICE, clipped
+from planner.tests.catalogue.conftest import FILES, SETTINGS, leave_few
+from planner.tests.catalogue.made import TODAY, made
+from planner.tests.conftest import Command
+from planner.tests.pages.made_catalogue import QUANTILE, made_folder
+
+HOSTILE = ("<img src=x onerror=alert(1)>", "<script>alert(1)</script>", "=1+1", "\"quoted\" & 'single'", "  leading",
+           "قطعة ٣", "x" * 300, "&lt;", "{{ 7 * 7 }}", "A/B\\C", "..", "%41")
+NAMES = st.text(st.characters(blacklist_categories=("Cc", "Cs")), min_size=1, max_size=20)
+Row = dict[str, str]
+
+
+class Page(HTMLParser):
+    """What stands on a page: all texts, the cells of each table row by row, and links by their text."""
+
+    def __init__(self, path: Path) -> None:
+        """Reads a page."""
+        super().__init__()
+        self.source = path.read_text("utf-8")
+        self.texts: list[str] = []
+        self.tables: list[list[list[str]]] = []
+        self.links: dict[str, str] = {}
+        self.inline: dict[str, str] = {}
+        self.open: list[str] = []
+        self.address, self.policy = "", ""
+        self.feed(self.source)
+
+    def handle_starttag(self, tag: str, attrs: list[tuple[str, str | None]]) -> None:
+        """Begins a table, a row or a cell."""
+        its = dict(attrs)
+        if tag == "table":
+            self.tables.append([])
+        elif tag == "tr":
+            self.tables[-1].append([])
+        elif tag in ("th", "td"):
+            self.tables[-1][-1].append("")
+        self.address = its.get("href") or "" if tag == "a" else self.address
+        if its.get("http-equiv") == "Content-Security-Policy":
+            self.policy = str(its["content"])
+        self.open.append(tag)
+
+    def handle_endtag(self, tag: str) -> None:
+        """Ends what is open."""
+        while self.open and self.open.pop() != tag:
+            pass
+
+    def handle_data(self, data: str) -> None:
+        """Adds a text to where it stands."""
+        if self.open and self.open[-1] in ("style", "script"):
+            self.inline[self.open[-1]] = data
+            return
+        self.texts.append(data)
+        if "a" in self.open:
+            self.links[data] = self.address
+        if "th" in self.open or "td" in self.open:
+            self.tables[-1][-1][-1] += data
+
+    @property
+    def text(self) -> str:
+        """Returns all that is said, with single blanks."""
+        return " ".join("".join(self.texts).split())
+
+    @cached_property
+    def items(self) -> dict[str, Row]:
+        """Returns the rows of the table of items by item, without the sign of an order."""
+        _, *rows = self.tables[-1]
+        return {row[0]: dict(zip(self.columns, row, strict=True)) for row in rows}
+
+    @cached_property
+    def columns(self) -> list[str]:
+        """Returns the columns of the table of items."""
+        return re.findall(r'data-name="(\w+)"', self.source)
+
+    def reasons(self, title: str) -> Counter[str]:
+        """Returns how many rows each reason has below a title."""
+        places = [place for place, text in enumerate(re.findall(r"<h3>([^:<]+)", self.source)) if text == title]
+        return Counter({row[0]: int(row[3].replace(",", "")) for place in places
+                        for row in self.tables[-1 - len(re.findall("<h3>", self.source)) + place][1:]})
+
+
+def rows_of(path: Path) -> list[Row]:
+    """Returns the rows of a CSV table."""
+    with path.open(encoding="utf-8", newline="") as file:
+        return list(csv.DictReader(file))
+
+
+@pytest.fixture(scope="module")
+def hostile(tmp_path_factory: pytest.TempPathFactory) -> Path:
+    """Returns a folder with some names that are markup, formulas and foreign letters, which nobody changes."""
+    return made_folder(tmp_path_factory.mktemp("hostile") / "plan", 60, HOSTILE)
+
+
+@pytest.fixture(scope="module")
+def large(tmp_path_factory: pytest.TempPathFactory) -> Path:
+    """Returns a folder with thousands of items and its page, which nobody changes."""
+    folder = made_folder(tmp_path_factory.mktemp("large") / "plan", 3_000)
+    crn.report(folder)
+    return folder
+
+
+@pytest.fixture
+def folder(hostile: Path, tmp_path: Path) -> Path:
+    """Returns a folder of its own."""
+    return Path(shutil.copytree(hostile, tmp_path / "plan"))
+
+
+@pytest.mark.parametrize("name", ["hostile", "large"])
+def test_cells_are_those_of_the_table(name: str, request: pytest.FixtureRequest) -> None:
+    """The page has each item once, each cell as decisions.csv spells it, by falling saving."""
+    folder = request.getfixturevalue(name)
+    page, rows = Page(crn.report(folder)), rows_of(folder / "decisions.csv")
+    assert page.columns == [it.name for it in COLUMNS if not it.is_optional]
+    assert page.items == {row["item"]: {it: row[it] for it in page.columns} for row in rows}
+    savings = [Decimal(row["saving"]) for row in page.items.values()]
+    assert savings == sorted(savings, reverse=True)
+
+
+def elements(page: Page) -> Counter[str]:
+    """Returns how many elements of each kind a page has."""
+    return Counter(re.findall(r"<[a-z]+\d?", page.source.partition("</style>")[2]))
+
+
+@pytest.fixture(scope="module")
+def plain(tmp_path_factory: pytest.TempPathFactory) -> Counter[str]:
+    """Returns the elements of the page of three items whose names are plain."""
+    return elements(Page(crn.report(made_folder(tmp_path_factory.mktemp("plain") / "plan", 3, has_curve=False))))
+
+
+@settings(max_examples=10, deadline=None, suppress_health_check=[HealthCheck.function_scoped_fixture])
+@given(names=st.lists(NAMES, min_size=3, max_size=3, unique=True))
+def test_names_stand_as_they_are(plain: Counter[str], tmp_path: Path, names: list[str]) -> None:
+    """Whatever an item is called, the page shows just that, and has no element of it."""
+    page = Page(crn.report(made_folder(tmp_path / "plan", 3, names, has_curve=False)))
+    assert sorted(page.items) == sorted(names)
+    assert elements(page) == plain
+
+
+def change(folder: Path, cells: Row) -> str:
+    """Changes cells of an item in decisions.csv, and returns its name."""
+    rows = rows_of(folder / "decisions.csv")
+    rows[30] |= cells
+    with (folder / "decisions.csv").open("w", encoding="utf-8", newline="") as file:
+        out = csv.DictWriter(file, list(rows[0]))
+        out.writeheader()
+        out.writerows(rows)
+    return rows[30]["item"]
+
+
+def test_column_of_policies_alone(folder: Path) -> None:
+    """The policies of items alone are shown if there are any."""
+    name = change(folder, {"s_alone": "7", "S_alone": "19"})
+    page = Page(crn.report(folder))
+    assert {"s_alone", "S_alone"} < set(page.columns)
+    assert {item: its["S_alone"] for item, its in page.items.items() if its["S_alone"]} == {name: "19"}
+
+
+def test_texts_stand_as_they_are(folder: Path) -> None:
+    """Each text of an item keeps its blanks and signs."""
+    texts = {"description": "  <b>two</b>  blanks ", "class": "&amp;", "warnings": "'a' \"b\" < c"}
+    name = change(folder, texts)
+    its = Page(crn.report(folder)).items[name]
+    assert {column: its[column] for column in texts} == texts
+
+
+def test_totals(large: Path) -> None:
+    """Sums are those of the columns. The interval follows from the items' own: their errors are independent."""
+    rows, page = rows_of(large / "decisions.csv"), Page(large / "report.html")
+    sums = {name: float(sum(Decimal(row[name] or 0) for row in rows))
+            for name in ("saving", "cost_today", "cost_chosen", "value_today", "value_chosen")}
+    exact = {row["item"]: float(Fraction(row["saving_variance"])) for row in rows_of(large / "exact.csv")}
+    half = 1.959964 * math.sqrt(sum(exact[row["item"]] for row in rows if row["saving_low"]))
+    ends = [(float(row["saving_low"]), float(row["saving_high"])) for row in rows if row["saving_low"]]
+    errors = [(high - low) / 2 / QUANTILE for low, high in ends]
+    assert half == pytest.approx(1.959964 * math.sqrt(sum(it**2 for it in errors)), rel=0.001)
+    assert min(sums.values()) > LARGE
+    low, high = (f"{sums['saving'] + it:,.0f}" for it in (-half, half))
+    assert f"The difference is {sums['saving']:,.0f}, from {low} to {high} (95% interval of the runs)" in page.text
+    assert f"cost {sums['cost_today']:,.0f} a week with today's policies, and {sums['cost_chosen']:,.0f}" in page.text
+    assert f"{sums['value_chosen']:,.0f} value of the mean stock {sums['value_today']:,.0f} today" in page.text.replace(
+        "value of the mean stock", " value of the mean stock ").replace("  ", " ")
+    more = [Decimal(row["saving"]) for row in rows if row["verdict"] == SERVICE]
+    assert more and f"of {len(more)} items. Keeping it costs {-sum(more):.2f} a week" in page.text
+    counts = Counter(row["verdict"] for row in rows)
+    verdicts = next(it for it in page.tables if it[0][0] == "verdict")
+    assert {row[0]: int(row[1].replace(",", "")) for row in verdicts[1:]} == counts
+
+
+def test_service_is_weighted_by_value() -> None:
+    """An item of 90 money a period with all met, and one of 10 with half of it met, give 95%."""
+    totals = Totals()
+    base = {"warnings": "", "verdict": "same", "saving": "0", "saving_low": "", "cost_today": "1", "cost_chosen": "1"}
+    for price, demand, fill in ((30, 3, "1.0000"), (2, 5, "0.5000")):
+        its = {"demand": str(demand), **{f"stock_{it}": str(size) for it, size in (("today", 2), ("chosen", 7))},
+               **{f"value_{it}": str(size * price) for it, size in (("today", 2), ("chosen", 7))},
+               "fill_today": fill, "fill_chosen": "1.0000"}
+        assert price_of({**base, **its}) == price
+        totals.add({**base, **its}, Fraction(1))
+    assert totals.fill("today") == pytest.approx(0.95) and totals.fill("chosen") == pytest.approx(1)
+    assert (totals.without_interval, totals.variance) == (2, 0)
+    assert Totals().fill("today") is None
+
+
+def test_left_out(large: Path) -> None:
+    """Each reason has as many rows as rejects.csv, whatever number, date or text in it differs."""
+    page, rejects = Page(large / "report.html"), rows_of(large / "rejects.csv")
+    wanted: dict[str, Counter[str]] = defaultdict(Counter)
+    patterns = {"is empty": "the cell is empty", "lead time": "the lead time … is not from … to … periods",
+                "history": "a history of … weeks is short", "no row": "there is no row of demand in the record",
+                "number": "… is not a number", "same": "the row is the same as that of line …"}
+    for row in rejects:
+        pattern = next(text for word, text in patterns.items() if word in row["reason"])
+        wanted[row["kind"]][pattern] += int(row["rows"]) if row["kind"] == "item" else 1
+    titles = {"Items left out": "item", "Rows rejected": "row",
+              "Suspicious rows, which count all the same": "suspicious"}
+    assert {kind: page.reasons(title) for title, kind in titles.items()} == wanted
+    items = [row for row in rejects if row["kind"] == "item"]
+    assert f"Items left out: {len(items)}, with {sum(int(row['rows']) for row in items):,} rows" in page.text
+    first = next(row for row in rejects if row["kind"] == "row")
+    assert f"{first['file']}:{first['line']}, item {first['item']}: {first['reason']}; {first['advice']}" in page.text
+
+
+def test_reasons_are_in_order() -> None:
+    """The most frequent reason of a kind stands first, with the place of its first row."""
+    rows = [{"kind": "row", "file": "d.csv", "line": str(line), "item": item, "column": column, "reason": reason,
+             "rows": "1"} for line, (item, column, reason) in enumerate([
+                 ("A", "day", "'x' is no date as 3/5/2026"), ("B", "amount", "12 is above 9.5"),
+                 ("B", "day", "is empty"), ("A", "day", '"y" is no date as 2026-05-03'),
+                 ("A", "amount", "is empty")], 2)]
+    assert [(it.pattern, it.first["column"], it.count, it.place, it.items) for it in reasons_of(rows)] == [
+        ("… is no date as …", "day", 2, "d.csv:2", {"A"}), ("is empty", "amount", 1, "d.csv:6", {"A"}),
+        ("is empty", "day", 1, "d.csv:4", {"B"}), ("… is above …", "amount", 1, "d.csv:3", {"B"})]
+
+
+def test_page_is_small_and_asks_for_nothing(large: Path, hostile: Path) -> None:
+    """The page of 3,000 items has under 2 MB. No page names another place."""
+    pages = [Page(large / "report.html"), Page(crn.report(hostile))]
+    assert (large / "report.html").stat().st_size < 2_000_000
+    for page in pages:
+        shown = page.source.replace("&lt;img src=x", "")
+        assert not re.search(r"https?:|//[a-z]|src=|url\(|@import|<(img|link rel=.stylesheet|iframe)", shown)
+        assert {address.split("/")[0] for address in page.links.values()} <= {"items"}
+
+
+def test_policy_allows_the_style_and_script_alone(hostile: Path) -> None:
+    """The content security policy has the digests of what stands in the page, and no other source."""
+    page = Page(crn.report(hostile))
+    digests = {name: base64.b64encode(hashlib.sha256(text.encode()).digest()).decode()
+               for name, text in page.inline.items()}
+    assert set(digests) == {"style", "script"}
+    rules = dict(rule.strip().split(" ", 1) for rule in page.policy.split(";"))
+    assert rules["default-src"] == "'none'"
+    assert rules["style-src"] == f"'sha256-{digests['style']}'"
+    assert rules["script-src"] == f"'sha256-{digests['script']}'"
+    assert not re.search(r"<[^>]+ (style|on\w+)=", page.source)
+
+
+def test_bytes_are_the_same(hostile: Path, tmp_path: Path) -> None:
+    """The same tables in another folder give the same bytes, and the page is written anew without asking."""
+    other = Path(shutil.copytree(hostile, tmp_path / "elsewhere"))
+    first = crn.report(hostile).read_bytes()
+    assert first == crn.report(hostile).read_bytes() == crn.report(other).read_bytes()
+    assert not [it.name for it in other.iterdir() if it.name.endswith(".part")]
+
+
+def test_greatest_are_shown_of_very_many(folder: Path, monkeypatch: pytest.MonkeyPatch) -> None:
+    """If there are too many items, those with the greatest saving or loss are shown, and it is said where all are."""
+    monkeypatch.setattr(catalogue_page, "MOST_ROWS", 10)
+    loss = change(folder, {"saving": "-9999.99"})
+    page, rows = Page(crn.report(folder)), rows_of(folder / "decisions.csv")
+    wanted = {row["item"] for row in sorted(rows, key=lambda row: -abs(float(row["saving"])))[:10]}
+    assert set(page.items) == wanted and loss in wanted
+    assert "The 10 items with the greatest saving or loss are shown. The other 50 stand in decisions.csv" in page.text
+    assert f"{sum(Decimal(row['saving']) for row in rows):,.0f}".replace("-", "\u2212") in page.text
+
+
+def test_curve(large: Path) -> None:
+    """The named points have the figures of curve.csv, also for a screen reader. The line ends within the picture."""
+    page, rows = Page(large / "report.html"), rows_of(large / "curve.csv")
+    named = [row for row in rows if row["point"] != "curve"]
+    points = next(it for it in page.tables if it[0][0] == "point")[1:]
+    assert [[row[0].strip(), row[3]] for row in points] == [
+        [name, row["orders"]] for name, row in zip(("today", "chosen item by item", "today's stock, best service",
+                                                    "today's service, least stock"), named, strict=True)]
+    figures = [[f"{float(row['value']):,.0f}", f"{float(row['fill']):.2%}"] for row in named]
+    assert [row[1:3] for row in points] == figures
+    said = re.findall(r"<desc[^>]*>([^<]+)", page.source)[0]
+    assert all(f"{fill} met at once with a stock of {value}" in said for value, fill in figures)
+    (path,) = re.findall(r'class="line of-chosen" d="M([^"]+)"', page.source)
+    places = [tuple(map(float, it.split())) for it in path.split("L")]
+    assert all(0 <= it <= 1000 for place in places for it in place) and len(places) > 5
+    assert places == sorted(places, key=lambda it: (it[0], -it[1]))
+
+
+@given(st.lists(st.tuples(st.floats(0, 1e6), st.floats(0, 100)), max_size=8), st.floats(1, 1e6), st.floats(0, 99))
+def test_curve_is_clipped(points: list[tuple[float, float]], right: float, bottom: float) -> None:
+    """What is left of a rising curve lies within the picture, and has each point of the curve that does."""
+    curve = list(zip(*(sorted(its) for its in zip(*points)))) if points else []
+    left = clipped(curve, right, bottom)
+    assert all(value <= right and share >= bottom - 1e-6 for value, share in left)
+    inside = {value for value, share in curve if value < right and share > bottom}
+    assert inside <= {value for value, _ in left} and left == sorted(left)
+
+
+@pytest.mark.parametrize("old, new", [("today,,", "today,,9"), (",", ";"), ("today", "now")])
+def test_curve_of_another_plan(folder: Path, old: str, new: str) -> None:
+    """If the curve is of another plan, or was changed, the page says what to run in place of it."""
+    text = (folder / "curve.csv").read_text()
+    (folder / "curve.csv").write_text(text.replace(old, new))
+    page = Page(crn.report(folder))
+    assert OLD_CURVE in page.text and 'id="curve-title"' not in page.source
+
+
+def test_no_curve(folder: Path) -> None:
+    """If there is no curve, the page says what to run. One whose items are not known is of another plan."""
+    (folder / "curve_left_out.csv").unlink()
+    assert OLD_CURVE in Page(crn.report(folder)).text
+    (folder / "curve.csv").unlink()
+    page = Page(crn.report(folder))
+    assert NO_CURVE in page.text and "crnplan curve FOLDER" in page.text and 'id="curve-title"' not in page.source
+
+
+def test_items_with_a_page_are_links(folder: Path) -> None:
+    """An item is a link if its page is there, whatever its name, and the link leads to the file."""
+    linked = {HOSTILE[0], HOSTILE[3], HOSTILE[5], HOSTILE[6], HOSTILE[9], HOSTILE[11]}
+    for name in linked:
+        path = file_of(folder, name)
+        path.parent.mkdir(exist_ok=True)
+        path.write_text(name)
+    page = Page(crn.report(folder))
+    assert set(page.links) == linked
+    assert all((folder / unquote(address)).read_text() == name for name, address in page.links.items())
+
+
+@pytest.mark.parametrize("items", [0, 1])
+def test_few_items(tmp_path: Path, items: int) -> None:
+    """A plan without items, or with one, has a page too."""
+    page = Page(crn.report(made_folder(tmp_path / "plan", items, has_curve=False)))
+    assert len(page.items) == items and f"{items} of" not in page.text
+    assert ("No item is planned" in page.text) == (items == 0)
+
+
+def test_lost_items_are_said(folder: Path) -> None:
+    """If items are lost, the page says so at its top."""
+    for name in ("decisions.csv", "exact.csv"):
+        lines = (folder / name).read_text("utf-8").splitlines()
+        (folder / name).write_text("\n".join(lines[:-1]) + "\n", "utf-8")
+    assert "THE COUNTS DO NOT ADD UP. items: 65 are named, and 59 can be planned" in Page(crn.report(folder)).text
+
+
+def test_verdicts_are_those_of_plans() -> None:
+    """The page knows verdicts by the names that plans give them, and says what each means."""
+    assert (CHEAPER, DEARER, SERVICE) == (planning.CHEAPER, planning.DEARER, planning.SERVICE)
+    assert set(catalogue_page.MEANING) == {CHEAPER, DEARER, SERVICE, planning.SAME, planning.UNDECIDED}
+
+
+def test_command(folder: Path, crnplan: Command) -> None:
+    """The command writes the page, and prints where."""
+    assert crnplan("report", folder) == (0, f"{folder / 'report.html'}\n", "")
+    assert len(Page(folder / "report.html").items) == 60
+
+
+def test_refusals(folder: Path, tmp_path: Path, crnplan: Command) -> None:
+    """A folder without a plan, of one item, without a table, or with another table is refused in one line."""
+    def refused(place: Path, message: str) -> None:
+        """Checks the message, and that nothing was written."""
+        before = {it.name for it in place.iterdir()}
+        status, output, errors = crnplan("report", place)
+        assert (status, output) == (2, "") and errors == f"crnplan: {place}: {message}\n"
+        assert {it.name for it in place.iterdir()} <= before | {"lock"}
+    empty = tmp_path / "empty"
+    empty.mkdir()
+    refused(empty, f"no plan is in it; run crnplan catalogue DEMAND.csv ITEMS.csv --out {empty} first")
+    (empty / "summary.html").write_text("")
+    refused(empty, "this is the plan of one item, whose page is summary.html; to draw it anew run crnplan item "
+                   f"HISTORY.csv SETTINGS.toml --out {empty}")
+    message = "decisions.csv, exact.csv or rejects.csv is missing, or not as crnplan catalogue wrote it; run that again"
+    text = (folder / "decisions.csv").read_text("utf-8")
+    for changed in (text.replace(",", ";"), text.replace("P00020", "P00099"), text[:text.rindex("\n", 0, -1) + 1]):
+        (folder / "decisions.csv").write_text(changed, "utf-8")
+        refused(folder, message)
+    (folder / "decisions.csv").unlink()
+    refused(folder, message)
+
+
+def test_plan_of_other_rows_is_refused(folder: Path) -> None:
+    """If the rows were read again and have changed, the tables are those of an earlier plan."""
+    (folder / READ).unlink()
+    writer = Writer(folder)
+    writer.begin()
+    writer.add_items([("P00020", {"counts": [1]}, {})])
+    writer.finish({})
+    with pytest.raises(crn.Refused, match="its plan is not as the rows that were read last; run crnplan catalogue"):
+        crn.report(folder)
+
+
+def test_page_of_a_plan(tmp_path: Path, program: Path, crnplan: Command) -> None:
+    """A plan writes its page at its end. The totals are those of summary.txt. Pages of items are written if asked."""
+    made().write(tmp_path)
+    leave_few(tmp_path, 6)
+    crn.plan(crn.read_catalogue(*(tmp_path / it for it in FILES), today=TODAY), tmp_path / "plan", jobs=1,
+             program=program, **SETTINGS)
+    page, summary = Page(tmp_path / "plan/report.html"), (tmp_path / "plan/summary.txt").read_text("utf-8")
+    saving, low, high = re.search(r"saved: (\S+) a week, \S+ interval (\S+) to (\S+) ", summary).groups()
+    assert f"The difference is {saving}, from {low} to {high}" in page.text.replace("\u2212", "-")
+    assert len(page.items) == 6 and not (tmp_path / "plan/curve.csv").exists()
+    assert json.loads((tmp_path / "plan/planned.json").read_text())["settings"]["seed"] in page.text
+    name, plan = next(iter(page.items)), tmp_path / "plan"
+    status, output, errors = crnplan("report", plan, "--item", name, "--program", program)
+    assert (status, errors) == (0, "") and output.split() == [str(file_of(plan, name)), str(plan / "report.html")]
+    assert {unquote(address) for address in Page(plan / "report.html").links.values()} == {f"items/{name}.html"}
+    assert name in Page(file_of(plan, name)).text
+    status, output, errors = crnplan("report", plan, "--item", "A-999", "--program", program)
+    assert (status, output) == (2, "") and "A-999" in errors

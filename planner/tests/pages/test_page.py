@@ -1,0 +1,88 @@
+"""Tests the scales, numbers and security policy of a page."""
+from __future__ import annotations
+
+import base64
+import hashlib
+import itertools
+import math
+import re
+
+import pytest
+from hypothesis import given
+from hypothesis import strategies as st
+
+from crnplan.pages.page import UNITS, Chances, Scale, number, percent, rendered, source, tick
+
+VALUES = st.lists(st.floats(-1e9, 1e9).filter(lambda it: it == 0 or abs(it) > 1e-6), min_size=1, max_size=5)
+
+
+@given(VALUES, st.booleans())
+def test_scale_has_all_values_and_zero(values: list[float], is_whole: bool) -> None:
+    """Each value and 0 stand within the picture, in their order, and there are round numbers in it."""
+    values = [round(it) for it in values] if is_whole else values
+    scale = Scale.of(values, is_whole)
+    places = [scale.at(it) for it in sorted([*values, 0])]
+    assert 0 <= places[0] and places[-1] <= UNITS and places == sorted(places)
+    assert 0 in scale.ticks and all(0 <= scale.at(it) <= UNITS for it in scale.ticks) and len(scale.ticks) <= 7
+    assert not is_whole or all(it == int(it) for it in scale.ticks)
+
+
+@given(st.lists(st.floats(1e-6, 1), min_size=1, max_size=5))
+def test_chances_stand_in_their_order(chances: list[float]) -> None:
+    """Each chance stands within the picture, ten times as large a one always as far above it, and 1 at the top."""
+    scale = Chances.of(min(chances))
+    places = [scale.at(it) for it in sorted(chances)]
+    assert 0 <= places[0] and places[-1] <= UNITS == scale.at(1) and places == sorted(places) and scale.at(0) == 0
+    heights = scale.heights
+    assert [text for _, text, _ in heights[-2:]] == ["1 in 10", "1 in 1"] and heights[0][0] == 0
+    steps = [after - before for (before, *_), (after, *_) in itertools.pairwise(heights)]
+    assert steps == pytest.approx([UNITS / len(steps)] * len(steps), abs=0.11)
+
+
+@pytest.mark.parametrize("values, inner", [
+    ([20], []), ([-4], []), ([150_000], ["50,000", "100,000"]), ([-1_500], ["\u22121,000", "\u2212500"])])
+def test_narrow_pages_have_room_for_marks(values: list[float], inner: list[str]) -> None:
+    """If the texts at an axis are long, a narrow page shows the outer ones and 0 alone."""
+    assert [text for _, text, css in Scale.of(values).marks if css == "inner"] == inner
+
+
+def test_scale_of_nothing() -> None:
+    """A history without demand has a scale too."""
+    assert (Scale.of([0, 0]).at(0), Scale.of([0]).at(1)) == (0, UNITS)
+
+
+@pytest.mark.parametrize("value, digits, text", [(1234.5, 2, "1,234.50"), (-1234.5, 2, "\u22121,234.50"),
+                                                 (-0.001, 2, "0.00"), (12, 0, "12"), (math.nan, 2, "-")])
+def test_number(value: float, digits: int, text: str) -> None:
+    """A number has separators of thousands and a minus sign, and no sign if it is rounded to 0."""
+    assert number(value, digits) == text
+
+
+@pytest.mark.parametrize("share, text", [("-1e-17", "0.0%"), ("0.98449", "98.4%"), (1, "100.0%")])
+def test_percent(share: str | float, text: str) -> None:
+    """A share that rounding made less than none is none."""
+    assert percent(share) == text
+
+
+@pytest.mark.parametrize("value, text", [(0.0, "0"), (-2000.0, "\u22122,000"), (2.5, "2.5")])
+def test_tick(value: float, text: str) -> None:
+    """A round number at an axis has no decimals that it does not need."""
+    assert tick(value) == text
+
+
+@pytest.mark.parametrize("text, wanted", [
+    ("alert('Hello, world.');", "'sha256-qznLcsROx4GACP2dm0UCKCzCG+HiZ1guq6ZZDob/Tng='"), ("", "'none'")])
+def test_source(text: str, wanted: str) -> None:
+    """A script has the source of the example in Content Security Policy Level 3, section 8.4; no text allows none."""
+    assert source(text) == wanted
+
+
+def test_page_allows_its_own_style_alone() -> None:
+    """The policy of a page allows the style that stands in it, no script if there is none, and no other file."""
+    text = rendered("base.html", {})
+    (style,) = re.findall("<style>(.*?)</style>", text, re.DOTALL)
+    (policy,) = re.findall('http-equiv="Content-Security-Policy" content="(.*?)"', text)
+    digest = base64.b64encode(hashlib.sha256(style.encode()).digest()).decode()
+    assert policy == (f"default-src 'none'; style-src 'sha256-{digest}'; script-src 'none'; img-src data:; "
+                      "base-uri 'none'; form-action 'none'")
+    assert "<script" not in text and not re.search(r"\s(style|on\w+)=", text)

@@ -1,0 +1,106 @@
+"""Tests the pictures of a decision: their kinds, their texts, and what is refused."""
+from __future__ import annotations
+
+import csv
+import sys
+import xml.etree.ElementTree
+from fractions import Fraction
+from pathlib import Path
+
+import pytest
+
+from crnplan.errors import Refused
+from crnplan.pages.pictures import open_pyplot, picture_path
+from planner.tests.conftest import Command
+
+PNG = b"\x89PNG\r\n\x1a\n"
+SWEEP = ["examples/case/sweep.csv", "--scenario", "examples/case/scenario.toml", "--sweep"]
+REPORTS = {"few": ["examples/spare_part.csv", "--replications", "64"], "many": SWEEP}
+FEW = {"both (7, 20)", "today (10, 26)", "-5.33%", "better", "base", "cost of a replication less that of today",
+       "in the scenario's money; joint level 95%", "Policies compared with today (10, 26)", "64 replications"}
+
+
+@pytest.fixture(autouse=True)
+def at_the_top(top: Path, monkeypatch: pytest.MonkeyPatch) -> None:
+    """Runs each test in the folder of the repository."""
+    monkeypatch.chdir(top)
+
+
+def texts_of(path: Path) -> list[str | None]:
+    """Returns all texts of an SVG."""
+    return [it.text for it in xml.etree.ElementTree.parse(path).iter("{http://www.w3.org/2000/svg}text")]
+
+
+def drawn(crnplan: Command, name: str, folder: Path) -> tuple[list[str | None], list[str | None]]:
+    """Draws both pictures of a report as SVG, and returns their texts."""
+    words = ["--plot", folder / "plot.svg", "--map", folder / "map.svg"]
+    status, output, errors = crnplan("decide", *REPORTS[name], *words)
+    assert status == 0 and "better than today" in output, errors
+    return texts_of(folder / "plot.svg"), texts_of(folder / "map.svg")
+
+
+@pytest.mark.parametrize("name", REPORTS)
+@pytest.mark.parametrize("option", ["--plot", "--map"])
+def test_png(crnplan: Command, name: str, option: str, tmp_path: Path) -> None:
+    """A picture as PNG has the bytes of its kind."""
+    path = tmp_path / "it.PNG"
+    assert crnplan("decide", *REPORTS[name], option, path).status == 0
+    assert path.read_bytes().startswith(PNG)
+
+
+def test_same_bytes(crnplan: Command, tmp_path: Path) -> None:
+    """A picture drawn again has the same bytes."""
+    for folder in ("one", "two"):
+        (tmp_path / folder).mkdir()
+        drawn(crnplan, "few", tmp_path / folder)
+    for name in ("plot.svg", "map.svg"):
+        assert (tmp_path / "one" / name).read_bytes() == (tmp_path / "two" / name).read_bytes()
+
+
+def test_texts_of_few_differences(crnplan: Command, tmp_path: Path) -> None:
+    """The picture of four policies says what it compares."""
+    assert FEW <= set(drawn(crnplan, "few", tmp_path)[0])
+
+
+def test_twenty_of_many_differences(crnplan: Command, tmp_path: Path) -> None:
+    """Of many policies 20 are drawn, the base among them."""
+    texts = drawn(crnplan, "many", tmp_path)[0]
+    assert len([it for it in texts if it and it.startswith("s") and it.endswith(")")]) == 19
+    assert "today (15, 30)" in texts and "64 replications, 20 of 121 policies shown" in texts
+
+
+def test_texts_of_a_map(crnplan: Command, tmp_path: Path, top: Path) -> None:
+    """The map names the best and the base with their costs."""
+    base, *others = csv.DictReader((top / "examples/case/sweep.csv").read_text().splitlines())
+    best = min(others, key=lambda row: int(row["total"]))
+    wanted = {f"{word}: {row['policy']} ({row['s']}, {row['S']}), {float(Fraction(row['per_period'])):,.3f} a period"
+              for word, row in (("best", best), ("base", base))}
+    assert wanted | {"cost per period, in the scenario's money (dark is cheap)", "reorder point s, in items"} <= set(
+        drawn(crnplan, "many", tmp_path)[1])
+
+
+@pytest.mark.parametrize("option", ["--plot", "--map"])
+def test_no_matplotlib(crnplan: Command, option: str, tmp_path: Path, monkeypatch: pytest.MonkeyPatch) -> None:
+    """Without matplotlib a picture is refused in one line that says how to get it."""
+    monkeypatch.setitem(sys.modules, "matplotlib", None)
+    status, output, errors = crnplan("decide", *REPORTS["few"], option, tmp_path / "none.svg")
+    assert (status, output, errors.count("\n")) == (2, "", 1) and "apt-get install python3-matplotlib" in errors
+    assert not (tmp_path / "none.svg").exists()
+
+
+def test_no_folder(crnplan: Command, tmp_path: Path) -> None:
+    """A picture that cannot be written is refused, and names the file."""
+    status, output, errors = crnplan("decide", *SWEEP, "--plot", tmp_path / "no_folder/it.png")
+    assert (status, output, errors.count("\n")) == (2, "", 1) and "no_folder/it.png: No such file" in errors
+
+
+@pytest.mark.parametrize("name", ["it.pdf", "it", "svg", "it.svg.gz"])
+def test_other_kind(name: str) -> None:
+    """A file's name must end with a kind of picture."""
+    with pytest.raises(Refused, match="does not end with .png or .svg"):
+        picture_path(name)
+
+
+def test_pyplot_is_set_up() -> None:
+    """Texts of an SVG stay texts."""
+    assert open_pyplot().rcParams["svg.fonttype"] == "none"

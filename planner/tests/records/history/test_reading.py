@@ -1,0 +1,353 @@
+"""Tests of reading: all faults in one pass, rejects, title lines, standard input, one item, the record's span,
+suspicions."""
+from __future__ import annotations
+
+import csv
+import datetime
+import io
+import subprocess
+import sys
+from collections.abc import Callable
+from pathlib import Path
+from typing import Any
+
+import pandas as pd
+import pytest
+
+from crnplan.errors import Refused, RefusedFaults
+from crnplan.records import read_history, read_lead_times
+
+Files, Answers = Callable[..., Path], Callable[..., Any]
+DATED = ["--demand", "n", "--date", "at", "--every", "day"]
+
+
+def test_all_faults_in_one_pass(file: Files, answer: Answers, tmp_path: Path) -> None:
+    """The first 20 faults are printed, and how many there are. All are in the rejects, of all files, with their
+    rows."""
+    path = file("at;n\n" + "2026-03-01;x\n" * 30 + "2026-02-30;y\n2026-03-02;1\n")
+    orders = file("ordered,received\n2026-03-02,2026-03-01\n", "orders.csv")
+    status, output, errors = answer([path, *DATED, "--orders", orders, "--rejects", tmp_path / "rejects.csv"])
+    lines = errors.splitlines()
+    assert (status, output, len(lines)) == (2, "", 22)
+    assert lines[0] == f"crnplan: {path}:2:12: column 'n': 'x' is not a number; write digits, as 12"
+    assert lines[20:] == ["crnplan: and 13 more faults; --rejects FILE lists all",
+                          "crnplan: 33 faults in 32 rows; correct them, or say --leave-out to go on without bad rows"]
+    rows = list(csv.reader(io.StringIO((tmp_path / "rejects.csv").read_text("utf-8"))))
+    assert rows[0] == ["file", "line", "column", "what", "row"]
+    assert rows[1] == [str(path), "2", "12", "column 'n': 'x' is not a number; write digits, as 12", "2026-03-01;x"]
+    assert [row[1:3] for row in rows[31:]] == [["32", "1"], ["32", "12"], ["2", "12"]]
+    assert rows[-1][-1] == "2026-03-02,2026-03-01"
+
+
+def test_leave_out_names_and_counts(file: Files, answer: Answers, tmp_path: Path) -> None:
+    """Rows with faults are left out, named and counted. The file and its rest are not."""
+    path = file("at,n\n2026-03-01,1\n2026-03-32,2\n2026-03-02,x,3\n2026-03-03,4\n")
+    status, output, errors = answer([path, *DATED, "--leave-out", "--rejects", tmp_path / "rejects.csv"])
+    assert (status, output) == (0, "\n[demand]\nvalues = [0, 1, 4]\nweights = [1, 1, 1]\n")
+    assert f"crnplan: {path}:3:1: column 'at': '2026-03-32' is no day of the calendar" in errors
+    assert f"crnplan: {path}:4:14: there are 3 cells, and 2 columns in the heading" in errors
+    assert f"crnplan: {path}: rows left out: 2 of 4 (lines 3, 4)\n" in errors
+    assert (tmp_path / "rejects.csv").read_text("utf-8").count("\n") == 3
+    assert answer([path, *DATED]).status == 2
+    answer([path, *DATED, "--leave-out", "--rejects", tmp_path / "rejects.csv", "--lead", path, "none"])
+    assert (tmp_path / "rejects.csv").read_text("utf-8").count("\n") == 4
+
+
+def test_leave_out_leaves_no_row(file: Files, answer: Answers) -> None:
+    """A file of bad rows alone is refused."""
+    status, _, errors = answer([file("n\nx\n"), "--demand", "n", "--leave-out"])
+    assert status == 2 and "no row is left; correct the file" in errors
+
+
+def test_faults_of_a_law_are_never_left_out(file: Files, answer: Answers) -> None:
+    """Each number that a scenario can't have is named, and stays a refusal with --leave-out."""
+    status, _, errors = answer([file("n\n10001\n1\n20001\n"), "--demand", "n", "--leave-out"])
+    assert status == 2
+    for line, number in ((2, 10001), (4, 20001)):
+        assert f":{line}:1: column 'n': {number} is above 10,000; count in larger boxes: --box 3 or more" in errors
+    assert errors.endswith("crnplan: 2 faults in 2 rows\n")
+
+
+def test_rejects_that_cannot_be_written(file: Files, answer: Answers, tmp_path: Path) -> None:
+    """A file of rejects that can't be written is refused."""
+    status, _, errors = answer([file("n\nx\n"), "--demand", "n", "--rejects", tmp_path / "none" / "rejects.csv"])
+    assert status == 2 and "No such file or directory; name another file after --rejects" in errors
+
+
+def test_columns_are_named(file: Files, answer: Answers) -> None:
+    """Without --demand the columns are named, below title lines too."""
+    status, _, errors = answer([path := file("Report\n\nday,part,n\n1,2,3\n")])
+    assert status == 2
+    assert errors == f"crnplan: {path}: say --demand with the name of a column; the columns are: day, part, n\n"
+
+
+def test_all_missing_columns_are_named(file: Files, answer: Answers) -> None:
+    """Each column that isn't there has a fault, at the line that is most like a heading."""
+    errors = answer([file("Report 7\nday,n\n2026-01-01,1\n"), "--demand", "m", "--date", "at", "--every", "day"]).errors
+    assert ":2: no column 'm'; the columns are: day, n\n" in errors and ":2: no column 'at'; " in errors
+
+
+@pytest.mark.parametrize("titles, note", [
+    ("Report\n", "line 1 above the heading passed over: 'Report'"),
+    ("Report;of;today\n\n;;\n", "lines 1, 2, 3 above the heading passed over: 'Report of today', '', ''"),
+    ('"A title\nof two lines"\nn\n', "lines 1, 3 above the heading passed over: 'A title\\nof two lines', 'n'"),
+])
+def test_titles_are_passed_over(titles: str, note: str, file: Files, answer: Answers) -> None:
+    """Lines above the heading are passed over, and named. Lines count from the top of the file."""
+    path = file(f"{titles}at;n\n2026-03-01;1\n2026-03-02;x\n")
+    status, _, errors = answer([path, *DATED, "--leave-out"])
+    assert status == 0
+    assert f"crnplan: {path}: {note}\n" in errors
+    assert f"{path}:{titles.count(chr(10)) + 3}:12: column 'n': 'x'" in errors
+
+
+@pytest.mark.parametrize("rows, words, counts", [
+    ("02.01.25 2025-01-03 04.01.2025 05/01/2025 31/01/25", [], [1, 1, 1, 1] + [0] * 25 + [1]),
+    ("13/03/2026 03/14/2026 03/03/2026", [], [1] + [0] * 9 + [1, 1]),
+    ("01.02.69 02.02.1969", ["--leave-out"], None),
+    ("13.03.26 03/14/26", ["--date-format", "%d.%m.%y", "--date-format", "%m/%d/%y"], [1, 1]),
+])
+def test_several_forms_of_dates(rows: str, words: list[str], counts: list[int] | None, file: Files,
+                                answer: Answers) -> None:
+    """Dates of several forms are read if each is unambiguous, and the forms are named."""
+    path = file("at,n\n" + "".join(f"{it},1\n" for it in rows.split()))
+    status, output, errors = answer([path, *DATED, *words])
+    if counts is None:
+        assert status == 2 and errors.count("the year is not from 1980 to 2199") == 2
+    else:
+        assert status == 0 and f"weights = {[counts.count(it) for it in sorted(set(counts))]}" in output
+        assert " forms: " in errors
+
+
+def test_ambiguous_patterns(file: Files, answer: Answers) -> None:
+    """A date that two patterns read as two days is rejected."""
+    words = [*DATED, "--date-format", "%d/%m/%y", "--date-format", "%m/%d/%y"]
+    status, _, errors = answer([file("at,n\n13/03/26,1\n03/03/26,1\n04/03/26,1\n"), *words])
+    assert status == 2 and errors.count("crnplan: ") == 1
+    assert ":4:1: column 'at': '04/03/26' may be 2026-03-04 or 2026-04-03 by the patterns of --date-format;" in errors
+
+
+def test_blank_rows(file: Files, answer: Answers) -> None:
+    """Blank rows between movements are passed over and counted. Without dates a blank row may be a period, so it is a
+    fault."""
+    path = file("at,n\n2026-03-01,1\n,\n \n2026-03-02,2\n,\n\n")
+    assert f"crnplan: {path}: blank rows passed over: 2 (lines 3, 4)\n" in answer([path, *DATED]).errors
+    status, _, errors = answer([path, "--demand", "n"])
+    assert status == 2 and ":3:2: column 'n': the cell is empty" in errors and ":4:" in errors and ":6:" not in errors
+    orders = file("ordered,received\n2026-03-02,2026-03-09\n,\n2026-03-03,\n", "orders.csv")
+    assert "lead times in weeks: 1, orders not yet received and left out: 1" in answer(
+        [file("n\n1\n", "WEEK"), "--demand", "n", "--every", "week", "--orders", orders]).errors
+
+
+def test_standard_input(file: Files, answer: Answers) -> None:
+    """`-` is standard input, for one of the files."""
+    fault = "crnplan: standard input:3:1: column 'n': 'x' is not a number; write digits, as 12\n"
+    assert answer(["-", "--demand", "n"], data=b"n\n5\nx\n") == (2, "", fault)
+    words = [file("n\n1\n"), "--demand", "n", "--lead", "-", "weeks"]
+    assert "[lead]\nvalues = [3]" in answer(words, data=b"weeks\n3\n").output
+    status, _, errors = answer(["-", "--demand", "n", "--lead", "-", "weeks"])
+    assert (status, errors) == (2, "crnplan: standard input (-) can be one file only; name the others\n")
+
+
+ITEMS = "part,site,at,n\nA,1,2026-03-05,3\nB,1,2026-03-02,x\nA,2,2026-03-06,9\nB,1,2026-03-09,1\nA,1,2026-03-07,2\n"
+
+
+def test_one_item(file: Files, answer: Answers) -> None:
+    """Only rows of the item are read. The record is that of the whole file, so days without demand at both ends
+    count."""
+    path = file(ITEMS)
+    status, output, errors = answer([path, *DATED, "--item", "part=A", "--item", " site = 1 "])
+    assert (status, output) == (0, "\n[demand]\nvalues = [0, 2, 3]\nweights = [6, 1, 1]\n")
+    assert f"crnplan: {path}: rows with part = A and site = 1: 2 of 5\n" in errors
+    assert f"crnplan: {path}: days from 2026-03-02 to 2026-03-09: 8, filled with 0: 6; " in errors
+    assert "\nvalues = [2, 3, 9]\nweights = [1, 1, 1]\n" in answer([path, "--demand", "n", "--item", "part=A"]).output
+    assert answer([path, *DATED, "--item", "part=B"]).status == 2
+
+
+@pytest.mark.parametrize("word, part", [
+    ("part=C", ": no row has 'C' in column 'part', which has 2 others: 'A', 'B'"), ("port=A", ":1: no column 'port'; "),
+    ("part", "'part' is not COLUMN=VALUE, as part=A-17"), ("=A", "is not COLUMN=VALUE")])
+def test_no_such_item(word: str, part: str, file: Files, answer: Answers) -> None:
+    """An item that isn't there is refused, with those that are."""
+    status, _, errors = answer([file(ITEMS), *DATED, "--item", word])
+    assert status == 2 and part in errors and errors.count("\n") == 1
+
+
+def test_item_of_other_files(file: Files, answer: Answers) -> None:
+    """Orders and lead times are those of the item if their file has its column, else all of them."""
+    words = [file(ITEMS), *DATED, "--item", "part=A", "--lead"]
+    assert "[lead]\nvalues = [3]" in answer([*words, file("part,days\nA,3\nB,4\n", "own.csv"), "days"]).output
+    assert "[lead]\nvalues = [3, 4]" in answer([*words, file("days\n3\n4\n", "all.csv"), "days"]).output
+
+
+@pytest.mark.parametrize("words, weights, note", [
+    ("--from 2026-03-01", [4, 2],
+     "days from 2026-03-01 to 2026-03-06: 6, filled with 0: 4; the last one may be partial (--whole leaves it out)"),
+    ("--from 28.02.2026 --to 2026-03-08", [7, 2], "from 2026-02-28 to 2026-03-08: 9, filled with 0: 7; all are whole"),
+    ("--to 2026-03-08 --whole", [4, 1], "from 2026-03-04 to 2026-03-08: 5, filled with 0: 4; the first one is left"),
+    ("--from 2026-03-04", [2, 1], "rows before --from 2026-03-04 left out: 1 (line 2)"),
+    ("--to 2026-03-05", [2, 1], "rows after --to 2026-03-05 left out: 1 (line 3)"),
+    ("--from 2026-03-03 --to 2026-03-06", [2, 2], "from 2026-03-03 to 2026-03-06: 4, filled with 0: 2; all are whole"),
+    ("--every week --from 2026-02-16 --to 2026-03-22", [4, 1],
+     "weeks from 2026-W08 to 2026-W12: 5, filled with 0: 4; all are whole"),
+    ("--every week --from 2026-02-17 --to 2026-03-22 --whole", [3, 1],
+     "weeks from 2026-W09 to 2026-W12: 4, filled with 0: 3; the first one is left out"),
+    ("--every week --from 2026-02-16 --to 2026-03-21", [4, 1], "the last one may be partial (--whole leaves it out)"),
+    ("--every month --from 2026-01-01 --to 2026-03-31", [2, 1],
+     "months from 2026-01 to 2026-03: 3, filled with 0: 2; all are whole"),
+])
+def test_span(words: str, weights: list[int], note: str, file: Files, answer: Answers) -> None:
+    """--from and --to are the record's ends: periods without demand count, and rows outside are named. The rows are of
+    3 March (1 item) and 6 March (1 item); 2 March 2026 is a Monday, and begins W10."""
+    status, output, errors = answer([file("at,n\n2026-03-03,1\n2026-03-06,1\n"), *DATED, *words.split()])
+    assert status == 0 and f"weights = {weights}" in output and note in errors
+
+
+@pytest.mark.parametrize("words, part", [
+    ("--from 2026-03-07", "no row is from 2026-03-07 to the end; change --from or --to"),
+    ("--from 2026-03-04 --to 2026-03-05", "no row is from 2026-03-04 to 2026-03-05; change --from or --to"),
+    ("--from 2026-03-06 --to 2026-03-05", "--from 2026-03-06 is after --to 2026-03-05; change one of them"),
+    ("--from 03/04/2026", "--from: '03/04/2026' may have the day or the month first"),
+    ("--to soon", "--to: 'soon' is no date as 2026-03-31"),
+    ("--from 1980-01-01 --to 2199-12-31", "FILE: 80,354 days are more than 65,536; change --from or --to, or")])
+def test_refused_span(words: str, part: str, file: Files, answer: Answers) -> None:
+    """A span without rows, or that is none, is refused in one line."""
+    status, _, errors = answer([file("at,n\n2026-03-03,1\n2026-03-06,1\n"), *DATED, *words.split()])
+    assert status == 2 and part in errors and errors.count("\n") == 1
+
+
+def test_span_needs_dates(file: Files, answer: Answers) -> None:
+    """--from and --to need --date."""
+    assert answer([file("n\n1\n"), "--demand", "n", "--to", "2026-03-01"]) == (
+        2, "", "crnplan: --from and --to need dates: say --date with the name of their column, and --every\n")
+
+
+@pytest.mark.parametrize("rows, words, notes", [
+    # A value 30 times the next largest, by one or a few rows, and not 29 times or by many.
+    ("1 90 3", "", [":3:3: column 'n': 90 is 30 times 3, the next largest (line 4); if it is wrong, correct it"]),
+    ("1 90 95 3", "", [":3:3: column 'n': 90 is 30 times 3", ":4:3: column 'n': 95 is 31 times 3"]),
+    ("1 89 3", "", []),
+    ("90 90 90 90 3", "", []),
+    ("0 0 5", "", []),
+    # A number that another decimal sign would make a thousand times smaller or larger, if few are written so.
+    ("5 1,000 70 400", "--decimal .", [
+        ":3:3: column 'n': '1,000' is read as 1000 (1 of 4 rows are written so; with another decimal sign it would be "
+        "1)"]),
+    ("5 7 1.000 9", "--decimal .", [
+        ":4:3: column 'n': '1.000' is read as 1 (1 of 4 rows are written so; with another decimal sign it would be "
+        "1000)"]),
+    ("5.000 7.000 1.000 9.000", "--decimal .", []),
+    ("1,111 2,222 3,333 500", "--decimal .", []),
+    ("1,111 2,222 3,333 500.0", "", ["column 'n': the decimal sign is the point in 500.0"]),
+    ("5 1,234,567 7", "--decimal .", ["1234567 is 176366 times 7"]),
+    # The last row has the sum of the others.
+    ("1 0 2 1 0 3 7", "", [
+        ":8:3: column 'n': the last row looks like a total of the rows above (7 is the sum of all others); if it is"]),
+    ("0 0 0 0 0 0 7 7", "", []),
+    # A total is not far above the others as well.
+    ("1 " * 31 + "31", "", [":33:4: column 'n': the last row looks like a total"]),
+])
+def test_suspicions(rows: str, words: str, notes: list[str], file: Files, answer: Answers) -> None:
+    """What is suspicious is noted with its exact place, and read all the same. What is not has no note."""
+    text = "w;n\n" + "".join(f"{place};{it}\n" for place, it in enumerate(rows.split()))
+    path = file(text)
+    status, _, errors = answer([path, "--demand", "n", "--box", "1000", *words.split()])
+    assert status == 0 and errors.count(f"crnplan: {path}:") == len(notes)
+    assert [note for note in notes if note not in errors] == []
+
+
+@pytest.mark.parametrize("text, words, note", [
+    ("w,n\n1,5\n2,5\n1,5\n", "", ":4: the row is the same as that of line 2; if they were exported twice, remove them"),
+    ("w,n\n1,5\n1,5\n2,5\n1,5\n2,5\n", "",
+     ":3: the row is the same as that of line 2, and 2 more as others above them (lines 5, 6); if they"),
+    ("n\n5\n5\n5\n", "", None),
+    ("w,n\n1,5\n1,6\n", "", None),
+    ("at,n\n2026-03-01,5\n2026-03-01,5\n", "--date at --every day", ":3: the row is the same as that of line 2; "),
+    ("p,at,n\nA,2026-03-01,5\nB,2026-03-02,5\nB,2026-03-02,5\n", "--date at --every day --item p=A", None),
+    ("w,n\n1,x\n1,x\n2,5\n", "--leave-out", None),
+])
+def test_rows_that_stand_twice(text: str, words: str, note: str | None, file: Files, answer: Answers) -> None:
+    """Rows of use that are the same are noted, unless nothing tells rows apart."""
+    status, _, errors = answer([file(text), "--demand", "n", *words.split()])
+    assert status == 0 and (note in errors if note else "the same as" not in errors)
+
+
+def test_total_words(file: Files, answer: Answers) -> None:
+    """A last row with a word for a total is a fault if it has no date, and a note if it has one."""
+    rows = "at,what,n\n2026-03-01,sale,1\n2026-03-02,sale,2\n"
+    status, _, errors = answer([file(f"{rows},Grand total,17\n"), *DATED])
+    assert status == 2
+    assert ":4:1: column 'at': the row looks like a total of the rows above (it has 'Grand total'); leave it" in errors
+    status, _, errors = answer([file(f"{rows}2026-03-02,Gesamtsumme:,3\n"), *DATED])
+    assert status == 0
+    assert ":4:25: column 'n': the last row looks like a total of the rows above (it has 'Gesamtsumme:'" in errors
+    status, _, errors = answer([file(f"{rows},sale,3\n"), *DATED])
+    assert status == 2 and ":4:1: column 'at': the cell is empty; write the date, or leave the row out" in errors
+
+
+@pytest.mark.parametrize("text, line, column", [
+    ('a,n\n"x, y",z\n', 2, 8), ('a,n\n"x ""y"", y", z\n', 2, 15), ('a,n\n"x\ny",z\n', 3, 4), ("a,n\n5,z", 2, 3),
+    ("a,n\r\n5\r\n", 2, 2), ('a,n\n5" tube,z\n', 2, 9), ("a\tn\n1\tz\n", 2, 3), ('a,n\n"5","z\n"\n', 2, 5)])
+def test_places(text: str, line: int, column: int, file: Files) -> None:
+    """A fault has the line and the column in which its cell begins, whatever quotes and ends of lines are before it."""
+    with pytest.raises(RefusedFaults) as refused:
+        read_history(file(text), demand="n")
+    assert [(it.line, it.column) for it in refused.value.faults] == [(line, column)]
+
+
+def test_likely_encoding(file: Files, answer: Answers) -> None:
+    """Bytes that only cp1252 has lead to that encoding, and the rest of the file is checked with it."""
+    status, _, errors = answer([file("n \u20ac,m\nx,1\n", encoding="cp1252"), "--demand", "n \u20ac"])
+    assert status == 2
+    assert ":1:3: the byte 0x80 is not UTF-8; say --encoding cp1252" in errors
+    assert ":2:1: column 'n \u20ac': 'x' is not a number" in errors
+
+
+def test_series(file: Files) -> None:
+    """The interface gives whole numbers by period, with pandas' periods."""
+    path = file("at,n,r\n2026-03-03,4,1\n2026-03-17,2,0\n")
+    history = read_history(path, demand="n", returns="r", date="at", every="week", start=datetime.date(2026, 2, 23))
+    assert (history.counts, history.periods) == ((0, 4, 0, 2), ("2026-W09", "2026-W10", "2026-W11", "2026-W12"))
+    assert history.returns is not None and history.returns.counts == (0, 1, 0, 0)
+    series = history.series()
+    assert list(series) == [0, 4, 0, 2] and series.index[1] == pd.Period("2026-03-02/2026-03-08", "W-SUN")
+    for every, first in (("day", "2026-03-03"), ("month", "2026-03")):
+        history = read_history(path, demand="n", date="at", every=every)
+        assert history.periods[0] == first and history.series().index[0] == pd.Period(first)
+    plain = read_history(path, demand="n")
+    assert plain.counts == (4, 2) and dict(plain.series()) == {1: 4, 2: 2} and plain.periods == ("1", "2")
+
+
+def test_rules_of_the_interface(file: Files) -> None:
+    """Faults are values, with their places. Words that can't be meant are refused."""
+    path = file("at,n\n2026-03-03,4\n2026-02-30,4\n")
+    history = read_history(path, demand="n", date="at", every="day", leave_out=True)
+    assert [(it.file, it.line, it.column) for it in history.faults] == [(str(path), 3, 1)] and history.notes
+    wrong: list[dict[str, Any]] = [
+        {"every": "day"}, {"date": "at"}, {"date": "at", "every": "year"}, {"delimiter": "|"}, {"decimal": "x"},
+        {"encoding": "none"}, {"date_formats": ("%d",)}, {"start": "2026-03-01"}]
+    for words in wrong:
+        with pytest.raises(Refused):
+            read_history(path, demand="n", **words)
+    with pytest.raises(Refused, match="--date and --orders need the period"):
+        read_lead_times(path, ordered="at", received="at")
+    leads = read_lead_times(path, ordered="at", received="at", every="day", leave_out=True)
+    assert (leads.counts, leads.every) == ((1,), "day")
+
+
+def test_large_file(tmp_path: Path) -> None:
+    """A file that is too large is refused before it is read."""
+    path = tmp_path / "large.csv"
+    with path.open("wb") as file:
+        file.truncate(100_000_001)
+    with pytest.raises(Refused, match="it has more than 100,000,000 bytes; export only the columns and years that"):
+        read_history(path, demand="n")
+
+
+@pytest.mark.parametrize("text, status, part", [
+    ("d\n5\n", 0, "values = [5]"), ("d\n\u00ff\n", 2, "--encoding latin-1")])
+def test_process(text: str, status: int, part: str, file: Files) -> None:
+    """The command is the same as a process of its own."""
+    words = [sys.executable, "-m", "crnplan", "history", file(text), "--demand", "d"]
+    answer = subprocess.run(words, capture_output=True, text=True)
+    assert answer.returncode == status and part in answer.stdout + answer.stderr

@@ -1,0 +1,102 @@
+"""Tests what is said of edited scenarios, and the number that the program reports of each. The cases are in
+edits.toml."""
+from __future__ import annotations
+
+import re
+import subprocess
+import tomllib
+from collections.abc import Iterator
+from pathlib import Path
+from typing import Any
+
+import pytest
+
+from crnplan.toml import read_document, reported_faults
+from crnplan.toml.lines import places_of
+from crnplan.toml.reading import text_of_document
+from planner.tests.conftest import Command
+
+EDITS: dict[str, dict[str, Any]] = tomllib.loads(Path(__file__).with_name("edits.toml").read_text("utf-8"))
+# What the first line has: the line of a fault of something that stands in the text.
+PLACED = re.compile("fault [0-9]+: (line [0-9]+|the document: )|no fault")
+
+
+def cases(table: str) -> Iterator[Any]:
+    """Yields each case of a table with its part and its number there as its name."""
+    for part, its in EDITS[table].items():
+        for number, case in enumerate(its, 1):
+            yield pytest.param(part, case, id=f"{part}-{number}")
+
+
+@pytest.mark.parametrize("example, case", cases("edits"))
+def test_number_is_that_of_the_program(example: str, case: list[Any], top: Path, program: Path) -> None:
+    """Compares the number of the first fault of an edited scenario with the program's, and looks for its line."""
+    number, *pairs = case
+    text = (top / f"examples/{example}.toml").read_text("utf-8")
+    for old, new in zip(pairs[::2], pairs[1::2]):
+        assert old in text
+        text = text.replace(old, new)
+    data = text.encode("latin-1")
+    ran = subprocess.run([program], input=data, capture_output=True, timeout=60)
+    assert (ran.returncode, ran.stderr) == ((3, b"crnsim: scenario %d\n" % number) if number else (0, b""))
+    said = (reported_faults(data) or ["no fault"])[0]
+    assert said.startswith(f"fault {number}: " if number else "no fault")
+    assert number == 1 or PLACED.match(said)
+
+
+@pytest.mark.parametrize("part, case", cases("messages"))
+def test_messages(part: str, case: list[Any], two_policies: str) -> None:
+    """Compares each line on an edited scenario."""
+    old, new, *wanted = case
+    assert old in two_policies
+    said = reported_faults(two_policies.replace(old, new, 1).encode()) or ["no fault"]
+    assert len(said) == len(wanted)
+    for line, (start, *parts) in zip(said, wanted):
+        assert line.startswith(start) and all(part in line for part in parts)
+
+
+@pytest.mark.parametrize("name", EDITS["lines"])
+def test_lines_in_many_spellings(name: str) -> None:
+    """Compares the line of each table, key and entry of a document, also with CR LF; a tree with other keys has
+    none."""
+    text, wanted = EDITS["lines"][name]
+    tree, faults = read_document(text.encode())
+    found = places_of(text_of_document(text.encode()), tree)
+    assert not faults
+    assert sorted(f"{'/'.join(map(str, path))} {place.line}" for path, place in found.items()) == sorted(wanted)
+    assert places_of(text_of_document(text.replace("\n", "\r\n").encode()), tree) == found
+    assert places_of(text, {**tree, "other": 1}) == {}
+
+
+def test_columns(two_policies: str) -> None:
+    """Checks that the text of a key or an entry is in the column of its path."""
+    tree, _ = read_document(two_policies.encode())
+    lines = two_policies.splitlines()
+    for path, place in places_of(two_policies, tree).items():
+        rest, last = lines[place.line - 1][place.column - 1:], path[-1]
+        if isinstance(last, str):
+            assert rest.startswith((last, f"[{last}]", f"[[{last}]]"))
+        elif path[0] != "policy":
+            entries = tree[path[0]] if len(path) == 2 else tree[path[0]][path[1]]
+            assert rest.startswith(f'"{entries[last - 1]}"' if path[0] == "key" else str(entries[last - 1]))
+
+
+WHOLE = {"empty": (b"", 1), "a picture": (b"\x89PNG\r\n\x1a\n\0\0", 1), "brackets": (b"[" * 5000, 1),
+         "quotes": (b'a = "' * 500, 1), "a long file": (b"#" * 1_048_577, 2)}
+
+
+@pytest.mark.parametrize("name", WHOLE)
+def test_files_that_are_no_scenarios(name: str, tmp_path: Path, crnplan: Command) -> None:
+    """Checks status and length of what is said of a file that is no scenario at all."""
+    data, status = WHOLE[name]
+    (tmp_path / "edited.toml").write_bytes(data)
+    for answer in (crnplan("why", tmp_path / "edited.toml"), crnplan("why", "-", data=data)):
+        lines = (answer.output if status == 1 else answer.errors).splitlines()
+        assert answer.status == status and (len(lines) == 1 or name == "empty" and lines)
+        assert "Traceback" not in answer.errors
+
+
+def test_a_missing_file(tmp_path: Path, crnplan: Command) -> None:
+    """Checks what is said of a file that is not there."""
+    path = tmp_path / "missing.toml"
+    assert crnplan("why", path) == (2, "", f"crnplan: {path}: No such file or directory\n")
