@@ -16,7 +16,12 @@ class CrnplanError(Exception):
 
 
 class Refused(CrnplanError):
-    """An input, an option or an argument that cannot be used."""
+    """An input, an option or an argument that cannot be used: what is wrong with it, and what to do."""
+
+    def __init__(self, what: str = "", advice: str = "") -> None:
+        """Keeps both apart. The text has both."""
+        self.what, self.advice = what, advice
+        super().__init__(f"{what}; {advice}" if advice else what)
 
 
 class ProgramError(CrnplanError):

@@ -11,14 +11,14 @@ from typing import Any
 import numpy as np
 
 from ...errors import Refused
-from ...records.masters import BORROW
 from ..families import Floats, Whole
 from .em import FLAT
 
 VERSION = 2  # of the file; another grid is another version
 UNITS = 2**40  # of a chance of 1: the last bits of a sum, which differ by machine, are rounded off
 KIND = "prior of crnplan"
-ALL = BORROW[-1]  # the name of the prior of the whole catalogue
+ALL = "all"  # the name of the prior of the whole catalogue
+BORROW = ("none", "class", ALL)
 
 
 @dataclass(frozen=True, eq=False)
@@ -101,17 +101,22 @@ class Prior:
     @classmethod
     def read(cls, path: Path | str) -> Prior:
         """Reads a file that `write` wrote. Raises OSError, and Refused if it is none."""
+        return cls.parse(Path(path).read_bytes(), str(path))
+
+    @classmethod
+    def parse(cls, text: str | bytes, name: str) -> Prior:
+        """Returns what `text` gave. Raises Refused if it is no such text; `name` says where it stands."""
         try:
-            tree = json.loads(Path(path).read_bytes())
+            tree = json.loads(text)
             kind, version = tree["kind"], tree["version"]
         except (ValueError, TypeError, LookupError):
-            raise Refused(f"{path}: this is no {KIND}; learn one from the catalogue") from None
+            raise Refused(f"{name}: this is no {KIND}", "learn one from the catalogue") from None
         if (kind, version) != (KIND, VERSION):
-            raise Refused(f"{path}: this is a {kind} of version {version}, not {VERSION}; learn it anew")
+            raise Refused(f"{name}: this is a {kind} of version {version}, not {VERSION}", "learn it anew")
         try:
             return cls._from_tree(tree)
         except (ValueError, TypeError, LookupError, AttributeError, OverflowError):
-            raise Refused(f"{path}: the {KIND} is damaged; learn it anew") from None
+            raise Refused(f"{name}: the {KIND} is damaged", "learn it anew") from None
 
     @classmethod
     def _from_tree(cls, tree: Mapping[str, Any]) -> Prior:

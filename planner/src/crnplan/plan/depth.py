@@ -1,0 +1,249 @@
+"""Looks deeper at one item than its answer does: other policies, the doubt about its laws, how the choice moves, the
+stock in a run, and the coming periods from today's stock.
+
+All of it is of the same question, and on the same random numbers as the answer's own run.
+"""
+from __future__ import annotations
+
+import dataclasses
+from collections.abc import Mapping
+from dataclasses import dataclass
+from fractions import Fraction
+from functools import cached_property
+from typing import Any
+
+from ..crnsim.report import report_of
+from ..crnsim.trajectory import Period, trajectories
+from ..decide.doubt import WITHIN, Doubt
+from ..decide.intervals import Compared as ComparedRow, with_intervals
+from ..demand import DemandLaw
+from ..demand.posterior import AllowedLaws
+from ..errors import Refused
+from ..formats import MOST_ITEMS, POLICIES
+from ..scenario import Policy, Scenario, Table
+from ..theory.confidence import CONFIDENCE, FillLevels, Promises
+from ..theory.lattice import NoTheory
+from ..theory.long_run import Candidate, Figures as TheoryFigures, LongRun
+from ..theory.many_laws import figures_of_laws
+from ..theory.suggestions import FILLS, Chosen, add_fills, chosen_policies
+from .answer import ALONE, CHOSEN, THEORY, TODAY, Answer, Figures
+from .choice import LAWS, allowed_by, choice_of, learns
+from .estimate import Sample, Sampled, interval, quantile, sample_of
+from ..decide.moves import Case, Found, Moves, moves_of
+from .one import figures_of
+from .question import Levels, Question
+
+MOST_PERIODS = 104  # of a trajectory
+Ends = tuple[float, float] | None
+VERDICTS = {True: "worse", False: "better"}
+
+
+@dataclass(frozen=True)
+class Compared:
+    """A policy beside today's in the long run, in money of a period.
+
+    `cost` and `difference`, which is the cost less today's, are theory's where that is exact, else the run's. `run` has
+    the run's figures, `own_ends` the interval of its cost and `ends` that of its difference, each by itself; None if
+    there is none. `verdict` is base, better, worse or undecided. `reasons` say why the policy is looked at.
+    """
+
+    name: str
+    figures: Figures
+    cost: float
+    difference: float
+    run: Sampled
+    own_ends: Ends
+    ends: Ends
+    verdict: str
+    reasons: tuple[str, ...]
+
+
+@dataclass(frozen=True)
+class Coming:
+    """The policies over coming periods from today's stock: the scenario, and exact rows with joint intervals."""
+
+    scenario: Scenario
+    rows: tuple[ComparedRow, ...]
+
+
+class Depth:
+    """What is computed of an item beside its answer, as it is asked for. `laws` is how many are drawn that its history
+    allows, `confidence` the share of them under which suggested policies keep a fill rate."""
+
+    def __init__(self, question: Question, answer: Answer, program: str, laws: int = LAWS,
+                 confidence: float | None = None) -> None:
+        """Takes a question with its answer."""
+        self.question, self.answer, self.program, self.laws = question, answer, program, laws
+        self.confidence = confidence or question.settings.confidence or CONFIDENCE
+
+    @cached_property
+    def theory(self) -> LongRun:
+        """Returns the theory of the question."""
+        return self.question.theory()
+
+    @cached_property
+    def levels(self) -> dict[str, Levels]:
+        """Returns s and S of the answer's policies in boxes."""
+        item, today = self.question.item, self.question.levels
+        figures = {TODAY: self.answer.today, CHOSEN: self.answer.chosen, ALONE: self.answer.alone}
+        return {name: today if (its.point, its.level) == item.levels else (its.point // item.box, its.level // item.box)
+                for name, its in figures.items() if its is not None}
+
+    @property
+    def chosen(self) -> str:
+        """Returns the name under which the chosen policy is shown: today's if it is that."""
+        return TODAY if self.levels[CHOSEN] == self.levels[TODAY] else CHOSEN
+
+    @cached_property
+    def single(self) -> DemandLaw | None:
+        """Returns the law of the item's own history alone, if another one was learned."""
+        return self.question.alone().demand if learns(self.question) else None
+
+    @cached_property
+    def allowed(self) -> tuple[tuple[Table, ...], tuple[Table, ...]]:
+        """Returns the laws of demand, and perhaps of lead times, that the item's history allows."""
+        return allowed_by(self.question, self.laws)
+
+    @cached_property
+    def suggested(self) -> Chosen:
+        """Returns further policies with the reasons for each: those that keep fill rates, by the law of the item and
+        under most of the allowed ones, and with a backlog cost the neighbours of the best."""
+        scenario, levels = self.question.scenario(), self.levels[CHOSEN]
+        gap = self.theory.gap_of(*levels)
+        promises = Promises(FillLevels(scenario, self.theory, gap, *self.allowed, [*FILLS.values()]), self.theory,
+                            self.confidence)
+        if self.question.has_backlog and self.question.item.fill is None:
+            best = Candidate(self.theory.figures(*levels).cost, *levels)
+            return chosen_policies(scenario, self.theory, best, promises)
+        found = Chosen(scenario)
+        add_fills(found, self.theory, promises)
+        return found
+
+    @cached_property
+    def policies(self) -> dict[Policy, tuple[str, ...]]:
+        """Returns today's policy, the chosen one, that of the item alone, and further ones, each in boxes with the
+        reasons for it."""
+        named: dict[Levels, str] = {}
+        for name, levels in self.levels.items():
+            named.setdefault(levels, name)
+        reasons = {(it.s, it.S): (it.name, tuple(self.suggested.reasons[its]))
+                   for its, it in self.suggested.policies.items()}
+        for levels, (name, _) in reasons.items():
+            named.setdefault(levels, name)
+        found = ((Policy(name, *levels), reasons.get(levels, ("", ()))[1]) for levels, name in named.items())
+        return dict([*found][:POLICIES[1]])
+
+    @cached_property
+    def sample(self) -> Sample:
+        """Runs all policies as the answer's run did. Raises Refused if a total is not that of the answer."""
+        run = self.answer.run
+        report = report_of(self.scenario, self.program)
+        totals = {row.policy: row.total for row in report.rows}
+        if (totals[TODAY], totals[self.chosen]) != (run.total_today, run.total_chosen):
+            raise Refused(f"item {self.question.item.name!r}: {self.program} gives other totals than the plan has",
+                          "plan it again with this program")
+        return sample_of(self.question, report)
+
+    @property
+    def scenario(self) -> Scenario:
+        """Returns the scenario of the answer's run, with all policies."""
+        backlog = self.question.rates.get("backlog", 0)
+        return self.question.scenario(backlog, self.answer.run.initial).with_policies(self.policies)
+
+    def _sampled(self, sampled: Sampled) -> Sampled:
+        """Returns a policy of the run. The answer's own policies are as there: theory counts the start on a coarser
+        lattice if another policy has a wide gap."""
+        estimate = self.answer.run.estimate
+        if sampled.policy == TODAY:
+            return sampled._replace(cost=estimate.cost_today)
+        if sampled.policy == CHOSEN:
+            return sampled._replace(cost=estimate.cost_chosen, difference=-estimate.saving, error=estimate.error)
+        return sampled
+
+    def compared(self) -> list[Compared]:
+        """Returns all policies, the cheapest first."""
+        settings, is_exact, found = self.question.settings, self.answer.source == THEORY, list[Compared]()
+        for (policy, reasons), sampled in zip(self.policies.items(), map(self._sampled, self.sample.policies)):
+            figures, run = figures_of(self.question, self.theory, (policy.s, policy.S)), sampled
+            ends = None if policy.name == TODAY else interval(run, settings.level, settings.replications)
+            own = None
+            if run.own_error is not None:
+                half = quantile(1 - settings.level, settings.replications) * run.own_error
+                own = run.cost - half, run.cost + half
+            cost = figures.cost if is_exact else run.cost
+            difference = figures.cost - self.answer.today.cost if is_exact else run.difference
+            verdict = "base" if policy.name == TODAY else verdict_of(difference, is_exact, ends)
+            found.append(Compared(policy.name, figures, cost, difference, run, own, ends, verdict, reasons))
+        return sorted(found, key=lambda it: it.difference)
+
+    def doubt(self) -> Doubt | None:
+        """Returns what the policies cost, and how well they fill, under the laws that the item's history allows, and
+        what it has learned. None if no such law has a long run. Without a backlog cost only fill rates mean something.
+        """
+        (demands, leads), scenario = self.allowed, self._costed()
+        laws: list[tuple[Table, Table]] = [*zip(demands, leads or [scenario.lead] * len(demands))]
+        policies = tuple(self.policies)
+        try:
+            figures = figures_of_laws(scenario, laws, policies)
+        except NoTheory:
+            return None
+        return Doubt(scenario, policies, WITHIN, AllowedLaws({}, demands), None, figures)
+
+    def _costed(self) -> Scenario:
+        """Returns the scenario; without a backlog cost, with the one by which a newsvendor would meet the wanted share.
+        """
+        costs = dataclasses.replace(self.scenario.costs, backlog=self.question.implied_backlog)
+        return dataclasses.replace(self.scenario, costs=costs)
+
+    def moves(self) -> Moves:
+        """Returns how the best policy moves, and what it costs to keep the chosen one, in money."""
+        fill = self.question.item.fill
+        return moves_of(self.scenario, self.chosen, self.levels[CHOSEN], fill=None if fill is None else float(fill),
+                        find=self._found)
+
+    def _found(self, case: Case, kept: Levels) -> Found:
+        """Returns the best policy of a case, without a confidence in its fill rate. Raises Refused."""
+        asked, box = self._asked(case), self.question.item.box
+        theory = asked.theory()
+        best = choice_of(theory, asked).levels
+        found = (TheoryFigures(its.cost, its.fill, its.short, its.stock, its.orders)
+                 for its in (figures_of(asked, theory, levels) for levels in (best, kept)))
+        return Found((best[0] * box, best[1] * box), *found)
+
+    def _asked(self, case: Case) -> Question:
+        """Returns the question of a case."""
+        its, costs = self.question, dataclasses.asdict(case.scenario.costs)
+        demand, lead = case.scenario.demand, case.scenario.lead
+        return dataclasses.replace(
+            its, item=dataclasses.replace(its.item, fill=None if case.fill is None else Fraction(case.fill)),
+            settings=dataclasses.replace(its.settings, confidence=None), rates={name: costs[name] for name in its.rates},
+            demand=dataclasses.replace(its.demand, values=demand.values, weights=demand.weights),
+            lead=dataclasses.replace(its.lead, values=lead.values, weights=lead.weights))
+
+    def _stock(self) -> int:
+        """Returns today's stock in boxes; the initial stock of the run if that is not known."""
+        stock = self.question.item.stock
+        return self.answer.run.initial if stock is None else min(max(round(stock / self.question.item.box), 0), MOST_ITEMS)
+
+    def trajectory(self) -> Mapping[str, list[Period]]:
+        """Returns today's and the chosen policy period by period, in boxes: replication 0 of the run, from today's
+        stock if that is known."""
+        shown = [it for it in self.policies if it.name in (TODAY, self.chosen)]
+        periods = min(self.question.settings.periods, MOST_PERIODS)
+        scenario = dataclasses.replace(self.scenario.with_policies(shown), initial=self._stock())
+        return dict(zip((it.name for it in shown), trajectories(scenario, periods, program=self.program)))
+
+    def coming(self, periods: int, replications: int) -> Coming:
+        """Returns the policies over so many coming periods from today's stock, in as many replications. The cost of an
+        item counts too. Raises Refused and ProgramError."""
+        costs = dataclasses.replace(self.scenario.costs, unit=self.question.rates.get("unit", 0))
+        scenario = dataclasses.replace(self.scenario, periods=periods, replications=replications, initial=self._stock(),
+                                       costs=costs)
+        rows = report_of(scenario, self.program).rows
+        return Coming(scenario, tuple(with_intervals(rows, replications, self.question.settings.level)))
+
+
+def verdict_of(difference: float, is_exact: bool, ends: Ends) -> str:
+    """Returns the verdict on a policy by its difference from today's: exactly, or by its interval."""
+    low, high = (difference, difference) if is_exact else ends or (0.0, 0.0)
+    return "undecided" if low <= 0 <= high else VERDICTS[low > 0]

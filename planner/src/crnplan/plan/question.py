@@ -1,0 +1,195 @@
+"""What is asked for an item: its facts, its laws, and how it is to be planned."""
+from __future__ import annotations
+
+import dataclasses
+import hashlib
+import json
+from collections.abc import Mapping
+from dataclasses import dataclass, field
+from fractions import Fraction
+
+from .. import __version__
+from ..demand import DemandLaw, LeadLaw, fit_demand, fit_lead
+from ..demand.borrowing import Borrowed, Prior, law_of
+from ..demand.borrowing.prior import BORROW
+from ..demand.fitting import METHODS
+from ..demand.leads import LEAD_METHODS
+from ..errors import Refused
+from ..formats import MOST_PERIODS, MOST_REPLICATIONS, limits
+from ..money import rounded_costs
+from ..records.item import Item
+from ..scenario import Scenario
+from ..theory.lattice import lattice_of, shape_of, theory_on
+from ..theory.long_run import LongRun
+
+# Answers of other versions are not used again.
+VERSION = 3
+NONE, CLASS, ALL = BORROW
+# Gaps of a lattice. With more, a search takes too long: half a minute with 150 times as many.
+MOST_GAPS = 4_000
+Levels = tuple[int, int]
+
+
+@dataclass(frozen=True)
+class Settings:
+    """How items are planned. Raises Refused for what can't be meant.
+
+    `borrow` says from whom an item learns its law if its master does not; with None the number of items decides that.
+    With a `confidence`, wanted fill rates are kept under that share of the laws that a history allows.
+    """
+
+    seed: str = "crnplan"
+    fit: str = "auto"
+    borrow: str | None = None
+    confidence: float | None = None
+    level: float = 0.95
+    periods: int = MOST_PERIODS
+    replications: int = 24
+    lead_fit: str = "auto"
+
+    def __post_init__(self) -> None:
+        """Checks the settings one by one."""
+        for name, word, words in (("fit", self.fit, METHODS), ("lead-fit", self.lead_fit, LEAD_METHODS),
+                                  ("borrow", self.borrow or NONE, BORROW)):
+            if word not in words:
+                raise Refused(f"--{name} {word!r} is not one of {', '.join(words)}")
+        if self.fit != "auto" and self.borrow not in (None, NONE):
+            raise Refused(f"--fit {self.fit} fits each item alone, and --borrow {self.borrow} learns from others; "
+                          "leave one out")
+        if not 0 < self.level < 1:
+            raise Refused(f"--level {self.level:g} is not between 0 and 1; write 0.95 for 95 of 100 samples")
+        if self.confidence is not None and not 0 < self.confidence < 1:
+            raise Refused(f"--confidence {self.confidence:g} is not between 0 and 1; write 0.8 for 80% of the laws "
+                          "that a history allows")
+        for name, value, least, most in (("periods", self.periods, 1, MOST_PERIODS),
+                                         ("replications", self.replications, 2, MOST_REPLICATIONS)):
+            if not least <= value <= most:
+                raise Refused(f"--{name} {value} is not from {least} to {most:,}")
+
+    def common(self, program: str, prior: Prior) -> str:
+        """Returns what all answers depend on, with the digest of the program and what was learned, as a text."""
+        learned = hashlib.sha256(prior.text.encode()).hexdigest()
+        return json.dumps([__version__, VERSION, program, learned, dataclasses.asdict(self)])
+
+
+@dataclass(frozen=True, eq=False)
+class Question:
+    """What is asked for an item: its facts, its laws in boxes, its costs as whole rates of a box with their scale, and
+    the settings.
+
+    `borrow` says from whom its law is learned, and `prior` what was learned. `rate_error` is by which share a rate is
+    rounded.
+    """
+
+    item: Item
+    settings: Settings
+    prior: Prior = field(repr=False)
+    borrow: str
+    rates: Mapping[str, int]
+    scale: Fraction
+    rate_error: float
+    demand: DemandLaw
+    lead: LeadLaw
+    returns: DemandLaw | None
+
+    @property
+    def levels(self) -> Levels:
+        """Returns today's s and S in boxes."""
+        s, S = (round(level / self.item.box) for level in self.item.levels)
+        return s, S
+
+    @property
+    def group(self) -> str | None:
+        """Returns the class from which the law is learned; None if that is all."""
+        return self.item.group if self.borrow == CLASS else None
+
+    @property
+    def has_backlog(self) -> bool:
+        """Returns whether items owed cost something."""
+        return self.item.backlog is not None
+
+    @property
+    def learned(self) -> Borrowed | None:
+        """Returns what the law has learned from other items, or why nothing; None if it was not to learn."""
+        found: Borrowed | None = self.demand.diagnostics.get("borrowed")
+        return found
+
+    @property
+    def implied_backlog(self) -> int:
+        """Returns the backlog rate; without one, that by which the wanted share would be best for a newsvendor."""
+        fill = self.item.fill
+        if fill is None or self.has_backlog:
+            return self.rates["backlog"]
+        return max(1, round(self.rates["holding"] * fill / (1 - fill)))
+
+    def money(self, amount: float) -> float:
+        """Returns an amount of the program's units as money."""
+        return amount / float(self.scale)
+
+    def seed(self, purpose: str) -> int:
+        """Returns the seed of random numbers for a purpose, which follows from the item's name and the seed."""
+        text = f"{self.settings.seed}\n{purpose}\n{self.item.name}"
+        return int.from_bytes(hashlib.sha256(text.encode()).digest()[:4])
+
+    def scenario(self, backlog: int | None = None, initial: int = 0) -> Scenario:
+        """Returns the scenario of today's policy with a backlog rate, by default that of the rates or else 1, without
+        which theory finds no best policy. Its key follows from the item's name and the seed."""
+        settings, rates = self.settings, {name: self.rates[name] for name in ("setup", "holding")}
+        backlog = self.rates.get("backlog", 1) if backlog is None else backlog
+        return Scenario.of(self.demand, self.lead, **rates, backlog=backlog, returns=self.returns, today=self.levels,
+                           initial=initial, periods=settings.periods, replications=settings.replications,
+                           key=f"{settings.seed}\n{self.item.name}")
+
+    def alone(self) -> Question:
+        """Returns the question of an item that learns its law from no other."""
+        return dataclasses.replace(self, borrow=NONE, demand=fit_demand(self.item.counts, box=self.item.box))
+
+    def theory(self) -> LongRun:
+        """Returns the theory of the question. Raises Refused if there is none.
+
+        Without a backlog cost only setup and stock cost something. The lattice is then chosen by the implied backlog
+        rate: with hardly any it would be far too coarse.
+        """
+        scenario = self.scenario()
+        shape = shape_of(scenario)
+        if not self.has_backlog:
+            costs = dataclasses.replace(scenario.costs, backlog=self.implied_backlog)
+            shape = shape_of(dataclasses.replace(scenario, costs=costs))
+        gap = self.levels[1] - self.levels[0]
+        return theory_on(scenario, shape, *lattice_of(scenario, shape, gap, MOST_GAPS))
+
+
+def finest(rates: Mapping[str, int], scale: Fraction) -> tuple[dict[str, int], Fraction]:
+    """Returns rates and their scale times the greatest power of ten that the program's ranges allow.
+
+    Beside them a backlog rate of 1, without which theory finds no best policy, then says next to nothing.
+    """
+    most = min(limits("costs", name)[1] // rate for name, rate in rates.items() if rate)
+    times = 10**(len(str(most)) - 1)
+    return {name: rate * times for name, rate in rates.items()}, scale * times
+
+
+def rates_of(item: Item) -> tuple[dict[str, int], Fraction, float]:
+    """Returns the costs of an item as whole rates of a box, their scale, and the greatest relative error of rounding.
+    Raises Refused if they are too far apart."""
+    costs = {"setup": item.setup, "holding": item.box * item.holding}
+    if item.backlog is not None:
+        costs["backlog"] = item.box * item.backlog
+    if item.unit:
+        costs["unit"] = item.box * item.unit
+    rates, scale, error = rounded_costs(costs, "holding")
+    return (*finest(rates, scale), error) if item.backlog is None else (rates, scale, error)
+
+
+def question_of(item: Item, settings: Settings, prior: Prior | None = None) -> Question:
+    """Returns the question of an item, whose law is perhaps learned. Raises Refused if its numbers are none of a
+    scenario."""
+    prior, box = prior or Prior(NONE), item.box
+    rates, scale, error = rates_of(item)
+    borrow = NONE if settings.fit != "auto" else item.borrow or settings.borrow or NONE
+    group = item.group if borrow == CLASS else None
+    demand = fit_demand(item.counts, method=settings.fit, box=box) if borrow == NONE else \
+        law_of(prior, item.counts, group, box=box, beside=False)
+    returns = fit_demand(item.returns, method=settings.fit, box=box) if item.returns else None
+    lead = fit_lead(item.leads, method=settings.lead_fit)
+    return Question(item, settings, prior, borrow, rates, scale, error, demand, lead, returns)

@@ -1,0 +1,52 @@
+"""The facts of an item: what its plan depends on, and what is only shown of it."""
+from __future__ import annotations
+
+from dataclasses import dataclass, fields
+from fractions import Fraction
+
+from ..formats import MOST_DEMAND
+from ..remarks import Remark
+
+
+@dataclass(frozen=True)
+class Item:
+    """The facts of an item, the same for one item and for a million. All amounts are of items, and money is exact.
+
+    `counts` is the demand by period, `returns` what came back by period, empty if nothing did, `leads` the lead times
+    seen, in periods, and `levels` today's s and S. `setup` is money an order, `holding` and `backlog` money an item and
+    period, `unit` money for each item ordered, which only counts over coming periods. `fill` is the share of demand
+    that is wanted at once; an item has a `backlog`, a `fill`, or both. `group` is its class, `borrow` from whom it
+    learns its law, perhaps empty.
+
+    What follows is no part of the plan: `stock` is today's, `price` the money that an item of stock is worth, `first`
+    the number of the first period, `line` and `rows` are the line of the master and the rows of demand.
+    """
+
+    name: str
+    counts: tuple[int, ...]
+    leads: tuple[int, ...]
+    levels: tuple[int, int]
+    setup: Fraction
+    holding: Fraction
+    backlog: Fraction | None = None
+    fill: Fraction | None = None
+    unit: Fraction = Fraction(0)
+    returns: tuple[int, ...] = ()
+    group: str = ""
+    borrow: str = ""
+    stock: Fraction | None = None
+    price: Fraction | None = None
+    description: str = ""
+    first: int = 0
+    line: int = 0
+    rows: int = 0
+    remarks: tuple[Remark, ...] = ()
+
+    @property
+    def box(self) -> int:
+        """Returns how many items are counted as one, so that the demand of a period is within the program's range."""
+        return max(1, -(-max((*self.counts, *self.returns)) // MOST_DEMAND))
+
+
+# The facts that a plan depends on.
+PLANNED = tuple(it.name for it in fields(Item))[:[it.name for it in fields(Item)].index("stock")]

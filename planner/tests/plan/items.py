@@ -1,0 +1,44 @@
+"""Items whose facts are known, for tests of their plans."""
+from __future__ import annotations
+
+from collections.abc import Iterator
+from fractions import Fraction
+from typing import Any
+
+import numpy as np
+
+from crnplan.plan.question import Settings
+from crnplan.records.item import Item
+
+# Short runs: a plan takes little time.
+SHORT: dict[str, Any] = {"periods": 64, "replications": 4}
+WEEKS = 60
+
+
+def item_of(place: int = 0, **changed: Any) -> Item:
+    """Returns an item: of demands by a law that is drawn for its place, with a backlog cost, and today's levels."""
+    source = np.random.default_rng(place)
+    asked = source.random(WEEKS) < source.uniform(0.2, 0.8)
+    counts = np.where(asked, 1 + source.poisson(source.uniform(0.5, 4), WEEKS), 0)
+    counts[:2] += 1
+    level = int(4 * counts.mean() + 3)
+    facts: dict[str, Any] = {
+        "name": f"I-{place:03}", "counts": tuple(counts.tolist()), "leads": (2,), "levels": (level, 2 * level + 5),
+        "setup": Fraction(20 + place % 7), "holding": Fraction(1, 2), "backlog": Fraction(9)}
+    return Item(**facts | changed)
+
+
+def several(count: int) -> Iterator[Item]:
+    """Yields items of all kinds: several lead times, wanted fill rates, returns, packs."""
+    kinds: tuple[dict[str, Any], ...] = (
+        {}, {"leads": (1, 3, 2)}, {"backlog": None, "fill": Fraction(19, 20)}, {"fill": Fraction(9, 10)})
+    for place in range(count):
+        item = item_of(place, **kinds[place % len(kinds)])
+        if place % 5 == 4:
+            item = item_of(place, **kinds[place % len(kinds)], returns=tuple(it // 4 for it in item.counts))
+        yield item
+
+
+def alone(**changed: Any) -> Settings:
+    """Returns settings of short runs by which an item learns from no other."""
+    return Settings(borrow="none", **SHORT | changed)

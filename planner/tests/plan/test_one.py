@@ -1,0 +1,156 @@
+"""Tests the answer to one item: whose figures it has, the run beside them, and that theory and runs agree."""
+from __future__ import annotations
+
+import math
+from fractions import Fraction
+from pathlib import Path
+from typing import Any
+
+import pytest
+
+from crnplan.plan import one
+from crnplan.plan import question as questions
+from crnplan.plan.answer import (CHEAPER, DISAGREES, NO_INTERVAL, NO_POLICY, RUN, SAME, SERVICE, THEORY, UNDECIDED,
+                                 Answer)
+from crnplan.plan.estimate import Disagreement
+from crnplan.plan.one import plan_item, plan_one
+from crnplan.plan.question import Question, Settings, question_of
+from crnplan.demand.borrowing import Prior
+from crnplan.records.item import Item
+from crnplan.remarks import Remark
+from crnplan.theory.long_run import LongRun
+from planner.tests.plan.items import alone, item_of
+from planner.tests.theory.long_run_costs import cost_of, shortfall_of
+
+NONE = Prior("none")
+
+
+def answer_of(item: Item, settings: Settings, program: Path) -> Answer:
+    """Returns the answer to an item."""
+    return plan_one(question_of(item, settings), str(program))
+
+
+@pytest.mark.parametrize("changed", [{}, {"leads": (1, 3, 2)}], ids=str)
+def test_costs_are_those_of_theory(program: Path, changed: dict[str, Any]) -> None:
+    """Costs and the saving are the exact ones of the long run, whatever the random numbers, and the run is beside."""
+    item = item_of(**changed)
+    answers = [answer_of(item, alone(seed=seed), program) for seed in "ab"]
+    assert len({it.saving for it in answers}) == 1 and len({it.run.estimate.saving for it in answers}) == 2
+    scenario, scale = question_of(item, alone()).scenario(), question_of(item, alone()).scale
+    for it in answers:
+        wanted = [cost_of(scenario, shortfall_of(scenario, its.level - its.point), its.level) / float(scale)
+                  for its in (it.today, it.chosen)]
+        assert [it.cost_today, it.cost_chosen] == pytest.approx(wanted, rel=1e-7)
+        assert (it.source, it.verdict) == (THEORY, CHEAPER) and it.saving == it.cost_today - it.cost_chosen > 0
+
+
+def test_costs_are_those_of_the_run_where_theory_is_rounded(program: Path, monkeypatch: pytest.MonkeyPatch) -> None:
+    """On a lattice of several items the run's figures stand, and its interval decides."""
+    monkeypatch.setattr(questions, "MOST_GAPS", 60)
+    answer = answer_of(item_of(3, counts=tuple(37 * it + it % 2 for it in item_of(3).counts), levels=(300, 700)),
+                       alone(), program)
+    estimate = answer.run.estimate
+    assert answer.step > 1 and answer.source == RUN and "steps" in {it.code for it in answer.remarks}
+    assert (answer.cost_today, answer.cost_chosen, answer.saving) == (
+        estimate.cost_today, estimate.cost_chosen, estimate.saving) != (
+        answer.today.cost, answer.chosen.cost, answer.theory_saving)
+    assert (answer.verdict == UNDECIDED) == (estimate.low is None or estimate.low <= 0 <= (estimate.high or 0))
+
+
+def test_the_best_policy_is_kept(program: Path) -> None:
+    """An item with its best policy has no saving, with an interval of no width."""
+    best = answer_of(item_of(), alone(), program).chosen
+    answer = answer_of(item_of(levels=(best.point, best.level)), alone(), program)
+    estimate = answer.run.estimate
+    assert (answer.verdict, answer.saving, estimate.saving, estimate.low, estimate.high, estimate.error) == (
+        SAME, 0, 0, 0, 0, 0)
+    assert answer.run.total_today == answer.run.total_chosen and answer.run.variance == 0
+
+
+def test_a_wanted_fill_rate_may_cost_more(program: Path) -> None:
+    """A policy that keeps a fill rate that today's misses is for more service, and has a negative saving."""
+    answer = answer_of(item_of(backlog=None, fill=Fraction(99, 100), levels=(1, 8)), alone(), program)
+    assert answer.today.fill < 0.99 <= answer.chosen.fill and (answer.verdict, answer.saving < 0) == (SERVICE, True)
+
+
+def test_the_run_is_that_of_the_key_of_the_name(program: Path) -> None:
+    """The same name and seed give the same run; another name gives the same figures with another run."""
+    first, same, other = (answer_of(item_of(name=name), alone(), program) for name in ("A", "A", "B"))
+    assert first == same and first.run.key != other.run.key and first.run.total_today != other.run.total_today
+    assert (first.today, first.chosen, first.saving) == (other.today, other.chosen, other.saving)
+
+
+def raised(times: float) -> Any:
+    """Returns a theory that counts orders as so many times as dear."""
+    honest = Question.theory
+
+    def theory(question: Question) -> LongRun:
+        """Returns it."""
+        found = honest(question)
+        found.setup = found.setup * times
+        return found
+    return theory
+
+
+def test_a_run_that_disagrees_is_a_fault(program: Path, monkeypatch: pytest.MonkeyPatch) -> None:
+    """Theory that counts orders by a quarter too dear is found out by the run, and the item has no plan."""
+    settings = alone(periods=1_024, replications=24)
+    assert isinstance(plan_item(item_of(), settings, NONE, str(program)), Answer)
+    monkeypatch.setattr(Question, "theory", raised(1.25))
+    with pytest.raises(Disagreement, match="cost of today: crnsim gives .* than chance allows"):
+        answer_of(item_of(), settings, program)
+    fault = plan_item(item_of(), settings, NONE, str(program))
+    assert isinstance(fault, Remark) and fault.code == DISAGREES
+    assert fault.facts["theory"] > 1.02 * float(fault.facts["run"])  # type: ignore[operator]
+
+
+def test_a_run_without_rare_events_is_no_fault(program: Path, monkeypatch: pytest.MonkeyPatch) -> None:
+    """A run that meets none of a few dear shortages is far from theory by its own spread, and no fault."""
+    seen: list[bool] = []
+    honest = one.is_suspect
+
+    def watched(*words: Any) -> bool:
+        """Keeps whether a run is looked at again."""
+        seen.append(honest(*words))
+        return seen[-1]
+    monkeypatch.setattr(one, "is_suspect", watched)
+    rare = {"counts": (*[1, 0, 1, 2] * 150, 60), "backlog": Fraction(10_000), "levels": (9, 14), "holding": Fraction(1),
+            "setup": Fraction(10)}
+    for name in "abcdefgh":
+        answer = answer_of(item_of(name=name, **rare), alone(fit="empirical"), program)
+        assert answer.source == THEORY
+    assert any(seen)
+
+
+def test_why_there_is_no_interval(program: Path) -> None:
+    """A policy that hardly orders in a run has no interval, which is said with the orders that are expected."""
+    slow = item_of(counts=(1, *[0] * 400, 1), setup=Fraction(1_000), holding=Fraction(1, 100), levels=(0, 90))
+    answer = answer_of(slow, alone(fit="empirical"), program)
+    remark, = (it for it in answer.remarks if it.code == NO_INTERVAL)
+    assert answer.run.estimate.error is answer.run.estimate.low is None and answer.source == THEORY
+    assert 0 < float(remark.facts["orders"] or 0) < 2 and answer.verdict == CHEAPER
+
+
+def test_an_item_without_a_policy(program: Path, monkeypatch: pytest.MonkeyPatch) -> None:
+    """An item for which there is no policy has a fault with facts."""
+    monkeypatch.setattr(one, "choice_of", lambda *_: (_ for _ in ()).throw(one.NoPolicy(Fraction(1, 2))))
+    assert plan_item(item_of(), alone(), NONE, str(program)) == Remark(NO_POLICY, {"fill": 0.5})
+    monkeypatch.setattr(one, "choice_of", lambda *_: 1 // 0)
+    assert plan_item(item_of(), alone(), NONE, str(program)).code == "failed"  # type: ignore[union-attr]
+
+
+def test_counting_in_boxes_changes_no_figure(program: Path, monkeypatch: pytest.MonkeyPatch) -> None:
+    """Amounts that are counted in boxes of ten have ten times the levels and the stock, and the same money."""
+    item = item_of(5)
+    boxed = item_of(5, counts=tuple(10 * it for it in item.counts), holding=item.holding / 10,
+                    backlog=(item.backlog or 0) / 10, levels=tuple(10 * it for it in item.levels))
+    plain = answer_of(item, alone(), program)
+    monkeypatch.setattr("crnplan.records.item.MOST_DEMAND", max(item.counts))
+    answer = answer_of(boxed, alone(), program)
+    assert (plain.box, answer.box) == (1, 10)
+    for before, after in ((plain.today, answer.today), (plain.chosen, answer.chosen)):
+        assert (after.point, after.level) == (10 * before.point, 10 * before.level)
+        assert (after.cost, after.fill, after.orders) == (before.cost, before.fill, before.orders)
+        assert math.isclose(after.stock, 10 * before.stock)
+    assert (answer.run.total_today, answer.run.estimate, answer.saving) == (
+        plain.run.total_today, plain.run.estimate, plain.saving)
