@@ -8,11 +8,11 @@ from hypothesis import assume, given, settings
 from hypothesis import strategies as st
 
 from crnplan import formats
-from crnplan.records.catalogue_amounts import leads_of
 from crnplan.plan.planning import finest
 from crnplan.errors import Refused
 from crnplan.records.amounts import AmountReader, readings
 from crnplan.records.faults import Unreadable
+from crnplan.records.masters import leads_of
 from crnplan.money import rounded_costs
 
 AMOUNTS = st.decimals(0, 10**8, places=4, allow_nan=False)
@@ -79,6 +79,6 @@ def test_lead_times(text: str, leads: list[int] | None) -> None:
     """Reads one lead time or several, from 1 to 32 periods."""
     if leads is None:
         with pytest.raises(Unreadable):
-            leads_of(text)
+            leads_of(text, "", "week")
     else:
-        assert leads_of(text) == leads
+        assert leads_of(text, "", "week") == leads

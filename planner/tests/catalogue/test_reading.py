@@ -257,7 +257,8 @@ def test_unused_words_are_refused(tmp_path: Path) -> None:
 
 def test_record_from_and_to(tmp_path: Path) -> None:
     """Cuts the record where it is stated, and counts what is left out."""
-    its = read_text(tmp_path, "item,date,quantity\n" + ROWS, start="2026-02-01", end="2026-09-30", every="month")
+    its = read_text(tmp_path, "item,date,quantity\n" + ROWS, start="2026-02-01", end="2026-09-30", every="month",
+                    units={"items": dict.fromkeys(("lead", "holding", "backlog"), "month")})
     facts, shown = items_of(its)["A"]
     assert facts["counts"] == [3] * 8 and shown["rows"] == 8
     assert list(its.rejects.reason) == ["2026-01-15 is before --from", "2026-10-15 is after --to"]

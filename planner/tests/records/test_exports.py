@@ -11,6 +11,7 @@ import sqlite3
 import sys
 import threading
 from collections.abc import Callable, Sequence
+from fractions import Fraction
 from pathlib import Path
 from typing import Any
 
@@ -22,6 +23,8 @@ MONDAY = datetime.date(2026, 3, 2)
 DAYS = [str(MONDAY + datetime.timedelta(days=7 * week)) for week in range(WEEKS)]
 HEADING = "item,date,quantity"
 MASTERS = "item,setup,holding,backlog,lead,s,S"
+MONTHS = ["--every", "month", "--least", "2", *(word for role in ("lead", "holding", "backlog")
+                                                for word in ("--unit", f"items.{role}=month"))]
 SIGN = "say --decimal . or --decimal ,"
 
 
@@ -63,7 +66,8 @@ def read_items(folder: Path) -> dict[str, Any]:
     """Returns the facts of the items that were read into the folder `plan`."""
     base = sqlite3.connect(folder / "plan" / "catalogue.sqlite")
     with contextlib.closing(base):
-        return {name: json.loads(facts) for name, facts in base.execute("SELECT item, facts FROM items")}
+        return {name: {**json.loads(shown), **json.loads(facts)}
+                for name, facts, shown in base.execute("SELECT item, facts, shown FROM items")}
 
 
 @pytest.mark.parametrize("texts, both", [
@@ -116,7 +120,7 @@ def test_money_with_its_currency(text: str, check: Answers, tmp_path: Path) -> N
 @pytest.mark.parametrize("text, quantity", [("(3)", -3), ("3-", -3), ("\u22123", -3), ("1'000", 1000), ("1 000", 1000)])
 def test_quantities_as_people_write_them(text: str, quantity: int, check: Answers, tmp_path: Path) -> None:
     """Amounts below 0 may stand in parentheses or have the minus behind; thousands may have an apostrophe."""
-    _, rejects = check(demand_of([text, "7000"]), "--net", "--every", "month", "--least", "2")
+    _, rejects = check(demand_of([text, "7000"]), "--net", *MONTHS)
     counts = read_items(tmp_path)["A"]["counts"]
     assert not rejects and sum(counts) == WEEKS // 2 * (7000 + quantity)
 
@@ -137,22 +141,110 @@ def test_stated_sign_decides(decimal: str, value: str, check: Answers, crnplan: 
     assert its.status == 0 and f"values = [{value}]" in its.output
 
 
-@pytest.mark.parametrize("heading, unit", [
-    ("item,setup,holding,backlog,Lead time (days),s,S", "days"), ("item,setup,holding,backlog,Lieferzeit (Tage),s,S",
-                                                                  "Tage"),
-    ("item,setup,Holding cost per year,backlog,lead,s,S", "year"), ("item,setup,holding,backlog,lead (months),s,S",
-                                                                    "months"),
-    ("item,setup,holding,Backlog cost per month,lead,s,S", "month")])
-def test_units_in_headings_are_never_passed_over(heading: str, unit: str, check: Answers) -> None:
-    """A heading that names a unit other than that of its role is refused, or its numbers are converted."""
-    answer, _ = check(demand_of(["2", "3"]), masters=f"{heading}\nA,45,0.5,5,14,3,9\n")
-    assert (answer.status == 2 and unit in answer.errors) or "converted" in answer.errors
+LEADS = "item,setup,holding,backlog,{},s,S"
+WEEKS_OF_YEAR = Fraction(1461, 28)
 
 
-def test_price_for_a_hundred(check: Answers) -> None:
-    """A price for a hundred is not taken for that of one."""
-    answer, _ = check(demand_of(["2", "3"]), masters=f"{MASTERS},Price per 100\nA,45,0.5,5,2,3,9,250\n")
-    assert (answer.status == 2 and "100" in answer.errors) or "converted" in answer.errors
+@pytest.mark.parametrize("heading, cells, role, value", [
+    (LEADS.format("Lead time (days)"), "A,45,1,10,14,3,9", "leads", [2]),
+    (LEADS.format("Lieferzeit (Tage)"), "A,45,1,10,3,3,9", "leads", [1]),
+    # Placed on four days of the week it is there in the next week, on three in the week after.
+    (LEADS.format("PLIFZ"), "A,45,1,10,10,3,9", "leads", [1, 1, 1, 1, 2, 2, 2]),
+    (LEADS.format("提前期（天）"), "A,45,1,10,21,3,9", "leads", [3]), (LEADS.format("lead"), "A,45,1,10,14D,3,9", "leads", [2]),
+    (LEADS.format("czas dostawy (tygodnie)"), "A,45,1,10,3,3,9", "leads", [3]),
+    ("item,setup,Holding cost per year,backlog,lead,s,S", "A,45,52.18,10,2,3,9", "holding",
+     Fraction("52.18") / WEEKS_OF_YEAR),
+    ("item,setup,holding,Backlog cost per day,lead,s,S", "A,45,1,3,2,3,9", "backlog", 21),
+    ("item,setup,Lagerkostensatz (%),backlog,lead,s,S,Preis je 100", "A,45,20,10,2,3,9,500", "holding",
+     Fraction(1, 5) * 5 / WEEKS_OF_YEAR),
+    ("item,setup,holding rate,backlog,lead,s,S,price", "A,45,25%,10,2,3,9,8", "holding", 2 / WEEKS_OF_YEAR),
+    (f"{MASTERS},Price per 100", "A,45,1,10,2,3,9,250", "price", Fraction(5, 2)),
+    (f"{MASTERS},price,Preiseinheit", "A,45,1,10,2,3,9,250,1000", "price", Fraction(1, 4)),
+    (LEADS.format("lead").replace("s,S", "s (packs of 12),S (dozen)"), "A,45,1,10,2,1,3", "levels", [12, 36]),
+    ("item,setup,holding,Service level (%),lead,s,S", "A,45,1,95,2,3,9", "fill", Fraction(19, 20))])
+def test_units_of_masters(heading: str, cells: str, role: str, value: Any, check: Answers, tmp_path: Path) -> None:
+    """Numbers are converted from the unit that their heading names, and that is said."""
+    answer, rejects = check(demand_of(["2", "3"]), masters=f"{heading}\n{cells}\n")
+    assert answer.status == 0 and not rejects
+    facts = read_items(tmp_path)["A"]
+    assert facts[role] == value if isinstance(value, list) else Fraction(facts[role]) == value
+    is_plain = "lead" in heading.split(",") and role == "leads" or "tygodnie" in heading or "Preiseinheit" in heading
+    assert ("converted from" in answer.errors) != is_plain
+
+
+@pytest.mark.parametrize("heading, words, said", [
+    (LEADS.format("lead time (hours)"), (), "say --unit items.lead=UNIT"),
+    ("item,setup cost per year,holding,backlog,lead,s,S", (), "say --unit items.setup=UNIT"),
+    (f"{MASTERS},stock (boxes)", (), "say --unit items.stock=UNIT"),
+    (MASTERS, ("--every", "month"), "the column 'lead' names no unit, and may count months or weeks"),
+    (MASTERS, ("--every", "month"), "the column 'holding' names no unit, and may count months or weeks"),
+    (MASTERS, ("--unit", "items.lead=fortnight"), "'fortnight' is none of its units: period, day, week, month, year"),
+    (MASTERS, ("--unit", "items.cost=day"), "there is no such column")])
+def test_units_that_cannot_be_converted(heading: str, words: Sequence[str], said: str, check: Answers) -> None:
+    """A unit that can't be converted is refused, with what to say."""
+    cells = "A,45,1,10,2,3,9" + ",4" * (heading.count(",") - 6)
+    answer, _ = check(demand_of(["2", "3"]), *words, masters=f"{heading}\n{cells}\n")
+    assert answer.status == 2 and said in answer.errors
+
+
+def test_stated_units(check: Answers, tmp_path: Path) -> None:
+    """A stated unit is that of its column, whatever the period is, by --unit as by crnplan.toml."""
+    words = ["--every", "month", "--least", "2", "--unit", "items.lead=week", "--unit", "items.holding=year", "--unit",
+             "items.backlog=month", "--unit", "demand.quantity=12"]
+    _, rejects = check(demand_of(["2"]), *words, masters=f"{MASTERS}\nA,45,12,10,9,3,9\n")
+    facts = read_items(tmp_path)["A"]
+    # Nine weeks are 2.07 months: nearly always 2.
+    assert not rejects and facts["leads"] in ([2], [2] * 6 + [3], [2] * 13 + [3])
+    assert Fraction(facts["holding"]) == 1 and Fraction(facts["backlog"]) == 10 and sum(facts["counts"]) == 24 * WEEKS
+    settings = tmp_path / "mine.toml"
+    settings.write_text('[catalogue]\nevery = "month"\nleast = 2\n[catalogue.units]\n"items.lead" = "week"\n"items.holding" '
+                        '= "year"\n"items.backlog" = "month"\n"demand.quantity" = "12"\n', "utf-8")
+    check(demand_of(["2"]), "--config", settings, masters=f"{MASTERS}\nA,45,12,10,9,3,9\n")
+    assert read_items(tmp_path)["A"] == facts
+
+
+@pytest.mark.parametrize("words, total", [((), None), (("--factor", "KAR=12"), 2 * 13 + 3 * 12 * 13)])
+def test_rows_in_two_units_of_measure(words: Sequence[str], total: int | None, check: Answers, tmp_path: Path) -> None:
+    """An item whose rows are in two units of measure is left out, unless it is said how many items one is."""
+    rows = demand_of(["2,ST", "3,KAR"], f"{HEADING},ME")
+    _, rejects = check(rows, *words)
+    if total is None:
+        assert [row["kind"] for row in rejects] == ["item"] and "--factor KAR=12" in rejects[0]["advice"]
+        assert "'ST' and 'KAR'" in rejects[0]["reason"]
+    else:
+        assert not rejects and sum(read_items(tmp_path)["A"]["counts"]) == total
+
+
+@pytest.mark.parametrize("demand, masters", [
+    ("Material;Buchungsdatum;Menge in ErfassME;ErfassME", "Material;Materialkurztext;Bestellkosten;Lagerkosten pro Woche;"
+     "Fehlmengenkosten pro Woche;Planlieferzeit;Meldebestand;Höchstbestand;LABST;Standardpreis;Preiseinheit;ABC-Kennzeichen"),
+    ("MATNR;BUDAT;MENGE;MEINS", "MATNR;MAKTX;setup;holding;backlog;PLIFZ;MINBE;MABST;LABST;STPRS;PEINH;MAABC"),
+    ("Item No.;Posting Date;Invoiced Quantity;Unit of Measure Code", "Item No.;Description;Ordering Cost;Carrying Cost;Stockout "
+     "Cost;Lead Time Calculation (days);Reorder Point;Maximum Inventory;Inventory;Unit Cost;Price Unit;Item Category Code"),
+    ("Item;Date;Qty. Sold;UoM", "Item;Display Name;Setup cost;Holding cost;Backorder cost;Lead Time (Days);Reorder Point;Preferred "
+     "Stock Level;Qty on Hand;Average Cost;Price Unit;Category"),
+    ("Référence;Date comptable;Quantité vendue;Unité de mesure", "Référence;Désignation;Coût de commande;Coût de possession;Coût "
+     "de rupture;Délai de livraison (jours);Point de commande;Stock maximum;Stock actuel;Prix unitaire;Unité de prix;Catégorie"),
+    ("Código;Fecha contable;Cantidad vendida;Unidad de medida", "Código;Descripción;Costo de pedido;Costo de almacenamiento;Coste de "
+     "rotura;Plazo de entrega (días);Punto de reorden;Stock máximo;Existencias;Precio unitario;Unidad de precio;Clase"),
+    ("Kod towaru;Data sprzedaży;Ilość;Jednostka miary", "Kod towaru;Nazwa;Koszt zamówienia;Koszt utrzymania zapasu;Koszt braku;"
+     "Czas dostawy (dni);Punkt zamawiania;Zapas maksymalny;Stan magazynowy;Cena;Jednostka ceny;Kategoria"),
+    ("物料编码;出库日期;出库数量;单位", "物料编码;物料描述;订货成本;持有成本;缺货成本;提前期（天）;再订货点;最大库存;现有库存;单价;价格单位;类别")])
+def test_headings_of_exports(demand: str, masters: str, check: Answers, tmp_path: Path) -> None:
+    """Headings of common exports are found, each as its role, without a word of the planner."""
+    rows = "".join(f"A;{day};2;ST\n" for day in DAYS)
+    answer, rejects = check(f"{demand}\n{rows}", masters=f"{masters}\nA;bolt;45;1;10;14;3;9;5;400;100;X\n")
+    assert answer.status == 0 and not rejects and "not used" not in answer.errors
+    facts = read_items(tmp_path)["A"]
+    assert (facts["leads"], facts["levels"], facts["class"], facts["price"]) == ([2], [3, 9], "X", "4")
+
+
+def test_names_of_a_planner(check: Answers, tmp_path: Path) -> None:
+    """A planner adds usual names of columns in crnplan.toml."""
+    settings = tmp_path / "mine.toml"
+    settings.write_text('[catalogue.names]\n"demand.quantity" = ["Bew.Menge netto"]\n', "utf-8")
+    answer, rejects = check(demand_of(["2"], "item,date,BEW.MENGE (netto)"), "--config", settings)
+    assert answer.status == 0 and not rejects
 
 
 def piped(path: Path, data: bytes) -> threading.Thread:

@@ -21,6 +21,11 @@ TAKEN = ("keep", "leave-out")
 @click.option("--check", "only_read", is_flag=True, help="Only read the files, and say what was found and left out.")
 @click.option("--column", "columns", metavar="FILE.ROLE=NAME", multiple=True,
               help="A column, as demand.quantity=Menge. May be given several times.")
+@click.option("--unit", "units", metavar="FILE.ROLE=UNIT", multiple=True,
+              help="What a column counts, as items.lead=day, items.holding=percent (of the price a year), items.price=100, "
+              "demand.quantity=12. May be given several times.")
+@click.option("--factor", "factors", metavar="MEASURE=NUMBER", multiple=True,
+              help="How many items one of a unit of measure is, as KAR=12. May be given several times.")
 @click.option("--every", type=click.Choice(EVERY), help="The period; by default week. Weeks are ISO weeks.")
 @click.option("--from", "start", metavar="DATE", help="The first day of the record, for all items.")
 @click.option("--to", "end", metavar="DATE", help="The last day of the record, for all items.")

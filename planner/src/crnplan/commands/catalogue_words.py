@@ -1,19 +1,21 @@
 """Goes the whole way of `crnplan catalogue` for the words of the command and of crnplan.toml."""
 from __future__ import annotations
 
-from collections.abc import Callable, Mapping
+from collections.abc import Callable, Mapping, Sequence
 from pathlib import Path
 from typing import Any
 
-from ..records.cells import Rules
+from ..errors import Refused
 from ..plan.config import read_config
 from ..plan.lock import alone
-from ..records.staging import KEEP, LEAVE_OUT, Ways
 from ..plan.planning import Settings
-from ..records.catalogue_reading import Catalogue, Words, check_folder, kinds_of, read_into
 from ..plan.running import Lost, plan_into
-from ..records.store import Reject
 from ..plan.tables import REJECTS, counted, reject_rows, write_rows
+from ..records.catalogue_reading import Catalogue, Words, check_folder, kinds_of, read_into
+from ..records.cells import Rules
+from ..records.columns import ROLES
+from ..records.staging import KEEP, LEAVE_OUT, Ways
+from ..records.store import Reject
 
 SETTINGS = ("seed", "fit", "borrow", "confidence", "level", "periods", "replications")
 RULES = ("delimiter", "encoding", "decimal", "date_formats")
@@ -22,15 +24,37 @@ FOUND = "found.toml"
 
 def words_of(asked: Mapping[str, Any], config: Mapping[str, Any]) -> tuple[Words, Settings]:
     """Returns how files are read and how items are planned: by the command's words, else by the configuration."""
-    named = kinds_of(asked["columns"])
-    columns = {kind: {**config.get(kind, {}), **named.get(kind, {})} for kind in {*named, "demand", "items", "orders"}}
+    named = kinds_of(asked["columns"], "--column", "NAME, as demand.quantity=Menge")
+    columns = {kind: {**config.get(kind, {}), **named.get(kind, {})} for kind in {*named, *ROLES}}
+    units = {**_by_kind(config.get("units", {})), **kinds_of(asked["units"], "--unit", "UNIT, as items.lead=day")}
     config = {**config, "start": config.get("from"), "end": config.get("to")}
     its = {name: config.get(name) if asked.get(name) in (None, ()) else asked[name]
            for name in ("every", "start", "end", "net", "twice", "far", "least", *RULES, *SETTINGS)}
     rules = Rules(its["delimiter"], its["encoding"], its["decimal"], tuple(its["date_formats"] or ()))
-    ways = Ways(bool(its["net"]), its["twice"] or KEEP, its["far"] or LEAVE_OUT, its["least"] or Ways().least)
+    ways = Ways(bool(its["net"]), its["twice"] or KEEP, its["far"] or LEAVE_OUT, its["least"] or Ways().least,
+                factors_of(asked["factors"]) or config.get("factors", {}))
     settings = Settings(**{name: its[name] for name in SETTINGS if its[name] is not None})
-    return Words(its["every"] or "week", columns, rules, its["start"], its["end"], ways), settings
+    return Words(its["every"] or "week", columns, units, _by_kind(config.get("names", {})), rules, its["start"], its["end"], ways), settings
+
+
+def factors_of(words: Sequence[str]) -> dict[str, int]:
+    """Returns how many items one of a unit of measure is, from words such as `KAR=12`. Raises Refused."""
+    factors = {}
+    for word in words:
+        measure, _, number = word.rpartition("=")
+        if not measure or not number.isdecimal() or int(number) < 1:
+            raise Refused(f"--factor {word!r} is not MEASURE=NUMBER, as KAR=12")
+        factors[measure.strip()] = int(number)
+    return factors
+
+
+def _by_kind(table: Mapping[str, Any]) -> dict[str, dict[str, Any]]:
+    """Returns what a table states by FILE.ROLE, by file and role."""
+    tree: dict[str, dict[str, Any]] = {}
+    for place, value in table.items():
+        kind, _, role = place.partition(".")
+        tree.setdefault(kind, {})[role] = value
+    return tree
 
 
 def commanded(asked: Mapping[str, Any], say: Callable[[str], None], note: Callable[[str], None]) -> int:
@@ -52,6 +76,8 @@ def _planned(asked: Mapping[str, Any], config: Mapping[str, Any], words: Words, 
     (folder / FOUND).write_text(catalogue.found, "utf-8")
     if not any(name in config for name in ("demand", "items")) and not asked["columns"]:
         note(f"{catalogue.found}\n")
+    for line in catalogue.fact("said"):
+        note(f"crnplan: {line}\n")
     if asked["only_read"]:
         with catalogue.opened() as read:
             write_rows(folder / REJECTS, Reject._fields, reject_rows(read.rejects()))

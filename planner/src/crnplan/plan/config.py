@@ -18,6 +18,7 @@ from ..records.cells import DELIMITERS
 from ..records.dates import EVERY
 from .settings import Check, choice, date, flag, share, text, texts, whole
 from ..records.columns import ROLES
+from ..records.units import unit_fault
 from ..records.staging import KEEP, LEAVE_OUT
 
 CONFIG = "crnplan.toml"
@@ -28,6 +29,9 @@ CHECKS: dict[str, Check] = {
     "fit": choice(*METHODS), "confidence": share("0.8 for 80% of the laws that a history allows"),
     "level": share("0.95 for 95 of 100 samples"), "periods": whole(1, MOST_PERIODS),
     "replications": whole(2, MOST_REPLICATIONS)}
+# Tables of what is stated of columns, by FILE.ROLE: units, and more usual names.
+TABLES: dict[str, Check] = {"units": text, "names": texts}
+FACTOR = whole(1, MOST_WEIGHT)
 Trouble = tuple[tuple[str, ...], str]
 
 
@@ -42,10 +46,28 @@ def _troubles(tree: Mapping[str, Any]) -> Iterator[Trouble]:
     for name, value in tree.items():
         if name in ROLES:
             yield from _column_troubles(name, value)
+        elif name in TABLES:
+            yield from _table_troubles(name, value)
+        elif name == "factors":
+            yield from ((("catalogue", name, measure), reason) for measure, factor in value.items()
+                        if (reason := FACTOR(factor)))
         elif name not in CHECKS:
-            yield ("catalogue", name), _unknown(name, [*CHECKS, *ROLES])
+            yield ("catalogue", name), _unknown(name, [*CHECKS, *ROLES, *TABLES, "factors"])
         elif reason := CHECKS[name](value):
             yield ("catalogue", name), reason
+
+
+def _table_troubles(name: str, table: Any) -> Iterator[Trouble]:
+    """Yields what is wrong with the units or the usual names of columns."""
+    known = [f"{kind}.{role}" for kind, roles in ROLES.items() for role in roles]
+    if not isinstance(table, dict):
+        yield ("catalogue", name), f'{shown(table)} is {kind_of(table)}; write lines as "items.lead" = .. below [catalogue.{name}]'
+        return
+    for place, value in table.items():
+        reason = TABLES[name](value) if place in known else _unknown(place, known)
+        reason = reason or name == "units" and unit_fault(place.partition(".")[2], value)
+        if reason:
+            yield ("catalogue", name, place), reason
 
 
 def _column_troubles(kind: str, columns: Any) -> Iterator[Trouble]:

@@ -14,7 +14,8 @@ from ..errors import Fault, Refused, RefusedFaults
 from .cells import Rules, whole_file
 from .dates import EVERY, DateReader
 from .faults import Unreadable
-from .columns import FILES
+from .columns import ROLES, Stated
+from .units import unit_fault
 from .stated import found_text
 from .staging import KEEP, LEAVE_OUT, Reader, Ways
 from .span import record_of
@@ -31,11 +32,13 @@ PARTS = "parts"
 
 @dataclass(frozen=True)
 class Words:
-    """How the files of a catalogue are read: periods, columns by file and role, ways of writing, the ends of the
-    record, and how rows are taken. Raises Refused for what can't be meant."""
+    """How the files of a catalogue are read: periods, columns with their units and usual names by file and role, ways of
+    writing, the ends of the record, and how rows are taken. Raises Refused for what can't be meant."""
 
     every: str = "week"
     columns: Mapping[str, Mapping[str, str]] = field(default_factory=dict)
+    units: Mapping[str, Mapping[str, str]] = field(default_factory=dict)
+    names: Mapping[str, Mapping[str, Sequence[str]]] = field(default_factory=dict)
     rules: Rules = field(default_factory=Rules)
     start: Day | str | None = None
     end: Day | str | None = None
@@ -50,13 +53,21 @@ class Words:
         for name, value in (("--twice", self.ways.twice), ("--far", self.ways.far)):
             if value not in (KEEP, LEAVE_OUT):
                 raise Refused(f"{name} {value!r} is not {KEEP} or {LEAVE_OUT}")
-        for kind, its in self.columns.items():
-            roles = {role.name for role in FILES.get(kind, ())}
-            wrong = next((it for it in its if it not in roles), None)
-            if kind not in FILES or wrong is not None:
-                known = ", ".join(f"{it}.{role.name}" for it in FILES for role in FILES[it])
-                raise Refused(f"--column {kind}{f'.{wrong}' if wrong else ''}: there is no such column; they are "
-                              f"{known}")
+        for option, table in (("--column", self.columns), ("--unit", self.units), ("names of", self.names)):
+            for kind, roles in table.items():
+                wrong = next((role for role in roles if role not in ROLES.get(kind, ())), None)
+                if kind not in ROLES or wrong is not None:
+                    known = ", ".join(f"{kind}.{role}" for kind in ROLES for role in ROLES[kind])
+                    raise Refused(f"{option} {kind}{f'.{wrong}' if wrong else ''}: there is no such column; they are "
+                                  f"{known}")
+        for kind, units in self.units.items():
+            for role, unit in units.items():
+                if reason := unit_fault(role, unit):
+                    raise Refused(f"--unit {kind}.{role}={unit}: {reason}")
+
+    def stated(self, kind: str) -> Stated:
+        """Returns what is stated of the columns of a file."""
+        return Stated(self.columns.get(kind, {}), self.units.get(kind, {}), self.names.get(kind, {}))
 
     @property
     def ends(self) -> tuple[Day | None, Day | None]:
@@ -136,21 +147,25 @@ def missing_of(counts: Mapping[str, Any], answered: int) -> list[str]:
 
 def read_catalogue(demand: str | Path, items: str | Path, orders: str | Path | None = None, *,
                    every: str = "week", columns: Mapping[str, Mapping[str, str]] | None = None,
+                   units: Mapping[str, Mapping[str, str]] | None = None,
+                   names: Mapping[str, Mapping[str, Sequence[str]]] | None = None,
                    start: Day | str | None = None, end: Day | str | None = None, net: bool = False, twice: str = KEEP,
-                   far: str = LEAVE_OUT, least: int = 13, today: Day | None = None, **rules: Any) -> Catalogue:
+                   far: str = LEAVE_OUT, least: int = 13, factors: Mapping[str, int] | None = None,
+                   today: Day | None = None, **rules: Any) -> Catalogue:
     """Reads a catalogue from CSV files, of any size.
 
     `demand` has a row for each movement (item, date, quantity, perhaps returned), `items` one for each item (item,
     setup, holding, backlog or fill, lead, s, S, perhaps description, stock, price and class), `orders` the dates of
     orders (item, ordered, received). `columns` names columns by file and role, as {"demand": {"quantity": "Menge"}};
-    others are found by usual names. Periods are `every` day, week or month. The record is that of the whole file, or
+    others are found by usual names, to which `names` adds. `units` states what a column counts, as {"items": {"lead":
+    "day"}}; else its heading does. Periods are `every` day, week or month. The record is that of the whole file, or
     from `start` to `end`; rows after `today` are rejected. With `net` quantities below 0 are taken off their period.
     Rows that stand `twice` and items with amounts `far` above all others are kept or left out ("keep", "leave-out"). An
-    item needs a history of `least` periods. Further words are `delimiter`, `encoding`, `decimal` and `date_formats`.
+    item needs a history of `least` periods. `factors` says how many items one of a unit of measure is. Further words are `delimiter`, `encoding`, `decimal` and `date_formats`.
 
     Raises Refused and RefusedFaults for files that can't be read. Rows and items with faults are in `rejects`.
     """
-    words = Words(every, columns or {}, Rules(**rules), start, end, Ways(net, twice, far, least),
+    words = Words(every, columns or {}, units or {}, names or {}, Rules(**rules), start, end, Ways(net, twice, far, least, factors or {}),
                   today or datetime.date.today())
     room = tempfile.TemporaryDirectory(prefix="crnplan-")
     path = read_into(Path(room.name), {"demand": demand, "items": items, "orders": orders}, words)
@@ -174,7 +189,7 @@ def open_sources(paths: Mapping[str, str | Path | None], words: Words) -> dict[s
     for kind, path in paths.items():
         try:
             if path is not None:
-                sources[kind] = open_source(kind, path, words.rules, words.columns.get(kind, {}), words.every)
+                sources[kind] = open_source(kind, path, words.rules, words.stated(kind), words.every)
         except RefusedFaults as refused:
             faults += refused.faults
     if faults:
@@ -209,7 +224,8 @@ def read_into(folder: Path, paths: Mapping[str, str | Path | None], words: Words
         for part in split.parts:
             reader.read_part(part)
         facts = {"counts": counts_of(sources, split, reader), "every": words.every, "decimals": reader.counts.decimals,
-                 "periods": [record.periods.start, record.periods.stop], "found": found_text(sources, split, record)}
+                 "periods": [record.periods.start, record.periods.stop], "found": found_text(sources, split, record),
+                 "said": [line for source in sources.values() for line in source.said(words.every)]}
         path = writer.finish(facts)
     return path
 
@@ -224,13 +240,13 @@ def counts_of(sources: Mapping[str, Source], split: Split, reader: Reader) -> di
     return {"files": files, "items": items}
 
 
-def kinds_of(words: Sequence[str]) -> dict[str, dict[str, str]]:
-    """Returns columns by file and role from words such as `demand.quantity=Menge`. Raises Refused."""
+def kinds_of(words: Sequence[str], option: str, example: str) -> dict[str, dict[str, str]]:
+    """Returns texts by file and role from words such as `demand.quantity=Menge`. Raises Refused."""
     columns: dict[str, dict[str, str]] = {}
     for word in words:
         place, sign, name = word.partition("=")
         kind, dot, role = place.strip().partition(".")
         if not (sign and dot and name.strip()):
-            raise Refused(f"--column {word!r} is not FILE.ROLE=NAME, as demand.quantity=Menge")
+            raise Refused(f"{option} {word!r} is not FILE.ROLE={example}")
         columns.setdefault(kind, {})[role] = name.strip()
     return columns

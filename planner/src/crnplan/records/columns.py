@@ -1,147 +1,96 @@
-"""Finds the columns of a catalogue's files: by the names that a planner states, else by usual names in six languages.
+"""Finds the columns of a catalogue's files, and their units: by the names that a planner states, else by usual names.
 
 A name that is found is said as a guess. Two columns that could both be meant are refused, never chosen between.
 """
 from __future__ import annotations
 
 import re
+import tomllib
+import unicodedata
 from collections.abc import Callable, Iterable, Iterator, Mapping, Sequence
-from dataclasses import dataclass
+from dataclasses import dataclass, field
+from pathlib import Path
 
 from ..errors import Fault
+from .units import ROLE_UNITS, is_doubtful, unit_fault
 
-ITEM = ("item", "item number", "item no", "item id", "part", "part number", "part no", "sku", "article number",
-        "material", "material number", "product", "product id", "unique id", "artikel", "artikelnummer", "artikel nr",
-        "artikelnr", "materialnummer", "teil", "teilenummer", "produkt", "article", "référence", "code article",
-        "produit", "artículo", "código", "producto", "articolo", "codice", "codice articolo", "prodotto", "artikelcode")
+NAMES = tomllib.loads(Path(__file__).with_name("headings.toml").read_text("utf-8"))
+# The roles of each file in order, and those that each must have. s and S differ by their case.
+ROLES = {"demand": ["item", "date", "quantity", "returned", "measure"],
+         "items": ["item", "description", "setup", "holding", "backlog", "fill", "lead", "s", "S", "stock", "price", "price_for",
+                   "class", "borrow"],
+         "orders": ["item", "ordered", "received"]}
+NEEDED = {"item", "date", "quantity", "setup", "holding", "s", "S", "ordered", "received"}
+# Letters that are no letter with an accent.
+LETTERS = str.maketrans({"ł": "l", "ø": "o", "æ": "ae"})
+UNITS = {word: unit for unit, words in NAMES["units"].items() for word in words}
+BESIDE = {*NAMES["beside"]["words"]}
+IMPLIED = {name: unit for unit, names in NAMES["implied"].items() for name in names}
 
 
 @dataclass(frozen=True)
-class Role:
-    """What a column is for, whether it must be there, and its usual names in plain form (see `plain_name`)."""
+class Stated:
+    """What a planner states of a file's columns: the name and the unit of some roles, and more usual names of roles."""
 
-    name: str
-    needed: bool
-    names: tuple[str, ...]
-
-
-# Words of headings that name a unit of time, and how the numbers of a role are counted.
-UNITS = {"day": ("day", "days", "daily", "tag", "tage", "tagen", "täglich", "jour", "jours", "día", "días", "giorno",
-                 "giorni", "dag", "dagen", "dni"),
-         "week": ("week", "weeks", "weekly", "woche", "wochen", "wöchentlich", "semaine", "semaines", "semana", "semanas",
-                  "settimana", "settimane", "weken"),
-         "month": ("month", "months", "monthly", "monat", "monate", "monaten", "monatlich", "mois", "mes", "meses",
-                   "mese", "mesi", "maand", "maanden"),
-         "year": ("year", "years", "annual", "yearly", "jahr", "jahre", "jährlich", "pa", "an", "année", "annuel", "año",
-                  "años", "anual", "anno", "anni", "annuo", "jaar")}
-COUNTED = {"lead": "in {every}s", "holding": "for one item and {every}", "backlog": "for one item and {every}",
-           "setup": "for one order", "price": "for one item", "s": "in items", "S": "in items", "stock": "in items"}
-
-# The files of a catalogue, with the roles of their columns. The names s and S differ by their case.
-FILES: dict[str, tuple[Role, ...]] = {
-    "demand": (
-        Role("item", True, ITEM),
-        Role("date", True, ("date", "day", "ds", "posting date", "movement date", "datum", "tag", "buchungstag",
-                            "buchungsdatum", "belegdatum", "jour", "fecha", "día", "data", "giorno", "boekingsdatum")),
-        Role("quantity", True, ("quantity", "qty", "demand", "amount", "units", "sold", "sales", "y", "usage", "issued",
-                                "menge", "bedarf", "anzahl", "verbrauch", "abgang", "quantité", "qté", "demande",
-                                "ventes", "cantidad", "demanda", "unidades", "ventas", "quantità", "domanda",
-                                "vendite", "hoeveelheid", "aantal", "verbruik")),
-        Role("returned", False, ("returned", "returns", "customer returns", "retoure", "retouren", "rücklieferung",
-                                 "retours", "retourné", "devuelto", "devoluciones", "resi", "reso", "geretourneerd"))),
-    "items": (
-        Role("item", True, ITEM),
-        Role("description", False, ("description", "name", "text", "bezeichnung", "beschreibung", "benennung",
-                                    "désignation", "libellé", "descripción", "nombre", "descrizione", "omschrijving")),
-        Role("setup", True, ("setup", "setup cost", "order cost", "ordering cost", "cost per order", "fixed cost",
-                             "bestellkosten", "bestellfixkosten", "rüstkosten", "coût de commande",
-                             "coût de passation", "coste de pedido", "costo de pedido", "costo di ordinazione",
-                             "costo ordine", "bestelkosten")),
-        Role("holding", True, ("holding", "holding cost", "carrying cost", "storage cost", "lagerkosten",
-                               "lagerhaltungskosten", "coût de possession", "coût de stockage",
-                               "coste de almacenamiento", "costo de almacenamiento", "costo di mantenimento",
-                               "voorraadkosten")),
-        Role("backlog", False, ("backlog", "backlog cost", "backorder cost", "shortage cost", "stockout cost",
-                                "penalty", "fehlmengenkosten", "coût de rupture", "coste de rotura",
-                                "costo de faltante", "costo di rottura", "tekortkosten")),
-        Role("fill", False, ("fill", "fill rate", "wanted fill rate", "target fill rate", "service level",
-                             "servicegrad", "lieferbereitschaftsgrad", "taux de service", "nivel de servicio",
-                             "livello di servizio", "servicegraad")),
-        Role("lead", False, ("lead", "lead time", "lead times", "lieferzeit",
-                             "wiederbeschaffungszeit", "délai de livraison", "délai", "plazo de entrega",
-                             "tempo di consegna", "levertijd")),
-        Role("s", True, ("s", "reorder point", "reorder level", "rop", "bestellpunkt", "meldebestand",
-                         "point de commande", "punto de pedido", "punto di riordino", "bestelpunt")),
-        Role("S", True, ("S", "order up to", "order up to level", "max stock", "maximum stock", "höchstbestand",
-                         "maximalbestand", "niveau de recomplètement", "stock maximum", "stock máximo",
-                         "scorta massima", "maximumvoorraad")),
-        Role("stock", False, ("stock", "on hand", "stock on hand", "inventory", "bestand", "lagerbestand",
-                              "existencias", "giacenza", "voorraad")),
-        Role("price", False, ("price", "unit value", "unit cost", "item cost", "value", "preis", "stückpreis",
-                              "stückwert", "prix", "coût unitaire", "precio", "prezzo", "prijs")),
-        Role("class", False, ("class", "abc", "abc class", "category", "group", "klasse", "abc klasse", "kategorie",
-                              "warengruppe", "classe", "catégorie", "clase", "categoría", "categoria")),
-        Role("borrow", False, ("borrow", "borrow from"))),
-    "orders": (
-        Role("item", True, ITEM),
-        Role("ordered", True, ("ordered", "order date", "ordered on", "placed", "bestellt", "bestellt am",
-                               "bestelldatum", "commandé", "commandé le", "date de commande", "fecha de pedido",
-                               "pedido", "ordinato", "data ordine", "besteld")),
-        Role("received", True, ("received", "received on", "receipt date", "delivered", "delivery date", "geliefert",
-                                "geliefert am", "wareneingang", "lieferdatum", "reçu", "reçu le", "livré",
-                                "date de réception", "recibido", "fecha de recepción", "ricevuto",
-                                "data ricevimento", "ontvangen", "geleverd"))),
-}
-ROLES = {kind: [role.name for role in roles] for kind, roles in FILES.items()}
+    columns: Mapping[str, str] = field(default_factory=dict)
+    units: Mapping[str, str] = field(default_factory=dict)
+    names: Mapping[str, Sequence[str]] = field(default_factory=dict)
 
 
 @dataclass(frozen=True)
 class Column:
-    """A column of a file: its name in the heading, its place from 0, and whether it was found by its name alone."""
+    """A column of a file: its name in the heading, its place from 0, whether it was found by its name alone, and its
+    unit, empty if that is the one of its role."""
 
     name: str
     place: int
     is_guess: bool
+    unit: str = ""
 
 
 def plain_name(name: str) -> str:
-    """Returns the words of a name in lower case, without signs; s and S stay as they are."""
-    words: list[str] = re.findall(r"[^\W_]+", name)
-    return words[0] if words in (["s"], ["S"]) else " ".join(words).casefold()
+    """Returns the words of a name in lower case, without signs and accents; s and S stay as they are."""
+    words: list[str] = re.findall(r"[^\W_]+|%", re.sub("/ *(?=[0-9])", " per ", name))
+    letters = unicodedata.normalize("NFKD", " ".join(words).casefold().translate(LETTERS))
+    plain = "".join(it for it in letters if not unicodedata.combining(it))
+    return words[0] + plain[1:] if words[:1] in (["s"], ["S"]) else plain
 
 
-def role_of(kind: str) -> Callable[[str], str | None]:
+def names_of(kind: str, stated: Stated) -> dict[str, set[str]]:
+    """Returns the usual names of each role of a file."""
+    return {role: {*NAMES["all" if role == "item" else kind][role], *map(plain_name, stated.names.get(role, ()))}
+            for role in ROLES[kind]}
+
+
+def role_of(kind: str, stated: Stated) -> Callable[[str], str | None]:
     """Returns the function that gives the role of a cell if that is a usual name of a column, by which the heading of a
     file is found."""
-    known = {name: role.name for role in FILES[kind] for name in role.names}
-    return lambda cell: known.get(plain_name(cell))
+    known = {name: role for role, names in names_of(kind, stated).items() for name in names}
+    return lambda cell: known.get(plain_name(cell)) or known.get(bare_name(plain_name(cell))[0])
 
 
-def unit_fault(role: str, heading: str, every: str) -> str | None:
-    """Returns what is wrong with a column whose heading names a unit in which its role is not counted."""
-    words = re.findall(r"[^\W_]+", heading.casefold())
-    for unit, names in (*UNITS.items(), ("100", ())) if role in COUNTED else ():
-        word = next((it for it in words if it in names or unit == "100" and it.isdecimal() and int(it) > 1), None)
-        if word is not None and unit != every:
-            return (f"the column {heading!r} says {word!r}, and the {role} is {COUNTED[role].format(every=every)}; convert "
-                    "its numbers, and leave the word out of the heading")
-    return None
+def is_number(words: Sequence[str], place: int) -> bool:
+    """Returns whether a word of a name is a number of items, as in `per 100` and `pack of 12`, and no year."""
+    if place == 0 or not words[place].isdecimal() or not words[place].isascii():
+        return False
+    is_beside = words[place - 1] in BESIDE or UNITS.get(words[place - 1]) == "pack"
+    return is_beside and int(words[place]) > 1 and not 1900 <= int(words[place]) <= 2200
 
 
-def _fits(role: Role, heading: Sequence[str], free: Sequence[int]) -> list[int]:
-    """Returns the places of the columns that may have a role: those with its very name, else those that begin so."""
-    exact = [place for place in free if plain_name(heading[place]) in role.names]
-    return exact or [place for place in free if any(
-        len(name) > 1 and plain_name(heading[place]).startswith(f"{name} ") for name in role.names)]
+def bare_name(name: str) -> tuple[str, str]:
+    """Returns a plain name without the words of its unit, and the unit; the empty text if it names none.
 
-
-def _stated(kind: str, stated: Mapping[str, str], heading: Sequence[str]) -> Iterator[tuple[str, Column | str]]:
-    """Yields the column of each role that is stated, or what is wrong with it."""
-    for role, name in stated.items():
-        found = [place for place, cell in enumerate(heading) if cell == name]
-        how_many = "no column" if not found else "more than one column"
-        yield role, Column(name, found[0], False) if len(found) == 1 else (
-            f"there is {how_many} {name!r}, which is stated as {kind}.{role}; the columns are: {_listed(heading)}")
+    A unit is one of those in headings.toml, or a number of items.
+    """
+    words = name.split()
+    units = [UNITS.get(word, word if is_number(words, place) else "") for place, word in enumerate(words)]
+    if not any(units[1:]) and (len(words) < 2 or not units[0]):
+        return name, IMPLIED.get(name, "")
+    bare = " ".join(word for word, unit in zip(words, units) if not unit and word not in BESIDE)
+    kinds = [*dict.fromkeys(filter(None, units))]
+    number = next((it for it in kinds if it.isdecimal()), None)
+    share = next((it for it in kinds if it in ("share", "percent")), None)
+    return bare, number or share or next((it for it in kinds if it != "item"), kinds[0])
 
 
 def _listed(heading: Sequence[str]) -> str:
@@ -149,35 +98,78 @@ def _listed(heading: Sequence[str]) -> str:
     return ", ".join(filter(None, heading)) or "none"
 
 
-def columns_of(kind: str, heading: Sequence[str], stated: Mapping[str, str],
-               every: str) -> tuple[dict[str, Column], list[str]]:
-    """Returns the column of each role that a heading has, and what is wrong.
+class Finder:
+    """Finds the columns of a file in its heading."""
 
-    Names are compared whole first, for all roles, so that no column with the very name of one role goes to another one.
-    """
-    found: dict[str, Column] = {}
-    wrong = []
-    for name, its in _stated(kind, stated, heading):
-        if isinstance(its, str):
-            wrong.append(its)
+    def __init__(self, kind: str, heading: Sequence[str], stated: Stated, every: str) -> None:
+        """Takes the heading, and what is stated of it."""
+        self.kind, self.heading, self.stated, self.every = kind, heading, stated, every
+        self.names = names_of(kind, stated)
+        self.plain = [plain_name(cell) for cell in heading]
+        self.found: dict[str, Column] = {}
+        self.wrong: list[str] = []
+
+    def find(self) -> tuple[dict[str, Column], list[str]]:
+        """Returns the column of each role that the heading has, and what is wrong.
+
+        Names are compared whole first, for all roles, so that no column with the very name of one role goes to another
+        one.
+        """
+        for role, name in self.stated.columns.items():
+            self._take(role, [place for place, cell in enumerate(self.heading) if cell == name], name)
+        for role in (it for it in ROLES[self.kind] if it not in self.stated.columns):
+            places = self._places(role)
+            if len(places) > 1:
+                both = " and ".join(repr(self.heading[it]) for it in places)
+                self.wrong.append(f"the columns {both} may both be the {role}; say --column {self.kind}.{role}=NAME")
+            elif places:
+                self._add(role, places[0], True)
+            elif role in NEEDED:
+                self.wrong.append(f"no column looks like the {role}; say --column {self.kind}.{role}=NAME; the columns are: "
+                                  f"{_listed(self.heading)}")
+        return self.found, self.wrong
+
+    def _take(self, role: str, places: Sequence[int], name: str) -> None:
+        """Takes the column that is stated for a role."""
+        if len(places) == 1:
+            self._add(role, places[0], False)
         else:
-            found[name] = its
-    known = {it for role in FILES[kind] for it in role.names}
-    for role in (it for it in FILES[kind] if it.name not in stated):
-        taken = {it.place for it in found.values()}
-        others = {place for place, cell in enumerate(heading)
-                  if plain_name(cell) in known and plain_name(cell) not in role.names}
-        places = _fits(role, heading, [it for it in range(len(heading)) if it not in taken | others])
-        if len(places) > 1:
-            both = " and ".join(repr(heading[it]) for it in places)
-            wrong.append(f"the columns {both} may both be the {role.name}; say --column {kind}.{role.name}=NAME")
-        elif places:
-            found[role.name] = Column(heading[places[0]], places[0], True)
-        elif role.needed:
-            wrong.append(f"no column looks like the {role.name}; say --column {kind}.{role.name}=NAME; the columns "
-                         f"are: {_listed(heading)}")
-    wrong += filter(None, (unit_fault(role, its.name, every) for role, its in found.items()))
-    return found, wrong
+            how_many = "more than one column" if places else "no column"
+            self.wrong.append(f"there is {how_many} {name!r}, which is stated as {self.kind}.{role}; the columns are: "
+                              f"{_listed(self.heading)}")
+
+    def _places(self, role: str) -> list[int]:
+        """Returns the places of the columns that may have a role: those with its very name, else those with its name and a
+        unit, else those that begin so."""
+        taken = {it.place for it in self.found.values()}
+        known = {name for other, names in self.names.items() if other != role for name in names} - self.names[role]
+        free = [place for place, name in enumerate(self.plain) if place not in taken and name not in known]
+        exact = [place for place in free if self.plain[place] in self.names[role]]
+        bare = [place for place in free if role in ROLE_UNITS and bare_name(self.plain[place])[0] in self.names[role]]
+        return exact or bare or [place for place in free if bare_name(self.plain[place])[0] not in known and any(
+            len(name) > 1 and self.plain[place].startswith(f"{name} ") for name in self.names[role])]
+
+    def _add(self, role: str, place: int, is_guess: bool) -> None:
+        """Adds the column of a role with its unit: the stated one, else that of its heading."""
+        heading = self.heading[place]
+        unit, stated = bare_name(self.plain[place])[1] if role in ROLE_UNITS else "", self.stated.units.get(role)
+        if self.plain[place] in self.names.get(role, ()) and self.plain[place] not in IMPLIED:
+            unit = ""
+        unit = stated or unit
+        reason = unit_fault(role, unit) if unit else None
+        if reason:
+            origin = "is stated" if stated else f"is the unit in the heading {heading!r}"
+            self.wrong.append(f"{unit!r} {origin}, and {reason}; say --unit {self.kind}.{role}=UNIT, or convert its numbers")
+        if is_doubtful(role, unit, self.every):
+            self.wrong.append(f"the column {heading!r} names no unit, and may count {self.every}s or weeks; say --unit "
+                              f"{self.kind}.{role}={self.every} or --unit {self.kind}.{role}=week")
+        own = {"item", "period", "order", self.every, *["share"] * (role == "fill")}
+        self.found[role] = Column(heading, place, is_guess, "" if unit in own else unit)
+
+
+def columns_of(kind: str, heading: Sequence[str], stated: Stated, every: str) -> tuple[dict[str, Column], list[str]]:
+    """Returns the column of each role that a heading has, and what is wrong: see `Finder`."""
+    return Finder(kind, heading, stated, every).find()
 
 
 def column_faults(name: str, line: int, wrong: Iterable[str]) -> list[Fault]:

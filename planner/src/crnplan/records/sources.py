@@ -8,9 +8,11 @@ from dataclasses import dataclass
 from pathlib import Path
 
 from ..errors import Fault, Refused, RefusedFaults
-from .cells import DELIMITERS, Rules, decoded, delimiter_of, encoding_of, heading_of, raw_rows, rows_of_lines, sample
+from .cells import (DELIMITERS, Rules, decoded, delimiter_of, encoding_of, heading_of, raw_rows, rows_of_lines,
+                             sample)
 from .faults import shown
-from .columns import Column, column_faults, columns_of, role_of
+from .columns import Column, Stated, column_faults, columns_of, role_of
+from .units import said
 
 HEAD_BYTES = 1_000_000
 SHOWN_ROWS = 3
@@ -39,6 +41,12 @@ class Source:
     def size(self) -> int:
         """Returns its size in bytes."""
         return self.path.stat().st_size
+
+    def said(self, every: str) -> Iterator[str]:
+        """Yields how the columns are converted whose unit is not that of their role."""
+        for role, column in self.columns.items():
+            if column.unit:
+                yield f"{self.name}: column {column.name!r}: {said(role, column.unit, every)}"
 
     def rows(self) -> Iterator[tuple[int, list[str]]]:
         """Yields the line in which each row below the heading begins, and its cells.
@@ -84,19 +92,19 @@ def _head_of(path: Path, rules: Rules) -> tuple[str, str]:
     return encoding, text
 
 
-def open_source(kind: str, path: str | Path, rules: Rules, stated: Mapping[str, str], every: str) -> Source:
+def open_source(kind: str, path: str | Path, rules: Rules, stated: Stated, every: str) -> Source:
     """Looks at the head of a file: its encoding, delimiter, heading and columns, and its first rows.
 
-    `stated` are the names of columns by role. Raises Refused if it can't be read, and RefusedFaults with all that is
+    `stated` is what is known of its columns. Raises Refused if it can't be read, and RefusedFaults with all that is
     wrong with its columns.
     """
     path = Path(path)
     encoding, text = _head_of(path, rules)
     name = str(path)
-    names = [*stated.values()]
-    delimiter = DELIMITERS[rules.delimiter] if rules.delimiter else delimiter_of(name, text, names, role_of(kind))
+    names = [*stated.columns.values()]
+    delimiter = DELIMITERS[rules.delimiter] if rules.delimiter else delimiter_of(name, text, names, role_of(kind, stated))
     rows = sample(text, delimiter)
-    place = heading_of(rows, names, role_of(kind))
+    place = heading_of(rows, names, role_of(kind, stated))
     lines = [line for line, _ in itertools.islice(raw_rows(name, text, delimiter), place + 1)]
     if not rows:
         raise RefusedFaults([Fault("there is no row below the heading; export the file again, with its rows", name, 1)])

@@ -15,13 +15,13 @@ from .amounts import AmountReader
 from .dates import DateReader, period_of
 from .faults import Unreadable, named_lines, on_one_line, shown
 from .suspicions import MOST_FAR, TIMES_NEXT, TOTAL
-from .catalogue_amounts import checked_lead
 from .columns import ROLES
-from .masters import Faulty, Master, master_of
+from .masters import AMOUNTS, Faulty, Master, Masters, checked_lead
 from .span import Record
 from .sources import Source
 from .splitting import MOST_KEPT, rows_of_part
 from .store import Reject, Writer, with_advice
+from .units import factor_of
 
 # An amount is far above all others of its item if it is TIMES_NEXT times the next largest; if it has fewer others than
 # LEAST_OTHERS, so many times.
@@ -34,12 +34,13 @@ KINDS = {kind[0]: kind for kind in ROLES}
 @dataclass(frozen=True)
 class Ways:
     """How rows are taken: `net` takes amounts below 0 off their period, `twice` and `far` are keep or leave-out, and an
-    item needs a history of `least` periods."""
+    item needs a history of `least` periods. A row in a unit of measure counts so many items as `factors` says."""
 
     net: bool = False
     twice: str = KEEP
     far: str = LEAVE_OUT
     least: int = 13
+    factors: Mapping[str, int] = field(default_factory=dict)
 
 
 class Move(NamedTuple):
@@ -91,6 +92,8 @@ class Part:
     leads: defaultdict[str, list[int]] = field(default_factory=lambda: defaultdict(list))
     orders: Counter[str] = field(default_factory=Counter)
     names: dict[str, None] = field(default_factory=dict)
+    # The units of measure of the demand of each item, with the line in which each comes first.
+    measures: defaultdict[str, dict[str, str]] = field(default_factory=lambda: defaultdict(dict))
     twins: dict[tuple[str, str], str] = field(default_factory=dict)
 
 
@@ -138,6 +141,9 @@ class Reader:
         """Takes how dates and amounts are read, and the ways of taking rows."""
         self.sources, self.dates, self.amounts, self.record, self.writer = sources, dates, amounts, record, writer
         self.ways = ways
+        self.masters = Masters(amounts, sources["items"].columns, record.every)
+        self.factors = {role: int(factor_of(role, column.unit, record.every)) if column.unit else 1
+                        for role, column in sources["demand"].columns.items() if role in AMOUNTS["demand"]}
         self.counts = Counts()
         # The values of texts that were read before, by file and role.
         self.known: defaultdict[tuple[str, str], dict[str, int]] = defaultdict(dict)
@@ -156,7 +162,7 @@ class Reader:
                 return (role == "date" and self.record.outside(day)) or period_of(day, self.record.every)
             if role == "returned" and not text:
                 return 0
-            number = self.amounts[role].whole(text)
+            number = self.amounts[role].whole(text) * self.factors[role]
             if number < 0 and (role == "returned" or not self.ways.net):
                 return f"{shown(text)!r} is negative; correct it, or say --net to take it off its {self.record.every}"
             return number
@@ -201,12 +207,16 @@ class Reader:
             if letter != "d":
                 self._other(PartRow.of(letter, line, twin, name, cells), part)
                 continue
+            part.measures[name].setdefault(cells[3], line)
             # Most texts are known, and no row is built for them.
             period, quantity, returned = days.get(cells[0]), asked.get(cells[1]), back.get(cells[2])
             if period is None or quantity is None or returned is None:
                 move = self._move(PartRow.of(letter, line, twin, name, cells))
             else:
                 move = Move(int(line), period, quantity, returned)
+            factor = self.ways.factors.get(cells[3], 1) if move else 1
+            if move and factor != 1:
+                move = Move(move.line, move.period, move.quantity * factor, move.back * factor)
             first = part.twins.setdefault((name, twin), line)
             if not move:
                 part.names |= {} if is_total(name, cells[0]) else {name: None}
@@ -274,6 +284,7 @@ class Reader:
             count = {"demand": len(moves), "items": len(masters), "orders": part.orders[name]}
             self.counts.named += 1
             try:
+                self._check_measures(part.measures.get(name, {}))
                 item = self._item(name, moves, masters, part.leads.get(name, []))
             except Left as why:
                 kind, line, column, text = why.place
@@ -317,6 +328,14 @@ class Reader:
                       "rows": len(moves), "line": master.line, "notes": notes}
         return name, facts, shown_only
 
+    def _check_measures(self, measures: Mapping[str, str]) -> None:
+        """Raises Left if the rows of an item are in several units of measure. Each has the line in which it is first."""
+        rest = [it for it in measures if it not in self.ways.factors]
+        if len(rest) > 1:
+            raise Left("demand", int(measures[rest[1]]), self._column("demand", "measure"), rest[1],
+                       f"rows are in {len(rest)} units of measure, {' and '.join(map(repr, rest))}; say how many "
+                       f"{rest[0] or 'of the others'} one is, as --factor {rest[1]}=12")
+
     def _master(self, name: str, rows: Sequence[PartRow], leads: Sequence[int], moves: Sequence[Move]) -> Master:
         """Returns the master of an item that has demand. Raises Left."""
         if not rows:
@@ -328,7 +347,7 @@ class Reader:
             raise Left("items", rows[1].line, self._column("items", "item"), name,
                        f"there are {len(rows)} masters that differ, in {lines}; leave one")
         try:
-            master = master_of(rows[0].line, rows[0].cells, self.amounts, leads)
+            master = self.masters.master(rows[0].line, rows[0].cells, leads)
         except Faulty as why:
             columns, texts, reason, advice = self._said("items", why.faults)
             raise Left("items", rows[0].line, columns, texts, f"{reason}; {advice}") from why

@@ -6,7 +6,7 @@ from collections.abc import Iterator, Mapping
 
 from .amounts import NAMES, AmountReader
 from .faults import Unreadable, on_one_line
-from .columns import FILES
+from .columns import ROLES
 from .masters import AMOUNTS
 from .span import Record
 from .sources import Source
@@ -32,13 +32,13 @@ def _file_lines(source: Source, rows: int, blank: int) -> Iterator[str]:
            + f" and {blank:,} blank ones" * (blank > 0))
     if source.titles:
         yield f"# lines above the heading, passed over: {json.dumps(source.titles, ensure_ascii=False)}"
-    for role in FILES[source.kind]:
-        column = source.columns.get(role.name)
+    for role in ROLES[source.kind]:
+        column = source.columns.get(role)
         if column:
-            said = "  # found by its name" * column.is_guess
-            yield f"{role.name} = {json.dumps(column.name, ensure_ascii=False)}{said}"
+            said = "  # found by its name" * column.is_guess + f"  # in {column.unit}" * bool(column.unit)
+            yield f"{role} = {json.dumps(column.name, ensure_ascii=False)}{said}"
         else:
-            yield f"# no column is the {role.name}"
+            yield f"# no column is the {role}"
     places = {it.place for it in source.columns.values()}
     unused = [name for place, name in enumerate(source.heading) if name and place not in places]
     if unused:
