@@ -65,7 +65,8 @@ def _table_troubles(name: str, table: Any) -> Iterator[Trouble]:
         return
     for place, value in table.items():
         reason = TABLES[name](value) if place in known else _unknown(place, known)
-        reason = reason or name == "units" and unit_fault(place.partition(".")[2], value)
+        if name == "units" and not reason:
+            reason = unit_fault(place.partition(".")[2], value) or ""
         if reason:
             yield ("catalogue", name, place), reason
 

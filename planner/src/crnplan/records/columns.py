@@ -87,10 +87,8 @@ def bare_name(name: str) -> tuple[str, str]:
     if not any(units[1:]) and (len(words) < 2 or not units[0]):
         return name, IMPLIED.get(name, "")
     bare = " ".join(word for word, unit in zip(words, units) if not unit and word not in BESIDE)
-    kinds = [*dict.fromkeys(filter(None, units))]
-    number = next((it for it in kinds if it.isdecimal()), None)
-    share = next((it for it in kinds if it in ("share", "percent")), None)
-    return bare, number or share or next((it for it in kinds if it != "item"), kinds[0])
+    # A number says more than a share, that more than a time, and that more than items.
+    return bare, min(filter(None, units), key=lambda unit: (not unit.isdecimal(), unit not in ("share", "percent"), unit == "item"))
 
 
 def _listed(heading: Sequence[str]) -> str:

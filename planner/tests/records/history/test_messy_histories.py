@@ -16,7 +16,7 @@ from crnplan.decide.keys import Check, check_keys
 from crnplan.scenario import Scenario
 from crnplan.theory.suggestions import suggested_text
 
-from planner.tests.records.messy import CASES, Case
+from planner.tests.records.history.messy import CASES, Case
 from planner.tests.theory.long_run_costs import best_of_all, cost_of, shortfall_of
 
 MOST_ABOVE = 0.01
