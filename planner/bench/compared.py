@@ -17,10 +17,11 @@ import pandas as pd
 
 from crnplan.plan.learning import prior_of
 from crnplan.plan.planning import ALL, Question, Settings, question_of, theory_of
-from crnplan.records.catalogue_reading import Words, check_folder, read_into
-from crnplan.records.store import Catalogued
+from crnplan.records.catalogue_reading import Words, read_alone
+from crnplan.records.store import CATALOGUE, Catalogued
 from crnplan.plan.workers import answers_of, processes
 from crnplan.demand.borrowing import Prior
+from crnplan.files import own_folder
 from crnplan.scenario import Table
 from planner.bench.made import make
 from planner.bench.zheng_federgruen import Floats, Search
@@ -103,10 +104,10 @@ def batches_of(read: Catalogued, prior: Prior) -> Iterator[tuple[list[tuple[str,
 def compare(folder: Path, items: int, jobs: int) -> list[Compared]:
     """Makes a catalogue in a folder, and compares both on all items that can be compared."""
     made, plan = make(folder / "files", items), folder / "plan"
-    check_folder(plan)
-    path = read_into(plan, made.paths, Words())
-    with contextlib.closing(Catalogued(path)) as read, processes(jobs) as workers:
-        prior, *_ = prior_of(plan, read, SETTINGS, False)
+    path = read_alone(plan, made.paths, Words())
+    with (own_folder(plan, CATALOGUE) as own, contextlib.closing(Catalogued(path)) as read,
+          processes(jobs) as workers):
+        prior, *_ = prior_of(own, read, SETTINGS, False)
         return [it for its in answers_of(workers, compared_batch, batches_of(read, prior)) for it in its]
 
 

@@ -20,8 +20,9 @@ from crnplan.curve.exchange import Items
 from crnplan.curve.gathering import CANDIDATES, gather
 from crnplan.pages.report import PAGE
 from crnplan.plan.planned import read_planned
-from crnplan.records.store import ANSWERS, READ, Catalogued
+from crnplan.records.store import ANSWERS, CATALOGUE, READ, Catalogued
 from crnplan.plan.tables import DECISIONS, EXACT
+from crnplan.files import own_folder
 from planner.bench.made import Made
 from planner.bench.page import ARRAYS, FIRST_PASS, LOOP, SENT, TRANSACTIONS, million_table
 from planner.bench.part import FILES, PLAN
@@ -73,7 +74,8 @@ def measured_of(folder: Path) -> Iterator[Measured]:
         yield from bytes_of(plan, items)
         yield from rates_of(plan, read)
     start = time.process_time()
-    gathered = gather(plan, read_planned(plan), 1, None, False)
+    with own_folder(plan, CATALOGUE) as own:
+        gathered = gather(own, read_planned(plan), 1, None, False)
     yield "reading all candidates", 1e6 * (time.process_time() - start) / items, "µs an item"
     yield ARRAYS, array_bytes(gathered.items) / len(gathered.items.names), "bytes an item"
 

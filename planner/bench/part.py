@@ -13,8 +13,9 @@ from pathlib import Path
 import click
 
 from crnplan.plan.planning import Settings
-from crnplan.records.catalogue_reading import Words, check_folder, read_into
-from crnplan.records.store import READ, Catalogued
+from crnplan.records.catalogue_reading import Words, read_alone
+from crnplan.records.store import CATALOGUE, READ, Catalogued
+from crnplan.files import own_folder
 from planner.bench.made import Made
 
 FILES, PLAN = "files", "plan"
@@ -22,21 +23,21 @@ FILES, PLAN = "files", "plan"
 
 def read(folder: Path, jobs: int) -> None:
     """Reads the files."""
-    check_folder(folder / PLAN)
-    read_into(folder / PLAN, Made(folder / FILES).paths, Words())
+    read_alone(folder / PLAN, Made(folder / FILES).paths, Words())
 
 
 def learn(folder: Path, jobs: int) -> None:
     """Learns laws of demand from all items, which the plan then uses."""
     from crnplan.plan.learning import prior_of
-    with contextlib.closing(Catalogued(folder / PLAN / READ)) as its:
-        prior_of(folder / PLAN, its, Settings(), True)
+    with own_folder(folder / PLAN, CATALOGUE) as own, contextlib.closing(Catalogued(own.path / READ)) as its:
+        prior_of(own, its, Settings(), True)
 
 
 def plan(folder: Path, jobs: int) -> None:
     """Plans all items, and writes the tables."""
     from crnplan.plan.running import plan_into
-    plan_into(folder / PLAN, Settings(), jobs=jobs)
+    with own_folder(folder / PLAN, CATALOGUE) as own:
+        plan_into(own, Settings(), jobs=jobs)
 
 
 def curve(folder: Path, jobs: int) -> None:

@@ -13,9 +13,10 @@ from typing import Any
 from crnplan.plan.planned import Planned
 from crnplan.records.catalogue_reading import Words, open_sources
 from crnplan.records.splitting import split_sources
-from crnplan.records.store import Answers, Catalogued, Writer
+from crnplan.records.store import ANSWERS, CATALOGUE, Answers, Catalogued, Writer
 from crnplan.plan.work import BATCH, Work
 from crnplan.plan.workers import Workers, cluster, processes
+from crnplan.files import own_folder
 
 SECONDS = 10
 WORKERS, LEAST_ITEMS = 4, 3_000
@@ -24,7 +25,7 @@ WORKERS, LEAST_ITEMS = 4, 3_000
 def transactions(folder: Path, text: str) -> float:
     """Returns how many transactions a second keep a batch of answers with this text, in a new file of a folder."""
     count, start = 0, time.perf_counter()
-    with tempfile.TemporaryDirectory(dir=folder) as path, contextlib.closing(Answers(Path(path))) as answers:
+    with tempfile.TemporaryDirectory(dir=folder) as path, contextlib.closing(Answers(Path(path) / ANSWERS)) as answers:
         while time.perf_counter() - start < SECONDS:
             answers.keep([(f"P{BATCH * count + it:08}", 32 * "0", text) for it in range(BATCH)])
             count += 1
@@ -34,12 +35,12 @@ def transactions(folder: Path, text: str) -> float:
 def split_seconds(folder: Path, paths: dict[str, str | Path | None]) -> float:
     """Returns the processor seconds of the first pass over the files of a catalogue."""
     sources = open_sources(paths, Words())
-    with tempfile.TemporaryDirectory(dir=folder) as path:
-        writer = Writer(Path(path))
+    with tempfile.TemporaryDirectory(dir=folder) as path, own_folder(Path(path), CATALOGUE) as own:
+        writer = Writer(own)
         with contextlib.closing(writer.base):
             writer.begin()
             start = time.process_time()
-            split_sources(sources, Path(path), writer, (), None)
+            split_sources(sources, own.room(), writer, (), None)
             return time.process_time() - start
 
 
@@ -63,7 +64,7 @@ def loop_rate(folder: Path, read: Catalogued, planned: Planned, text: str,
     items = [name for name, _ in read.facts_of_items()]
     names = {f"{name} {again}": 32 * "0" for again in range(-(-LEAST_ITEMS // len(items)))
              for name in items}
-    with (tempfile.TemporaryDirectory(dir=folder) as path, contextlib.closing(Answers(Path(path))) as answers,
+    with (tempfile.TemporaryDirectory(dir=folder) as path, contextlib.closing(Answers(Path(path) / ANSWERS)) as answers,
           given as workers):
         started = [workers.executor.submit(instant, [], None, None, text) for _ in range(BATCH * WORKERS)]
         assert all(it.result() == [] for it in started)

@@ -24,6 +24,7 @@ from crnplan.curve.exchange import Budget
 from crnplan.curve.gathering import CANDIDATES
 from crnplan.records.store import ANSWERS
 from crnplan.plan.work import BATCH
+from crnplan.files import MARKER
 from planner.tests.catalogue.conftest import FILES, SETTINGS, TABLES, WORDS, leave_few
 from planner.tests.catalogue.made import Made
 from planner.tests.conftest import Command
@@ -231,7 +232,7 @@ def test_no_room_to_read(folder: Path, crnplan: Command, holding: Path, start: S
     _, errors = process.communicate(timeout=60)
     lines = [it for it in errors.decode().splitlines() if it.startswith("crnplan:")]
     assert process.returncode == 2 and len(lines) == 1 and "make room" in lines[0], errors
-    assert [it.name for it in (folder / "plan").iterdir()] == ["lock"]
+    assert [it.name for it in (folder / "plan").iterdir()] == [MARKER]
 
 
 def test_a_worker_that_is_killed(folder: Path, whole: Path, crnplan: Command, holding: Path, start: Start) -> None:

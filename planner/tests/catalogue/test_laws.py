@@ -14,9 +14,10 @@ from crnplan.plan.planning import Settings
 from crnplan.plan import planning
 from crnplan.plan.learning import prior_of
 from crnplan.plan.planning import ALL, CLASS, NONE, allowed_by, answer_of, question_of
-from crnplan.records.store import Catalogued, Writer
+from crnplan.records.store import CATALOGUE as FOLDER, Catalogued, Writer
 from crnplan.plan.tables import row_of
 from crnplan.demand.borrowing import Prior, law_of
+from crnplan.files import own_folder
 from crnplan.theory.long_run import NO_POLICY
 from planner.tests.theory.long_run_costs import fills_of, shortfall_of
 
@@ -49,10 +50,12 @@ def prior() -> Prior:
 def read(tmp_path: Path, request: pytest.FixtureRequest) -> Iterator[Catalogued]:
     """Returns a catalogue of so many items, the masters of some of which say from whom they learn."""
     count, said = request.param
-    writer = Writer(tmp_path)
-    writer.begin()
-    writer.add_items((name, {**its, "borrow": said.get(name, "")}, {}) for name, its in [*CATALOGUE.items()][:count])
-    found = Catalogued(writer.finish({}))
+    with own_folder(tmp_path / "read", FOLDER) as folder:
+        writer = Writer(folder)
+        writer.begin()
+        writer.add_items((name, {**its, "borrow": said.get(name, "")}, {})
+                         for name, its in [*CATALOGUE.items()][:count])
+        found = Catalogued(writer.finish({}))
     yield found
     found.close()
 
@@ -112,7 +115,8 @@ def test_an_item_may_learn_from_no_other(prior: Prior, usual: str, said: str) ->
     ((40, {"I-001": "all"}), None, ALL, NONE)], indirect=["read"])
 def test_what_is_learned(read: Catalogued, tmp_path: Path, asked: str | None, learned: str, usual: str) -> None:
     """Learns by default from 100 items, and on request of the command or of a master; says which items differ."""
-    prior, found, note = prior_of(tmp_path, read, Settings(borrow=asked), False)
+    with own_folder(tmp_path / "plan", FOLDER) as folder:
+        prior, found, note = prior_of(folder, read, Settings(borrow=asked), False)
     assert (prior.borrow, found) == (learned, usual)
     differs = any(json.loads(facts)["borrow"] not in ("", usual) for _, facts in read.facts_of_items())
     assert ("the masters say otherwise for 1 items (borrow)" in note) == (differs and learned != NONE)
@@ -122,8 +126,9 @@ def test_what_is_learned(read: Catalogued, tmp_path: Path, asked: str | None, le
 @pytest.mark.parametrize("read", [(20, {"I-001": "all"})], indirect=True)
 def test_few_items_teach_nothing(read: Catalogued, tmp_path: Path) -> None:
     """Refuses to learn from 20 items."""
-    with pytest.raises(crn.Refused, match="there are 20 items to learn from"):
-        prior_of(tmp_path, read, Settings(), False)
+    with (own_folder(tmp_path / "plan", FOLDER) as folder,
+          pytest.raises(crn.Refused, match="there are 20 items to learn from")):
+        prior_of(folder, read, Settings(), False)
 
 
 def kept_under(name: str, facts: Facts, settings: Settings, prior: Prior, levels: list[int]) -> float:

@@ -11,8 +11,9 @@ import pytest
 
 from crnplan.records.catalogue_reading import Catalogue, read_catalogue
 from crnplan.records.staging import Reader, far_above
-from crnplan.records.catalogue_reading import Words, read_into
+from crnplan.records.catalogue_reading import Words, read_alone
 from crnplan.errors import Refused, RefusedFaults
+from crnplan.files import MARKER
 from crnplan.records.dates import period_of
 from planner.tests.catalogue.audit import Audit, audit
 from planner.tests.catalogue.conftest import FILES
@@ -139,10 +140,10 @@ def test_what_was_found_is_stated(catalogue: Catalogue, files: Path) -> None:
 def test_parts_change_nothing(files: Path, catalogue: Catalogue, part_bytes: int, tmp_path: Path) -> None:
     """Reads the same from many parts as from one, and leaves no part behind."""
     paths = dict(zip(("demand", "items", "orders"), (files / it for it in FILES)))
-    again = Catalogue(read_into(tmp_path, paths, Words(today=TODAY, part_bytes=part_bytes)))
+    again = Catalogue(read_alone(tmp_path, paths, Words(today=TODAY, part_bytes=part_bytes)))
     assert again.counts == catalogue.counts and items_of(again) == items_of(catalogue)
     assert [*again.rejects.itertuples()] == [*catalogue.rejects.itertuples()]
-    assert [it.name for it in again.path.parent.iterdir()] == [again.path.name]
+    assert {it.name for it in again.path.parent.iterdir()} == {again.path.name, MARKER}
 
 
 def test_a_lost_row_is_said(files: Path, monkeypatch: pytest.MonkeyPatch) -> None:

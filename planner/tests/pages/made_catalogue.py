@@ -12,9 +12,10 @@ from crnplan.curve.exchange_curve import COLUMNS as CURVE_COLUMNS
 from crnplan.curve.exchange_curve import CURVE, LEFT_OUT, spelt_row
 from crnplan.plan.planned import Planned, keep_planned
 from crnplan.plan.planning import CHEAPER, DEARER, SAME, SERVICE, UNDECIDED, Settings
-from crnplan.records.store import Answers, Reject, Writer
-from crnplan.plan.tables import COLUMNS, DECISIONS, EXACT, EXACT_COLUMNS, REJECTS, reject_rows, spelt, write_rows
+from crnplan.records.store import ANSWERS, CATALOGUE, Answers, Reject, Writer
+from crnplan.plan.tables import COLUMNS, DECISIONS, EXACT, EXACT_COLUMNS, REJECTS, reject_rows, spelt
 from crnplan.demand.borrowing import Prior
+from crnplan.files import Folder, own_folder
 
 DECIMALS = 2
 # The quantile of Student's t at 95% with 23 degrees of freedom (24 replications), from a published table.
@@ -32,22 +33,27 @@ def made_folder(path: Path, items: int, names: Sequence[str] = (), has_curve: bo
     The first items are called as `names` say, the others P00000 and so on. One item in twelve more is left out. Figures
     follow from the number of items alone. `has_curve` adds the files of `crnplan curve`.
     """
-    path.mkdir(parents=True, exist_ok=True)
+    with own_folder(path, CATALOGUE) as folder:
+        _make(folder, items, names, has_curve)
+    return path
+
+
+def _make(folder: Folder, items: int, names: Sequence[str], has_curve: bool) -> None:
+    """Makes the files of a folder."""
     source = random.Random(items)
     called = [*names, *(f"P{number:05}" for number in range(len(names), items))]
     rows = [made_row(source, name) for name in sorted(called[:items])]
-    write_rows(path / DECISIONS, COLUMNS, ([spelt(name, row.get(name), DECIMALS) for name in COLUMNS] for row in rows))
-    write_rows(path / EXACT, EXACT_COLUMNS, ([row.get(name, "") for name in EXACT_COLUMNS] for row in rows))
+    folder.write_rows(DECISIONS, COLUMNS, ([spelt(name, row.get(name), DECIMALS) for name in COLUMNS] for row in rows))
+    folder.write_rows(EXACT, EXACT_COLUMNS, ([row.get(name, "") for name in EXACT_COLUMNS] for row in rows))
     rejects = made_rejects(source, items)
-    write_rows(path / REJECTS, Reject._fields, reject_rows(rejects))
-    Answers(path).close()
-    keep_planned(path, Planned(Settings(), Prior("none"), "made"))
-    writer = Writer(path)
+    folder.write_rows(REJECTS, Reject._fields, reject_rows(rejects))
+    Answers(folder.store(ANSWERS)).close()
+    keep_planned(folder, Planned(Settings(), Prior("none"), "made"))
+    writer = Writer(folder)
     writer.begin()
     writer.finish({"counts": made_counts(items, rejects), "every": "week", "decimals": DECIMALS})
     if has_curve:
-        make_curve(path, rows)
-    return path
+        make_curve(folder, rows)
 
 
 def made_row(source: random.Random, name: str) -> Row:
@@ -112,7 +118,7 @@ def made_counts(items: int, rejects: Sequence[Reject]) -> dict[str, Any]:
                       "open_orders": 0, "late": 0}}
 
 
-def make_curve(path: Path, rows: Sequence[Row]) -> None:
+def make_curve(folder: Folder, rows: Sequence[Row]) -> None:
     """Writes the files of an exchange curve: today's point and the chosen one as the rows have them, others beside."""
     priced = [row for row in rows if row["value_today"] is not None]
     values = {it: sum(row[f"value_{it}"] for row in priced) for it in ("today", "chosen")}
@@ -127,7 +133,7 @@ def make_curve(path: Path, rows: Sequence[Row]) -> None:
               ("same service", None, 0.4 * values["today"], best(0.4 * values["today"]), 203.0, 900.0, 0.0)]
     curve = [("curve", 1.5**step, most * step / 12, best(most * step / 12), 210.0, 1000.0 + step, 0.0)
              for step in range(1, 30)]
-    write_rows(path / CURVE, CURVE_COLUMNS, (spelt_row(CURVE_COLUMNS, row, DECIMALS) for row in [*points, *curve]))
-    write_rows(path / LEFT_OUT, ("item", "reason", "advice"),
-               ([row["item"], "it has no price above 0", "give it a price"] for row in rows
-                if row["value_today"] is None))
+    folder.write_rows(CURVE, CURVE_COLUMNS, (spelt_row(CURVE_COLUMNS, row, DECIMALS) for row in [*points, *curve]))
+    folder.write_rows(LEFT_OUT, ("item", "reason", "advice"),
+                      ([row["item"], "it has no price above 0", "give it a price"] for row in rows
+                       if row["value_today"] is None))

@@ -25,7 +25,8 @@ from crnplan.pages import report as catalogue_page
 from crnplan.plan import planning
 from crnplan.pages.item_files import file_of
 from crnplan.pages.report import NO_CURVE, OLD_CURVE
-from crnplan.records.store import READ, Writer
+from crnplan.records.store import CATALOGUE, READ, Writer
+from crnplan.files import own_folder
 from crnplan.pages.catalogue_figures import Totals, price_of, reasons_of
 from crnplan.pages.catalogue_page import CHEAPER, COLUMNS, DEARER, LARGE, SERVICE, clipped
 from planner.tests.catalogue.conftest import FILES, SETTINGS, leave_few
@@ -414,10 +415,11 @@ def test_refusals(folder: Path, tmp_path: Path, crnplan: Command) -> None:
 def test_plan_of_other_rows_is_refused(folder: Path) -> None:
     """If the rows were read again and have changed, the tables are those of an earlier plan."""
     (folder / READ).unlink()
-    writer = Writer(folder)
-    writer.begin()
-    writer.add_items([("P00020", {"counts": [1]}, {})])
-    writer.finish({})
+    with own_folder(folder, CATALOGUE) as own:
+        writer = Writer(own)
+        writer.begin()
+        writer.add_items([("P00020", {"counts": [1]}, {})])
+        writer.finish({})
     with pytest.raises(crn.Refused, match="its plan is not as the rows that were read last; run crnplan catalogue"):
         crn.report(folder)
 

@@ -41,9 +41,9 @@ class Cluster:
         (room / "hidden").mkdir()
         (room / "hidden/crnplan.py").write_text(NO_CRNPLAN, "utf-8")
 
-    def start(self, name: str, *words: str, hidden: bool = True) -> None:
-        """Starts Python on these words, without crnplan unless `hidden` is false."""
-        environment = {**self.environment, "CRNSIM_WORKER": name}
+    def start(self, name: str, *words: str, hidden: bool = True, **others: str) -> None:
+        """Starts Python on these words, without crnplan unless `hidden` is false. `others` are variables of its own."""
+        environment = {**self.environment, "CRNSIM_WORKER": name, **others}
         if hidden:
             environment["PYTHONPATH"] = str(self.room / "hidden")
         with (self.room / f"{name}.out").open("wb") as output, (self.room / f"{name}.errors").open("wb") as errors:
@@ -111,9 +111,9 @@ class Cluster:
         except (OSError, ValueError):
             return ""
 
-    def open(self, hidden: bool = True) -> None:
+    def open(self, hidden: bool = True, **of_leaving: str) -> None:
         """Starts the scheduler and its workers, without crnplan unless `hidden` is false, and waits until they know each
-        other."""
+        other. The worker that leaves has some variables of its own."""
         here = ["--host", LOOPBACK, "--no-dashboard", "--dashboard-address", f"{LOOPBACK}:0"]
         self.start("scheduler", "-m", "distributed.cli.dask_scheduler", *here, "--port", "0", "--scheduler-file",
                    "scheduler.json", "--idle-timeout", f"{SECONDS}s", hidden=hidden)
@@ -121,6 +121,7 @@ class Cluster:
         for name in WORKERS:
             self.start(name, "-m", "distributed.cli.dask_worker", self.address, *here, "--no-nanny", "--nthreads", "1",
                        "--memory-limit", "0", "--local-directory", str(self.room / f"of_{name}"), "--name", name,
-                       "--death-timeout", f"{SECONDS}s", "--lifetime", f"{2 * SECONDS}s", hidden=hidden)
+                       "--death-timeout", f"{SECONDS}s", "--lifetime", f"{2 * SECONDS}s", hidden=hidden,
+                       **(of_leaving if name == "leaves" else {}))
         self.start("asker", "-c", WAITING, self.address, str(len(WORKERS)))
         assert self.wait_for_end("asker") == 0, f"the workers did not come: {self.last_words('asker')}"

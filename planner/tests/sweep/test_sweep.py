@@ -81,14 +81,14 @@ def test_goes_on_where_it_was_cut_off(base: Path, room: Path, crnplan: Command, 
     whole = crnplan("sweep", base, *GRID)
     assert whole.status == 0 and runs() == SCENARIOS
     assert crnplan("sweep", base, *GRID, "--out", "kept").output == whole.output and runs() == SCENARIOS
-    kept = {path.name: path.read_bytes() for path in (room / "kept").iterdir()}
+    kept = {path.name: path.read_bytes() for path in (room / "kept").glob("0*")}
     if left == 0 and cut:
         (room / "kept" / cut).unlink()
     elif cut:
         (room / "kept" / cut).write_bytes(kept[cut][:left] + behind.encode())
     again = crnplan("sweep", base, *GRID, "--out", "kept")
     assert again.output == whole.output and runs() == expected
-    assert {path.name: path.read_bytes() for path in (room / "kept").iterdir()} == kept
+    assert {path.name: path.read_bytes() for path in (room / "kept").glob("0*")} == kept
 
 
 def test_another_base_is_run_again(base: Path, crnplan: Command, runs: Callable[[], int]) -> None:

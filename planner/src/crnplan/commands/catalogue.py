@@ -17,8 +17,11 @@ TAKEN = ("keep", "leave-out")
 @click.argument("demand", metavar="DEMAND.csv")
 @click.argument("items", metavar="ITEMS.csv")
 @click.option("--orders", metavar="ORDERS.csv", help="Dates of orders and of their receipts, for lead times.")
-@click.option("--out", metavar="FOLDER", type=click.Path(path_type=Path), required=True, help="Keep every file here.")
-@click.option("--check", "only_read", is_flag=True, help="Only read the files, and say what was found and left out.")
+@click.option("--out", metavar="FOLDER", type=click.Path(path_type=Path), help="Keep every file here.")
+@click.option("--check", "only_read", is_flag=True,
+              help="Only read the files, and say what was found and left out. Nothing is written, whatever --out says.")
+@click.option("--rejects", metavar="FILE", type=click.Path(dir_okay=False, path_type=Path),
+              help="With --check, write what was left out here.")
 @click.option("--column", "columns", metavar="FILE.ROLE=NAME", multiple=True,
               help="A column, as demand.quantity=Menge. May be given several times.")
 @click.option("--unit", "units", metavar="FILE.ROLE=UNIT", multiple=True,

@@ -1,25 +1,25 @@
 """Goes the whole way of `crnplan catalogue` for the words of the command and of crnplan.toml."""
 from __future__ import annotations
 
+import tempfile
 from collections.abc import Callable, Mapping, Sequence
 from pathlib import Path
 from typing import Any
 
 from ..errors import Refused
+from ..files import Folder, faults_of, new_file, own_folder, write_rows
 from ..plan.config import read_config
-from ..plan.lock import alone
 from ..plan.planning import Settings
-from ..plan.running import Lost, plan_into
-from ..plan.tables import REJECTS, counted, reject_rows, write_rows
-from ..records.catalogue_reading import Catalogue, Words, check_folder, kinds_of, read_into
+from ..plan.running import FOUND, NAMES, Lost, plan_into
+from ..plan.tables import counted, reject_rows
+from ..records.catalogue_reading import Catalogue, Words, kinds_of, read_into
 from ..records.cells import Rules
 from ..records.columns import ROLES
 from ..records.staging import KEEP, LEAVE_OUT, Ways
-from ..records.store import Reject
+from ..records.store import CATALOGUE, Reject
 
 SETTINGS = ("seed", "fit", "borrow", "confidence", "level", "periods", "replications")
 RULES = ("delimiter", "encoding", "decimal", "date_formats")
-FOUND = "found.toml"
 
 
 def words_of(asked: Mapping[str, Any], config: Mapping[str, Any]) -> tuple[Words, Settings]:
@@ -61,32 +61,32 @@ def commanded(asked: Mapping[str, Any], say: Callable[[str], None], note: Callab
     """Reads and plans a catalogue, and returns the exit status. `say` prints a result, `note` what is beside it."""
     config = read_config(asked["config"])
     words, settings = words_of(asked, config)
-    folder = Path(asked["out"])
-    check_folder(folder)
-    with alone(folder):
-        return _planned(asked, config, words, settings, say, note)
+    if not asked["only_read"] and asked["out"] is None:
+        raise Refused("--out is missing; name the folder for the plan, or say --check to only read the files")
+    with tempfile.TemporaryDirectory(prefix="crnplan-") as room:
+        with own_folder(Path(room if asked["only_read"] else asked["out"]), CATALOGUE, NAMES) as folder:
+            return _planned(folder, asked, config, words, settings, say, note)
 
 
-def _planned(asked: Mapping[str, Any], config: Mapping[str, Any], words: Words, settings: Settings,
+def _planned(folder: Folder, asked: Mapping[str, Any], config: Mapping[str, Any], words: Words, settings: Settings,
              say: Callable[[str], None], note: Callable[[str], None]) -> int:
     """Does what `commanded` does, in a folder of its own."""
-    folder = Path(asked["out"])
-    path = read_into(folder, {kind: asked[kind] for kind in ("demand", "items", "orders")}, words)
-    catalogue = Catalogue(path)
-    (folder / FOUND).write_text(catalogue.found, "utf-8")
+    catalogue = Catalogue(read_into(folder, {kind: asked[kind] for kind in ("demand", "items", "orders")}, words))
+    folder.write(FOUND, catalogue.found)
     if not any(name in config for name in ("demand", "items")) and not asked["columns"]:
         note(f"{catalogue.found}\n")
     for line in catalogue.fact("said"):
         note(f"crnplan: {line}\n")
     if asked["only_read"]:
-        with catalogue.opened() as read:
-            write_rows(folder / REJECTS, Reject._fields, reject_rows(read.rejects()))
+        if asked["rejects"]:
+            with catalogue.opened() as read, faults_of(asked["rejects"]), new_file(asked["rejects"]) as file:
+                write_rows(file, Reject._fields, reject_rows(read.rejects()))
         say("".join(f"{line}\n" for line in counted(catalogue.counts)))
         missing = catalogue.missing
     else:
         done = plan_into(folder, settings, jobs=asked["jobs"], address=asked["cluster"], program=asked["program"],
                          again=asked["again"], shown=True)
-        note(f"{folder}: {done.planned:,} items planned, {done.kept:,} kept from before\n")
+        note(f"{folder.path}: {done.planned:,} items planned, {done.kept:,} kept from before\n")
         say(done.summary)
         missing = list(done.missing)
     for line in missing:

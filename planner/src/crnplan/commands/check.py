@@ -82,7 +82,7 @@ def command(scenario: str, best: str, keys: tuple[str, ...], count: int | None, 
     each key follow 48 keys of runs. --replications and --out do not go with it.
 
     --out FOLDER keeps what was run: key_1.toml and key_1.csv for the first key, and pooled.csv with several keys, the
-    report of all replications. FOLDER is new or empty.
+    report of all replications. FOLDER is new, empty, or of an earlier check.
     """
     words = [key.split() for key in keys]
     asked = read_for(scenario, horizon, stock, long_run, is_table=form is None)

@@ -19,7 +19,7 @@ from .exchange import Choice
 from .gathering import Gathered
 from .hull import Floats
 from ..plan.planning import Question, Settings, question_of
-from ..records.store import READ, Answers, Catalogued
+from ..records.store import ANSWERS, READ, Answers, Catalogued
 
 # Runs of each item, of 1,024 periods each.
 KEYS = 8
@@ -102,7 +102,7 @@ def confirmed(folder: Path, its: Gathered, choices: Mapping[str, Choice], count:
     """
     names, settings = its.items.names, its.planned.settings
     sample = sample_of(names, settings.seed, count)
-    with (contextlib.closing(Catalogued(folder / READ)) as read, contextlib.closing(Answers(folder)) as plans):
+    with (contextlib.closing(Catalogued(folder / READ)) as read, contextlib.closing(Answers(folder / ANSWERS)) as plans):
         given = [(place, read.text(names[place]), plans.answer(names[place])) for place in sample]
     points = dict.fromkeys([*its.points, *choices], Confirmation())
     for place, facts, answer in given:

@@ -8,15 +8,14 @@ from pathlib import Path
 from typing import TYPE_CHECKING, Any
 
 from ..errors import Refused
+from ..files import own_folder
 from .candidates import PRICES
 from .confirming import Confirmed, confirmed
 from .exchange import NEAR, Budget, Choice, Ladder, Point, chosen_by, gap_of, judged, with_more_orders
 from .gathering import Gathered, gather
-from ..plan.lock import alone
 from ..plan.planned import read_planned
 from ..plan.planning import CHOSEN, TODAY
-from ..records.store import told_of
-from ..plan.tables import write_rows
+from ..records.store import CATALOGUE
 
 if TYPE_CHECKING:
     import pandas as pd
@@ -108,13 +107,12 @@ def draw_curve(folder: Path, budget: Budget, *, jobs: int | None = None, address
                program: str | Path | None = None, confirm: int = 0, shown: bool = False) -> Drawn:
     """Computes the curve of a planned folder, and writes its tables there. Raises Refused and ProgramError."""
     planned = read_planned(folder)
-    with alone(folder):
-        its = gather(folder, planned, jobs, address, shown)
+    with own_folder(folder, CATALOGUE, (CURVE, POLICIES, LEFT_OUT)) as own:
+        its = gather(own, planned, jobs, address, shown)
         drawn = _drawn(folder, its, budget, confirm, program)
-        with told_of(folder):
-            write_rows(folder / CURVE, COLUMNS, (spelt_row(COLUMNS, row, its.decimals) for row in drawn.rows()))
-            write_rows(folder / POLICIES, POLICY_COLUMNS, policy_rows(drawn))
-            write_rows(folder / LEFT_OUT, ("item", "reason", "advice"), its.left_out)
+        own.write_rows(CURVE, COLUMNS, (spelt_row(COLUMNS, row, its.decimals) for row in drawn.rows()))
+        own.write_rows(POLICIES, POLICY_COLUMNS, policy_rows(drawn))
+        own.write_rows(LEFT_OUT, ("item", "reason", "advice"), its.left_out)
     return drawn
 
 

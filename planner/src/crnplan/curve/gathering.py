@@ -13,11 +13,12 @@ from typing import Any
 import numpy as np
 
 from ..errors import Refused
+from ..files import Folder
 from .candidates import VERSION, candidates_batch
 from .exchange import Items, Point
 from ..plan.planned import Planned
 from ..plan.planning import CHOSEN, TODAY, Settings
-from ..records.store import READ, Answers, Catalogued, told_of, with_advice
+from ..records.store import ANSWERS, READ, Answers, Catalogued, told_of, with_advice
 from ..plan.work import Work, workers_of
 
 CANDIDATES = "curve.sqlite"
@@ -119,10 +120,11 @@ class Gathering:
                         self.read.fact("decimals"), self.read.fact("every"), len(self.work.left))
 
 
-def gather(folder: Path, planned: Planned, jobs: int | None, address: str | None, shown: bool) -> Gathered:
+def gather(folder: Folder, planned: Planned, jobs: int | None, address: str | None, shown: bool) -> Gathered:
     """Computes the candidates of a planned folder that are not kept yet, and returns all. Raises Refused."""
-    with (told_of(folder), contextlib.closing(Catalogued(folder / READ)) as read,
-          contextlib.closing(Answers(folder)) as plans, contextlib.closing(Answers(folder, CANDIDATES)) as kept):
+    with (told_of(folder.path), contextlib.closing(Catalogued(folder.path / READ)) as read,
+          contextlib.closing(Answers(folder.store(ANSWERS))) as plans,
+          contextlib.closing(Answers(folder.store(CANDIDATES))) as kept):
         its = Gathering(planned, read, plans, kept)
         its.work.finish(candidates_batch, its.asked, planned, workers=workers_of(jobs, address), shown=shown)
-        return its.gathered(folder)
+        return its.gathered(folder.path)

@@ -8,6 +8,7 @@ This is not proved; crnsim's figures are, and decimals are rounded.
 """
 from __future__ import annotations
 
+import contextlib
 import dataclasses
 from collections.abc import Sequence
 from dataclasses import dataclass
@@ -16,10 +17,11 @@ from typing import TYPE_CHECKING
 
 from .. import formats
 from ..toml.writing import plain_text
-from ..crnsim.keys import Key, keys_of
+from ..crnsim.keys import MOST_KEYS, Key, keys_of
 from ..crnsim.pooling import pooled
 from ..crnsim.report import report_text
 from ..errors import Refused
+from ..files import own_folder
 from ..scenario import Policy, Scenario
 from .intervals import Compared, Judged, check_replications, checked_level, with_intervals, with_verdict
 from .verdicts import decision_text, frame_of, heading_of, table_text
@@ -28,6 +30,8 @@ if TYPE_CHECKING:
     import pandas as pd
 
 LEAST_REPLICATIONS = 2
+POOLED = "pooled.csv"
+KEPT = (POOLED, *(f"key_{number}.{end}" for number in range(1, MOST_KEYS + 1) for end in ("toml", "csv")))
 
 
 @dataclass(frozen=True)
@@ -91,18 +95,6 @@ def policies_of(scenario: Scenario, best: str) -> list[Policy]:
     return sorted(scenario.policies, key=lambda policy: policy.name != best)
 
 
-def new_folder(path: str | Path) -> Path:
-    """Returns a folder, made if it is not there. Raises Refused if it is not empty or cannot be made."""
-    folder = Path(path)
-    try:
-        folder.mkdir(parents=True, exist_ok=True)
-        if any(folder.iterdir()):
-            raise Refused(f"--out {path}: the folder is not empty; name a new one")
-    except OSError as fault:
-        raise Refused(f"--out {path}: {fault.strerror}; name a new folder") from fault
-    return folder
-
-
 def checked_replications(replications: int) -> int:
     """Returns the number of replications for each key. Raises Refused if it is out of range."""
     if not LEAST_REPLICATIONS <= replications <= formats.MOST_REPLICATIONS:
@@ -118,7 +110,7 @@ def check_keys(scenario: Scenario, best: str, *, keys: Sequence[Sequence[str]] =
 
     `keys` are given ones, each of four words, or of one that replaces the first word of the scenario's key; a word has
     16 digits of 0-9a-f. If they are fewer than `count`, 1 to 64, the others are drawn. Each is run with so many
-    `replications`, 2 to 256. The joint `level` is between 0 and 1. `out` is a new or empty folder, which gets the
+    `replications`, 2 to 256. The joint `level` is between 0 and 1. `out` is a folder, new, empty or of an earlier check, which gets the
     scenario and the report of each key, key_1.toml and key_1.csv for the first one, and pooled.csv if there are
     several: the report of all replications. Raises Refused, also for the scenario's own key, and ProgramError if a run
     fails.
@@ -127,18 +119,20 @@ def check_keys(scenario: Scenario, best: str, *, keys: Sequence[Sequence[str]] =
     checked_level(level)
     policies = policies_of(scenario, best)
     all_keys = keys_of(keys, count, scenario.key)
-    folder = None if out is None else new_folder(out)
     asked = dataclasses.replace(scenario, replications=replications).with_policies(policies)
-    reports = []
-    for number, key in enumerate(all_keys, 1):
-        report = dataclasses.replace(asked, key=key).run(program=program)
-        check_replications(report.rows, replications, "the report")
-        reports.append(report.rows)
+    with contextlib.nullcontext() if out is None else own_folder(Path(out), "check") as folder:
         if folder:
-            (folder / f"key_{number}.toml").write_text(plain_text(report.scenario.tree), "utf-8")
-            (folder / f"key_{number}.csv").write_text(report.text, "utf-8")
-    rows = pooled(reports, replications, scenario.periods) if len(reports) > 1 else reports[0]
-    if folder and len(reports) > 1:
-        (folder / "pooled.csv").write_text(report_text(rows), "utf-8")
+            folder.remove(*KEPT)
+        reports = []
+        for number, key in enumerate(all_keys, 1):
+            report = dataclasses.replace(asked, key=key).run(program=program)
+            check_replications(report.rows, replications, "the report")
+            reports.append(report.rows)
+            if folder:
+                folder.write(f"key_{number}.toml", plain_text(report.scenario.tree))
+                folder.write(f"key_{number}.csv", report.text)
+        rows = pooled(reports, replications, scenario.periods) if len(reports) > 1 else reports[0]
+        if folder and len(reports) > 1:
+            folder.write(POOLED, report_text(rows))
     total = replications * len(reports)
     return Check(heading_of(scenario), best, tuple(all_keys), total, level, tuple(with_intervals(rows, total, level)))

@@ -13,7 +13,7 @@ from ..errors import Refused
 from ..curve.gathering import NO_PLAN, UNPLANNED
 from ..plan.planned import Planned, read_planned
 from ..plan.planning import Settings
-from ..records.store import READ, Answers, Catalogued, told_of, with_advice
+from ..records.store import ANSWERS, READ, Answers, Catalogued, told_of, with_advice
 from ..plan.tables import COLUMNS, EXACT_COLUMNS, REJECTS, exact_row, row_of, spelt
 
 
@@ -63,7 +63,7 @@ def kept_of(folder: Path, name: str) -> Kept:
     """
     planned = read_planned(folder)
     with (told_of(folder), contextlib.closing(Catalogued(folder / READ)) as read,
-          contextlib.closing(Answers(folder)) as answers):
+          contextlib.closing(Answers(folder / ANSWERS)) as answers):
         if not read.base.execute("SELECT 1 FROM items WHERE item = ?", [name]).fetchone():
             raise _why_not(folder, read, name)
         digest = Settings.digest_of(planned.common, name, read.text(name))

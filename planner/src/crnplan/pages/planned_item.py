@@ -12,19 +12,18 @@ from pathlib import Path
 
 from ..demand import DemandLaw, notes_of
 from ..crnsim.program import find_program
+from ..files import own_folder
 from ..records.dates import period_name
 from ..plan.laws import ALONE as ALONE_LAW, law_words, rows_of_laws
 from .item_page import Card, DoubtPart, Grid, ItemPage, doubt_part, laws_grid, moves_grid
 from .item_pictures import CHOSEN as OF_CHOSEN, Plot, Ranges, difference, history_plot, law_plot, levels_of, stock_plot
-from ..plan.steps import write_whole
 from .summary import history_facts, promise_words
 from .page import number, percent
 from .item_figures import Compared, ItemFigures
-from .item_files import file_of
+from .item_files import ITEMS, file_of
 from .item_kept import kept_of
-from ..plan.lock import alone
 from ..plan.planning import ALONE, CHEAPER, CHOSEN, DEARER, SAME, SERVICE, TODAY, UNDECIDED
-from ..records.store import told_of
+from ..records.store import CATALOGUE
 from ..plan.tables import spelt
 
 QUANTILES = ", quantiles "  # in a note that has but figures
@@ -251,10 +250,9 @@ def item_page(folder: Path, name: str, program: str | Path | None = None) -> Pat
     Raises ProgramError.
     """
     kept = kept_of(folder, name)
-    with alone(folder):
+    with own_folder(folder, CATALOGUE) as own:
         text = _Page(ItemFigures(kept, str(find_program(program)))).page().text
         path = file_of(folder, name)
-        with told_of(folder):
-            path.parent.mkdir(exist_ok=True)
-            write_whole(path, text)
+        own.subfolder(ITEMS)
+        own.write(f"{ITEMS}/{path.name}", text)
     return path

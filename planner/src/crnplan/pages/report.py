@@ -2,21 +2,20 @@
 from __future__ import annotations
 
 import contextlib
-import os
 from collections.abc import Iterable, Mapping, Sequence
 from pathlib import Path
 from urllib.parse import quote
 
 from ..errors import Refused
+from ..files import Folder, own_folder
 from .catalogue_figures import Place, Row, reasons_of, rows_of, totalled
 from .catalogue_page import MOST_ROWS, Contents, catalogue_page
 from ..curve.exchange_curve import CURVE, LEFT_OUT, SAID
 from .item_files import ITEMS, file_of
-from ..plan.lock import alone
 from ..plan.planned import Planned, read_planned
 from ..plan.planning import CHEAPER, CHOSEN, DEARER, SAME, SERVICE, TODAY, UNDECIDED, Settings
 from ..records.catalogue_reading import missing_of
-from ..records.store import READ, Answers, Catalogued, told_of
+from ..records.store import ANSWERS, CATALOGUE, READ, Answers, Catalogued
 from ..plan.tables import DECISIONS, EXACT, REJECTS
 
 PAGE = "report.html"
@@ -34,20 +33,16 @@ OLD_CURVE = "The curve here is not that of this plan. Run crnplan curve FOLDER a
 CHANGED = (FileNotFoundError, ValueError, KeyError, TypeError, ArithmeticError)
 
 
-def write_page(folder: Path, planned: Planned) -> Path:
+def write_page(folder: Folder, planned: Planned) -> Path:
     """Writes report.html of a planned folder from its tables, and returns its path. Raises Refused."""
-    contents = contents_of(folder, planned)
-    path, part = folder / PAGE, folder / f"{PAGE}.part"
-    with told_of(folder):
-        part.write_text(catalogue_page(contents), "utf-8")
-        os.replace(part, path)
-    return path
+    folder.write(PAGE, catalogue_page(contents_of(folder.path, planned)))
+    return folder.path / PAGE
 
 
 def contents_of(folder: Path, planned: Planned) -> Contents:
     """Returns what the page of a folder says. Raises Refused if its tables are not there, or not those of one plan."""
     settings = planned.settings
-    with contextlib.closing(Catalogued(folder / READ)) as read, contextlib.closing(Answers(folder)) as answers:
+    with contextlib.closing(Catalogued(folder / READ)) as read, contextlib.closing(Answers(folder / ANSWERS)) as answers:
         check_plan(folder, planned, read, answers)
         counts, every, decimals = (read.fact(name) for name in ("counts", "every", "decimals"))
     try:
@@ -121,8 +116,8 @@ def report(folder: str | Path, items: Iterable[str] = (), *, program: str | Path
         from .planned_item import item_page
         for name in items:
             item_page(place, name, program)
-    with alone(place):
-        return write_page(place, planned)
+    with own_folder(place, CATALOGUE) as own:
+        return write_page(own, planned)
 
 
 def check_kind(folder: Path) -> None:

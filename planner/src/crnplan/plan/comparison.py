@@ -5,8 +5,8 @@ The settings choose one of both by `[run] horizon`, and all files of a plan are 
 from __future__ import annotations
 
 from ..crnsim.long_run import LongRunReport
+from ..files import digest_of
 from ..scenario import Scenario
-from .steps import digest_of
 from .item_work import Item, csv_text, rows_of
 
 COSTS = ("policy", "s", "S", "periods", "orders")

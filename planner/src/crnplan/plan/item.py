@@ -6,10 +6,11 @@ from dataclasses import dataclass
 from pathlib import Path
 
 from ..crnsim.program import find_program
+from ..files import own_folder
 from ..records.cells import whole_file
 from . import comparison, item_work as work
 from .settings import TABLES, read_settings
-from .steps import Folder, Step, run_steps
+from .steps import STATE, Folder, Step, run_steps
 from .item_work import Item, rows_of
 
 
@@ -44,6 +45,7 @@ def _facts_of(*tables: str, files: tuple[str, ...] = ()) -> Callable[[Item], obj
                          [item.digests[name] for name in files]]
 
 
+MADE = ("laws.txt", "scenario.toml", "doubt.txt", "report.csv", "long_run.csv", *SHOWN, "summary.txt", "summary.html")
 PROGRAM = ("program",)
 
 
@@ -79,9 +81,9 @@ def plan_item(history: str | Path, settings: str | Path, out: str | Path, *, pro
     faults of the settings or of the history, Refused for a folder that has other files, and ProgramError.
     """
     read, path = read_settings(settings), find_program(program)
-    with whole_file(history) as file:
-        item = Item(file, read, Folder(Path(out)), path)
+    with whole_file(history) as file, own_folder(Path(out), "item", (STATE, *MADE)) as own:
+        item = Item(file, read, Folder(own), path)
         done = run_steps(item.folder, STEPS, item, told)
-    holds = "better" not in {row["verdict"] for row in rows_of(item.text("check.csv"))}
-    return Plan(item.folder.path, tuple(done), item.text("summary.txt"), holds)
+        holds = "better" not in {row["verdict"] for row in rows_of(item.text("check.csv"))}
+        return Plan(own.path, tuple(done), item.text("summary.txt"), holds)
 

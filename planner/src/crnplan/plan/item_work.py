@@ -12,10 +12,11 @@ from pathlib import Path
 from typing import TYPE_CHECKING, Any
 
 from ..errors import Refused, RefusedFaults
+from ..files import digest_of
 from ..scenario import Scenario, Table
 from .laws import rows_of_laws
 from .settings import HOMES, Settings, need_file
-from .steps import Folder, digest_of
+from .steps import Folder
 
 if TYPE_CHECKING:
     from ..records import History, LeadTimes

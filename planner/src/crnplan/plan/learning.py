@@ -10,12 +10,12 @@ import heapq
 import json
 from collections import Counter
 from collections.abc import Iterator
-from pathlib import Path
 from typing import Any
 
 from ..demand.borrowing import Prior, learn
 from ..demand.borrowing.learning import LEAST_ITEMS, LEAST_ON_REQUEST
 from ..errors import Refused
+from ..files import Folder
 from .planning import ALL, CLASS, NONE, Settings
 from ..records.store import Catalogued
 
@@ -42,7 +42,7 @@ def histories_of(read: Catalogued, most: int | None = None) -> Iterator[tuple[An
             yield np.array(its["counts"], np.uint32), its["class"]
 
 
-def prior_of(folder: Path, read: Catalogued, settings: Settings, again: bool) -> tuple[Prior, str, str]:
+def prior_of(folder: Folder, read: Catalogued, settings: Settings, again: bool) -> tuple[Prior, str, str]:
     """Returns what the items of a catalogue learn from one another, from whom an item learns if its master does not say
     that, and a note on it.
 
@@ -56,9 +56,8 @@ def prior_of(folder: Path, read: Catalogued, settings: Settings, again: bool) ->
     if settings.borrow == NONE and not asked:
         return Prior(NONE), NONE, "each item has the law of its own history (--borrow none)"
     way, least = CLASS if CLASS in asked else ALL, LEAST_ON_REQUEST if asked else LEAST_ITEMS
-    path = folder / PRIOR
     try:
-        prior, note = _kept(path, read, way, least, again)
+        prior, note = _kept(folder, read, way, least, again)
     except Refused as few:
         if asked:
             raise
@@ -70,16 +69,16 @@ def prior_of(folder: Path, read: Catalogued, settings: Settings, again: bool) ->
     return prior, usual, note + f"; the masters say otherwise for {others:,} items (borrow)" * (others > 0)
 
 
-def _kept(path: Path, read: Catalogued, way: str, least: int, again: bool) -> tuple[Prior, str]:
+def _kept(folder: Folder, read: Catalogued, way: str, least: int, again: bool) -> tuple[Prior, str]:
     """Returns what was learned in an earlier run, or is learned now and kept, and a note on it. Raises Refused if there
     are fewer than `least` items."""
-    if path.is_file() and not again:
-        prior = Prior.read(path)
+    if (folder.path / PRIOR).is_file() and not again:
+        prior = Prior.read(folder.path / PRIOR)
         if prior.borrow == way and prior.items - prior.outside >= least:
             return prior, f"{_learned(prior)} in an earlier run (--learn-again learns anew)"
     histories, classes = _split(read, None if way == CLASS else MOST_READ)
     prior = learn(histories, classes if way == CLASS else None, way, least=least)
-    prior.write(path)
+    folder.write(PRIOR, prior.text)
     return prior, _learned(prior)
 
 

@@ -8,6 +8,7 @@ from pathlib import Path
 
 from ..demand.borrowing import Prior
 from ..errors import Refused
+from ..files import Folder
 from .learning import PRIOR
 from .planning import NONE, Settings
 from ..records.store import READ
@@ -24,10 +25,10 @@ class Planned:
     common: str
 
 
-def keep_planned(folder: Path, its: Planned) -> None:
+def keep_planned(folder: Folder, its: Planned) -> None:
     """Keeps how the items of a folder are planned."""
     tree = {"settings": dataclasses.asdict(its.settings), "borrow": its.prior.borrow, "common": its.common}
-    (folder / PLANNED).write_text(json.dumps(tree, indent=2) + "\n", "utf-8")
+    folder.write(PLANNED, json.dumps(tree, indent=2) + "\n")
 
 
 def read_planned(folder: Path) -> Planned:

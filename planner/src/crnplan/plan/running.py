@@ -10,20 +10,25 @@ from pathlib import Path
 from typing import TYPE_CHECKING, Any
 
 from ..errors import CrnplanError
-from .steps import digest_of
+from ..files import Folder, digest_of, own_folder
 from ..sweep import program_for
-from .learning import prior_of
-from .lock import alone
-from .planned import Planned, keep_planned
+from .learning import PRIOR, prior_of
+from ..pages.report import PAGE, write_page
+from .planned import PLANNED, Planned, keep_planned
 from .planning import Settings, plan_batch
-from ..records.catalogue_reading import Catalogue, check_folder, missing_of
-from ..records.store import READ, Answers, Catalogued, Reject, told_of, with_advice
+from ..records.catalogue_reading import Catalogue, missing_of
+from ..records.store import ANSWERS, CATALOGUE, READ, Answers, Catalogued, Reject, told_of, with_advice
 from .tables import (COLUMNS, DECISIONS, EXACT, EXACT_COLUMNS, REJECTS, SUMMARY, Totals, exact_row, reject_rows, row_of,
-                     spelt, summary_text, write_rows)
+                     spelt, summary_text)
 from .work import Work, workers_of
 
 if TYPE_CHECKING:
     import pandas as pd
+
+
+FOUND = "found.toml"
+# The files of a planned folder, beside its stores, its curve and the pages of its items.
+NAMES = (FOUND, REJECTS, PRIOR, PLANNED, DECISIONS, EXACT, SUMMARY, PAGE)
 
 
 class Lost(CrnplanError):
@@ -74,41 +79,41 @@ def _program_digest(program: str) -> str:
     return digest_of(path.read_bytes()) if path.is_file() else program
 
 
-def write_tables(folder: Path, run: Run) -> Totals:
+def write_tables(folder: Folder, run: Run) -> Totals:
     """Writes all tables of a folder."""
     totals, faults, decimals = Totals(), list[Reject](), run.read.fact("decimals")
     rows = ([spelt(name, row[name], decimals) for name in COLUMNS] for row, _ in run.rows(totals, faults))
-    write_rows(folder / DECISIONS, COLUMNS, rows)
+    folder.write_rows(DECISIONS, COLUMNS, rows)
     exact = (exact_row(row["item"], answer, run.settings) for row, answer in run.rows(Totals(), []))
-    write_rows(folder / EXACT, EXACT_COLUMNS, exact)
-    write_rows(folder / REJECTS, Reject._fields, reject_rows(run.read.rejects(faults)))
+    folder.write_rows(EXACT, EXACT_COLUMNS, exact)
+    folder.write_rows(REJECTS, Reject._fields, reject_rows(run.read.rejects(faults)))
     return totals
 
 
-def plan_into(folder: Path, settings: Settings, *, jobs: int | None = None, address: str | None = None,
+def plan_into(folder: Folder, settings: Settings, *, jobs: int | None = None, address: str | None = None,
               program: str | Path | None = None, again: bool = False, shown: bool = False) -> Done:
     """Plans the catalogue that was read into a folder: see `plan`."""
     from ..pages.report import write_page
     path = program_for(program, address)
-    with (told_of(folder), contextlib.closing(Catalogued(folder / READ)) as read,
-          contextlib.closing(Answers(folder)) as answers):
+    with (told_of(folder.path), contextlib.closing(Catalogued(folder.path / READ)) as read,
+          contextlib.closing(Answers(folder.store(ANSWERS))) as answers):
         prior, usual, note = prior_of(folder, read, settings, again)
         settings = dataclasses.replace(settings, borrow=usual)
         planned = Planned(settings, prior, settings.digest(_program_digest(path), prior))
         work = Work(answers, {name: Settings.digest_of(planned.common, name, facts)
                               for name, facts in read.facts_of_items()})
         keep_planned(folder, planned)
-        write_rows(folder / REJECTS, Reject._fields, reject_rows(read.rejects()))
+        folder.write_rows(REJECTS, Reject._fields, reject_rows(read.rejects()))
         work.finish(plan_batch, lambda name: (name, read.text(name)), planned, path,
-                    workers=workers_of(jobs, address), shown=shown)
+                    workers=workers_of(jobs, address, path), shown=shown)
         totals = write_tables(folder, Run(read, settings, work))
         counts = read.fact("counts")
         text = summary_text(counts, totals, settings, read.fact("every"), read.fact("decimals"), note)
         missing = missing_of(counts, totals.verdicts.total() + totals.faults)
         text += "".join(f"\nLOST: {it}\n" for it in missing)
-        (folder / SUMMARY).write_text(text, "utf-8")
+        folder.write(SUMMARY, text)
         write_page(folder, planned)
-        return Done(folder, len(work.left), work.kept, text, tuple(missing))
+        return Done(folder.path, len(work.left), work.kept, text, tuple(missing))
 
 
 def plan(catalogue: Catalogue, folder: str | Path, *, jobs: int | None = None, cluster: str | None = None,
@@ -135,9 +140,8 @@ def plan(catalogue: Catalogue, folder: str | Path, *, jobs: int | None = None, c
     """
     import pandas as pd
     place, chosen = Path(folder), Settings(**settings)
-    check_folder(place)
-    with alone(place):
-        done = _plan_alone(catalogue, place, chosen, jobs=jobs, address=cluster, program=program, again=again,
+    with own_folder(place, CATALOGUE, NAMES) as own:
+        done = _plan_alone(catalogue, own, chosen, jobs=jobs, address=cluster, program=program, again=again,
                            shown=progress)
     if done.missing:
         raise Lost("; ".join(done.missing))
@@ -145,13 +149,14 @@ def plan(catalogue: Catalogue, folder: str | Path, *, jobs: int | None = None, c
                        keep_default_na=False, na_values={it: [""] for it in _numbers()})
 
 
-def _plan_alone(catalogue: Catalogue, place: Path, settings: Settings, **words: Any) -> Done:
+def _plan_alone(catalogue: Catalogue, folder: Folder, settings: Settings, **words: Any) -> Done:
     """Plans a catalogue into a folder that no other run uses. It is copied there if it was read elsewhere."""
-    if catalogue.path.resolve() != (place / READ).resolve():
-        with told_of(place):
-            shutil.copyfile(catalogue.path, place / f"{READ}.part")
-            os.replace(place / f"{READ}.part", place / READ)
-    return plan_into(place, settings, **words)
+    path = folder.store(READ)
+    if catalogue.path.resolve() != path.resolve():
+        with told_of(folder.path):
+            shutil.copyfile(catalogue.path, folder.room() / READ)
+            os.replace(folder.room() / READ, path)
+    return plan_into(folder, settings, **words)
 
 
 def _numbers() -> Sequence[str]:

@@ -1,21 +1,17 @@
 """Runs steps that write files into a folder, and only those whose inputs have changed since they were last run.
 
-Each file is written whole: under a temporary name, which is then changed. After each step the state file says what the
-step was made from and what it wrote. So a run that is interrupted goes on after its last finished step, with the same
-bytes.
+Each file is written whole. After each step the state file says what the step was made from and what it wrote. So a run
+that is interrupted goes on after its last finished step, with the same bytes.
 """
 from __future__ import annotations
 
-import hashlib
 import json
-import os
 from collections.abc import Callable, Iterable, Mapping, Sequence
 from dataclasses import dataclass
-from pathlib import Path
 from typing import Any, Generic, TypeVar
 
-from .. import __version__
-from ..errors import Refused
+from .. import __version__, files
+from ..files import digest_of
 
 STATE = "state.json"
 Context = TypeVar("Context")
@@ -32,43 +28,15 @@ class Step(Generic[Context]):
     make: Callable[[Context], Texts]
 
 
-def digest_of(data: bytes) -> str:
-    """Returns the SHA-256 of bytes, in hexadecimal."""
-    return hashlib.sha256(data).hexdigest()
-
-
-def _part_of(path: Path) -> Path:
-    """Returns the temporary name of a file."""
-    return path.with_name(f"{path.name}.part")
-
-
-def write_whole(path: Path, text: str) -> None:
-    """Writes a file that is there whole or not at all."""
-    part = _part_of(path)
-    with open(part, "w", encoding="utf-8", newline="") as file:
-        file.write(text)
-        file.flush()
-        os.fsync(file.fileno())
-    os.replace(part, path)
-
-
 class Folder:
-    """A folder with a state file. One with other files and no state is refused: they might be overwritten."""
+    """The folder of an item, with a state file."""
 
-    def __init__(self, path: Path) -> None:
-        """Makes the folder if it is not there, and reads its state. A state that cannot be read counts as none."""
-        self.path = path
+    def __init__(self, own: files.Folder) -> None:
+        """Reads the state of a folder that is crnplan's. A state that cannot be read counts as none."""
+        self.own, self.path = own, own.path
         self.steps: dict[str, Any] = {}
-        try:
-            path.mkdir(parents=True, exist_ok=True)
-            if (path / STATE).is_file():
-                self._read()
-            elif any(it.name != _part_of(path / STATE).name for it in path.iterdir()):
-                raise Refused(f"{path}: the folder is not empty, and no plan is in it; name a new folder")
-            else:
-                self._keep()
-        except OSError as fault:
-            raise Refused(f"{path}: {fault.strerror}; name a folder that can be written") from fault
+        if (self.path / STATE).is_file():
+            self._read()
 
     def _read(self) -> None:
         """Reads the state."""
@@ -81,7 +49,7 @@ class Folder:
 
     def _keep(self) -> None:
         """Writes the state."""
-        write_whole(self.path / STATE, json.dumps({"steps": self.steps}, indent=1, sort_keys=True) + "\n")
+        self.own.write(STATE, json.dumps({"steps": self.steps}, indent=1, sort_keys=True) + "\n")
 
     def digest(self, name: str) -> str:
         """Returns the digest of a file of the folder; the empty text if it is not there."""
@@ -99,9 +67,9 @@ class Folder:
         before = self.steps.pop(name, {"files": {}})["files"]
         self._keep()
         for file in before.keys() - texts.keys():
-            (self.path / file).unlink(missing_ok=True)
+            self.own.remove(file)
         for file, text in texts.items():
-            write_whole(self.path / file, text)
+            self.own.write(file, text)
         self.steps[name] = {"inputs": inputs, "files": {file: digest_of(text.encode()) for file, text in texts.items()}}
         self._keep()
 

@@ -1,14 +1,11 @@
 """Writes the tables of a planned catalogue, row by row: decisions, exact figures, what was left out, and a summary."""
 from __future__ import annotations
 
-import csv
 import math
-import os
 from collections import Counter, defaultdict
 from collections.abc import Iterable, Iterator, Mapping, Sequence
 from dataclasses import dataclass, field
 from fractions import Fraction
-from pathlib import Path
 from statistics import NormalDist
 from typing import Any
 
@@ -28,18 +25,6 @@ COLUMNS = ("item", "description", "class", "verdict", "s_today", "S_today", "s_c
 EXACT_COLUMNS = ("item", "s_today", "S_today", "s_chosen", "S_chosen", "periods", "replications", "initial", "key",
                  "units_of_money", "setup", "holding", "backlog", "total_today", "total_chosen", "cost_today",
                  "cost_chosen", "saving", "saving_variance")
-
-
-def write_rows(path: Path, heading: Sequence[str], rows: Iterable[Sequence[Any]]) -> None:
-    """Writes a CSV table that is there whole or not at all. Rows may be many: they are not kept."""
-    part = path.with_name(f"{path.name}.part")
-    with open(part, "w", newline="", encoding="utf-8") as file:
-        out = csv.writer(file, lineterminator="\n")
-        out.writerow(heading)
-        out.writerows(rows)
-        file.flush()
-        os.fsync(file.fileno())
-    os.replace(part, path)
 
 
 @dataclass

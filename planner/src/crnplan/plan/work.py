@@ -19,9 +19,10 @@ Asked = tuple[Any, ...]
 Function = Callable[..., list[tuple[str, str]]]
 
 
-def workers_of(jobs: int | None, address: str | None) -> AbstractContextManager[Workers]:
-    """Returns the workers of a Dask scheduler, or so many processes, by default one for each processor."""
-    return cluster(address) if address else processes(jobs or os.cpu_count() or 1)
+def workers_of(jobs: int | None, address: str | None, program: str = "") -> AbstractContextManager[Workers]:
+    """Returns the workers of a Dask scheduler, or so many processes, by default one for each processor. `program` is
+    what workers of a scheduler run, which must be the same everywhere."""
+    return cluster(address, program) if address else processes(jobs or os.cpu_count() or 1)
 
 
 class Work:

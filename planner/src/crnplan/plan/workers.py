@@ -5,16 +5,19 @@ import contextlib
 import importlib
 import multiprocessing
 import os
+import shutil
 import signal
 import threading
 import time
-from collections.abc import Callable, Iterable, Iterator
+from collections.abc import Callable, Iterable, Iterator, Mapping, Sequence
 from concurrent import futures
 from concurrent.futures.process import BrokenProcessPool
 from dataclasses import dataclass
+from pathlib import Path
 from typing import Any, Protocol
 
 from ..errors import ProgramError, Refused
+from ..files import digest_of, package_digest
 from ..sweep import NO_DISTRIBUTED
 
 # Batches that are under way for each worker. With one, so much at most is lost if all ends by force.
@@ -81,9 +84,57 @@ def processes(jobs: int) -> Iterator[Workers]:
         pool.shutdown(wait=False, cancel_futures=True)
 
 
+def identity(program: str) -> dict[str, str]:
+    """Returns the digests of what makes figures here: of crnplan, and of a program, empty if it is not there."""
+    path = shutil.which(program) if program else None
+    return {"crnplan": package_digest(), "crnsim": digest_of(Path(path).read_bytes()) if path else ""}
+
+
+def difference(own: Mapping[str, str], others: object) -> str:
+    """Returns what a worker has that is not as here, from its `identity`; the empty text if all is."""
+    if not isinstance(others, Mapping):
+        return f"can't say which crnplan it has ({others})"
+    return " and ".join(f"has another {name}" if others[name] else f"has no {name}"
+                        for name in own if own[name] != others[name])
+
+
+class Stranger(Exception):
+    """A worker of a cluster that would give other figures: its name, and what is not as here."""
+
+
+def _of_one(function: Callable[..., Any], own: Mapping[str, str], program: str, words: Sequence[Any]) -> Any:
+    """Runs a function on a worker of a cluster. Raises Stranger if the worker is not as the main process."""
+    what = difference(own, identity(program))
+    if what:
+        worker: Any = importlib.import_module("distributed").get_worker()
+        raise Stranger(f"the worker {worker.name} ({worker.address}) {what}")
+    return function(*words)
+
+
+class Checked:
+    """Runs functions on workers that are as the main process."""
+
+    def __init__(self, client: Any, program: str) -> None:
+        """Asks all workers that are there. Raises Stranger if one is another."""
+        self.own, self.program = identity(program), program
+        answers = client.run(identity, program, on_error="return")
+        if not self.own["crnsim"]:
+            self.own["crnsim"] = next((it["crnsim"] for it in answers.values() if isinstance(it, dict)), "")
+        names = {address: its["id"] for address, its in client.scheduler_info()["workers"].items()}
+        wrong = next((it for it in answers.items() if difference(self.own, it[1])), None)
+        if wrong:
+            raise Stranger(f"the worker {names.get(wrong[0])} ({wrong[0]}) {difference(self.own, wrong[1])}")
+        self.pool = client.get_executor(pure=False, retries=2)
+
+    def submit(self, function: Callable[..., Any], /, *words: Any) -> futures.Future[Any]:
+        """Begins to run a function on a worker."""
+        future: futures.Future[Any] = self.pool.submit(_of_one, function, self.own, self.program, words)
+        return future
+
+
 @contextlib.contextmanager
-def cluster(address: str) -> Iterator[Workers]:
-    """Gives the workers of a Dask scheduler, which need crnplan. Some may end meanwhile."""
+def cluster(address: str, program: str = "") -> Iterator[Workers]:
+    """Gives the workers of a Dask scheduler, which need the same crnplan and the same program. Some may end meanwhile."""
     try:
         distributed: Any = importlib.import_module("distributed")
     except ImportError as fault:
@@ -92,17 +143,18 @@ def cluster(address: str) -> Iterator[Workers]:
         client = distributed.Client(address, timeout=10)
     except (OSError, ValueError) as fault:
         raise Refused(f"--cluster {address}: {fault}") from fault
-    pool = client.get_executor(pure=False, retries=2)
     try:
-        yield Workers(pool, max(1, AHEAD * sum(client.ncores().values())),
+        yield Workers(Checked(client, program), max(1, AHEAD * sum(client.ncores().values())),
                       lambda word: client.scatter(word, broadcast=True))
+    except Stranger as fault:
+        raise Refused(f"--cluster {address}: {fault}, and would give other figures; what was planned before is kept; give "
+                      "all workers the crnplan and the crnsim of this machine") from fault
     except (OSError, futures.CancelledError, ImportError, distributed.scheduler.KilledWorker) as fault:
         is_cancelled = isinstance(fault, futures.CancelledError)
         what = "a batch was cancelled (has the scheduler ended?)" if is_cancelled else fault
         raise Refused(f"--cluster {address}: {what}; what was planned before is kept; workers need crnplan, and crnsim "
                       "at the path of --program") from fault
     finally:
-        pool.shutdown(wait=False)
         with contextlib.suppress(Exception):
             client.close(timeout=0.5)
 

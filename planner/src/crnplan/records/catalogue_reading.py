@@ -11,6 +11,7 @@ from pathlib import Path
 from typing import TYPE_CHECKING, Any
 
 from ..errors import Fault, Refused, RefusedFaults
+from ..files import Folder, own_folder
 from .cells import Rules, whole_file
 from .dates import EVERY, DateReader
 from .faults import Unreadable
@@ -21,7 +22,7 @@ from .staging import KEEP, LEAVE_OUT, Reader, Ways
 from .span import record_of
 from .sources import Source, open_source
 from .splitting import PART_BYTES, Split, split_sources
-from .store import ANSWERS, READ, Catalogued, Reject, Writer, told_of
+from .store import CATALOGUE, Catalogued, Reject, Writer, told_of
 
 if TYPE_CHECKING:
     import pandas as pd
@@ -168,18 +169,14 @@ def read_catalogue(demand: str | Path, items: str | Path, orders: str | Path | N
     words = Words(every, columns or {}, units or {}, names or {}, Rules(**rules), start, end, Ways(net, twice, far, least, factors or {}),
                   today or datetime.date.today())
     room = tempfile.TemporaryDirectory(prefix="crnplan-")
-    path = read_into(Path(room.name), {"demand": demand, "items": items, "orders": orders}, words)
+    path = read_alone(Path(room.name), {"demand": demand, "items": items, "orders": orders}, words)
     return Catalogue(path, room)
 
 
-def check_folder(folder: Path) -> None:
-    """Makes a folder. Raises Refused if it has files that are of no catalogue: they might be overwritten."""
-    known = {READ, ANSWERS, f"{READ}.part", PARTS, "lock"}
-    with told_of(folder):
-        folder.mkdir(parents=True, exist_ok=True)
-        names = {it.name for it in folder.iterdir()}
-    if names and not names & known:
-        raise Refused(f"{folder}: the folder is not empty, and no catalogue is in it; name a new folder")
+def read_alone(path: Path, paths: Mapping[str, str | Path | None], words: Words) -> Path:
+    """Reads a catalogue into a folder that no other run uses, and returns the file of what was read."""
+    with own_folder(path, CATALOGUE) as folder:
+        return read_into(folder, paths, words)
 
 
 def open_sources(paths: Mapping[str, str | Path | None], words: Words) -> dict[str, Source]:
@@ -198,11 +195,10 @@ def open_sources(paths: Mapping[str, str | Path | None], words: Words) -> dict[s
 
 
 @contextlib.contextmanager
-def _writer(folder: Path) -> Iterator[tuple[Writer, Path]]:
+def _writer(folder: Folder) -> Iterator[tuple[Writer, Path]]:
     """Gives what writes a catalogue, and a folder for its parts, which is removed afterwards."""
-    parts = folder / PARTS
-    with told_of(folder), contextlib.ExitStack() as stack:
-        shutil.rmtree(parts, ignore_errors=True)
+    parts = folder.room() / PARTS
+    with told_of(folder.path), contextlib.ExitStack() as stack:
         stack.callback(shutil.rmtree, parts, ignore_errors=True)
         parts.mkdir()
         writer = Writer(folder)
@@ -211,7 +207,7 @@ def _writer(folder: Path) -> Iterator[tuple[Writer, Path]]:
         yield writer, parts
 
 
-def read_into(folder: Path, paths: Mapping[str, str | Path | None], words: Words) -> Path:
+def read_into(folder: Folder, paths: Mapping[str, str | Path | None], words: Words) -> Path:
     """Reads a catalogue into a folder, and returns the file of what was read. Raises as `read_catalogue` does."""
     start, end = words.ends
     with _writer(folder) as (writer, parts), contextlib.ExitStack() as stack:

@@ -1,14 +1,14 @@
 """Says what is wrong with the rows of a file: all of it in one pass, each fault with its place."""
 from __future__ import annotations
 
-import csv
 import re
 from collections.abc import Iterator, Sequence
 from dataclasses import dataclass
 from pathlib import Path
 from typing import NamedTuple
 
-from ..errors import Fault, Refused, RefusedFaults
+from ..errors import Fault, RefusedFaults
+from ..files import faults_of, new_file, write_rows
 
 # So many faults are printed, and so many lines are named in a note. The rejects have all.
 MOST_PRINTED = 20
@@ -81,10 +81,6 @@ class RefusedFiles(RefusedFaults):
 
 def write_rejects(path: Path, faults: Sequence[Fault]) -> None:
     """Writes all faults as CSV: file, line and column (0 if there is none), what is wrong, and the text of the row."""
-    try:
-        with path.open("w", encoding="utf-8", newline="") as file:
-            out = csv.writer(file, lineterminator="\n")
-            out.writerow(["file", "line", "column", "what", "row"])
-            out.writerows([it.file, it.line, it.column, it.what, getattr(it, "row", "").replace("\r", "\\r")] for it in faults)
-    except OSError as fault:
-        raise Refused(f"{path}: {fault.strerror}; name another file after --rejects") from fault
+    with faults_of(path), new_file(path) as file:
+        write_rows(file, ["file", "line", "column", "what", "row"],
+                   ([it.file, it.line, it.column, it.what, getattr(it, "row", "").replace("\r", "\\r")] for it in faults))

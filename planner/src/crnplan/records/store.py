@@ -14,7 +14,9 @@ from pathlib import Path
 from typing import Any, NamedTuple
 
 from ..errors import Refused
+from ..files import Folder
 
+CATALOGUE = "catalogue"  # the kind of the folder
 READ, ANSWERS = "catalogue.sqlite", "answers.sqlite"
 # Rows that are sent to SQLite at a time.
 AT_ONCE = 2_000
@@ -104,10 +106,9 @@ class Catalogued:
 class Writer:
     """Writes what is read of a catalogue. The file stands under its name only when `finish` is called."""
 
-    def __init__(self, folder: Path) -> None:
+    def __init__(self, folder: Folder) -> None:
         """Opens a new file."""
-        self.folder, self.part = folder, folder / f"{READ}.part"
-        self.part.unlink(missing_ok=True)
+        self.path, self.part = folder.store(READ), folder.room() / READ
         self.base = sqlite3.connect(self.part)
         self.waiting: list[Reject] = []
 
@@ -142,9 +143,8 @@ class Writer:
         self.base.executemany("INSERT INTO facts VALUES (?, ?)", [(name, json.dumps(it)) for name, it in facts.items()])
         self.base.commit()
         self.base.close()
-        path = self.folder / READ
-        os.replace(self.part, path)
-        return path
+        os.replace(self.part, self.path)
+        return self.path
 
     def drop(self) -> None:
         """Removes a file that was not finished."""
@@ -155,9 +155,9 @@ class Writer:
 class Answers:
     """The answers that are kept in a folder, each with the digest of what it depends on."""
 
-    def __init__(self, folder: Path, name: str = ANSWERS) -> None:
+    def __init__(self, path: Path) -> None:
         """Opens the file, or makes it."""
-        self.base = sqlite3.connect(folder / name)
+        self.base = sqlite3.connect(path)
         self.base.execute("PRAGMA journal_mode = WAL")
         self.base.execute("PRAGMA synchronous = NORMAL")
         with self.base:

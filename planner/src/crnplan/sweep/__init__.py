@@ -1,6 +1,7 @@
 """Compares a grid of (s,S) policies with a base by many runs of crnsim, on this machine or on a Dask cluster."""
 from __future__ import annotations
 
+import contextlib
 import importlib
 import os
 from collections.abc import Callable, Iterable, Iterator, Sequence
@@ -11,6 +12,7 @@ from typing import Any
 from ..crnsim.program import find_program
 from ..crnsim.report import Report, Row
 from ..errors import ProgramError, Refused
+from ..files import Folder, own_folder
 from ..scenario import Policy, Scenario
 from . import worker
 from .grid import Part, grid_of, joined, keep, kept_rows, parts_of, rows_of_part
@@ -65,10 +67,10 @@ def answered(part: Part, answer: Answer) -> list[Row]:
     return rows
 
 
-def reports_of(parts: Sequence[Part], folder: Path | None, answers: Callable[[Sequence[Part]], Answers],
+def reports_of(parts: Sequence[Part], folder: Folder | None, answers: Callable[[Sequence[Part]], Answers],
                shown: bool) -> list[list[Row]]:
     """Returns the rows of each scenario, in order: kept ones, or else those of a run, which are kept then."""
-    kept = {} if folder is None else {part.number: kept_rows(folder, part) for part in parts}
+    kept = {} if folder is None else {part.number: kept_rows(folder.path, part) for part in parts}
     rows = {number: its for number, its in kept.items() if its is not None}
     wanted = [part for part in parts if part.number not in rows]
     with progress_of(len(parts), len(rows), shown) as show:
@@ -99,17 +101,12 @@ def sweep(scenario: Scenario, s: Iterable[Any], S: Iterable[Any], *, jobs: int |
     its path. `progress` shows on standard error how many scenarios are done. Raises Refused, ScenarioError if a level
     is out of range, and ProgramError if a run fails.
     """
-    folder = None if out is None else Path(out)
     grid = grid_of(scenario, s, S)
     path = program_for(program, cluster)
 
     def answers(parts: Sequence[Part]) -> Answers:
         """Yields the answers to scenarios from where they are run."""
         return answers_here(jobs, path, parts) if cluster is None else answers_of_cluster(cluster, path, parts)
-    try:
-        if folder is not None:
-            folder.mkdir(parents=True, exist_ok=True)
+    with contextlib.nullcontext() if out is None else own_folder(Path(out), "sweep") as folder:
         rows = joined(reports_of(parts_of(scenario, grid), folder, answers, progress))
-    except OSError as fault:
-        raise Refused(f"{fault.filename or out}: {fault.strerror}") from fault
     return Report(rows, scenario.with_policies(Policy(row.policy, row.s, row.S) for row in rows))

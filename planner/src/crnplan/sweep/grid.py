@@ -1,7 +1,6 @@
 """Splits a grid of (s,S) policies into scenarios, and keeps their reports in a folder."""
 from __future__ import annotations
 
-import os
 from collections.abc import Iterable, Sequence
 from dataclasses import dataclass
 from pathlib import Path
@@ -12,6 +11,7 @@ from ..toml.reading import checked_tree
 from ..toml.writing import plain_text
 from ..crnsim.report import Row, report_text, rows_of
 from ..errors import ProgramError, Refused
+from ..files import Folder
 from ..money import whole
 from ..scenario import Policy, Scenario
 
@@ -77,16 +77,6 @@ def joined(reports: Sequence[Sequence[Row]]) -> tuple[Row, ...]:
     return base, *sorted((row for rows in reports for row in rows[1:]), key=lambda row: row.diff_total)
 
 
-def write_whole(path: Path, text: str) -> None:
-    """Writes a file that is there whole or not at all."""
-    part = path.with_name(f"{path.name}.part")
-    with part.open("w", encoding="utf-8", newline="") as file:
-        file.write(text)
-        file.flush()
-        os.fsync(file.fileno())
-    part.replace(path)
-
-
 def kept_text(path: Path) -> str | None:
     """Returns the text of a file that is kept, or None if there is none."""
     try:
@@ -103,9 +93,8 @@ def kept_rows(folder: Path, part: Part) -> list[Row] | None:
     return None if report is None else rows_of_part(part, report)
 
 
-def keep(folder: Path, part: Part, report: str) -> None:
+def keep(folder: Folder, part: Part, report: str) -> None:
     """Keeps a report. The scenario's text, which says whose it is, is removed first and written last."""
-    scenario = folder / f"{part.number:05}.toml"
-    scenario.unlink(missing_ok=True)
-    write_whole(folder / f"{part.number:05}.csv", report)
-    write_whole(scenario, part.text)
+    folder.remove(f"{part.number:05}.toml")
+    folder.write(f"{part.number:05}.csv", report)
+    folder.write(f"{part.number:05}.toml", part.text)

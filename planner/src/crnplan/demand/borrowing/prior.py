@@ -11,6 +11,7 @@ from typing import Any
 import numpy as np
 
 from ...errors import Refused
+from ...files import new_file
 from ..families import Floats, Whole
 from .em import FLAT
 
@@ -95,8 +96,9 @@ class Prior:
         return json.dumps(tree, ensure_ascii=False, separators=(",", ":")) + "\n"
 
     def write(self, path: Path | str) -> None:
-        """Writes a file. Raises OSError."""
-        Path(path).write_bytes(self.text.encode())
+        """Writes a file, whole. Raises OSError."""
+        with new_file(Path(path)) as file:
+            file.write(self.text)
 
     @classmethod
     def read(cls, path: Path | str) -> Prior:

@@ -1,0 +1,201 @@
+"""Writes whole files, and keeps the folders that are crnplan's.
+
+A folder is crnplan's if it holds a marker: a file with a signature and the names of the files that crnplan has made in
+the folder. Only these are overwritten or removed. Names come from the package; a name that a file states is only looked
+up. The marker is also the lock: one run at a time works in a folder.
+"""
+from __future__ import annotations
+
+import contextlib
+import csv
+import fcntl
+import functools
+import hashlib
+import os
+import re
+import secrets
+import shutil
+import stat
+import sys
+from collections.abc import Iterable, Iterator, Sequence
+from pathlib import Path
+from typing import IO
+
+from .errors import Refused
+
+MARKER = "crnplan-folder.txt"
+SIGNATURE = "crnplan folder, version 1: {kind}. Only the files named below are overwritten or removed by crnplan."
+# A folder for what is not finished, with a random name, so that it is nobody else's.
+UNFINISHED = re.compile(r"unfinished-[0-9a-f]{16}/")
+
+
+def digest_of(data: bytes) -> str:
+    """Returns the SHA-256 of bytes, in hexadecimal."""
+    return hashlib.sha256(data).hexdigest()
+
+
+@functools.cache
+def package_digest() -> str:
+    """Returns the digest of all files of the package, and of the versions of what it computes with."""
+    import numpy
+    import scipy
+    top = Path(__file__).parent
+    texts = [f"{sys.version_info} {numpy.__version__} {scipy.__version__}"]
+    texts += [f"{path.relative_to(top)} {digest_of(path.read_bytes())}" for path in sorted(top.rglob("*"))
+              if path.is_file() and "__pycache__" not in path.parts]
+    return digest_of("\n".join(texts).encode())
+
+
+@contextlib.contextmanager
+def new_file(path: Path, room: Path | None = None) -> Iterator[IO[str]]:
+    """Gives a file to write, which is there whole or not at all. Until then it has a random name, beside the target or
+    in another folder of the same disk, its `room`.
+
+    A symlink at the target is replaced, and not followed. Raises OSError.
+    """
+    part = (room or path.parent) / f".{secrets.token_hex(8)}.part"
+    descriptor = os.open(part, os.O_WRONLY | os.O_CREAT | os.O_EXCL | os.O_NOFOLLOW, 0o666)
+    try:
+        with open(descriptor, "w", encoding="utf-8", newline="") as file:
+            yield file
+            file.flush()
+            os.fsync(file.fileno())
+        os.replace(part, path)
+    except BaseException:
+        part.unlink(missing_ok=True)
+        raise
+
+
+def write_rows(file: IO[str], heading: Sequence[str], rows: Iterable[Sequence[object]]) -> None:
+    """Writes a table as CSV. Rows may be many: they are not kept."""
+    out = csv.writer(file, lineterminator="\n")
+    out.writerow(heading)
+    out.writerows(rows)
+
+
+@contextlib.contextmanager
+def faults_of(folder: Path) -> Iterator[None]:
+    """Turns errors of the file system into one message on a folder."""
+    try:
+        yield
+    except OSError as fault:
+        raise Refused(f"{fault.filename or folder}: {fault.strerror or fault}; name a folder that can be written, or "
+                      "make room, and run again") from fault
+
+
+class Folder:
+    """A folder of one kind that is crnplan's, held by this run alone. `own_folder` gives it."""
+
+    def __init__(self, path: Path, kind: str, marker: IO[str]) -> None:
+        """Takes the open marker, whose lock is held. Raises Refused if its first line is not the signature."""
+        self.path, self._marker = path, marker
+        self._room: Path | None = None
+        text, signature = marker.read(), SIGNATURE.format(kind=kind)
+        first, *names = text.splitlines() or [signature]
+        if first != signature or not text and any(it.name != MARKER for it in path.iterdir()):
+            raise Refused(f"{path}: {MARKER} is not that of a folder of crnplan {kind}; name a new folder")
+        if not text.endswith("\n"):
+            self._append("" if text else signature)
+        self._names = set(names)
+        for name in filter(UNFINISHED.fullmatch, names):
+            shutil.rmtree(path / name, ignore_errors=True)
+
+    def _append(self, *lines: str) -> None:
+        """Adds lines to the marker, before what they name is made."""
+        self._marker.write("".join(f"{line}\n" for line in lines))
+        self._marker.flush()
+        os.fsync(self._marker.fileno())
+
+    def claim(self, *names: str) -> None:
+        """Makes files and folders (whose names end with /) crnplan's, to be overwritten or removed. Raises Refused for
+        what is there and is not crnplan's."""
+        new = [name for name in names if name not in self._names]
+        foreign = next((name for name in new if os.path.lexists(self.path / name)), None)
+        if foreign:
+            raise Refused(f"{self.path / foreign}: crnplan has not made it, and would overwrite it; move it away, or "
+                          "name another folder")
+        if new:
+            self._append(*new)
+            self._names.update(new)
+
+    def subfolder(self, name: str) -> None:
+        """Makes a folder in this one, and claims it. Raises Refused for a symlink."""
+        self.claim(f"{name}/")
+        if (self.path / name).is_symlink():
+            raise Refused(f"{self.path / name}: it is a symlink, which is not followed; remove it")
+        (self.path / name).mkdir(exist_ok=True)
+
+    def store(self, name: str) -> Path:
+        """Returns the path of a file of SQLite that is written in place, and claims it. Raises Refused for a symlink."""
+        names = [f"{name}{end}" for end in ("", "-journal", "-wal", "-shm")]
+        self.claim(*names)
+        link = next((it for it in names if (self.path / it).is_symlink()), None)
+        if link:
+            raise Refused(f"{self.path / link}: it is a symlink, which is not followed; remove it")
+        return self.path / name
+
+    @contextlib.contextmanager
+    def whole(self, name: str) -> Iterator[IO[str]]:
+        """Gives a file to write, as `new_file` does, and claims it."""
+        self.claim(name)
+        with faults_of(self.path), new_file(self.path / name, self.room()) as file:
+            yield file
+
+    def write(self, name: str, text: str) -> None:
+        """Writes a text as a whole file."""
+        with self.whole(name) as file:
+            file.write(text)
+
+    def write_rows(self, name: str, heading: Sequence[str], rows: Iterable[Sequence[object]]) -> None:
+        """Writes a CSV table as a whole file."""
+        with self.whole(name) as file:
+            write_rows(file, heading, rows)
+
+    def remove(self, *names: str) -> None:
+        """Removes those of the files that are crnplan's."""
+        for name in self._names.intersection(names):
+            (self.path / name).unlink(missing_ok=True)
+
+    def room(self) -> Path:
+        """Returns a folder for what is not finished, on the same disk. It is removed at the end of the run, or, if that
+        was ended by force, at the beginning of the next."""
+        if self._room is None:
+            name = f"unfinished-{secrets.token_hex(8)}/"
+            self.claim(name)
+            self._room = self.path / name
+            self._room.mkdir(mode=0o700)
+        return self._room
+
+    def close(self) -> None:
+        """Removes what is not finished."""
+        if self._room:
+            shutil.rmtree(self._room, ignore_errors=True)
+
+
+@contextlib.contextmanager
+def own_folder(path: Path, kind: str, names: Iterable[str] = ()) -> Iterator[Folder]:
+    """Gives a folder of a kind, made if it is not there, with `names` claimed. The system lets go of it at any end.
+
+    Raises Refused for a folder that has files and no marker, that is of another kind, in which another run works, or
+    that can't be written.
+    """
+    with faults_of(path):
+        path.mkdir(parents=True, exist_ok=True)
+        if not os.path.lexists(path / MARKER) and any(path.iterdir()):
+            raise Refused(f"{path}: the folder is not empty, and is not one of crnplan {kind}; name a new folder")
+        descriptor = os.open(path / MARKER, os.O_RDWR | os.O_CREAT | os.O_APPEND | os.O_NOFOLLOW, 0o666)
+    with open(descriptor, "r+", encoding="utf-8", errors="replace", newline="") as marker:
+        if not stat.S_ISREG(os.fstat(descriptor).st_mode):
+            raise Refused(f"{path / MARKER}: it is no file; name a new folder")
+        try:
+            fcntl.flock(marker, fcntl.LOCK_EX | fcntl.LOCK_NB)
+        except BlockingIOError as fault:
+            raise Refused(f"{path}: another run of crnplan works in this folder; wait for its end, or name another "
+                          "folder") from fault
+        with faults_of(path):
+            folder = Folder(path, kind, marker)
+        try:
+            folder.claim(*names)
+            yield folder
+        finally:
+            folder.close()

@@ -1,0 +1,175 @@
+"""Tests that no command overwrites or removes what is not crnplan's, whatever a folder holds."""
+from __future__ import annotations
+
+import os
+import shutil
+from collections.abc import Iterator, Sequence
+from pathlib import Path
+
+import pytest
+
+from planner.tests.conftest import Command
+
+DEMAND = "item,date,quantity\n" + "".join(f"A,2026-{month:02}-{day:02},3\n" for month in range(1, 7)
+                                          for day in (2, 9, 16, 23))
+MASTERS = "item,setup,holding,backlog,lead,s,S\nA,20,1,9,1,5,20\n"
+SETTINGS = """[history]
+demand = "quantity"
+date = "date"
+every = "week"
+[lead]
+times = [1, 1, 2]
+[costs]
+setup = 20
+holding = 1
+backlog = 9
+[today]
+s = 5
+S = 20
+stock = 10
+"""
+PLANT = "not of crnplan\n"
+# Files that earlier commands of crnplan wrote, or looked for.
+NAMES = ["parts/mine.csv", "lock", "catalogue.sqlite", "catalogue.sqlite.part", "answers.sqlite", "decisions.csv",
+         "state.json", "summary.txt", "00000.toml", "key_1.csv", "unfinished-0123456789abcdef/mine"]
+# The commands that keep a folder, with their words.
+CATALOGUE = ["catalogue", "demand.csv", "items.csv", "--jobs", "1", "--out", "plan"]
+ITEM = ["item", "demand.csv", "settings.toml", "--out", "plan"]
+SWEEP = ["sweep", "base.toml", "--s", "18", "22", "1", "--S", "40", "41", "1", "--out", "plan"]
+CHECK = ["check", "base.toml", "A", "--replications", "2", "--out", "plan"]
+KEEPING = [CATALOGUE, [*CATALOGUE, "--check"], ITEM, SWEEP, CHECK]
+IDS = ["catalogue", "catalogue --check", "item", "sweep", "check"]
+
+
+@pytest.fixture(autouse=True)
+def room(tmp_path: Path, top: Path, monkeypatch: pytest.MonkeyPatch) -> Iterator[Path]:
+    """Returns a folder with inputs of all commands, in which the test runs."""
+    for name, text in (("demand.csv", DEMAND), ("items.csv", MASTERS), ("settings.toml", SETTINGS),
+                       ("crnplan.toml", "[catalogue]\nperiods = 64\nreplications = 2\n")):
+        (tmp_path / name).write_text(text, "utf-8")
+    shutil.copy(top / "examples/two_policies.toml", tmp_path / "base.toml")
+    monkeypatch.chdir(tmp_path)
+    yield tmp_path
+
+
+def contents(folder: Path) -> dict[str, bytes]:
+    """Returns all files below a folder; a folder or a symlink counts as an empty one."""
+    return {str(path.relative_to(folder)): path.read_bytes() if path.is_file() and not path.is_symlink() else b""
+            for path in folder.rglob("*")}
+
+
+def plant(path: Path) -> None:
+    """Makes a file that is not crnplan's."""
+    path.parent.mkdir(parents=True, exist_ok=True)
+    path.write_text(PLANT, "utf-8")
+
+
+@pytest.mark.parametrize("words", KEEPING, ids=IDS)
+@pytest.mark.parametrize("name", NAMES)
+def test_a_folder_of_others(room: Path, crnplan: Command, program: Path, words: Sequence[str], name: str) -> None:
+    """Leaves a folder as it is that has files and no marker, whatever they are called."""
+    plant(room / "plan" / name)
+    before = contents(room / "plan")
+    told = crnplan(*words, *([] if "--check" in words else ["--program", program]))
+    assert contents(room / "plan") == before
+    assert told.status == (0 if "--check" in words else 2), told.errors
+    assert "--check" in words or "plan: the folder is not empty" in told.errors
+
+
+def test_check_writes_nothing(room: Path, crnplan: Command, program: Path) -> None:
+    """Writes nothing with --check: into no folder that is there, no new one, and none of an earlier plan."""
+    before = contents(room)
+    assert crnplan(*CATALOGUE, "--check").status == 0 and contents(room) == before
+    assert crnplan(*CATALOGUE[:-2], "--check").status == 0 and contents(room) == before
+    assert crnplan(*CATALOGUE, "--program", program).status == 0
+    before = contents(room)
+    (room / "demand.csv").write_text(DEMAND + "A,2026-06-30,4\nA,2026-06-30,n/a\n", "utf-8")
+    told = crnplan(*CATALOGUE, "--check", "--rejects", "left.csv")
+    assert told.status == 0 and contents(room / "plan") == {
+        name.removeprefix("plan/"): data for name, data in before.items() if name.startswith("plan/")}
+    assert "n/a" in (room / "left.csv").read_text("utf-8")
+
+
+@pytest.mark.parametrize("words", [CATALOGUE, ITEM, SWEEP, CHECK], ids=["catalogue", "item", "sweep", "check"])
+def test_what_is_put_into_a_folder_of_ours(room: Path, crnplan: Command, program: Path, words: Sequence[str]) -> None:
+    """Leaves other files in a folder of its own, also if a file there names them, and those behind symlinks."""
+    assert crnplan(*words, "--program", program).status == 0
+    for name in ("parts/mine.csv", "notes.md", "items/mine.html"):
+        plant(room / "plan" / name)
+    plant(room / "outside")
+    steps = '{"steps": {"tables": {"inputs": "", "files": {"notes.md": "", "../outside": "", "parts/mine.csv": ""}}}}'
+    (room / "plan/state.json").write_text(steps, "utf-8")
+    replaced = [path for path in (room / "plan").iterdir() if path.suffix in (".csv", ".txt", ".toml", ".html")
+                and "marker" not in path.name and path.name not in ("state.json", "crnplan-folder.txt")]
+    for path in replaced:
+        path.unlink()
+        path.symlink_to(room / "outside")
+    (room / "demand.csv").write_text(DEMAND + "A,2026-06-30,4\n", "utf-8")
+    (room / "base.toml").write_text((room / "base.toml").read_text("utf-8").replace("setup = 32", "setup = 33"))
+    told = crnplan(*words, "--program", program)
+    assert told.status == 0, told.errors
+    assert all((room / name).read_text("utf-8") == PLANT for name in (
+        "outside", "plan/parts/mine.csv", "plan/notes.md", "plan/items/mine.html"))
+    assert replaced and not any(path.is_symlink() for path in replaced)
+
+
+@pytest.mark.parametrize("name", ["answers.sqlite", "answers.sqlite-wal", "items"])
+def test_symlinks_to_what_is_written_in_place(room: Path, crnplan: Command, program: Path, name: str) -> None:
+    """Refuses a symlink at the place of a file that is not replaced whole."""
+    assert crnplan(*CATALOGUE, "--program", program).status == 0
+    assert crnplan("report", "plan", "--item", "A", "--program", program).status == 0
+    target = room / "outside"
+    target.mkdir() if name == "items" else plant(target)
+    if (room / "plan" / name).exists():
+        os.rename(room / "plan" / name, room / "moved")
+    (room / "plan" / name).symlink_to(target)
+    words = ["report", "plan", "--item", "A"] if name == "items" else CATALOGUE
+    told = crnplan(*words, "--program", program)
+    assert told.status == 2 and "is a symlink, which is not followed" in told.errors
+    assert [*target.iterdir()] == [] if name == "items" else target.read_text("utf-8") == PLANT
+
+
+@pytest.mark.parametrize("words", [ITEM, SWEEP, CHECK], ids=["item", "sweep", "check"])
+def test_a_folder_of_another_kind(room: Path, crnplan: Command, program: Path, words: Sequence[str]) -> None:
+    """Refuses the folder of a catalogue for anything else, and leaves it as it is."""
+    assert crnplan(*CATALOGUE, "--program", program).status == 0
+    before = contents(room / "plan")
+    told = crnplan(*words, "--program", program)
+    assert told.status == 2 and f"not that of a folder of crnplan {words[0]}" in told.errors
+    assert contents(room / "plan") == before
+
+
+@pytest.mark.parametrize("words", [CATALOGUE, ITEM, SWEEP, CHECK], ids=["catalogue", "item", "sweep", "check"])
+def test_one_run_at_a_time(room: Path, crnplan: Command, program: Path, words: Sequence[str]) -> None:
+    """Refuses a folder in which another run works: the lock is that of the whole folder."""
+    import fcntl
+    assert crnplan(*words, "--program", program).status == 0
+    with (room / "plan/crnplan-folder.txt").open() as marker:
+        fcntl.flock(marker, fcntl.LOCK_EX)
+        told = crnplan(*words, "--program", program)
+    assert told.status == 2 and "another run of crnplan works in this folder" in told.errors
+
+
+def test_a_marker_that_was_cut(room: Path, crnplan: Command, program: Path) -> None:
+    """Goes on if the last line of the marker was cut off, and refuses what that line named."""
+    assert crnplan(*CATALOGUE, "--program", program).status == 0
+    marker = room / "plan/crnplan-folder.txt"
+    lines = marker.read_text("utf-8").splitlines()
+    lines.remove("summary.txt")
+    marker.write_text("\n".join([*lines, "summa"]), "utf-8")
+    told = crnplan(*CATALOGUE, "--program", program)
+    assert told.status == 2 and "plan/summary.txt: crnplan has not made it" in told.errors
+    (room / "plan/summary.txt").unlink()
+    assert crnplan(*CATALOGUE, "--program", program).status == 0
+    assert "summary.txt" in marker.read_text("utf-8").splitlines()
+
+
+def test_what_a_killed_run_has_left(room: Path, crnplan: Command, program: Path) -> None:
+    """Removes what is not finished of a run that was ended by force, and nothing that only looks like it."""
+    assert crnplan(*CATALOGUE, "--program", program).status == 0
+    for name in ("unfinished-00000000000000aa", "unfinished-00000000000000bb"):
+        plant(room / "plan" / name / "part")
+    with (room / "plan/crnplan-folder.txt").open("a") as marker:
+        marker.write("unfinished-00000000000000aa/\n")
+    assert crnplan(*CATALOGUE, "--program", program).status == 0
+    assert sorted(it.name for it in (room / "plan").glob("unfinished-*")) == ["unfinished-00000000000000bb"]
