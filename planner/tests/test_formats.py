@@ -6,7 +6,7 @@ import re
 import pytest
 
 from crnplan import formats
-from planner.tests.pages import TEXT, keys_of_page, numbers_of, ranges_of, spans_of, table_with, tables_with, words_with
+from planner.tests.format_tables import TEXT, keys_of_page, numbers_of, ranges_of, spans_of, table_with, tables_with, words_with
 
 KEYS = keys_of_page()
 

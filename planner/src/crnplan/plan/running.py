@@ -13,7 +13,6 @@ from ..errors import CrnplanError
 from ..files import Folder, digest_of, own_folder
 from ..sweep import program_for
 from .learning import PRIOR, prior_of
-from ..pages.report import PAGE, write_page
 from .planned import PLANNED, Planned, keep_planned
 from .planning import Settings, plan_batch
 from ..records.catalogue_reading import Catalogue, missing_of
@@ -28,7 +27,7 @@ if TYPE_CHECKING:
 
 FOUND = "found.toml"
 # The files of a planned folder, beside its stores, its curve and the pages of its items.
-NAMES = (FOUND, REJECTS, PRIOR, PLANNED, DECISIONS, EXACT, SUMMARY, PAGE)
+NAMES = (FOUND, REJECTS, PRIOR, PLANNED, DECISIONS, EXACT, SUMMARY, "report.html")
 
 
 class Lost(CrnplanError):
