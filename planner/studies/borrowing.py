@@ -32,11 +32,12 @@ import numpy as np
 import pandas as pd
 from tqdm import tqdm
 
+from crnplan.chances import in_items
 from crnplan.demand import DemandLaw, fit_demand
 from crnplan.demand.borrowing import Borrowed, Prior, law_of, learn
-from crnplan.demand.families import Sample, unpacked
+from crnplan.demand.families import predictive_of
 from crnplan.demand.fitting import weights_of
-from crnplan.demand.predictive import predictive_of
+from crnplan.demand.sample import Sample
 from crnplan.theory.laws import Floats
 from planner.studies.laws import COVERS, Choice, LongRuns
 from planner.studies.made_catalogues import DESIGNED, UNSEEN, catalogue, drawn, hurdle, negative_binomial
@@ -112,7 +113,7 @@ def predictive_law(single: DemandLaw, history: list[int]) -> DemandLaw:
     if single.family == "empirical":
         return single
     sample = Sample.of(history)
-    law = unpacked(predictive_of(single.family, sample.in_packs(sample.pack)), sample.pack)
+    law = in_items(predictive_of(single.family, sample.in_packs(sample.pack)), sample.pack)
     return DemandLaw(*weights_of(law), single.family)
 
 

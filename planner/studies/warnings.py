@@ -33,7 +33,7 @@ import pandas as pd
 
 from crnplan.demand.checks import FALSE_ALARMS
 from crnplan.demand.effects import Facts, tested
-from crnplan.demand.families import Sample
+from crnplan.demand.sample import Sample
 from crnplan.demand.outliers import outliers_of
 from crnplan.demand.permutation import Orders, p_value, statistics_of
 from crnplan.demand.seasons import seasons_of

@@ -7,7 +7,7 @@ import numpy as np
 from scipy import stats
 
 from crnplan.demand.borrowing import grid
-from crnplan.demand.families import Floats
+from crnplan.chances import Floats
 
 RARE = [0, 0, 0, 12, 0, 0, 0, 0, 3, 0, 0, 25, 0, 0, 0, 0, 0, 7, 0, 0, 0, 1, 0, 0, 0, 9]
 TRUE_SHARE, TRUE_MEAN, TRUE_SIZE = 0.2, 4.0, 1.6  # of the items of `known`; the mean is that of sizes less 1

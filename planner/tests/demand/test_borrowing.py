@@ -15,14 +15,15 @@ from hypothesis import strategies as st
 from scipy import special, stats
 
 import crnplan as crn
+from crnplan.chances import Floats
 from crnplan.demand import DemandLaw, fit_demand, notes_of
 from crnplan.demand.borrowing import Borrowed, Prior, borrowed_laws, em, grid, law_of, learn, learning
 from crnplan.demand.borrowing.likelihoods import Cells, chunks_of, marginal
 from crnplan.demand.borrowing.posterior import Posterior
 from crnplan.demand.borrowing.prior import Learned
-from crnplan.demand.families import Floats, Sample
 from crnplan.demand.fitting import share_of
 from crnplan.demand.posterior import allowed_laws
+from crnplan.demand.sample import Sample
 from crnplan.errors import Refused, RefusedFaults
 from crnplan.records.observed import Observed
 from planner.tests.demand.made import RARE, TRUE_MEAN, TRUE_SHARE, TRUE_SIZE, history, logarithms

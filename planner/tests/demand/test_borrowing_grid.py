@@ -11,7 +11,7 @@ from scipy import special, stats
 
 from crnplan.demand.borrowing import em, grid
 from crnplan.demand.borrowing.likelihoods import Sums, chunks_of, marginal, of_shares, of_sizes
-from crnplan.demand.families import Sample
+from crnplan.demand.sample import Sample
 from planner.tests.demand.made import logarithms
 
 HISTORIES = st.lists(st.lists(st.integers(0, 60), min_size=1, max_size=30), min_size=2, max_size=12)

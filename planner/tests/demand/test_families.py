@@ -11,9 +11,13 @@ from hypothesis import example, given, settings
 from hypothesis import strategies as st
 from scipy import integrate, optimize, special, stats
 
-from crnplan.demand import fitting, guard, predictive
-from crnplan.demand.families import CELLS, FAMILIES, Floats, Sample, fits_of, parts_of
-from crnplan.demand.predictive import PREDICTIVE, predictive_of
+from crnplan.chances import DEMANDS, Floats
+from crnplan.demand import fit_demand, fitting, guard
+from crnplan.demand.families import FAMILIES, fits_of, predictive_of
+from crnplan.demand.families.bulk import divided
+from crnplan.demand.families.numbers import beta_negative_binomial, greatest_mean
+from crnplan.demand.posterior import allowed_laws
+from crnplan.demand.sample import Sample
 
 ERRATIC = [0, 3, 1, 9, 0, 0, 2, 5, 14, 1, 0, 4, 2, 2, 7, 0, 1, 3, 21, 0, 6, 1]
 SMOOTH = [9, 11, 7, 10, 14, 8, 12, 6, 10, 9, 13, 11, 10, 8, 9, 12]
@@ -22,9 +26,21 @@ BULKY = [0, 1, 0, 14, 2, 0, 0, 1, 0, 0, 19, 0, 3, 0, 1, 0, 0, 11, 0, 0, 1, 2, 0,
 HISTORIES = pytest.mark.parametrize("numbers", [ERRATIC, SMOOTH, RARE], ids=["erratic", "smooth", "rare"])
 
 
-def test_the_names_of_families() -> None:
-    """The names that are known without scipy are those of the families."""
-    assert (*FAMILIES,) == (*PREDICTIVE,) == fitting.FAMILIES
+def test_adding_a_family(monkeypatch: pytest.MonkeyPatch) -> None:
+    """A line in the registry is enough: the family is fitted, chosen and drawn, with its closed forms.
+
+    Of geometric numbers, none is likelier than the geometric family. By its flat prior of p, the law of the next number
+    has the chance (n + 1) / (n + total + 2) of a 0.
+    """
+    numbers = [int(number) for number in np.random.default_rng(3).geometric(0.3, 60) - 1]
+    before = fit_demand(numbers)
+    assert "geometric" not in before.diagnostics["families"]
+    monkeypatch.setitem(FAMILIES, "geometric", ("numbers.Geometric",))
+    law = fit_demand(numbers, method="geometric")
+    assert law.family == "geometric"
+    assert law.weights[0] / 65_536 == pytest.approx(61 / (62 + sum(numbers)), abs=1e-5)
+    assert fit_demand(numbers).family == "geometric"
+    assert allowed_laws(numbers, times=50).families["geometric"] > 10
 
 
 @HISTORIES
@@ -74,7 +90,7 @@ def test_bic_is_in_order(numbers: Sequence[int]) -> None:
     hurdle = 0 in numbers
     counts = {"poisson": 1, "negative-binomial": 2, "hurdle-geometric": 1 + hurdle, "hurdle-poisson": 1 + hurdle,
               "hurdle-negative-binomial": 2 + hurdle, "hurdle-lognormal": 2 + hurdle}
-    if parts := parts_of(Sample.of(numbers)):
+    if parts := divided(Sample.of(numbers)):
         ordinary = fits_of(parts[0])
         counts["bulk"] = 3 + (1 if "negative-binomial" not in ordinary or [*ordinary].index("poisson")
                               < [*ordinary].index("negative-binomial") else 2)
@@ -107,7 +123,7 @@ def test_predictive_poisson_and_geometric(numbers: Sequence[int]) -> None:
 def test_predictive_negative_binomial(numbers: Sequence[int]) -> None:
     """The law is the sum over a fine grid of mean and size, flat in both logarithms."""
     sample, data = Sample.of(numbers), np.array(numbers)
-    most = math.log(predictive.greatest_mean(sample))
+    most = math.log(greatest_mean(sample))
     means = np.exp(np.linspace(most - 14, most, 1500))[:, None]
     sizes = np.geomspace(data.mean() / 50, data.mean() / 0.02, 150)
     cells = np.arange(31)[:, None, None]
@@ -142,7 +158,7 @@ def test_parts(numbers: list[int]) -> None:
         return float(law.logpmf(ordinary).sum() + normal.logpdf(bulks).sum() + shares.sum())
     allowed = [it for it in {*numbers} if sum(other >= it for other in numbers) <= len(numbers) / 2
                and any(0 < other < it for other in numbers)]
-    parts = parts_of(Sample.of(numbers))
+    parts = divided(Sample.of(numbers))
     assert (parts is None) == (not allowed)
     if parts:
         assert sorted(np.repeat(np.append(parts[0].values, parts[1].values),
@@ -153,7 +169,7 @@ def test_parts(numbers: list[int]) -> None:
 def test_bulk() -> None:
     """The law is a mixture of ordinary demand and scipy's normal law of bulks, with the likelihood of the mixture."""
     ordinary, bulks = [it for it in BULKY if it < 10], [it for it in BULKY if it >= 10]
-    assert [*parts_of(Sample.of(BULKY))[1].values] == sorted(bulks)
+    assert [*divided(Sample.of(BULKY))[1].values] == sorted(bulks)
     count, mean, squares = bulk_figures(bulks)
     normal = stats.norm(mean, math.sqrt(squares / (count + 2)))
     sizes = np.diff([0, *normal.cdf(np.arange(1, 41) + 0.5)], prepend=0.0)
@@ -183,7 +199,7 @@ def test_predictive_bulk() -> None:
 @given(size=st.floats(0.05, 50), first=st.floats(0.5, 300), second=st.floats(0.5, 300), most=st.floats(0.5, 30))
 def test_beta_negative_binomial(size: float, first: float, second: float, most: float) -> None:
     """The law is the integral over the part of the beta law that the bound on the mean leaves."""
-    law = predictive.beta_negative_binomial(size, first, second, most)
+    law = beta_negative_binomial(size, first, second, most)
     least = math.log(size / most)  # of log(p / (1 - p))
     points, step = np.linspace(least, least + 60, 60_001, retstep=True)
     chance = special.expit(points)
@@ -217,7 +233,7 @@ def test_any_history(numbers: list[int]) -> None:
     assert sample.variance == pytest.approx(np.var(numbers, ddof=1))
     for name, fit in fits_of(sample).items():
         law = predictive_of(name, sample)
-        assert (law >= 0).all() and law.sum() == pytest.approx(1) and len(law) <= len(CELLS)
+        assert (law >= 0).all() and law.sum() == pytest.approx(1) and len(law) <= len(DEMANDS)
         assert (fit.chances >= 0).all() and fit.chances.sum() <= 1 + 1e-9
         if name.startswith("hurdle"):
             assert law[0] == pytest.approx((sample.zeros + 0.5) / (len(numbers) + 1) if sample.zeros else 0, abs=1e-6)
@@ -227,7 +243,7 @@ def test_any_history(numbers: list[int]) -> None:
     (0.05, 30, 12, 3.0), (2.5, 104, 300, 4.1), (900.0, 52, 5_000, 120.0), (0.15, 14, 92, 40.0)])
 def test_beta_negative_binomial(size: float, periods: int, total: int, most_mean: float) -> None:
     """Each chance is an integral of negative binomial chances over p, up to the bound."""
-    chances = predictive.beta_negative_binomial(size, periods * size, total, most_mean)
+    chances = beta_negative_binomial(size, periods * size, total, most_mean)
     law, least = stats.beta(periods * size, total), size / (size + most_mean)
     for value in (0, 1, 7, min(60, len(chances) - 1)):
         def density(p: float, value: int = value) -> float:

@@ -12,10 +12,11 @@ from hypothesis import given, settings
 from hypothesis import strategies as st
 from scipy import stats
 
+from crnplan.chances import mixture
 from crnplan.demand import fit_demand, fit_lead, notes_of
-from crnplan.demand.families import Sample, fits_of
-from crnplan.demand.fitting import FAMILIES, METHODS, cap_of, mixture, share_of, weights_of
-from crnplan.demand.predictive import predictive_of
+from crnplan.demand.families import FAMILIES, fits_of, predictive_of
+from crnplan.demand.fitting import METHODS, cap_of, share_of, weights_of
+from crnplan.demand.sample import Sample
 from crnplan.errors import Refused
 from planner.tests.conftest import Command
 

@@ -9,12 +9,13 @@ from hypothesis import given, settings
 from hypothesis import strategies as st
 from scipy import stats
 
-from crnplan.demand import fit_lead, members, posterior
-from crnplan.demand.families import Floats, Sample, fits_of
-from crnplan.demand.fitting import mixture
-from crnplan.demand.members import DRAWN, laws_of
+from crnplan.chances import Floats, mixture
+from crnplan.demand import fit_lead, posterior
+from crnplan.demand.families import FAMILIES, family_of, fits_of, predictive_of
+from crnplan.demand.families.family import UNIFORMS
+from crnplan.demand.families.numbers import greatest_mean
 from crnplan.demand.posterior import allowed_laws, allowed_leads, demand_laws, members_of, round_history, stratified
-from crnplan.demand.predictive import PREDICTIVE, greatest_mean, predictive_of
+from crnplan.demand.sample import Sample
 from crnplan.errors import Refused
 from crnplan.scenario import Table
 
@@ -29,7 +30,7 @@ SURELY = 5.0  # standard errors
 
 def uniform(times: int, seed: int = 1) -> Floats:
     """Returns uniform numbers, independent of one another, for so many laws."""
-    return np.random.default_rng(seed).random((members.UNIFORMS, times))
+    return np.random.default_rng(seed).random((UNIFORMS, times))
 
 
 def shares(table: Table, size: int) -> Floats:
@@ -48,7 +49,7 @@ FITS = [pytest.param(family, numbers, id=f"{family}-{max(numbers)}") for numbers
 def test_mean_of_drawn_laws(family: str, numbers: Sequence[int]) -> None:
     """It is the posterior predictive law, within the error of the draws."""
     sample = Sample.of(numbers)
-    its, cells = DRAWN[family], np.arange(100)
+    its, cells = family_of(family), np.arange(100)
     below = np.cumsum(its.chances(its.drawn(sample, uniform(3000), 1.0), cells), axis=1)
     expected = np.zeros(10_001)
     law = predictive_of(family, sample)
@@ -60,26 +61,22 @@ def test_mean_of_drawn_laws(family: str, numbers: Sequence[int]) -> None:
 @HISTORIES
 def test_laws_of_a_family(numbers: Sequence[int]) -> None:
     """They are scaled, and only the end of their tail is left out."""
-    its = DRAWN["hurdle-lognormal"]
+    its = family_of("hurdle-lognormal")
     parameters = its.drawn(Sample.of(numbers), uniform(20), 1.0)
-    laws, more = laws_of(its, parameters, max(numbers)), its.chances(parameters, np.arange(10_001))
+    laws, more = its.laws(parameters, max(numbers)), its.chances(parameters, np.arange(10_001))
     assert laws.sum(axis=1) == pytest.approx(1) and np.allclose(laws, more[:, :laws.shape[1]], rtol=1e-3)
 
 
-@pytest.mark.parametrize("family", [it for it in DRAWN if it != "bulk"])  # Twice the numbers have other bulks.
+@pytest.mark.parametrize("family", [it for it in FAMILIES if it != "bulk"])  # Twice the numbers have other bulks.
 def test_coarsened_posterior(family: str) -> None:
     """If each number counts half, the posterior of a history is that of its half."""
     half, whole = Sample.of(ERRATIC), Sample.of([*ERRATIC, *ERRATIC])
     columns = uniform(200)
-    found = DRAWN[family].drawn(whole, columns, 0.5)
-    expected = DRAWN[family].drawn(half, columns, 1.0)
+    found = family_of(family).drawn(whole, columns, 0.5)
+    expected = family_of(family).drawn(half, columns, 1.0)
     for one, other in zip(found, expected):  # The greatest mean and the unbiased deviation are of all numbers.
         assert np.median(one / np.maximum(other, 1e-300)) == pytest.approx(1, rel=0.05)
         assert one.std() == pytest.approx(other.std(), rel=0.15)
-
-
-def test_families_are_those_of_the_predictive_laws() -> None:
-    assert [*DRAWN] == [*PREDICTIVE]
 
 
 @HISTORIES
@@ -91,12 +88,12 @@ def test_drawn_parameters(numbers: Sequence[int]) -> None:
     def far(drawn: Floats, law: object) -> bool:
         """Returns whether draws are surely not of a law."""
         return bool(stats.kstest(drawn, law.cdf).pvalue < 1e-4)  # type: ignore[attr-defined]
-    mean, = DRAWN["poisson"].drawn(sample, uniform(2000), 1.0)
+    mean, = family_of("poisson").drawn(sample, uniform(2000), 1.0)
     assert not far(mean, stats.gamma(sum(numbers) + 0.5, scale=1 / len(numbers)))
-    share, chance = DRAWN["hurdle-geometric"].drawn(sample, uniform(2000), 1.0)
+    share, chance = family_of("hurdle-geometric").drawn(sample, uniform(2000), 1.0)
     assert not far(chance, stats.beta(seen + 1, demands.sum() - seen + 1))
     assert not share.any() if not zeros else not far(share, stats.beta(zeros + 0.5, seen + 0.5))
-    _, mean, deviation = DRAWN["hurdle-lognormal"].drawn(sample, uniform(2000), 1.0)
+    _, mean, deviation = family_of("hurdle-lognormal").drawn(sample, uniform(2000), 1.0)
     logarithms = np.log(demands)
     assert not far(np.sqrt(seen) * (mean - logarithms.mean()) / deviation, stats.norm())
     squares = (seen - 1) * logarithms.var(ddof=1) / deviation**2
@@ -111,7 +108,7 @@ def test_drawn_negative_binomial() -> None:
     sizes = np.geomspace(sample.mean / 50, sample.mean / 0.02, 100)
     chances = np.exp(sum(stats.nbinom.logpmf(value, sizes, sizes / (sizes + means[:, None])) for value in ERRATIC))
     below = np.cumsum(chances.sum(axis=1)) / chances.sum()
-    size, rest = DRAWN["negative-binomial"].drawn(sample, uniform(4000), 1.0)
+    size, rest = family_of("negative-binomial").drawn(sample, uniform(4000), 1.0)
     drawn = size * rest / (1 - rest)
     for share in (0.05, 0.25, 0.5, 0.75, 0.95):
         mean = means[np.searchsorted(below, share)]

@@ -6,6 +6,7 @@ from typing import Any
 import click
 
 from ..demand import Law, checks_of, fit_demand, fit_lead, lines_of, notes_of
+from ..demand.families import FAMILIES
 from ..demand.fitting import METHODS
 from ..errors import Refused
 from ..records import History
@@ -35,7 +36,8 @@ def laws_of(asked: dict[str, Any], attempts: Attempts) -> dict[str, Law]:
               help="What customers gave back, for a scenario of version 2.")
 @record_options
 @click.option("--fit", type=click.Choice(METHODS), metavar="METHOD", default="auto", show_default=True,
-              help="How demand and returns are fitted: auto, predictive, empirical, or the name of a family.")
+              help="How demand and returns are fitted: auto, predictive, empirical, or by the name of a family: "
+                   f"{', '.join(FAMILIES)}.")
 @click.option("--season", type=click.IntRange(2), metavar="N",
               help="How many periods a season has that is looked for; without it as the dates say.")
 @file_options
@@ -49,9 +51,7 @@ def command(**asked: Any) -> int:
     By default (--fit auto) the predictive laws of all families that look like the history are mixed, without demands
     above two to three times the largest one seen, and with what was observed if that speaks against them. --fit
     predictive takes the law of the family with the least BIC. If no family looks like the history, both take what was
-    observed. Both blur 2 to 19 lead times. With --fit empirical the weight of a value is how often it was observed. The
-    families are poisson, negative-binomial, hurdle-geometric, hurdle-poisson, hurdle-negative-binomial,
-    hurdle-lognormal and bulk.
+    observed. Both blur 2 to 19 lead times. With --fit empirical the weight of a value is how often it was observed.
 
     Notes warn of demand that is not independent from period to period, or not of one law: a table forgets the order.
     They say what to do, and which effects the tests would have missed. False alarms come in less than 5% of histories.

@@ -104,5 +104,5 @@ def _pack_of(numbers: list[int]) -> int:
     """Returns the size of the packs of which all demands are multiples, if that is no luck; else 1."""
     if math.gcd(*numbers) <= 1:
         return 1
-    from .families import Sample  # it takes a while to import, so only if there may be packs
+    from .sample import Sample  # it takes a while to import, so only if there may be packs
     return Sample.of(numbers).pack

@@ -13,17 +13,18 @@ from typing import TYPE_CHECKING, Any
 from ..errors import Refused
 from ..formats import MOST_DEMAND, MOST_WEIGHT
 from ..records.observed import Observed
+from .families import FAMILIES, fits_of, predictive_of
 from .laws import DemandLaw, check, empirical, numbers_of
 
 if TYPE_CHECKING:
     from .borrowing import Prior
-    from .families import Fit, Floats, Sample
+    from ..chances import Floats
+    from .families.family import Fit
     from .guard import Shares
+    from .sample import Sample
 
-# The families, with the names in families.py, which is loaded only if one is fitted.
-FAMILIES = ("poisson", "negative-binomial", "hurdle-geometric", "hurdle-poisson", "hurdle-negative-binomial",
-            "hurdle-lognormal", "bulk")
-METHODS = ("auto", "predictive", "empirical", *FAMILIES)
+CHOOSING = ("auto", "predictive", "empirical")
+METHODS = (*CHOOSING, *FAMILIES)
 
 QUANTILES = (0.95, 0.99, 0.999)
 DEMANDS_OF_CAP = 300
@@ -58,7 +59,7 @@ class Chosen:
 
 def guarded(sample: Sample, fits: Mapping[str, Fit]) -> Chosen:
     """Looks at each family that is not far behind the best."""
-    from .families import cut
+    from ..chances import cut
     from .guard import shares_of
     bic = {name: fit.bic(sample.size) for name, fit in fits.items()}
     near = [name for name, value in bic.items() if value <= min(bic.values()) + WORSE]
@@ -96,16 +97,6 @@ def cap_of(sample: Sample) -> int:
     demands = sample.size - sample.zeros
     times = math.log(DEMANDS_OF_CAP) / math.log(demands + 1)
     return math.ceil(min(max(times, LEAST_TIMES), MOST_TIMES) * sample.most)
-
-
-def mixture(parts: Iterable[tuple[float, Floats]]) -> Floats:
-    """Returns the mixture of laws with these shares."""
-    import numpy as np
-    laws = [*parts]
-    chances = np.zeros(max(len(law) for _, law in laws))
-    for share, law in laws:
-        chances[:len(law)] += share * law
-    return chances
 
 
 def weights_of(chances: Floats) -> tuple[tuple[int, ...], tuple[int, ...]]:
@@ -146,8 +137,9 @@ def fields_of(values: Sequence[int], weights: Sequence[int], family: str, number
 
 def _family_law(numbers: Sequence[int], method: str) -> dict[str, Any]:
     """Returns the fields of a law of families: of a named one, or of those that the guard lets pass."""
-    from .families import Sample, fits_of, parts_of, unpacked
-    from .predictive import predictive_of
+    from ..chances import in_items, mixture
+    from .families.bulk import divided
+    from .sample import Sample
     sample = Sample.of(numbers)
     pack = sample.pack
     packs = sample.in_packs(pack)
@@ -161,11 +153,11 @@ def _family_law(numbers: Sequence[int], method: str) -> dict[str, Any]:
         seen = empirical(numbers)
         return fields_of(seen["values"], seen["weights"], "empirical", numbers, **found)
     if method != "auto":
-        law = unpacked(predictive_of(names[0], packs), pack)
+        law = in_items(predictive_of(names[0], packs), pack)
         return fields_of(*weights_of(law), names[0], numbers, **found)
-    if "bulk" in names and (parts := parts_of(packs)):
+    if "bulk" in names and (parts := divided(packs)):
         found["bulks"] = parts[1].size, pack * int(parts[1].values[0])
-    laws = ((weight, unpacked(predictive_of(name, packs), pack)) for name, weight in chosen.weights.items())
+    laws = ((weight, in_items(predictive_of(name, packs), pack)) for name, weight in chosen.weights.items())
     law, more = auto_law(sample, mixture(laws))
     found |= more | {"families": chosen.weights}
     return fields_of(*weights_of(law), names[0], numbers, **found)
@@ -173,7 +165,7 @@ def _family_law(numbers: Sequence[int], method: str) -> dict[str, Any]:
 
 def auto_law(sample: Sample, law: Floats) -> tuple[Floats, dict[str, Any]]:
     """Returns a law without demands above the cap, mixed with the sample, and the diagnostics of both."""
-    from .families import scaled
+    from ..chances import mixture, scaled
     cap = cap_of(sample)
     law = scaled(law[:cap + 1])
     share = share_of(sample, law)
@@ -206,7 +198,7 @@ def fit_demand(observed: Observed | Iterable[Any], *, method: str = "auto", box:
         if method != "auto":
             raise Refused(f"a law is either borrowed or fitted by the method {method!r}; leave one out")
         return law_of(borrow, observed, item_class, box=box)
-    if method not in METHODS:
+    if method not in CHOOSING and method not in FAMILIES:
         raise Refused(f"there is no method {method!r} to fit demand; say {', '.join(METHODS[:-1])} or {METHODS[-1]}")
     if box < 1:
         raise Refused(f"{box} is no number of items in a box; it is at least 1")

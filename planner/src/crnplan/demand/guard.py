@@ -12,7 +12,8 @@ from typing import NamedTuple
 import numpy as np
 import numpy.typing as npt
 
-from .families import Floats, Sample, Whole
+from ..chances import Floats, Whole
+from .sample import Sample
 
 TIMES = 199
 SEED = 1

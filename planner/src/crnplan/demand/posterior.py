@@ -1,12 +1,12 @@
 """Draws the laws of demand and of lead times that a history allows.
 
 A history is one of many that its law could have brought, so it leaves a doubt about the law. Each law here is a draw
-from what is known after the history: a mixture of Dirichlet processes round the families of `families.py` (Antoniak,
+from what is known after the history: a mixture of Dirichlet processes round the families of `families` (Antoniak,
 Mixtures of Dirichlet processes with applications to Bayesian nonparametric problems, 1974). So a law is that of a
 family, or as unlike it as the history is. Drawn are, one after the other,
 
 - the family, and for how many periods it counts beside the history (the concentration), by their likelihood;
-- the parameters of the family, with the priors of `predictive.py`;
+- the parameters of the family, with the priors of its predictive law;
 - where the law ends, which no history shows: from the largest demand seen to `end_of` times it, evenly in the
   logarithm;
 - the law, from the Dirichlet process round this member, which has seen the history. If no family fits at all, it is
@@ -28,15 +28,17 @@ from typing import Any, NamedTuple
 import numpy as np
 from scipy import special
 
+from ..chances import Floats, cut, in_items, scaled
 from ..errors import Refused
 from ..formats import MOST_LEAD, MOST_WEIGHT
 from ..records.observed import Observed
 from ..scenario import Table
-from .families import Fit, Floats, Sample, cut, fits_of, scaled, unpacked
+from .families import family_of, fits_of
+from .families.family import UNIFORMS, Fit, Parameters
 from .fitting import LEAST_DEMANDS, WORSE, fit_demand, weights_of
 from .laws import Law
 from .leads import FEW, LEAST_LEADS, blurred, fit_lead, sides_of
-from .members import DRAWN, UNIFORMS, Parameters, laws_of
+from .sample import Sample
 
 FROM_HISTORY = "history"  # the name of the Bayesian bootstrap among the families
 MEMBERS = 500  # of a family, among which laws are drawn
@@ -105,7 +107,7 @@ def members_of(name: str, fit: Fit, packs: Sample, random: np.random.Generator) 
     What is common to a family is approximated as in the Bayesian information criterion. Source of the weights: Rubin,
     Using the SIR algorithm to simulate posterior distributions, 1988.
     """
-    family = DRAWN[name]
+    family = family_of(name)
     parameters = family.drawn(packs, stratified(random, UNIFORMS, MEMBERS), PROPOSED)
     seen = np.maximum(family.chances(parameters, packs.values), LEAST_SEEN)
     own = np.log(seen) @ packs.counts
@@ -156,7 +158,7 @@ def demand_laws(sample: Sample, times: int, random: np.random.Generator) -> tupl
     for end, (family, periods, member) in zip(most, picked(members, times, random)):
         its = members[family]
         parameters = tuple(it[member:member + 1] for it in its.parameters)
-        base = unpacked(cut(laws_of(DRAWN[its.name], parameters, packs.most)[0]), pack)
+        base = in_items(cut(family_of(its.name).laws(parameters, packs.most)[0]), pack)
         drawn.append(round_history(scaled(base[:int(end) + 1]), sample, SHARES[periods], random, COUNTED))
         counts[its.name] += 1
     return {it.name: counts[it.name] for it in members if counts[it.name]}, drawn

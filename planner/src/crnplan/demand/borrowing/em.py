@@ -13,7 +13,7 @@ from collections.abc import Iterable, Sequence
 
 import numpy as np
 
-from ..families import Floats
+from ...chances import Floats
 from . import grid
 from .likelihoods import Cells
 

@@ -14,8 +14,8 @@ from functools import cache
 import numpy as np
 from scipy import special, stats
 
+from ...chances import DEMANDS, Floats
 from ...formats import MOST_DEMAND
-from ..families import CELLS, Floats
 
 LOGITS = (-5.5, 6.5)  # of the share: from 0.4% to 99.8% of periods
 MEANS = (0.05, 100.0)  # of m
@@ -48,7 +48,7 @@ SLOPES: Floats = np.log(SIZE_MEANS / (SIZE_DISPERSIONS + SIZE_MEANS))
 def rises() -> Floats:
     """Returns what the logarithms of negative binomial chances have apart from the mean: a row for each number from 0,
     a column for each dispersion."""
-    numbers = CELLS[:, None]
+    numbers = DEMANDS[:, None]
     rows: Floats = (special.gammaln(numbers + DISPERSIONS) - special.gammaln(DISPERSIONS)
                     - special.gammaln(numbers + 1))
     return rows
@@ -61,7 +61,7 @@ def size_laws() -> tuple[Floats, ...]:
     widths = stats.nbinom.isf(LEAST_TAIL, SIZE_DISPERSIONS, chances).max(axis=1).astype(int) + 1
     tables = []
     for cell, width in enumerate(np.minimum(widths, MOST_DEMAND)):
-        logarithms = rises()[:width, cell % len(DISPERSIONS)] + np.outer(SLOPES[cell], CELLS[:width])
+        logarithms = rises()[:width, cell % len(DISPERSIONS)] + np.outer(SLOPES[cell], DEMANDS[:width])
         law = np.exp(logarithms + STARTS[cell][:, None])
         tables.append(law / law.sum(axis=1, keepdims=True))
     return tuple(tables)

@@ -8,13 +8,14 @@ from typing import Any
 
 import numpy as np
 
+from ...chances import Floats, in_items, mixture, scaled
 from ...formats import MOST_DEMAND
 from ...records.observed import Observed
-from ..families import Floats, Sample, scaled, unpacked
-from ..fitting import LEAST_DEMANDS, cap_of, fields_of, fit_demand, mixture, share_of, weights_of
+from ..fitting import LEAST_DEMANDS, cap_of, fields_of, fit_demand, share_of, weights_of
 from ..guard import Shares, shares_of
 from ..laws import DemandLaw
 from ..posterior import AllowedLaws, allowed_laws, check_times, round_history, sample_of, stratified, table_of
+from ..sample import Sample
 from . import grid
 from .learning import is_outside
 from .posterior import Posterior
@@ -149,7 +150,7 @@ def law_of(prior: Prior, observed: Observed | Iterable[Any], item_class: str | N
         return replace(single, diagnostics={**single.diagnostics, FAMILY: replace(found, single=single)})
     if beside:
         found = replace(found, single=fit_demand(numbers, method=ALONE))
-    law = unpacked(mixture((it.weight, it.law) for it in parts), sample.pack)
+    law = in_items(mixture((it.weight, it.law) for it in parts), sample.pack)
     fitted = DemandLaw(**fields_of(*weights_of(law), FAMILY, np.repeat(sample.values, sample.counts).tolist()))
     return replace(fitted, diagnostics={**fitted.diagnostics, FAMILY: found})
 
@@ -174,4 +175,4 @@ def borrowed_laws(prior: Prior, observed: Observed | Iterable[Any], item_class: 
     places = np.searchsorted(np.cumsum([it.weight for it in parts])[:-1], choice, side="right")
     laws = (law for place, part in enumerate(parts)
             for law in part.drawn(np.array(uniform)[:, places == place], random))
-    return AllowedLaws({FAMILY: times}, tuple(table_of(unpacked(law, sample.pack), sample.most) for law in laws))
+    return AllowedLaws({FAMILY: times}, tuple(table_of(in_items(law, sample.pack), sample.most) for law in laws))

@@ -7,11 +7,12 @@ from typing import Any
 
 import numpy as np
 
+from ...chances import Floats
 from ...errors import Fault, Refused, RefusedFaults
 from ...formats import MOST_DEMAND
 from ...records.observed import Observed
-from ..families import Floats, Sample
 from ..laws import check, numbers_of
+from ..sample import Sample
 from . import grid
 from .em import FLAT, estimated
 from .likelihoods import chunks_of, group_of, marginal

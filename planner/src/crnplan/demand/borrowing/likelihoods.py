@@ -11,7 +11,8 @@ from typing import NamedTuple
 
 import numpy as np
 
-from ..families import Floats, Sample, Whole
+from ...chances import Floats, Whole
+from ..sample import Sample
 from . import grid
 
 CHUNK = 250  # histories that are computed with at once: as many as a processor's cache has room for

@@ -6,7 +6,8 @@ from functools import cached_property
 
 import numpy as np
 
-from ..families import Floats, Sample, Whole, cut, scaled
+from ...chances import Floats, Whole, cut, scaled
+from ..sample import Sample
 from . import grid
 from .em import FLAT
 from .likelihoods import Sums, of_shares, of_sizes

@@ -10,9 +10,9 @@ from typing import Any
 
 import numpy as np
 
+from ...chances import Floats, Whole
 from ...errors import Refused
 from ...files import new_file
-from ..families import Floats, Whole
 from .em import FLAT
 
 VERSION = 2  # of the file; another grid is another version

@@ -1,0 +1,43 @@
+"""Computes with laws as arrays: the chances of 0, 1, 2 and so on."""
+from __future__ import annotations
+
+from collections.abc import Iterable
+
+import numpy as np
+import numpy.typing as npt
+
+from .formats import MOST_DEMAND
+
+Floats = npt.NDArray[np.float64]
+Whole = npt.NDArray[np.int64]
+
+LEAST_TAIL = 1e-7  # what is cut off a law
+DEMANDS = np.arange(MOST_DEMAND + 1)  # all that a scenario can have
+
+
+def scaled(chances: Floats) -> Floats:
+    """Returns chances with a sum of 1."""
+    law: Floats = chances / chances.sum()
+    return law
+
+
+def cut(chances: Floats) -> Floats:
+    """Returns a law without the end of its tail, with a sum of 1."""
+    below = np.cumsum(chances)
+    return scaled(chances[:int(np.searchsorted(below, below[-1] * (1 - LEAST_TAIL))) + 1])
+
+
+def in_items(chances: Floats, pack: int) -> Floats:
+    """Returns the law of the items in packs of which this is the law, up to the greatest demand of a scenario."""
+    items = np.zeros((len(chances) - 1) * pack + 1)
+    items[::pack] = chances
+    return scaled(items[:MOST_DEMAND + 1])
+
+
+def mixture(parts: Iterable[tuple[float, Floats]]) -> Floats:
+    """Returns the mixture of laws with these shares."""
+    laws = [*parts]
+    chances = np.zeros(max(len(law) for _, law in laws))
+    for share, law in laws:
+        chances[:len(law)] += share * law
+    return chances
