@@ -9,11 +9,11 @@ import pytest
 from hypothesis import given, settings
 from hypothesis import strategies as st
 
+from crnplan.chances import Floats
 from crnplan.scenario import Costs, Policy, Scenario
 from crnplan.theory import many_laws
 from crnplan.theory.lattice import NoTheory, shape_of, theory_on
-from crnplan.theory.laws import Floats
-from crnplan.theory.many_laws import LawFigures, ManyGaps, figures_of_laws
+from crnplan.theory.many_laws import LawFigures, figures_of_laws, least_cost
 from planner.tests.theory.chain import by_chain
 from planner.tests.theory.scenarios import Pair, scenario_of, table
 from planner.tests.theory.test_figures import CHAINS, laws
@@ -68,12 +68,11 @@ def test_figures_are_those_of_the_theory_of_one_law(demand: Pair, lead: Pair, st
     scenario = scenario_of(demand, lead, costs=Costs(90, 1, *rates))
     shape = shape_of(scenario)
     theory = theory_on(scenario, shape, step, step == 1)
-    policies = [Policy.of_levels(20, 20 + gap) for gap in (0, 1, 12, 32, 56)]
-    run = ManyGaps(scenario, step, step == 1, int(2 * shape.order) // step + 60)
-    cost, fill = run.figures(policies)
+    policies = [Policy.of_levels(20, 20 + gap) for gap in (32, 1, 12, 0, 56, 12)] + [Policy.of_levels(3000, 3007)]
+    cost, fill = theory.costs_and_fills(policies)
     expected = np.array([theory.figures(it.s, it.S)[:2] for it in policies])
     assert cost == pytest.approx(expected[:, 0], rel=1e-8) and fill == pytest.approx(expected[:, 1], rel=1e-8)
-    assert run.least_cost(int(2 * shape.order) // step) == pytest.approx(theory.best().cost, rel=1e-3)
+    assert least_cost(theory, int(2 * shape.order) // step) == pytest.approx(theory.best().cost, rel=1e-3)
 
 
 def test_coarse_lattice(monkeypatch: pytest.MonkeyPatch) -> None:

@@ -23,7 +23,7 @@ import numpy as np
 from scipy import fft
 
 from ..formats import MOST_ITEMS
-from ..scenario import Scenario
+from ..scenario import Policy, Scenario
 from .laws import Floats, Law, Places, Surplus, Whole, reflected, room_for, sum_of
 from .means import GapLevels, Levels, LevelsOf, Means
 from .walk import Walk
@@ -172,6 +172,22 @@ class LongRun(Walk, ABC):
         return Figures(self.setup * orders + self.holding * stock + self.backlog * owed, self.fill(gap, level),
                        after.chance_lacking(level), stock, orders)
 
+    def costs_and_fills(self, policies: Sequence[Policy]) -> tuple[Floats, Floats]:
+        """Returns cost and fill of many policies at once: those of `figures`, but for rounding."""
+        parts = sorted((gap, policy.S, share, row) for row, policy in enumerate(policies)
+                       for gap, share in self.gaps_of(policy.s, policy.S))
+        gaps, levels, shares, rows = (np.array(column) for column in zip(*parts))
+        low, chances = self.rows_of(gaps)
+        means = Means(self.figures_from, low, chances, self.top_of(gaps, low, chances))
+        cells = np.minimum(-(-levels // self.step), means.top)
+        places = self.places(means, gaps, cells)
+        _, costs = self.costs_of(places, cells * self.step - levels)
+        unmet = places.here[1] + (cells - levels / self.step) * (places.below[1] - places.here[1])
+        fills = 1 - unmet / places.totals / (self.demand.mean * self.step)
+        sums = np.zeros((2, len(policies)))
+        np.add.at(sums, (slice(None), rows), shares * np.array([costs, fills]))
+        return sums[0], sums[1]
+
     def fill(self, gap: int, level: int) -> float:
         """Returns the share of demand that is met at once: what is not adds to what is owed before the demand."""
         after, before = self.surpluses(gap)
@@ -259,18 +275,20 @@ class LongRun(Walk, ABC):
         found = []
         for some in self.parts(gaps):
             low, rows = self.rows_of(some)
-            # With the last level but one or a higher one, nothing is ever owed.
-            top = max(int(self.floor(some[-1])), low + max(map(len, rows)) + self.after.high) + 1
-            found.append(levels_of(Means(self.figures_from, low, rows, top), some))
+            found.append(levels_of(Means(self.figures_from, low, rows, self.top_of(some, low, rows)), some))
         levels, costs = zip(*found)
         return np.concatenate(levels), np.concatenate(costs)
+
+    def top_of(self, gaps: Whole, low: int, rows: Sequence[Floats]) -> int:
+        """Returns the highest level that is looked at, in cells: with the one below it, nothing is ever owed."""
+        return max(int(self.floor(gaps[-1])), low + max(map(len, rows)) + self.after.high) + 1
 
     def tables_of(self, gaps: Whole) -> tuple[Whole, Floats, Floats]:
         """Returns levels S from 0 on, in items, in steps of a cell and up to one with which nothing is ever owed, and
         their mean stock and unmet demand in a period, in items: a row for each of some rising gaps."""
         low, rows = self.rows_of(gaps)
         width = max(map(len, rows))
-        top = max(int(self.floor(gaps[-1])), low + width + self.after.high)
+        top = self.top_of(gaps, low, rows) - 1
         chances, stocks = np.zeros((len(rows), width)), self.step * np.arange(1 - width - low, top - low + 1)
         for row, its in zip(chances, rows):
             row[:len(its)] = its
