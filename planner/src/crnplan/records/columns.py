@@ -23,7 +23,7 @@ ROLES = {"demand": ["item", "date", "quantity", "returned", "measure"],
 NEEDED = {"item", "date", "quantity", "setup", "holding", "s", "S", "ordered", "received"}
 # Letters that are no letter with an accent.
 LETTERS = str.maketrans({"ł": "l", "ø": "o", "æ": "ae"})
-UNITS = {word: unit for unit, words in NAMES["units"].items() for word in words}
+UNITS: dict[str, str] = {word: unit for unit, words in NAMES["units"].items() for word in words}
 BESIDE = {*NAMES["beside"]["words"]}
 IMPLIED = {name: unit for unit, names in NAMES["implied"].items() for name in names}
 
