@@ -10,7 +10,8 @@ An edit changes lines of a crate's code. Its head says what goes wrong then and 
 
 Each `old:` text stands exactly once in the file, on one line. Further pairs apply to what the earlier ones made. An edit
 of one arm of a `match` can name it, as in `refused by: commands::answer_command, arm Leg`: then a goal of that arm must be
-open, and edits of the other arms can share its check.
+open, and edits of the other arms can share its check. An edit that adds a loop of which nothing shows that it ends says
+`refused by: producer::Producer::try_publish, measure`: the prover asks for the measure of that loop.
 
 An edit of tested/ is proved, since no contract refuses it. It says which test must fail in place of `refused by`:
 
@@ -38,7 +39,7 @@ FUNCTION = re.compile(r"( *)(?:pub(?:\([^)]*\))? )?(?:(?:const|unsafe|final) )*f
 # The folders of a crate that have edits. The prover refuses those of the first two; tests see the others.
 FOLDERS = ("must-fail", "wrong", "tested")
 
-Edit = collections.namedtuple("Edit", "crate folder name what refused_by arm seen_by fails pairs")
+Edit = collections.namedtuple("Edit", "crate folder name what refused_by arm measure seen_by fails pairs")
 
 
 class BadEdit(Exception):
@@ -73,8 +74,10 @@ def read_edit(crate, folder, path):
         elif word == "new":
             pairs.append((file, old, rest))
     name = os.path.basename(path).removesuffix(".edit")
-    function, _, arm = head.get("refused by", "").partition(", arm ")
-    return Edit(crate, folder, name, head.get("what", ""), function, arm, head.get("seen by", ""), head.get("fails", ""), pairs)
+    function, _, part = head.get("refused by", "").partition(", ")
+    arm = part.removeprefix("arm ") if part.startswith("arm ") else ""
+    return Edit(crate, folder, name, head.get("what", ""), function, arm, part == "measure", head.get("seen by", ""),
+                head.get("fails", ""), pairs)
 
 
 def text_of(crate, file):

@@ -52,6 +52,7 @@ LINE = re.compile(r"(?:fn|impl|struct|enum|trait|type|const|static) (\S+): (.*)"
 PROVED = re.compile(r"proved|no holes")
 BELOW = re.compile(r"no proof: it calls")
 UNDECIDED = re.compile(r"could not tell")
+MEASURE = re.compile(r"expected a measure in")
 # An error in a file of a function's proof, and what it says if the file only names what the edit took away, itself or in
 # a declaration that others of it cite.
 ERROR = re.compile(r"(?:note: )?(?:\./)?proofs/(\S+)/[^/\s]+\.antt:\d+:\d+: error: (.*)")
@@ -170,7 +171,10 @@ def unknown_of(ran, functions):
 
 
 def goal_of(ran, edit):
-    """The first goal that is open of the function, or of the arm, that an edit names, or None."""
+    """The first goal that is open of the function, or of the arm, that an edit names, or None. It may be a measure."""
+    if edit.measure:
+        verdict = ran.verdicts[edit.refused_by]
+        return verdict if MEASURE.search(verdict) else None
     told = [error for error in ran.errors[edit.refused_by] if not STALE.search(error)]
     verdict = ran.verdicts[edit.refused_by]
     told += [verdict] if "did not prove" in verdict else []
@@ -334,7 +338,7 @@ def table(names):
     """Prints the edits of these crates."""
     print("| Crate | Folder | File | What goes wrong | Refused by, or seen by |\n|---|---|---|---|---|")
     for edit in [it for name in names for folder in FOLDERS for it in edits_of(name, folder)]:
-        by = f"`{edit.refused_by}`" + (f", arm `{edit.arm}`" if edit.arm else "")
+        by = f"`{edit.refused_by}`" + (f", arm `{edit.arm}`" if edit.arm else ", its measure" if edit.measure else "")
         by = f"`{edit.seen_by}`" + (f": {edit.fails}" if edit.fails else "") if edit.folder == "tested" else by
         print(f"| `{edit.crate}` | `{edit.folder}` | `{edit.name}` | {edit.what} | {by} |")
 

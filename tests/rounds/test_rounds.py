@@ -120,6 +120,8 @@ UP = ("moved, arm Up", "        Way::Up => n + 1,\n", "        Way::Up => n + 2,
 DOWN = ("moved, arm Down", "        Way::Down => n + 2,\n", "        Way::Down => n + 1,\n")
 HARMLESS_STAY = ("moved, arm Stay", "        Way::Stay => n,\n", "        Way::Stay => n + 0,\n")
 UP_AS_STAY = ("moved, arm Stay", "        Way::Up => n + 1,\n", "        Way::Up => n + 2,\n")
+ENDLESS = ("next, measure", "    n + 1\n", "    let mut k = n; while k > 0 { k = n; } n + 1\n")
+ENDLESS_ALONE = ("next", "    n + 1\n", "    let mut k = n; while k > 0 { k = n; } n + 1\n")
 NO_TYPE = ("following", "    1 + n\n", "    1 + true\n")
 NO_FUNCTION = ("follows", "    1 + n\n", "    2 + n\n")
 NO_TEXT = ("following", "    3 + n\n", "    2 + n\n")
@@ -144,6 +146,8 @@ CASES = [
      {"up": "", "stay": "it is not refused: moved is still proved",
       "other": "no goal of the arm Stay of moved is open"},
      None),
+    ("loops that may not end", {"endless": ENDLESS, "alone": ENDLESS_ALONE, "sum": ("following, measure", *OTHER_FOLLOWS[1:])},
+     {"endless": "", "alone": "next has no open goal of its own", "sum": "following has no open goal of its own"}, None),
     ("edits that are hidden by one that does not compile", {"type": NO_TYPE, "next": TWO_MORE, "above": ANOTHER_SUM},
      {"type": "its check ended with status", "next": "", "above": ""}, None),
     ("a name that is gone, which the second line of an error says", {"above": ANOTHER_SUM},
