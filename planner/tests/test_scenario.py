@@ -342,7 +342,7 @@ def test_many_policies(program: Path, scenario: Scenario) -> None:
         alone = scenario.changed(policies=[scenario.policies[0], Policy(row.policy, row.s, row.S)])
         assert ran(program, alone.toml()).splitlines()[1:] == [",".join(report.rows[0].cells), ",".join(row.cells)]
     assert report.scenario.policies[0] == scenario.policies[0] and len(report.scenario.policies) == 41
-    assert report.decide().shape[0] == 41
+    assert report.decide().frame.shape[0] == 41
 
 
 def test_policies_that_cannot_be_run(scenario: Scenario) -> None:

@@ -27,9 +27,9 @@ def test_from_a_history_to_a_decision(movements: Path, program: Path) -> None:
     law = crn.fit_demand(history)
     lead = crn.fit_lead([2, 3, 2, 4])
     part = crn.Scenario.of(law, lead, setup=4500, holding=60, backlog=900, today=(15, 30))
-    theory = part.suggest()
+    theory = part.suggest().frame
     report = part.run(theory, program=program)
-    decision = report.decide()
+    decision = report.decide().frame
 
     assert sum(history.counts) == 12 * 4
     assert law == crn.fit_demand(history, method="auto") and lead == crn.fit_lead([2, 3, 2, 4], method="auto")

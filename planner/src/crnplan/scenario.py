@@ -22,12 +22,12 @@ from .toml.values import shown
 from .toml.writing import toml_text
 from .errors import Refused
 from .money import scaled_costs, whole
+from .table import Result
 
 if TYPE_CHECKING:
-    import pandas as pd
-
     from .crnsim.long_run import LongRunReport
     from .crnsim.report import Report
+    from .theory.suggestions import Suggestions
 
 Tree = dict[str, Any]
 # What is said of all figures of a scenario.
@@ -204,10 +204,12 @@ class Scenario:
         head = "" if self.scale == 1 else f"# Costs: {self.scale} for one unit of money\n\n"
         return toml_text(self.tree, self.source) if self.source is not None else head + toml_text(self.tree)
 
-    def suggest(self) -> pd.DataFrame:
-        """Returns suggested policies with exact long-run figures: policy, s, S, cost, fill, short, stock, orders."""
-        from .theory.suggestions import suggested
-        return suggested(self)
+    def suggest(self) -> Suggestions:
+        """Returns suggested policies with exact long-run figures, today's first: policy, s, S (items), cost (money a
+        period, without `unit`), fill (the share of demand met at once), short (the share of periods that end with items
+        owed), stock (items), orders (a period), and the reasons for each. Raises NoTheory."""
+        from .theory.suggestions import suggestions_of
+        return suggestions_of(self)
 
     def _with_base(self, policies: Any) -> Scenario:
         """Returns the scenario with its first policy and then these, each pair of levels once unless it is named."""
@@ -270,6 +272,8 @@ def _levels(pair: Any, name: str) -> tuple[int, int]:
 
 def policies_of(policies: Any) -> list[Policy]:
     """Returns policies, from those, pairs (s, S), a mapping of names to pairs, or a table with the columns s and S."""
+    if isinstance(policies, Result):
+        policies = policies.frame
     if hasattr(policies, "columns"):
         if not {"s", "S"} <= {*policies.columns}:
             raise Refused("policies: the table lacks the column s or S; name them policy, s and S")

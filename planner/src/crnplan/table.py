@@ -1,7 +1,215 @@
-"""Lays out a table as text with its columns in line."""
+"""Tables whose columns are declared once: the frame, CSV, JSON, text, HTML and the page of formats follow from that."""
 from __future__ import annotations
 
-from collections.abc import Collection, Sequence
+import csv
+import html
+import math
+import re
+from abc import ABC, abstractmethod
+from collections.abc import Callable, Collection, Iterable, Iterator, Mapping, Sequence
+from dataclasses import dataclass, replace
+from fractions import Fraction
+from typing import TYPE_CHECKING, Literal
+
+if TYPE_CHECKING:
+    import pandas as pd
+
+Cell = str | int | float | Fraction | None
+Json = str | int | float | bool | None | Sequence["Json"] | Mapping[str, "Json"]
+Kind = Literal["text", "whole", "number", "exact"]
+# The spelling of money: with as many decimals as its smallest unit has.
+MONEY = "money"
+TYPES = {"whole": "Int64", "number": float}
+# How a text begins that a spreadsheet would run, unless it is a number or a mark for no figure.
+RUN = re.compile(r"[=@\t\r]|[+-](?![0-9.,]*$)")
+
+
+@dataclass(frozen=True)
+class Column:
+    """A column: its name, what it has, in which unit, and what that means.
+
+    `written` is how a number is spelt in a file and `shown` how it is spelt for a reader: formats of Python, or MONEY.
+    Without them a number has all its digits; without `shown` a reader gets what a file has.
+    """
+
+    name: str
+    kind: Kind
+    unit: str
+    meaning: str
+    written: str = ""
+    shown: str = ""
+
+    def speller(self, decimals: int, missing: str, is_shown: bool = False) -> Callable[[Cell], str]:
+        """Returns the function that spells a cell. Money has so many decimals; `missing` stands for no figure."""
+        style = self.shown if is_shown and self.shown else self.written
+        style = f".{decimals}f" if style == MONEY else style
+        if style.endswith(("f", "%")):  # no zero has a sign
+            style = f"+z{style[1:]}" if style.startswith("+") else f"z{style}"
+        if self.kind == "text":
+            return lambda value: missing if value is None else str(value) if is_shown else unrun(str(value))
+        if self.kind == "exact":
+            return lambda value: missing if value is None else str(value)
+        if self.kind == "number" and style:
+            return lambda value: missing if value is None or value != value else format(float(value), style)
+        return lambda value: missing if is_missing(value) else str(value)
+
+
+def text(name: str, meaning: str) -> Column:
+    """Returns a column of texts."""
+    return Column(name, "text", "", meaning)
+
+
+def whole(name: str, unit: str, meaning: str) -> Column:
+    """Returns a column of whole numbers."""
+    return Column(name, "whole", unit, meaning)
+
+
+def number(name: str, unit: str, meaning: str, written: str = "", shown: str = "") -> Column:
+    """Returns a column of rounded numbers."""
+    return Column(name, "number", unit, meaning, written, shown)
+
+
+def exact(name: str, unit: str, meaning: str) -> Column:
+    """Returns a column of whole numbers and fractions."""
+    return Column(name, "exact", unit, meaning)
+
+
+def is_missing(value: Cell) -> bool:
+    """Returns whether a cell has no figure: None or nan."""
+    return value is None or isinstance(value, float) and math.isnan(value)
+
+
+def unrun(cell: str) -> str:
+    """Returns a text that a spreadsheet does not run as a formula: behind an apostrophe, if it would.
+
+    Source: OWASP, CSV injection. Numbers such as -5, and the mark - alone, stay as they are.
+    """
+    return f"'{cell}" if RUN.match(cell) else cell
+
+
+@dataclass(frozen=True)
+class DataTable:
+    """Rows under declared columns. Money has `decimals`, `missing` stands for no figure, and `index` names the column
+    by which a frame is indexed."""
+
+    columns: Sequence[Column]
+    rows: Iterable[Sequence[Cell]]
+    decimals: int = 2
+    missing: str = "-"
+    index: str = ""
+
+    @property
+    def names(self) -> list[str]:
+        """Returns the names of the columns."""
+        return [column.name for column in self.columns]
+
+    def without_empty(self, names: Collection[str]) -> DataTable:
+        """Returns the table without those of the named columns in which no row has a figure."""
+        kept = [place for place, column in enumerate(self.columns) if column.name not in names
+                or not all(is_missing(row[place]) for row in self.rows)]
+        return replace(self, columns=[self.columns[place] for place in kept],
+                       rows=[[row[place] for place in kept] for row in self.rows])
+
+    def spelt(self, is_shown: bool = False) -> Iterator[list[str]]:
+        """Yields the heading and the rows as texts: as a file has them, or as they are shown to a reader."""
+        spell = [column.speller(self.decimals, self.missing, is_shown) for column in self.columns]
+        yield self.names
+        for row in self.rows:
+            yield [function(cell) for function, cell in zip(spell, row, strict=True)]
+
+    @property
+    def lines(self) -> Iterator[str]:
+        """Yields the lines of the table as CSV. Rows may be many: they are not kept."""
+        writer = csv.writer(_Echo())  # which quotes a lone carriage return if it ends lines by one
+        yield from (str(writer.writerow(row)).removesuffix("\r\n") + "\n" for row in self.spelt())
+
+    @property
+    def csv(self) -> str:
+        """Returns the table as CSV."""
+        return "".join(self.lines)
+
+    @property
+    def records(self) -> list[dict[str, Json]]:
+        """Returns the rows as plain data, unrounded: fractions as texts, None for no figure."""
+        def plain(cell: Cell) -> Json:
+            """Returns a cell."""
+            if isinstance(cell, Fraction):
+                return f"{cell.numerator}/{cell.denominator}"
+            return None if is_missing(cell) else cell
+        return [dict(zip(self.names, map(plain, row), strict=True)) for row in self.rows]
+
+    @property
+    def frame(self) -> pd.DataFrame:
+        """Returns the rows unrounded, as typed columns: texts, whole numbers, floats and fractions."""
+        import pandas as pd
+        rows = list(self.rows)
+        cells = {column.name: pd.Series([row[place] for row in rows], dtype=TYPES.get(column.kind, object))
+                 for place, column in enumerate(self.columns)}
+        frame = pd.DataFrame(cells)
+        return frame.set_index(self.index) if self.index else frame
+
+    @property
+    def text(self) -> str:
+        """Returns the table for a reader, with its columns in line."""
+        return aligned(list(self.spelt(True)), [at for at, column in enumerate(self.columns) if column.kind == "text"])
+
+    @property
+    def html(self) -> str:
+        """Returns the table as HTML. Each heading has the meaning of its column as its title."""
+        heading, *rows = self.spelt(True)
+        styles = ["left" if column.kind == "text" else "right" for column in self.columns]
+        head = "".join(f'<th scope="col" style="text-align: {style}" title="{html.escape(column.meaning)}">'
+                       f"{html.escape(name)}</th>" for name, style, column in zip(heading, styles, self.columns))
+        body = "".join("<tr>" + "".join(f'<td style="text-align: {style}">{html.escape(cell)}</td>'
+                                        for cell, style in zip(row, styles)) + "</tr>\n" for row in rows)
+        return f"<table>\n<thead><tr>{head}</tr></thead>\n<tbody>\n{body}</tbody>\n</table>\n"
+
+
+class _Echo:
+    """A file that returns what is written."""
+
+    def write(self, line: str) -> str:
+        """Returns a line."""
+        return line
+
+
+class Result(ABC):
+    """What every result shows in the same way: a table as a frame, as text for a terminal, and in a notebook."""
+
+    @property
+    @abstractmethod
+    def table(self) -> DataTable:
+        """Returns the figures."""
+
+    @property
+    def notes(self) -> str:
+        """Returns lines on what the figures mean."""
+        return ""
+
+    @property
+    def frame(self) -> pd.DataFrame:
+        """Returns the figures as a table, unrounded. NaN or None stands for no figure."""
+        return self.table.frame
+
+    @property
+    def text(self) -> str:
+        """Returns the table and the notes."""
+        return f"{self.table.text}{self.notes}"
+
+    @property
+    def tree(self) -> Mapping[str, Json]:
+        """Returns all as plain data, without rounding."""
+        return {"rows": self.table.records}
+
+    def _repr_html_(self) -> str:
+        """Shows the table and the notes in a notebook."""
+        return self.table.html + "".join(f"<p>{html.escape(line)}</p>\n" for line in self.notes.splitlines() if line)
+
+
+def page_of(columns: Sequence[Column]) -> str:
+    """Returns the columns as a table of a page in Markdown."""
+    rows = (f"| `{column.name}` | {column.unit or column.kind} | {column.meaning} |\n" for column in columns)
+    return "| Column | Unit | Meaning |\n|---|---|---|\n" + "".join(rows)
 
 
 def aligned(rows: Sequence[Sequence[str]], left: Collection[int] = (0,)) -> str:
@@ -12,7 +220,7 @@ def aligned(rows: Sequence[Sequence[str]], left: Collection[int] = (0,)) -> str:
     return "".join("  ".join(line).rstrip() + "\n" for line in lines)
 
 
-def named(names: Sequence[str], most: int) -> str:
+def names_of(names: Sequence[str], most: int) -> str:
     """Returns the first `most` names as one text, with the number of those that are left out."""
     rest = len(names) - most
     return ", ".join(names[:most]) + (f" and {rest} more" if rest > 0 else "") if names else "none"

@@ -44,7 +44,7 @@ def by_hand(part: Scenario) -> Doubt:
 def test_columns(by_hand: Doubt) -> None:
     """Regrets by hand are 0, 10, 0, 10, 0 and 2, 0, 0, 0, 25 percent, of all policies 0, 37.5, 0, 21, 0 and so on."""
     assert list(by_hand.frame.index) == ["today", "low"]
-    today, low = by_hand.records
+    today, low = by_hand.table.records
     assert (today["s"], today["S"], today["cost"]) == (15, 40, pytest.approx(106.2))
     assert [today[it] for it in ("regret", "regret_90", "within", "is_best")] == pytest.approx([0.04, 0.1, 0.6, 0.6])
     assert [low[it] for it in ("regret", "regret_90", "within", "is_best")] == pytest.approx([0.054, 0.158, 0.8, 0.6])
@@ -86,10 +86,10 @@ def test_figures_are_those_of_each_law(part: Scenario) -> None:
     """Under each law they are those of the theory of one law."""
     found = doubt(part, HISTORY, LEADS, times=12, seed=3)
     demands, leads = allowed_laws(HISTORY, times=12, seed=3).laws, allowed_leads(LEADS, times=12, seed=3).laws
-    frames = [figures_of(dataclasses.replace(part, demand=demand, lead=lead), part.policies)
+    frames = [figures_of(dataclasses.replace(part, demand=demand, lead=lead), part.policies).frame
               for demand, lead in zip(demands, leads)]
     costs, fills = (np.array([frame[name] for frame in frames]) for name in ("cost", "fill"))
-    rows = {row["policy"]: row for row in found.records}
+    rows = {row["policy"]: row for row in found.table.records}
     for at, policy in enumerate(part.policies):
         assert rows[policy.name]["cost"] == pytest.approx(costs[:, at].mean(), rel=1e-6)
         assert rows[policy.name]["fill"] == pytest.approx(fills[:, at].mean(), rel=1e-6)
@@ -97,7 +97,7 @@ def test_figures_are_those_of_each_law(part: Scenario) -> None:
         assert rows[policy.name]["regret"] == pytest.approx(regret.mean(), abs=1e-6)
     assert min(row["own_regret"] - row["regret"] for row in rows.values()) >= 0
     again, other = (doubt(part, HISTORY, LEADS, times=12, seed=it) for it in (3, 4))
-    assert again.records == found.records != other.records
+    assert again.table.records == found.table.records != other.table.records
 
 
 def test_policies_and_lead_times(part: Scenario) -> None:
@@ -105,14 +105,14 @@ def test_policies_and_lead_times(part: Scenario) -> None:
     found = doubt(part, HISTORY, policies=[(10, 30), (15, 40), (10, 30)], times=10)
     assert sorted(found.frame.index) == ["s10_S30", "s15_S40"] and found.lead is None
     leads = doubt(part, HISTORY, [7], policies=[(10, 30), (15, 40)], times=10)
-    assert leads.records != found.records and "lead time of the scenario is 2.75, but 7 to 7" in leads.text
-    assert crn.doubt(part, HISTORY, times=10).records == doubt(part, HISTORY, times=10).records
+    assert leads.table.records != found.table.records and "lead time of the scenario is 2.75, but 7 to 7" in leads.text
+    assert crn.doubt(part, HISTORY, times=10).table.records == doubt(part, HISTORY, times=10).table.records
 
 
 def test_boxes(part: Scenario) -> None:
     """A history in items and its scenario in boxes."""
     found = doubt(part, [4 * it for it in HISTORY], times=10, box=4)
-    assert found.records == doubt(part, HISTORY, times=10).records
+    assert found.table.records == doubt(part, HISTORY, times=10).table.records
 
 
 def test_returns(part: Scenario) -> None:
@@ -139,7 +139,7 @@ def test_policy_out_of_range(part: Scenario) -> None:
 def runs_of(part: Scenario, program: Path) -> Iterator[list[tuple[float, float]]]:
     """Yields for each law cost and standard deviation of each policy, from the intervals of a decision."""
     for law in allowed_laws(HISTORY, times=10).laws:
-        frame = part.changed(demand=law).run(program=program).decide(0.9)
+        frame = part.changed(demand=law).run(program=program).decide(0.9).frame
         half = t_quantile(0.1, part.replications - 1) / math.sqrt(part.replications)
         yield [(frame["cost_a_period"][it.name], (frame["cost_high"] - frame["cost_low"])[it.name] / 2 / half)
                for it in part.policies]
@@ -151,7 +151,7 @@ def test_runs(part: Scenario, program: Path) -> None:
     expected = np.array([*runs_of(part, program)])
     assert isinstance(found.spreads, Spreads)
     assert found.spreads.costs == pytest.approx(expected[:, :, 0])
-    rows = {row["policy"]: row for row in found.records}
+    rows = {row["policy"]: row for row in found.table.records}
     for at, policy in enumerate(part.policies):
         row = rows[policy.name]
         assert row["run_cost"] == pytest.approx(expected[:, at, 0].mean())
@@ -159,4 +159,4 @@ def test_runs(part: Scenario, program: Path) -> None:
         assert row["luck_spread"] == pytest.approx(math.sqrt(np.mean(expected[:, at, 1]**2)), rel=1e-6)
     assert "a period of the coming 26 periods from a stock of 27" in found.text
     single = doubt(part.changed(replications=1), HISTORY, times=10, runs=True, program=program)
-    assert all(row["luck_spread"] is None for row in single.records) and "  -\n" in single.text
+    assert all(row["luck_spread"] is None for row in single.table.records) and "  -\n" in single.text

@@ -46,12 +46,12 @@ def test_tables(demand: Path, crnplan: Command) -> None:
     """CSV and JSON have the records, with what is to be said beside them."""
     found = crn.doubt(crn.Scenario.read(SCENARIO), HISTORY, times=20)
     answer = crnplan("doubt", SCENARIO, "-", "--times", 20, "--csv", data=demand.read_bytes())
-    rows = [*csv.DictReader(answer.output.splitlines())]
-    assert rows == [{name: str(it) for name, it in row.items()} for row in found.records]
-    assert answer.errors == "".join(f"{it}\n" for it in (found.sentence, found.bounds, *found.notes))
+    for row, wanted in zip(csv.DictReader(answer.output.splitlines()), found.table.records, strict=True):
+        assert row == {name: it if isinstance(it, str) else f"{it:.10g}" for name, it in wanted.items()}
+    assert answer.errors == found.notes.lstrip("\n")
     told = json.loads(crnplan("doubt", SCENARIO, "demand.csv", "--times", 20, "--json").output)
-    assert told["policies"] == found.records and told["sentence"] == found.sentence and told["laws"] == 20
-    assert told["families"] == found.demand.families and told["lead_families"] is None and told["notes"] == found.notes
+    assert told["policies"] == found.table.records and told["sentence"] == found.sentence and told["laws"] == 20
+    assert told["families"] == found.demand.families and told["lead_families"] is None and told["notes"] == found.remarks
 
 
 def test_words_of_history(room: Path, crnplan: Command) -> None:

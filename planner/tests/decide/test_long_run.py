@@ -69,7 +69,7 @@ def test_theory_beside_is_that_of_a_chain(report: LongRunReport) -> None:
         wanted = exact[name], exact[name] - exact["today"]
         assert (row.theory_cost, row.theory_diff) == pytest.approx(wanted, abs=1e-7)
     assert found.warnings == () and found.theory == "exact but for rounding"
-    assert report.decide().loc["more", "theory_cost"] == pytest.approx(exact["more"])
+    assert report.decide().frame.loc["more", "theory_cost"] == pytest.approx(exact["more"])
 
 
 @pytest.mark.parametrize("unit", [0, 3])

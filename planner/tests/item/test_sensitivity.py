@@ -41,7 +41,7 @@ def test_moves_are_those_of_scenarios_made_anew(case: str, moves: Moves) -> None
     """
     changed, its = scenario_of(**CHANGES[case]), next(it for it in moves.moves if it.words == case)
     best = next(it for it in suggestions_of(changed).rows if it.policy.name == "best" or "the best" in it.reasons)
-    kept = figures_of(changed, [type(changed.policies[0])("kept", *KEPT)]).loc[0]
+    kept = figures_of(changed, [type(changed.policies[0])("kept", *KEPT)]).frame.loc[0]
     scale, own = float(changed.scale), float(scenario_of().scale)
     assert (its.s, its.S) == (best.policy.s, best.policy.S)
     assert [its.cost / own, its.fill] == pytest.approx([best.figures.cost / scale, best.figures.fill], rel=1e-9)
@@ -52,7 +52,7 @@ def test_moves_are_those_of_scenarios_made_anew(case: str, moves: Moves) -> None
 def test_all_cases_are_there(moves: Moves) -> None:
     """The cases are those that are tested, the scenario as it is first, and the text has each."""
     assert {it.words for it in moves.moves} == set(CHANGES) and moves.moves[0].words == AS_IT_IS
-    assert not moves.notes and all(f"\n{it} " in moves.text for it in CHANGES)
+    assert not moves.remarks and all(f"\n{it} " in moves.text for it in CHANGES)
 
 
 def test_dearer_things_are_bought_less(moves: Moves) -> None:
@@ -69,8 +69,8 @@ def test_what_cannot_be_changed_is_said() -> None:
     free = Scenario.of({0: 9, 9_500: 1}, {32: 1}, setup=0, holding=1, backlog=9, today=(0, 9_500))
     found = moves_of(free, "mine", KEPT)
     assert not any(it.words.startswith("setup") for it in found.moves)
-    assert [it.partition(" is left out")[0] for it in found.notes] == ["demand 10% up", "lead time plus 1"]
-    assert found.text.split("\n\n")[3].splitlines() == [*found.notes]
+    assert [it.partition(" is left out")[0] for it in found.remarks] == ["demand 10% up", "lead time plus 1"]
+    assert found.text.split("\n\n")[3].splitlines() == [*found.remarks]
 
 
 @pytest.mark.parametrize("fill, wanted", [(0.95, {"97.5%", "90%"}), (0.4, {"70%"}), (None, set())])

@@ -71,7 +71,7 @@ def test_figures_of_any_small_scenario(demand: Pair, lead: Pair, back: Pair | No
 
 def test_a_frame_of_figures() -> None:
     scenario, policies = scenario_of(([0, 1, 3], [3, 2, 1])), [Policy("low", 2, 5), Policy("high", 3, 9)]
-    frame = figures_of(scenario, policies)
+    frame = figures_of(scenario, policies).frame
     assert list(frame) == ["policy", "s", "S", "cost", "fill", "short", "stock", "orders"]
     assert frame.iloc[:, :3].values.tolist() == [["low", 2, 5], ["high", 3, 9]]
     for policy, row in zip(policies, frame.iloc[:, 3:].values.tolist()):

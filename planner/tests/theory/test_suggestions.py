@@ -11,7 +11,7 @@ from hypothesis import strategies as st
 from crnplan.crnsim.program import run_program
 from crnplan.scenario import Costs, Policy, Scenario
 from crnplan.theory.behaviour import Depths
-from crnplan.theory.suggestions import Suggestions, suggested, suggested_text, suggestions_of
+from crnplan.theory.suggestions import Suggestions, suggestions_of
 
 from planner.tests.theory.long_run_costs import best_of_all, cost_of, shortfall_of
 from planner.tests.theory.scenarios import large, scenario_of
@@ -56,7 +56,7 @@ def test_the_figures(found: Suggestions) -> None:
 
 
 def test_the_text(found: Suggestions, program: Path) -> None:
-    text = found.text()
+    text = found.toml()
     scenario = Scenario.parse(text)
     assert scenario == found.scenario.with_policies(it.policy for it in found.rows)
     assert text.count("\n# ") >= len(found.rows)
@@ -76,7 +76,7 @@ def test_the_error(found: Suggestions) -> None:
 @pytest.mark.parametrize("name", EXAMPLES)
 def test_costs_are_those_of_a_second_theory(name: str, top: Path) -> None:
     scenario = Scenario.read(top / "examples" / f"{name}.toml")
-    frame, best = suggested(scenario).set_index("policy"), best_of_all(scenario)
+    frame, best = suggestions_of(scenario).frame.set_index("policy"), best_of_all(scenario)
     for point, level, cost in frame[["s", "S", "cost"]].itertuples(index=False):
         assert cost == pytest.approx(cost_of(scenario, shortfall_of(scenario, level - point), level), rel=1e-6)
     assert frame.cost.min() <= best.cost * (1 + 1e-9)
@@ -94,16 +94,17 @@ def test_any_scenario(weights: list[int], leads: list[int], point: int, gap: int
     found = suggestions_of(scenario)
     test_the_policies(found)
     test_the_figures(found)
-    assert Scenario.parse(found.text()) == scenario.with_policies(it.policy for it in found.rows)
+    assert Scenario.parse(found.toml()) == scenario.with_policies(it.policy for it in found.rows)
     frame = found.frame
-    assert list(frame) == ["policy", "s", "S", "cost", "fill", "short", "stock", "orders"]
+    assert list(frame) == ["policy", "s", "S", "cost", "fill", "short", "stock", "orders", "reasons"]
     assert not frame.duplicated(["s", "S"]).any()
-    assert frame.values.tolist() == [[it.policy.name, it.policy.s, it.policy.S, *it.figures] for it in found.rows]
+    assert frame.values.tolist() == [
+        [it.policy.name, it.policy.s, it.policy.S, *it.figures, "; ".join(it.reasons)] for it in found.rows]
 
 
 def test_names_that_today_has() -> None:
     scenario = scenario_of(([0, 1, 5], [5, 3, 2])).with_policies([Policy("best", 0, 20)])
-    names = suggested(scenario).policy.tolist()
+    names = suggestions_of(scenario).frame.policy.tolist()
     assert names[:2] == ["best", "best_"] and len(set(names)) == len(names)
 
 
@@ -119,12 +120,12 @@ def test_the_text_keeps_the_order_and_the_first_comment(top: Path) -> None:
     text = (top / "examples" / "spare_part.toml").read_text("utf-8")
     lines = text.splitlines(keepends=True)
     head = "".join(lines[:next(place for place, line in enumerate(lines) if not line.startswith("#"))])
-    assert head and suggested_text(Scenario.parse(text)).startswith(head)
+    assert head and suggestions_of(Scenario.parse(text)).toml().startswith(head)
     turned = ("# Another\r\n\r\n# no head\nring = 8\ninitial = 1\nreplications = 1\nversion = 1 # one\nperiods = 3\n"
               f'key = {["0" * 16] * 4}\nlead = {{ weights = [1], values = [1] }}\n[demand]\nweights = [1, 1]\n'
               "values = [0, 3]\n[costs]\nunit = 1\nsetup = 5\nbacklog = 9\nholding = 1\n"
               "[[policy]]\nS = 9\ns = 2\nname = 'A'\n").replace("'", '"')
-    told = suggested_text(Scenario.parse(turned))
+    told = suggestions_of(Scenario.parse(turned)).toml()
     assert told.startswith("# Another\nring = 8\ninitial = 1\nreplications = 1\nversion = 1\nperiods = 3\nkey = [")
     assert "\n\n[lead]\nweights = [1]\nvalues = [1]\n\n[demand]\nweights = [1, 1]\nvalues = [0, 3]\n\n[costs]\n" in told
     wanted, its = tomllib.loads(turned.replace("\r", "")), tomllib.loads(told)
@@ -134,12 +135,12 @@ def test_the_text_keeps_the_order_and_the_first_comment(top: Path) -> None:
 def test_the_text_has_what_was_changed(top: Path) -> None:
     scenario = Scenario.read(top / "examples/mail_order.toml").changed(returns=None, initial=7, costs={"setup": 10})
     found = suggestions_of(scenario)
-    assert Scenario.parse(found.text()) == scenario.with_policies(it.policy for it in found.rows)
-    assert found.text().startswith("# A mail-order shop sells ")
+    assert Scenario.parse(found.toml()) == scenario.with_policies(it.policy for it in found.rows)
+    assert found.toml().startswith("# A mail-order shop sells ")
 
 
 def test_a_scenario_without_a_source() -> None:
     scenario = Scenario.of({0: 5, 1: 3, 5: 2}, [2, 2, 3], setup="20.5", holding=2, backlog=9, today=(3, 9))
-    text = suggested_text(scenario)
+    text = suggestions_of(scenario).toml()
     assert Scenario.parse(text).costs == scenario.costs
     assert text.startswith(f"# Costs: {scenario.scale} for one unit of money\nversion = 1\n")

@@ -1,19 +1,16 @@
 """Runs a winner again on new keys, against all other policies."""
 from __future__ import annotations
 
-import csv
-import json
-import sys
 from typing import Any
 
 import click
 from click.core import ParameterSource
 
 from .. import formats
-from ..decide.keys import check_keys
-from ..decide.verdicts import records_of, table_of
+from ..decide.keys import Check, check_keys
 from ..scenario import Scenario
-from .long_run import horizon_options, print_decision, read_for
+from .long_run import horizon_options, read_for
+from .output import form_options, show
 
 
 class Keys(click.Command):
@@ -32,23 +29,13 @@ class Keys(click.Command):
         return super().parse_args(ctx, joined)
 
 
-def check_in_long_run(scenario: Scenario, best: str, form: str | None, replications: int, out: str | None,
-                      **options: Any) -> int:
-    """Checks in the long run, and returns the exit status."""
+def check_in_long_run(scenario: Scenario, best: str, replications: int, out: str | None, **options: Any) -> Check:
+    """Checks in the long run."""
     from ..decide.long_run import check_long_run
     context = click.get_current_context()
     if out is not None or context.get_parameter_source("replications") == ParameterSource.COMMANDLINE:
         raise click.UsageError("--long-run has no --replications and no --out: more keys give more", context)
-    found = check_long_run(scenario, best, **options)
-    if form == "csv":
-        print_decision(found.decision, form)
-        print(found.sentence, end="", file=sys.stderr)
-    elif form:
-        head = {"best": best, "holds": found.holds, "keys": found.keys}
-        print(json.dumps({**head, **found.decision.tree}, indent=2))
-    else:
-        print(found.text, end="")
-    return 0 if found.holds else 1
+    return check_long_run(scenario, best, **options)
 
 
 @click.command(cls=Keys, epilog="Example: crnplan check suggested.toml best --keys 4 --out check")
@@ -62,8 +49,7 @@ def check_in_long_run(scenario: Scenario, best: str, form: str | None, replicati
 @click.option("--level", type=float, default=0.95, show_default=True, help="The joint level of the intervals.")
 @click.option("--program", metavar="PATH", help="The program crnsim.")
 @click.option("--out", metavar="FOLDER", help="Keep the scenarios and reports here.")
-@click.option("--csv", "form", flag_value="csv", help="Print the table as CSV.")
-@click.option("--json", "form", flag_value="json", help="Print the check as JSON.")
+@form_options
 def command(scenario: str, best: str, keys: tuple[str, ...], count: int | None, form: str | None, horizon: int | None,
             stock: int | None, long_run: bool, **options: Any) -> int:
     """Check the best policy of a scenario on new histories, against all others. `-` is standard input.
@@ -87,15 +73,8 @@ def command(scenario: str, best: str, keys: tuple[str, ...], count: int | None, 
     words = [key.split() for key in keys]
     asked = read_for(scenario, horizon, stock, long_run, is_table=form is None)
     if long_run:
-        return check_in_long_run(asked, best, form, keys=words, count=count, **options)
-    found = check_keys(asked, best, keys=words, count=count, **options)
-    if form == "csv":
-        csv.writer(sys.stdout, lineterminator="\n").writerows(table_of(found.rows))
-        print(found.sentence, end="", file=sys.stderr)
-    elif form:
-        head = {"best": best, "holds": found.holds, "keys": found.keys, "replications": found.replications,
-                "level": found.level}
-        print(json.dumps({**head, "policies": records_of(found.rows)}, indent=2))
+        found = check_in_long_run(asked, best, keys=words, count=count, **options)
     else:
-        print(found.text, end="")
+        found = check_keys(asked, best, keys=words, count=count, **options)
+    show(found, form)
     return 0 if found.holds else 1

@@ -1,45 +1,28 @@
 """Ranks the policies of a report, with intervals and verdicts."""
 from __future__ import annotations
 
-import csv
-import json
-import sys
-from collections.abc import Sequence
-from typing import Any
+from dataclasses import replace
 
 import click
 
-from ..decide.intervals import Compared, with_intervals
 from ..decide.reports import check_policies, read_report
-from ..decide.verdicts import MOST_ROWS, decision_text, heading_of, horizon_of, listed, records_of, table_of, table_text
-from ..crnsim.report import Row
+from ..decide.verdicts import Decision, decided, listed
 from ..errors import Refused
 from ..pages.pictures import picture_path
 from ..scenario import Scenario
-from .long_run import print_decision
+from .output import form_options, show
 
 
-def pictures(rows: Sequence[Compared], base: Row, sample: tuple[int, int, float], plot: str | None,
-             of_costs: str | None) -> None:
+def draw(found: Decision, plot: str | None, of_costs: str | None) -> None:
     """Draws the pictures that are asked for."""
     from ..pages.decision_pictures import draw_differences, draw_map
     from ..pages.pictures import open_pyplot
-    pyplot = open_pyplot()
+    pyplot, base = open_pyplot(), next(row for row in found.rows if row.verdict == "base")
     if plot:
-        draw_differences(pyplot, listed(rows), base, sample, plot)
+        sample = found.replications, len(found.rows) - 1, found.level
+        draw_differences(pyplot, listed(found.rows), base, sample, plot)
     if of_costs:
-        draw_map(pyplot, rows, base, of_costs)
-
-
-def print_text(rows: Sequence[Compared], head: dict[str, Any], every: bool, heading: str,
-               warnings: Sequence[str]) -> None:
-    """Prints the heading, the table, what is left out of it, the decision and the warnings."""
-    shown = listed(rows, every)
-    print(heading + table_text(shown), end="")
-    if len(shown) < len(rows):
-        print(f"{len(rows) - len(shown)} more policies are not listed; --all lists them")
-    print(decision_text(rows, **head, most_names=len(rows) if every else MOST_ROWS), end="")
-    print("".join(f"\n{it}" for it in warnings), end="")
+        draw_map(pyplot, found.rows, base, of_costs)
 
 
 def replications_of(asked: int | None, scenario: Scenario | None, name: str | None) -> int:
@@ -61,8 +44,7 @@ def replications_of(asked: int | None, scenario: Scenario | None, name: str | No
 @click.option("--long-run", is_flag=True, help="Take the effect of the start out, by theory.")
 @click.option("--level", type=float, default=0.95, show_default=True, help="The joint level of the intervals.")
 @click.option("--all", "every", is_flag=True, help="List all policies, not the first 20.")
-@click.option("--csv", "form", flag_value="csv", help="Print all policies as CSV.")
-@click.option("--json", "form", flag_value="json", help="Print all policies as JSON.")
+@form_options
 @click.option("--plot", metavar="FILE.png", help="Draw the intervals, as PNG or SVG.")
 @click.option("--map", "of_costs", metavar="FILE.png", help="Draw the cost over s and S, as PNG or SVG.")
 def command(report: str, scenario_path: str | None, sweep: bool, replications: int | None, long_run: bool, level: float,
@@ -102,21 +84,12 @@ def command(report: str, scenario_path: str | None, sweep: bool, replications: i
         check_policies(given, scenario.policies, (report, str(scenario_path)), sweep)
     if long_run and scenario is not None:
         from ..decide.long_run import corrected_decision
-        print_decision(corrected_decision(given, scenario, level), form)
+        show(corrected_decision(given, scenario, level), form)
         return
-    rows = with_intervals(given, replications, level)
-    warnings: list[str] = []
+    found = decided(given, replications, level)
     if scenario is not None:
-        from ..decide.long_run import horizon_warnings
-        warnings = horizon_warnings(given, rows, scenario)
+        from ..decide.long_run import coming_decision
+        found = coming_decision(given, scenario, level)
     if plot or of_costs:
-        pictures(rows, given[0], (replications, len(rows) - 1, level), plot, of_costs)
-    head = {"base": given[0].policy, "replications": replications, "level": level}
-    if form == "csv":
-        csv.writer(sys.stdout, lineterminator="\n").writerows(table_of(rows))
-        print("\n".join(warnings), end="", file=sys.stderr)
-    elif form:
-        named = {"horizon": f"the {horizon_of(scenario)}"} if scenario else {}
-        print(json.dumps({**named, **head, "policies": records_of(rows), "warnings": warnings}, indent=2))
-    else:
-        print_text(rows, head, every, heading_of(scenario) if scenario else "", warnings)
+        draw(found, plot, of_costs)
+    show(replace(found, most=len(given)) if every else found, form)

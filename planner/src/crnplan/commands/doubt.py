@@ -1,9 +1,6 @@
 """Says how sure a choice among policies is under the laws that a short history allows."""
 from __future__ import annotations
 
-import csv
-import json
-import sys
 from pathlib import Path
 from typing import Any
 
@@ -14,6 +11,7 @@ from ..toml.lines import places_of
 from ..errors import Fault, RefusedFaults
 from ..pages.pictures import picture_path
 from ..scenario import Scenario
+from .output import form_options, show
 from .reading import Attempts, demand_option, file_options, read_files, record_options, rejects_in, rules_of
 
 DEMAND = "demand"  # the column, unless another one is named
@@ -42,22 +40,6 @@ def draw(found: Doubt, path: Path) -> None:
     draw_regrets(open_pyplot(), policies, found.regrets_shown, found.within, MOST, path)
 
 
-def show(found: Doubt, form: str | None) -> None:
-    """Prints the table."""
-    records = found.records
-    if form == "csv":
-        csv.writer(sys.stdout, lineterminator="\n").writerows(
-            [list(records[0]), *(["-" if it is None else it for it in row.values()] for row in records)])
-        print("".join(f"{line}\n" for line in (found.sentence, found.bounds, *found.notes)), end="", file=sys.stderr)
-    elif form == "json":
-        head = {"laws": len(found.figures.laws), "within": found.within, "families": dict(found.demand.families),
-                "lead_families": dict(found.lead.families) if found.lead else None, "step": found.figures.step,
-                "error": found.figures.error, "sentence": found.sentence, "bounds": found.bounds}
-        print(json.dumps({**head, "policies": records, "notes": found.notes}, indent=2))
-    else:
-        print(found.text, end="")
-
-
 @click.command(epilog="Example: crnplan doubt plan/suggested.toml plan/demand.csv --plot plan/doubt.png")
 @click.argument("scenario", metavar="SCENARIO.toml")
 @click.argument("file", metavar="HISTORY.csv")
@@ -73,8 +55,7 @@ def show(found: Doubt, form: str | None) -> None:
 @click.option("--runs", is_flag=True, help="Run crnsim under each law too, for the coming periods.")
 @click.option("--program", metavar="PATH", help="The program crnsim.")
 @click.option("--plot", type=picture_path, metavar="FILE", help="Draw the regrets, as .png or .svg.")
-@click.option("--csv", "form", flag_value="csv", help="Print the table as CSV.")
-@click.option("--json", "form", flag_value="json", help="Print the table as JSON.")
+@form_options
 def command(**asked: Any) -> int:
     """Say how sure a choice among the policies of a scenario is, if the demand is known from a short history alone.
 

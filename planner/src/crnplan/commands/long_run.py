@@ -1,19 +1,14 @@
 """Names the horizon of a comparison for a command: the coming periods from a stock, or the long run."""
 from __future__ import annotations
 
-import csv
-import json
 import sys
 from collections.abc import Callable
-from typing import TYPE_CHECKING, Any, TypeVar
+from typing import Any, TypeVar
 
 import click
 
 from ..decide.verdicts import horizon_of
 from ..scenario import Scenario
-
-if TYPE_CHECKING:
-    from ..decide.long_run import LongRunDecision
 
 Command = TypeVar("Command", bound=Callable[..., Any])
 
@@ -42,14 +37,3 @@ def read_for(path: str, horizon: int | None, stock: int | None, long_run: bool, 
         if not is_table:
             print(f"The {horizon_of(asked)}", file=sys.stderr)
     return asked
-
-
-def print_decision(found: LongRunDecision, form: str | None) -> None:
-    """Prints a decision as text, or as `csv` or `json`. With CSV the notes go to standard error."""
-    if form == "csv":
-        csv.writer(sys.stdout, lineterminator="\n").writerows(found.cells)
-        print(found.notes, end="", file=sys.stderr)
-    elif form:
-        print(json.dumps(found.tree, indent=2))
-    else:
-        print(found.text, end="")

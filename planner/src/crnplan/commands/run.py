@@ -1,12 +1,11 @@
 """Runs a scenario on any number of policies, and prints the program's report or a table of the long run."""
 from __future__ import annotations
 
-import json
-
 import click
 
 from ..scenario import read_policies
-from .long_run import horizon_options, print_decision, read_for
+from .long_run import horizon_options, read_for
+from .output import form_options, show, show_report
 
 
 @click.command(epilog="Example: crnplan run scenario.toml --policies 10,30 --policies 12,34 > report.csv")
@@ -17,8 +16,7 @@ from .long_run import horizon_options, print_decision, read_for
 @click.option("--keys", type=int, metavar="K", help="With --long-run: how many keys, 2 to 256.  [default: 48]")
 @click.option("--level", type=float, metavar="L", help="With --long-run: the joint level.  [default: 0.95]")
 @click.option("--program", metavar="PATH", help="The program crnsim.")
-@click.option("--csv", "form", flag_value="csv", help="Print CSV: the report as it is, by default.")
-@click.option("--json", "form", flag_value="json", help="Print JSON, with fractions of the report as texts.")
+@form_options
 def command(scenario: str, words: tuple[str, ...], horizon: int | None, stock: int | None, long_run: bool,
             keys: int | None, level: float | None, program: str | None, form: str | None) -> None:
     """Run a scenario and print the report of crnsim, exactly. `-` is standard input.
@@ -44,7 +42,6 @@ def command(scenario: str, words: tuple[str, ...], horizon: int | None, stock: i
     if long_run:
         from ..decide.long_run import long_run_decision
         report = asked.long_run(policies, program=program, **{} if keys is None else {"keys": keys})
-        print_decision(long_run_decision(report, 0.95 if level is None else level), form)
-        return
-    found = asked.run(policies, program=program)
-    print(json.dumps(found.records, indent=2) + "\n" if form == "json" else found.text, end="")
+        show(long_run_decision(report, 0.95 if level is None else level), form)
+    else:
+        show_report(asked.run(policies, program=program), form)

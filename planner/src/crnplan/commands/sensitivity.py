@@ -1,27 +1,18 @@
 """Ranks policies again if a cost or a law differs."""
 from __future__ import annotations
 
-import csv
-import json
-import sys
-
 import click
 
 from ..decide.sensitivity import sensitivity
 from .long_run import horizon_options, read_for
-
-
-def spelt(value: str | int | float | None) -> str:
-    """Returns a cell as CSV: money and percent with six decimals, `-` for no figure."""
-    return "-" if value is None else f"{value:.6f}" if isinstance(value, float) else str(value)
+from .output import form_options, show
 
 
 @click.command(epilog="Example: crnplan sensitivity scenario.toml")
 @click.argument("scenario", metavar="SCENARIO.toml")
 @horizon_options
 @click.option("--program", metavar="PATH", help="The program crnsim.")
-@click.option("--csv", "form", flag_value="csv", help="Print the table as CSV.")
-@click.option("--json", "form", flag_value="json", help="Print the table as JSON.")
+@form_options
 def command(scenario: str, horizon: int | None, stock: int | None, long_run: bool, program: str | None,
             form: str | None) -> None:
     """Show how much each policy may cost too much if the scenario is not quite right. `-` is standard input.
@@ -41,13 +32,4 @@ def command(scenario: str, horizon: int | None, stock: int | None, long_run: boo
     warns of it). With --long-run they are those of the long run, as crnplan run --long-run has it, without unit.
     """
     asked = read_for(scenario, horizon, stock, long_run, is_table=form is None)
-    found = sensitivity(asked, long_run=long_run, program=program)
-    records = list(found.records())
-    if form == "csv":
-        writer = csv.writer(sys.stdout, lineterminator="\n")
-        writer.writerows([list(records[0]), *(map(spelt, record.values()) for record in records)])
-        print("".join(f"crnplan: {note}\n" for note in found.notes), end="", file=sys.stderr)
-    elif form:
-        print(json.dumps({"horizon": found.horizon, "policies": records, "notes": found.notes}, indent=2))
-    else:
-        print(found.text, end="")
+    show(sensitivity(asked, long_run=long_run, program=program), form)

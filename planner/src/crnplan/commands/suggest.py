@@ -1,8 +1,6 @@
 """Suggests policies worth comparing with today's, from exact long-run theory."""
 from __future__ import annotations
 
-import csv
-import json
 import sys
 from typing import TYPE_CHECKING, Any
 
@@ -11,8 +9,8 @@ from click.core import ParameterSource
 
 from ..toml.lines import places_of
 from ..errors import Fault, RefusedFaults
-from ..table import aligned
 from ..scenario import Scenario, Table
+from .output import form_options, show
 from .reading import Attempts, demand_option, file_options, read_files, record_options, rejects_in, rules_of
 
 if TYPE_CHECKING:
@@ -59,8 +57,7 @@ def suggestions(asked: dict[str, Any], scenario: Scenario) -> Suggestions:
 @click.argument("scenario", metavar="SCENARIO.toml", type=click.Path(allow_dash=True))
 @click.option("--initial", is_flag=True, help="Write the proposed initial.")
 @click.option("--unit-zero", is_flag=True, help="Write unit = 0.")
-@click.option("--csv", "form", flag_value="csv", help="Print the table as CSV, not the scenario.")
-@click.option("--json", "form", flag_value="json", help="Print the table as JSON, not the scenario.")
+@form_options
 @click.option("--history", "file", metavar="FILE.csv", type=click.Path(allow_dash=True),
               help="The history of demand: add policies that keep a fill rate under most laws that it allows.")
 @click.option("--confidence", type=click.FloatRange(0, 1, min_open=True), metavar="C",
@@ -105,13 +102,8 @@ def command(**asked: Any) -> None:
     check_history(asked)
     rules_of(asked)
     found = suggestions(asked, Scenario.read(asked["scenario"]))
-    if asked["form"] == "csv":
-        rows = found.records
-        csv.writer(sys.stdout, lineterminator="\n").writerows([rows[0], *(it.values() for it in rows)])
-        print(found.notes.lstrip(), end="", file=sys.stderr)
-    elif asked["form"] == "json":
-        print(json.dumps({"initial": found.initial, "position": round(found.position, 6), "error": found.error,
-                          "step": found.step, "policies": found.records}, indent=2))
+    if asked["form"]:
+        show(found, asked["form"])
     else:
-        print(aligned(found.cells) + found.notes, end="", file=sys.stderr)
-        print(found.text(initial=asked["initial"], unit_zero=asked["unit_zero"]), end="")
+        print(found.text, end="", file=sys.stderr)
+        print(found.toml(initial=asked["initial"], unit_zero=asked["unit_zero"]), end="")

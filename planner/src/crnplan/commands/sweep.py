@@ -1,13 +1,12 @@
 """Runs a grid of policies and prints one report."""
 from __future__ import annotations
 
-import json
-
 import click
 
 from ..scenario import Scenario
 from ..sweep import sweep
 from ..sweep.grid import numbers_of
+from .output import form_options, show_report
 
 
 @click.command(epilog="Example: crnplan sweep scenario.toml --s 6 16 1 --S 20 40 2 > sweep.csv")
@@ -18,10 +17,9 @@ from ..sweep.grid import numbers_of
 @click.option("--jobs", type=click.IntRange(min=1), metavar="N", help="Runs at a time; by default one for each core.")
 @click.option("--out", metavar="FOLDER", help="Keep each report here, and go on with what is here.")
 @click.option("--cluster", metavar="ADDRESS", help="A Dask scheduler, as tcp://host:8786.")
-@click.option("--csv", "form", flag_value="csv", default=True, help="Print the table as a report (the default).")
-@click.option("--json", "form", flag_value="json", help="Print the table as JSON, with fractions as texts.")
+@form_options
 def command(base: str, points: tuple[int, int, int], levels: tuple[int, int, int], program: str | None,
-            jobs: int | None, out: str | None, cluster: str | None, form: str) -> None:
+            jobs: int | None, out: str | None, cluster: str | None, form: str | None) -> None:
     """Compare a grid of (s,S) policies with a base by many runs of crnsim. `-` is standard input.
 
     The base is the first policy of BASE.toml. The pairs of the grid with s <= S are split into scenarios of the base
@@ -36,4 +34,4 @@ def command(base: str, points: tuple[int, int, int], levels: tuple[int, int, int
     """
     report = sweep(Scenario.read(base), numbers_of("s", *points), numbers_of("S", *levels), jobs=jobs, out=out,
                    cluster=cluster, program=program, progress=True)
-    print(report.text if form == "csv" else json.dumps(report.records, indent=2) + "\n", end="")
+    show_report(report, form)

@@ -1,25 +1,15 @@
 """The command `crnplan trajectory`."""
 from __future__ import annotations
 
-import csv
 import json
-import sys
 from pathlib import Path
 
 import click
 
-from ..crnsim.trajectory import MOST_DRAWN, Period, chosen, shown_periods, trajectories
+from ..crnsim.trajectory import MOST_DRAWN, chosen, shown_periods, table_of, trajectories
 from ..pages.pictures import open_pyplot, picture_path
-from ..table import aligned
-from ..scenario import Policy, Scenario
-
-COLUMNS = ("policy", "period", *Period._fields)
-
-
-def rows_of(policies: list[Policy], found: list[list[Period]]) -> list[tuple[str | int, ...]]:
-    """Returns the rows of the table."""
-    return [(policy.name, number, *period) for policy, periods in zip(policies, found)
-            for number, period in enumerate(periods)]
+from ..scenario import Scenario
+from .output import form_options
 
 
 @click.command(epilog="Example: crnplan trajectory examples/spare_part.toml today both --out stock.svg")
@@ -28,10 +18,9 @@ def rows_of(policies: list[Policy], found: list[list[Period]]) -> list[tuple[str
 @click.option("--periods", type=int, metavar="N", help=f"The first N periods; at most {MOST_DRAWN} if N is not given.")
 @click.option("--program", metavar="PATH", help="The program crnsim.")
 @click.option("--out", type=picture_path, metavar="FILE", help="Draw a picture, as .png or .svg.")
-@click.option("--csv", "is_csv", is_flag=True, help="Print the table as CSV.")
-@click.option("--json", "is_json", is_flag=True, help="Print the table as JSON.")
+@form_options
 def command(scenario: str, names: tuple[str, ...], periods: int | None, program: str | None, out: Path | None,
-            is_csv: bool, is_json: bool) -> None:
+            form: str | None) -> None:
     """Show stock, inventory position and orders of one replication, period by period.
 
     It shows replication 0 and up to eight policies. Periods are numbered from 0. "ordered" is the order of a period's
@@ -45,10 +34,8 @@ def command(scenario: str, names: tuple[str, ...], periods: int | None, program:
     if out:
         from ..pages.trajectory_pictures import draw_trajectories
         draw_trajectories(pyplot, policies, found, read.initial, out)
-    rows = rows_of(policies, found)
-    if is_json:
-        print(json.dumps([dict(zip(COLUMNS, row)) for row in rows], indent=1))
-    elif is_csv:
-        csv.writer(sys.stdout, lineterminator="\n").writerows([COLUMNS, *rows])
+    table = table_of(policies, found)
+    if form:
+        print(table.csv if form == "csv" else json.dumps(table.records, indent=2) + "\n", end="")
     elif not out:
-        print(aligned([list(map(str, row)) for row in (COLUMNS, *rows)]), end="")
+        print(table.text, end="")

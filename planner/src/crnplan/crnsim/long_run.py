@@ -27,15 +27,16 @@ from ..toml.reading import checked_tree
 from ..toml.writing import plain_text
 from ..errors import ProgramError, Refused
 from ..scenario import Costs, Scenario, Table, key_words
+from ..table import DataTable, Result, exact
 from .checkpoints import MOST_STOCK, PERIODS_OF_BLOCK, State, checkpoint_text, resume_all
 from .keys import Key
 from .pooling import Sums, pooled_row
 from .program import find_program
-from .report import Row, rows_of
+from .report import COLUMNS as REPORT_COLUMNS, Row, rows_of
 from .words import Whole, Words, drawn, places_of, stream_words, words_of_keys
 
 if TYPE_CHECKING:
-    import pandas as pd
+    from ..decide.long_run import LongRunDecision
 
 KEYS = 48
 MOST_KEYS = formats.MOST_REPLICATIONS
@@ -47,6 +48,9 @@ AGES = formats.MOST_LEAD + 1
 COUNT_ORDERS = Costs(1, 0, 0, 0)
 # With fewer orders in all replications of our own periods, those of the counted periods are counted too.
 FEW_ORDERS = 20
+COLUMNS = (*REPORT_COLUMNS[:3], exact("cost", "money a period", "mean cost, without `unit`"),
+           exact("difference", "money a period", "cost less the base's"),
+           exact("variance", "squared money", "variance of the mean of that difference"))
 
 
 class Settled(NamedTuple):
@@ -59,7 +63,7 @@ class Settled(NamedTuple):
 
 
 @dataclass(frozen=True)
-class LongRunReport:
+class LongRunReport(Result):
     """Exact costs of the long run. `costs` has a row for each key, with a cost for each policy, over `periods` periods.
 
     `orders` has the orders of each policy in the counted periods of all keys; None if there are many. `scenario` is the
@@ -94,26 +98,17 @@ class LongRunReport:
         return rows
 
     @property
-    def frame(self) -> pd.DataFrame:
-        """Returns a table with index `policy`: s and S in items, and as exact fractions of a period the cost, the
-        difference from the base's cost, and the variance of the mean of that difference."""
-        import pandas as pd
-        rows, square = self.rows, self.periods**2
-        exact = {"cost": [it.per_period for it in rows], "difference": [it.diff_mean / self.periods for it in rows],
-                 "variance": [(it.diff_var or Fraction(0)) / square for it in rows]}
-        return pd.DataFrame({"policy": [it.policy for it in rows], "s": [it.s for it in rows],
-                             "S": [it.S for it in rows],
-                             **{name: pd.Series(its, dtype=object) for name, its in exact.items()}}).set_index("policy")
+    def table(self) -> DataTable:
+        """Returns the exact figures of a period, indexed by `policy`, the base first."""
+        square = self.periods**2
+        return DataTable(COLUMNS, [[it.policy, it.s, it.S, it.per_period, it.diff_mean / self.periods,
+                                (it.diff_var or Fraction(0)) / square] for it in self.rows], index="policy")
 
-    def decide(self, level: float = 0.95) -> pd.DataFrame:
+    def decide(self, level: float = 0.95) -> LongRunDecision:
         """Returns all policies by rank, the cheapest first, with paired-t intervals of a period, verdicts, and the
         figures of theory beside. `level` is above 0, below 1."""
         from ..decide.long_run import long_run_decision
-        return long_run_decision(self, level).frame
-
-    def _repr_html_(self) -> str:
-        """Shows the decision in a notebook."""
-        return str(self.decide().to_html(float_format="{:,.2f}".format))
+        return long_run_decision(self, level)
 
 
 def keys_of(key: Sequence[str], count: int) -> list[Key]:

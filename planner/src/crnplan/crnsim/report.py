@@ -18,16 +18,25 @@ from ..toml.reading import checked_tree
 from ..toml.values import name_faults, shown
 from ..toml.writing import plain_text
 from ..errors import Fault, ProgramError, Refused
+from ..table import DataTable, Json, Result, exact, text, whole
 from .program import find_program, run_all
 
 if TYPE_CHECKING:
     import pandas as pd
 
+    from ..decide.verdicts import Decision
     from ..scenario import Policy, Scenario
 
 HEADER = list(formats.COLUMNS)
 WHOLE = re.compile("-?[0-9]{1,40}")
 FRACTION = re.compile("-?[0-9]{1,60}/[1-9][0-9]{0,59}")
+COLUMNS = (
+    text("policy", "name of the policy"), whole("s", "items", "reorder point"),
+    whole("S", "items", "order-up-to level"), whole("total", "money", "cost of all replications"),
+    exact("per_period", "money a period", "mean cost"), whole("diff_total", "money", "total less the base's"),
+    exact("diff_mean", "money a replication", "mean difference from the base's cost"),
+    exact("diff_var", "squared money", "variance of that mean"),
+    exact("cov", "squared money", "covariance of both costs"))
 # Columns whose cell may be `-`, which stands for no figure.
 MAY_LACK = ("diff_var", "cov")
 
@@ -131,7 +140,7 @@ def rows_of(policies: Sequence[Policy], text: str, program: str) -> list[Row]:
 
 
 @dataclass(frozen=True)
-class Report:
+class Report(Result):
     """What crnsim reports of a scenario: exact rows, the base first."""
 
     rows: tuple[Row, ...]
@@ -143,34 +152,24 @@ class Report:
         return report_text(self.rows)
 
     @property
-    def records(self) -> list[dict[str, str | int | None]]:
-        """Returns the rows as plain data: fractions as texts, None if there is no figure."""
-        def plain(value: Any) -> Any:
-            """Returns a value, or the text of a fraction."""
-            return cell_text(value) if isinstance(value, Fraction) else value
-        return [{name: plain(getattr(row, name)) for name in HEADER} for row in self.rows]
+    def table(self) -> DataTable:
+        """Returns the rows, indexed by `policy`: whole numbers, fractions, or None if there is no figure."""
+        return DataTable(COLUMNS, [[getattr(row, name) for name in HEADER] for row in self.rows], index="policy")
 
     @property
-    def frame(self) -> pd.DataFrame:
-        """Returns the report with index `policy`: int, `fractions.Fraction`, or None if there is no figure."""
-        import pandas as pd
-        columns = {name: [getattr(row, name) for row in self.rows] for name in HEADER}
-        columns |= {name: pd.Series(columns[name], dtype=object) for name in formats.FRACTIONS}
-        return pd.DataFrame(columns).set_index("policy")
+    def tree(self) -> dict[str, Json]:
+        """Returns the rows as plain data: fractions as texts, None if there is no figure."""
+        return {"policies": self.table.records}
 
     def floats(self) -> pd.DataFrame:
         """Returns the frame with rounded floats in place of fractions, and nan in place of None."""
         return self.frame.astype({name: float for name in formats.FRACTIONS})
 
-    def decide(self, level: float = 0.95) -> pd.DataFrame:
+    def decide(self, level: float = 0.95) -> Decision:
         """Returns all policies by rank, the cheapest first, with paired-t intervals and verdicts. `level` is above 0,
         below 1."""
         from ..decide.verdicts import decided
         return decided(self.rows, self.scenario.replications, level)
-
-    def _repr_html_(self) -> str:
-        """Shows the decision in a notebook."""
-        return str(self.decide().to_html(float_format="{:,.2f}".format))
 
 
 def report_of(scenario: Scenario, program: str | Path | None = None) -> Report:

@@ -23,6 +23,7 @@ from typing import NamedTuple
 from .. import formats
 from ..errors import Refused
 from ..scenario import Costs, Policy, Scenario
+from ..table import DataTable, text, whole
 from .checkpoints import PERIODS_OF_BLOCK, replication_costs
 from .program import find_program, run_all
 from .report import read_rows
@@ -42,6 +43,20 @@ class Period(NamedTuple):
     net_demand: int
     stock: int
     position: int
+
+
+COLUMNS = (
+    text("policy", "name of the policy"), whole("period", "periods", "number of the period, from 0"),
+    whole("ordered", "items", "what is ordered at its review"),
+    whole("net_demand", "items", "demand less what customers return"),
+    whole("stock", "items", "stock at its end, below 0 if items are owed"),
+    whole("position", "items", "stock and all that is on order, at its end"))
+
+
+def table_of(policies: Sequence[Policy], found: Sequence[Sequence[Period]]) -> DataTable:
+    """Returns the periods of policies as a table."""
+    return DataTable(COLUMNS, [(policy.name, number, *period) for policy, periods in zip(policies, found)
+                               for number, period in enumerate(periods)])
 
 
 def chosen(scenario: Scenario, names: Sequence[str]) -> list[Policy]:

@@ -23,14 +23,12 @@ from ..toml.reading import checked_tree
 from ..crnsim.report import report_of
 from ..errors import Refused
 from ..records.observed import Observed
-from ..table import aligned
 from ..scenario import Policy, Scenario, Table, policies_of
+from ..table import Cell, DataTable, Json, Result, number
 from .intervals import own_variance
-from .verdicts import horizon_of
+from .verdicts import POLICY, horizon_of
 
 if TYPE_CHECKING:
-    import pandas as pd
-
     from ..demand.posterior import AllowedLaws
     from ..theory.laws import Floats
     from ..theory.many_laws import LawFigures
@@ -42,9 +40,20 @@ TIE = 1 + 1e-9  # Costs whose ratio is at most this are equal but for rounding.
 # How often the bounds held in the study planner/studies/doubt.py, in percent of all cases: the least and the most of
 # histories of 26, 52, 104 and 208 periods.
 HELD = {"regret": (89, 96), "fill": (79, 90)}
-# The columns of the table that are percentages, with their decimals.
-DECIMALS = {"regret": 2, "regret_90": 2, "own_regret": 2, "own_regret_90": 2, "within": 0, "own_within": 0,
-            "is_best": 0, "fill": 2, "fill_10": 2}
+COLUMNS = (
+    *POLICY, number("cost", "money a period", "mean cost of the long run over the laws, without `unit`", ".10g", ".2f"),
+    number("regret", "share", "how much more than the best of these policies it costs, mean", ".10g", ".2%"),
+    number("regret_90", "share", "what the regret does not exceed under 90% of the laws", ".10g", ".2%"),
+    number("within", "share", "laws under which the regret is at most `--within`", ".10g", ".0%"),
+    number("is_best", "share", "laws under which it is the best of these policies", ".10g", ".0%"),
+    number("own_regret", "share", "regret against the best of all policies under each law, mean", ".10g", ".2%"),
+    number("own_regret_90", "share", "what that does not exceed under 90% of the laws", ".10g", ".2%"),
+    number("own_within", "share", "laws under which that is at most `--within`", ".10g", ".0%"),
+    number("fill", "share", "demand met at once, mean", ".10g", ".2%"),
+    number("fill_10", "share", "what that reaches under 90% of the laws", ".10g", ".2%"),
+    number("run_cost", "money a period", "mean cost of the coming periods by crnsim", ".10g", ".2f"),
+    number("law_spread", "money a period", "its standard deviation over the laws", ".10g", ".2f"),
+    number("luck_spread", "money a period", "that of one replication under a law", ".10g", ".2f"))
 
 
 @dataclass(frozen=True, eq=False)
@@ -63,7 +72,7 @@ class Spreads:
 
 
 @dataclass(frozen=True, eq=False)
-class Doubt:
+class Doubt(Result):
     """The figures of policies under the laws that a history allows. `lead` is None if lead times are the scenario's.
 
     `laws` counts those that were drawn; `figures` may have fewer, if some have no long run.
@@ -118,23 +127,21 @@ class Doubt:
         return self.regrets[:, self.order] if len(self.policies) > 1 else self.own_regrets
 
     @property
-    def records(self) -> list[dict[str, Any]]:
-        """Returns the table as data, the cheapest policy first. None stands for no figure."""
-        return [{"policy": self.policies[place].name, "s": self.policies[place].s, "S": self.policies[place].S,
-                 **{name: _plain(column[place]) for name, column in self.columns.items()}} for place in self.order]
+    def table(self) -> DataTable:
+        """Returns the figures indexed by `policy`, the cheapest first."""
+        columns = [it for it in COLUMNS if it in POLICY or it.name in self.columns]
+        rows: list[list[Cell]] = [
+            [self.policies[place].name, self.policies[place].s, self.policies[place].S,
+             *map(float, (its[place] for its in self.columns.values()))] for place in self.order]
+        return DataTable(columns, rows, index="policy")
 
     @property
-    def frame(self) -> pd.DataFrame:
-        """Returns the table, indexed by `policy`, the cheapest first.
-
-        Columns: s and S in items; cost, the mean of a period of the long run over the laws, without `unit`; regret (its
-        mean) and regret_90 (what it does not exceed under 90% of the laws), within and is_best (shares of laws);
-        own_regret, own_regret_90 and own_within against the best of all policies under each law; fill (its mean) and
-        fill_10 (what it reaches under 90% of the laws). With runs: run_cost (mean cost of a coming period), law_spread
-        and luck_spread (standard deviations).
-        """
-        import pandas as pd
-        return pd.DataFrame(self.records).set_index("policy")
+    def tree(self) -> dict[str, Json]:
+        """Returns all as data, without rounding."""
+        return {"laws": len(self.figures.laws), "within": self.within, "families": self.demand.families,
+                "lead_families": self.lead.families if self.lead else None, "step": self.figures.step,
+                "error": self.figures.error, "sentence": self.sentence, "bounds": self.bounds,
+                "policies": self.table.records, "notes": self.remarks}
 
     @property
     def sentence(self) -> str:
@@ -157,34 +164,23 @@ class Doubt:
                 f"{least} to {most}% of cases for the cost, and in {least_fill} to {most_fill}% for the fill rate.")
 
     @property
-    def notes(self) -> list[str]:
+    def remarks(self) -> list[str]:
         """Returns lines on the laws, on the lattice, and on what does not fit."""
         return [*_law_notes(self), *_error_notes(self.figures), *_mean_notes(self)]
 
     @property
-    def text(self) -> str:
-        """Returns the table with its heading, the sentences and the notes."""
+    def notes(self) -> str:
+        """Returns the sentences and the remarks."""
         spreads = "" if self.spreads is None else (
             f"\nrun_cost, law_spread, luck_spread: a period of the {horizon_of(self.scenario)}, by crnsim, all laws "
             "with one key: mean cost, its standard deviation over the laws, and that of one replication under a law\n")
-        rows = [["policy", "s", "S", *self.columns],
-                *([row["policy"], str(row["s"]), str(row["S"]), *(_cell(it, row[it]) for it in self.columns)]
-                  for row in self.records)]
-        heading = f"The long run under {len(self.figures.laws)} laws that the history allows"
-        notes = "".join(f"{note}\n" for note in self.notes)
-        return f"{heading}\n\n{aligned(rows)}{spreads}\n{self.sentence} {self.bounds}\n\n{notes}"
+        return f"{spreads}\n{self.sentence} {self.bounds}\n\n" + "".join(f"{line}\n" for line in self.remarks)
 
-
-def _plain(value: float) -> float | None:
-    """Returns a figure with ten digits, None for nan."""
-    return None if math.isnan(value) else float(f"{value:.10g}")
-
-
-def _cell(name: str, value: float | None) -> str:
-    """Returns a cell of the table."""
-    if value is None:
-        return "-"
-    return f"{100 * value:.{DECIMALS[name]}f}%" if name in DECIMALS else f"{value:.2f}"
+    @property
+    def text(self) -> str:
+        """Returns the table with its heading, and the notes."""
+        return (f"The long run under {len(self.figures.laws)} laws that the history allows\n\n{self.table.text}"
+                f"{self.notes}")
 
 
 def _law_notes(doubt: Doubt) -> Iterable[str]:

@@ -23,11 +23,12 @@ from ..crnsim.report import report_text
 from ..errors import Refused
 from ..files import own_folder
 from ..scenario import Policy, Scenario
-from .intervals import Compared, Judged, check_replications, checked_level, with_intervals, with_verdict
-from .verdicts import decision_text, frame_of, heading_of, table_text
+from ..table import DataTable, Json, Result
+from .intervals import Judged, check_replications, checked_level, with_intervals, with_verdict
+from .verdicts import Decision, horizon_of
 
 if TYPE_CHECKING:
-    import pandas as pd
+    from .long_run import LongRunDecision
 
 LEAST_REPLICATIONS = 2
 POOLED = "pooled.csv"
@@ -35,40 +36,43 @@ KEPT = (POOLED, *(f"key_{number}.{end}" for number in range(1, MOST_KEYS + 1) fo
 
 
 @dataclass(frozen=True)
-class Check:
-    """What comes of a check: the policies compared with the best one, by rank, over all replications of all keys.
+class Check(Result):
+    """What comes of a check: the policies compared with the best one, by rank, over all replications of all keys."""
 
-    `heading` says which coming periods they are compared over.
-    """
-
-    heading: str
     best: str
     keys: tuple[Key, ...]
-    replications: int
-    level: float
-    rows: tuple[Compared, ...]
+    decision: Decision | LongRunDecision
 
     @property
     def holds(self) -> bool:
         """Returns whether no policy is better than the best one."""
-        return not any(with_verdict(self.rows, "better"))
+        return not any(with_verdict(self.decision.rows, "better"))
 
     @property
-    def frame(self) -> pd.DataFrame:
-        """Returns the table of `verdicts.decided`, with the best policy as the base."""
-        return frame_of(self.rows)
+    def table(self) -> DataTable:
+        """Returns the table of the decision, with the best policy as the base."""
+        return self.decision.table
 
     @property
     def sentence(self) -> str:
         """Returns one sentence on what the verdicts say of the best policy."""
-        return sentence_of(self.best, self.rows)
+        return sentence_of(self.best, self.decision.rows)
+
+    @property
+    def notes(self) -> str:
+        """Returns the notes of the decision, and the sentence."""
+        return f"{self.decision.notes}\n{self.sentence}"
 
     @property
     def text(self) -> str:
-        """Returns the keys, the table, the decision and the sentence."""
+        """Returns the keys, the decision and the sentence."""
         keys = "".join(f"--key {' '.join(key)}\n" for key in self.keys)
-        decision = decision_text(self.rows, self.best, self.replications, self.level, len(self.rows))
-        return f"{keys}\n{self.heading}{table_text(self.rows)}{decision}\n{self.sentence}"
+        return f"{keys}\n{self.decision.text}\n{self.sentence}"
+
+    @property
+    def tree(self) -> dict[str, Json]:
+        """Returns all as data, without rounding to decimals."""
+        return {"best": self.best, "holds": self.holds, "keys": self.keys, **self.decision.tree}
 
 
 def sentence_of(best: str, rows: Sequence[Judged]) -> str:
@@ -135,4 +139,5 @@ def check_keys(scenario: Scenario, best: str, *, keys: Sequence[Sequence[str]] =
         if folder and len(reports) > 1:
             folder.write(POOLED, report_text(rows))
     total = replications * len(reports)
-    return Check(heading_of(scenario), best, tuple(all_keys), total, level, tuple(with_intervals(rows, total, level)))
+    compared = tuple(with_intervals(rows, total, level))
+    return Check(best, tuple(all_keys), Decision(compared, best, total, level, horizon_of(scenario), most=len(rows)))

@@ -13,25 +13,22 @@ from __future__ import annotations
 import functools
 import math
 from collections.abc import Iterable, Sequence
-from dataclasses import asdict, dataclass, fields, replace
+from dataclasses import astuple, dataclass, replace
 from pathlib import Path
-from typing import TYPE_CHECKING, Any, NamedTuple
+from typing import NamedTuple
 
-from ..crnsim.keys import Key, keys_of
+from ..crnsim.keys import keys_of
 from ..crnsim.long_run import KEYS, LongRunReport
 from ..crnsim.report import Row
 from ..errors import Refused
-from ..table import aligned, named
 from ..scenario import BY_ITS_LAWS, Policy, Scenario
+from ..table import DataTable, Json, Result, names_of, number
 from ..theory.lattice import NoTheory
 from ..theory.long_run import exactness_of
 from ..theory.start_bias import StartBias, exactness, start_bias, theory_of
-from .intervals import Compared, checked_level, own_variance, t_quantile, with_verdict
-from .keys import policies_of, sentence_of
-from .verdicts import MOST_ROWS, VERDICTS, end_warning, horizon_of, listed
-
-if TYPE_CHECKING:
-    import pandas as pd
+from .intervals import checked_level, own_variance, t_quantile, with_verdict
+from .keys import Check, policies_of
+from .verdicts import MOST_ROWS, POLICY, VERDICT, VERDICTS, Decision, decided, end_warning, horizon_of, listed
 
 FEWEST_ORDERS = 2
 # In standard errors of a difference. Measured: with smaller effects 94% of uncorrected 95% intervals hold.
@@ -66,12 +63,23 @@ class LongRunRow:
     effect: float | None = None
 
 
-FIGURES = {"cost": 3, "cost_low": 3, "cost_high": 3, "diff": 3, "percent": 2, "std_error": 3, "low": 3, "high": 3,
-           "theory_cost": 3, "theory_diff": 3, "effect": 2}
+COLUMNS = (
+    *POLICY, number("cost", "money a period", "mean cost in the long run by crnsim, without `unit`", ".3f"),
+    number("cost_low", "money a period", "low end of the interval of that cost, by itself", ".3f"),
+    number("cost_high", "money a period", "high end of that interval", ".3f"),
+    number("diff", "money a period", "cost less the base's", ".3f"),
+    number("percent", "percent of the base's cost", "the same difference", ".2f"),
+    number("std_error", "money a period", "standard error of the difference", ".3f"),
+    number("low", "money a period", "low end of the interval of the difference; all hold together", ".3f"),
+    number("high", "money a period", "high end of that interval", ".3f"), VERDICT,
+    number("theory_cost", "money a period", "cost by theory", ".3f"),
+    number("theory_diff", "money a period", "cost by theory less the base's", ".3f"),
+    number("effect", "standard errors", "what the start adds to a difference that is not corrected", ".2f"))
+MAY_LACK = ("theory_cost", "theory_diff", "effect")  # columns that stand if some policy has a figure
 
 
 @dataclass(frozen=True)
-class LongRunDecision:
+class LongRunDecision(Result):
     """Policies in the long run, the cheapest first, with what must be said of the figures."""
 
     rows: tuple[LongRunRow, ...]
@@ -83,60 +91,38 @@ class LongRunDecision:
     warnings: tuple[str, ...]
 
     @property
-    def columns(self) -> list[str]:
-        """Returns the columns that have a figure for some policy, or are always there."""
-        empty = {name for name in ("theory_cost", "theory_diff", "effect")
-                 if all(getattr(it, name) is None for it in self.rows)}
-        return [it.name for it in fields(LongRunRow) if it.name not in empty]
-
-    @property
-    def records(self) -> list[dict[str, Any]]:
-        """Returns the rows as data, without rounding to decimals."""
-        return [{name: value for name, value in asdict(row).items() if name in self.columns} for row in self.rows]
-
-    @property
-    def frame(self) -> pd.DataFrame:
-        """Returns the rows as a table indexed by `policy`. NaN stands for no figure."""
-        import pandas as pd
-        frame = pd.DataFrame(self.records).set_index("policy")
-        return frame.astype({name: float for name in FIGURES if name in frame})
-
-    @property
-    def cells(self) -> list[list[str]]:
-        """Returns the cells of the table, its heading first; `-` stands for no figure."""
-        def spelt(name: str, value: Any) -> str:
-            """Returns a cell."""
-            return "-" if value is None else f"{value:.{FIGURES[name]}f}" if name in FIGURES else str(value)
-        return [self.columns, *([spelt(name, value) for name, value in row.items()] for row in self.records)]
+    def table(self) -> DataTable:
+        """Returns the rows, with the columns that have a figure for some policy or are always there."""
+        return DataTable(COLUMNS, [astuple(row) for row in self.rows], index="policy").without_empty(MAY_LACK)
 
     @property
     def notes(self) -> str:
         """Returns what the columns mean, the policies by verdict, and the warnings."""
+        columns = self.table.names
         lines = [f"replications: {self.replications}, comparisons with {self.base}: {len(self.rows) - 1}, "
                  f"joint level: {self.level:g}", BY_ITS_LAWS,
                  f"cost to verdict: a period by crnsim, {self.title}; unit is left out",
                  "low to high: the interval of diff; all hold together at the joint level",
                  f"cost_low to cost_high: the interval of cost, each at {self.level:g} by itself",
                  f"theory_cost, theory_diff: a period of the long run by theory, {self.theory}"
-                 if "theory_cost" in self.columns else f"theory is {self.theory}"]
-        if "effect" in self.columns:
+                 if "theory_cost" in columns else f"theory is {self.theory}"]
+        if "effect" in columns:
             lines.append("effect: what the start had added to diff, in standard errors; it is taken out")
         for verdict, words in VERDICTS.items():
-            lines.append(f"{words.format(self.base)}: {named(list(with_verdict(self.rows, verdict)), MOST_ROWS)}")
+            lines.append(f"{words.format(self.base)}: {names_of(list(with_verdict(self.rows, verdict)), MOST_ROWS)}")
         return "\n".join([*lines, *(f"\nWARNING: {it}" for it in self.warnings)]) + "\n"
 
     @property
     def text(self) -> str:
         """Returns the table, below the horizon that it is for, and the notes."""
-        left = {self.columns.index(name) for name in ("policy", "verdict")}
-        return f"The long run\n\n{aligned(self.cells, left)}\n{self.notes}"
+        return f"The long run\n\n{self.table.text}\n{self.notes}"
 
     @property
-    def tree(self) -> dict[str, Any]:
+    def tree(self) -> dict[str, Json]:
         """Returns all as data, without rounding to decimals."""
-        head = {"horizon": "the long run", "base": self.base, "replications": self.replications, "level": self.level,
+        head: dict[str, Json] = {"horizon": "the long run", "base": self.base, "replications": self.replications, "level": self.level,
                 "crnsim": self.title, "theory": self.theory}
-        return {**head, "policies": self.records, "warnings": list(self.warnings)}
+        return {**head, "policies": self.table.records, "warnings": list(self.warnings)}
 
 
 class _Table:
@@ -179,12 +165,12 @@ class _Table:
         """Yields what must be said of policies without an interval."""
         few = [self.rows[it].policy for it in range(1, len(self.rows)) if not self.has_orders(0, it)]
         if few:
-            yield (f"no interval for {named(few, MOST_ROWS)}: the rarer policy places fewer than {FEWEST_ORDERS} "
+            yield (f"no interval for {names_of(few, MOST_ROWS)}: the rarer policy places fewer than {FEWEST_ORDERS} "
                    "orders in all replications")
         same = [row.policy for place, row in enumerate(self.rows)
                 if place and self.errors[place] == 0 and self.has_orders(0, place)]
         if same:
-            yield f"no interval for {named(same, MOST_ROWS)}: the difference is the same in all replications"
+            yield f"no interval for {names_of(same, MOST_ROWS)}: the difference is the same in all replications"
 
     def disagreeing(self, theory: Sequence[float]) -> list[str]:
         """Returns the policies whose cost, or difference from the base, is further from theory's than chance allows."""
@@ -213,7 +199,7 @@ def long_run_decision(report: LongRunReport, level: float = 0.95) -> LongRunDeci
         said = exactness(theory) + ", so not compared with the intervals" * (not theory.exact)
         off = table.disagreeing(costs) if theory.exact else []
         if off:
-            warnings.append(f"crnsim and theory differ by more than chance allows for {named(off, MOST_ROWS)}: one of "
+            warnings.append(f"crnsim and theory differ by more than chance allows for {names_of(off, MOST_ROWS)}: one of "
                             "them is wrong, or an order lasts for so long that the start still matters")
     except NoTheory as fault:
         said = f"not known: {fault}"
@@ -262,16 +248,17 @@ def start_warning(rows: Sequence[Row], scenario: Scenario) -> str:
         return ""
     strong = start.strong(rows) if start.bias.theory.exact else []
     return (f"WARNING: these verdicts are on the {horizon_of(scenario)}, not on the long run.\nBy theory the start "
-            f"adds more than {MOST_EFFECT} standard errors to the difference of {named(strong, MOST_ROWS)}.\n"
+            f"adds more than {MOST_EFFECT} standard errors to the difference of {names_of(strong, MOST_ROWS)}.\n"
             "--long-run takes that out.\n" if strong else "")
 
 
-def horizon_warnings(given: Sequence[Row], rows: Sequence[Compared], scenario: Scenario) -> list[str]:
-    """Returns what the end and the start of a replication do to the verdicts on a report: to those of policies that
-    are listed. `rows` have the verdicts."""
-    shown = {row.policy for row in listed(rows)}
+def coming_decision(given: Sequence[Row], scenario: Scenario, level: float = 0.95) -> Decision:
+    """Compares the policies of a report on the coming periods of a scenario. Warnings say what the end and the start of
+    a replication do to the verdicts: to those of policies that are listed."""
+    found = decided(given, scenario.replications, level)
+    shown = {row.policy for row in listed(found.rows)}
     warnings = end_warning(scenario, given), start_warning([row for row in given if row.policy in shown], scenario)
-    return [it for it in warnings if it]
+    return replace(found, horizon=horizon_of(scenario), warnings=tuple(it for it in warnings if it))
 
 
 def corrected_decision(rows: Sequence[Row], scenario: Scenario, level: float = 0.95) -> LongRunDecision:
@@ -288,7 +275,7 @@ def corrected_decision(rows: Sequence[Row], scenario: Scenario, level: float = 0
     found = [table.row(place, bias.costs, effect) for place, effect in enumerate(start.effects)]
     warnings, strong = [*table.without()], start.strong(rows)
     if strong:
-        warnings.append(f"without this correction the start counts too much for {named(strong, MOST_ROWS)}: its effect "
+        warnings.append(f"without this correction the start counts too much for {names_of(strong, MOST_ROWS)}: its effect "
                         f"is above {MOST_EFFECT} standard errors")
     title = (f"from a common stock of {scenario.initial:,} over {periods:,} periods, less the bias of that start by "
              "theory, which so is no check of it")
@@ -301,33 +288,8 @@ def corrected_decision(rows: Sequence[Row], scenario: Scenario, level: float = 0
                            said, tuple(warnings))
 
 
-@dataclass(frozen=True)
-class LongRunCheck:
-    """What comes of a check in the long run: the policies compared with the best one, over all keys."""
-
-    best: str
-    keys: tuple[Key, ...]
-    decision: LongRunDecision
-
-    @property
-    def holds(self) -> bool:
-        """Returns whether no policy is better than the best one."""
-        return not any(with_verdict(self.decision.rows, "better"))
-
-    @property
-    def sentence(self) -> str:
-        """Returns one sentence on what the verdicts say of the best policy."""
-        return sentence_of(self.best, self.decision.rows)
-
-    @property
-    def text(self) -> str:
-        """Returns the keys, the decision and the sentence."""
-        keys = "".join(f"--key {' '.join(key)}\n" for key in self.keys)
-        return f"{keys}\n{self.decision.text}\n{self.sentence}"
-
-
 def check_long_run(scenario: Scenario, best: str, *, keys: Sequence[Sequence[str]] = (), count: int | None = None,
-                   runs: int = KEYS, level: float = 0.95, program: str | Path | None = None) -> LongRunCheck:
+                   runs: int = KEYS, level: float = 0.95, program: str | Path | None = None) -> Check:
     """Compares each other policy with the policy named `best` in the long run, under new keys.
 
     Keys are given and drawn as in `keys.check_keys`. From each follow 48 keys of runs, or as many as `runs`, 2 to 256,
@@ -336,4 +298,4 @@ def check_long_run(scenario: Scenario, best: str, *, keys: Sequence[Sequence[str
     checked_level(level)
     asked, all_keys = scenario.with_policies(policies_of(scenario, best)), keys_of(keys, count, scenario.key)
     reports = (replace(asked, key=key).long_run(keys=runs, program=program) for key in all_keys)
-    return LongRunCheck(best, tuple(all_keys), long_run_decision(functools.reduce(LongRunReport.plus, reports), level))
+    return Check(best, tuple(all_keys), long_run_decision(functools.reduce(LongRunReport.plus, reports), level))

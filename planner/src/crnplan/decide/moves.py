@@ -10,18 +10,22 @@ import dataclasses
 import math
 from collections.abc import Callable, Iterator
 from dataclasses import dataclass
-from typing import Any
 
 from .sensitivity import CHANGES, demand_cases, lead_cases
 from ..errors import Refused
-from ..table import aligned
 from ..scenario import Costs, Scenario
+from ..table import Cell, DataTable, Result, number, text, whole
 from ..theory.lattice import NoTheory, theories_of
 from ..theory.long_run import Figures
 
 AS_IT_IS = "as it is"
-COLUMNS = ("case", "s", "S", "cost", "fill", "kept_cost", "kept_more", "kept_fill")
-SPELT = ("", "", "", ".2f", ".2%", ".2f", "+.2%", ".2%")  # how each column is written for a reader
+COLUMNS = (
+    text("case", "what differs; all else is as it is"), whole("s", "items", "reorder point of the best policy there"),
+    whole("S", "items", "its order-up-to level"), number("cost", "money a period", "its cost", "", ".2f"),
+    number("fill", "share", "demand that it meets at once", "", ".2%"),
+    number("kept_cost", "money a period", "cost of the chosen policy there", "", ".2f"),
+    number("kept_more", "share", "how much more than the best that is", "", "+.2%"),
+    number("kept_fill", "share", "demand that the chosen policy meets at once", "", ".2%"))
 Levels = tuple[int, int]
 
 
@@ -68,35 +72,37 @@ class Move:
         return self.kept_cost / self.cost - 1 if self.cost else math.nan
 
     @property
-    def row(self) -> list[Any]:
+    def row(self) -> list[Cell]:
         """Returns the row of `COLUMNS`, unrounded."""
         return [self.words, self.s, self.S, self.cost, self.fill, self.kept_cost, self.kept_more, self.kept_fill]
 
 
 @dataclass(frozen=True)
-class Moves:
-    """The moves in all cases, the first one being the scenario as it is, and notes on cases that are left out."""
+class Moves(Result):
+    """The moves in all cases, the first one being the scenario as it is, and remarks on cases that are left out."""
 
     kept: str
     moves: tuple[Move, ...]
-    notes: tuple[str, ...]
+    remarks: tuple[str, ...]
 
     @property
-    def rows(self) -> list[list[Any]]:
-        """Returns the table, its heading first."""
-        return [list(COLUMNS), *(it.row for it in self.moves)]
+    def table(self) -> DataTable:
+        """Returns the cases."""
+        return DataTable(COLUMNS, [it.row for it in self.moves])
+
+    @property
+    def notes(self) -> str:
+        """Returns what the columns mean, and the remarks."""
+        return "\n".join([
+            "", "case: what differs; all else is as it is. s, S, cost, fill: of the best policy in that case",
+            f"kept_cost, kept_more, kept_fill: of {self.kept}, and how much more than the best it costs",
+            "by theory in the long run, rounded and unproved; costs of a period, in the scenario's money",
+            *([""] if self.remarks else []), *self.remarks, ""])
 
     @property
     def text(self) -> str:
-        """Returns the table and the notes for a reader."""
-        cells = [[format(value, how) for value, how in zip(it.row, SPELT)] for it in self.moves]
-        return "\n".join([
-            "How the best policy moves, and what it costs to keep the chosen one", "",
-            aligned([list(COLUMNS), *cells]),
-            "case: what differs; all else is as it is. s, S, cost, fill: of the best policy in that case",
-            f"kept_cost, kept_more, kept_fill: of {self.kept}, and how much more than the best it costs",
-            "by theory in the long run, rounded and unproved; costs of a period, in the scenario's money",
-            *([""] if self.notes else []), *self.notes, ""])
+        """Returns the table below its heading, and the notes."""
+        return f"How the best policy moves, and what it costs to keep the chosen one\n\n{self.table.text}{self.notes}"
 
 
 def cost_cases(scenario: Scenario, fill: float | None) -> Iterator[Case]:

@@ -16,17 +16,13 @@ from dataclasses import dataclass
 from fractions import Fraction
 from functools import cached_property
 from pathlib import Path
-from typing import TYPE_CHECKING
 
 from .. import formats
 from ..crnsim.counts import all_totals, counting
 from ..crnsim.program import find_program
-from ..table import aligned
 from ..scenario import Policy, Scenario, Table
-from .verdicts import horizon_of
-
-if TYPE_CHECKING:
-    import pandas as pd
+from ..table import Cell, Column, DataTable, Json, Result, aligned, number, text
+from .verdicts import POLICY, horizon_of
 
 CHANGES = [("demand_up", 11, "demand 10% up"), ("demand_down", 9, "demand 10% down")]
 # The regret of a policy in a case: money per period, and percent of the least cost, None if that is 0.
@@ -58,15 +54,15 @@ class Loss:
 
 
 @dataclass(frozen=True)
-class Sensitivity:
-    """What each policy may cost too much: exact costs by case, and notes on cases that are not exact or left out.
+class Sensitivity(Result):
+    """What each policy may cost too much: exact costs by case, and remarks on cases that are not exact or left out.
 
     `horizon` says whether the costs are of the long run or of the coming periods.
     """
 
     policies: tuple[Policy, ...]
     cases: tuple[Case, ...]
-    notes: tuple[str, ...]
+    remarks: tuple[str, ...]
     horizon: str
 
     @cached_property
@@ -85,21 +81,13 @@ class Sensitivity:
         return [(case.name, next(it.policy.name for it in self.losses if it.regrets[place][0] == 0), min(case.costs))
                 for place, case in enumerate(self.cases)]
 
-    def records(self) -> Iterator[dict[str, str | int | float | None]]:
-        """Yields the table as data, without rounding to decimals."""
-        for loss in self.losses:
-            names = [*(case.name for case in self.cases), "greatest"]
-            figures = zip(names, [*loss.regrets, loss.greatest])
-            cells = {f"{name}{end}": None if it is None else float(it) for name, regret in figures
-                     for end, it in zip(("", "_percent"), regret)}
-            policy = loss.policy
-            yield {"policy": policy.name, "s": policy.s, "S": policy.S, **cells, "greatest_case": loss.worst}
-
     @property
-    def frame(self) -> pd.DataFrame:
-        """Returns the table indexed by `policy`: s, S (items), the regret in each case (money per period, percent)."""
-        import pandas as pd
-        return pd.DataFrame(self.records()).set_index("policy")
+    def table(self) -> DataTable:
+        """Returns the regret of each policy in each case, indexed by `policy`, the least greatest regret first."""
+        rows: list[list[Cell]] = [
+            [it.policy.name, it.policy.s, it.policy.S, *(None if figure is None else float(figure) for regret in (
+                *it.regrets, it.greatest) for figure in regret), it.worst] for it in self.losses]
+        return DataTable(columns_of([it.name for it in self.cases]), rows, index="policy")
 
     @property
     def text(self) -> str:
@@ -108,10 +96,28 @@ class Sensitivity:
         cells = [[it.policy.name, str(it.policy.s), str(it.policy.S), *map(cell, (*it.regrets, it.greatest)), it.worst]
                  for it in self.losses]
         table = [[case, name, f"{float(cost):.3f}"] for case, name, cost in self.cheapest]
-        notes = "".join(f"\n{note}" for note in self.notes) + "\n" * bool(self.notes)
         return (f"{self.horizon}\n\n" + aligned([heading, *cells], (0, len(heading) - 1))
                 + "\nregret: cost per period above the cheapest policy of the case\n\n"
-                + aligned([["case", "cheapest", "cost_a_period"], *table], (0, 1)) + notes)
+                + aligned([["case", "cheapest", "cost_a_period"], *table], (0, 1)) + self.notes)
+
+    @property
+    def notes(self) -> str:
+        """Returns lines on cases that are not exact or left out."""
+        return "".join(f"\n{line}" for line in self.remarks) + "\n" * bool(self.remarks)
+
+    @property
+    def tree(self) -> dict[str, Json]:
+        """Returns all as data, without rounding to decimals."""
+        return {"horizon": self.horizon, "policies": self.table.records, "notes": self.remarks}
+
+
+def columns_of(cases: Sequence[str]) -> list[Column]:
+    """Returns the columns of the table for cases with these names."""
+    regrets = (number(f"{name}{end}", unit, "cost above the cheapest policy " + (
+        "of this case" if name != "greatest" else "in the case where that is greatest"), ".6f")
+               for name in (*cases, "greatest")
+               for end, unit in (("", "money a period"), ("_percent", "percent of the cheapest cost")))
+    return [*POLICY, *regrets, text("greatest_case", "the case with the greatest regret")]
 
 
 def cell(regret: Regret) -> str:

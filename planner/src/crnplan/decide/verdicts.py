@@ -5,20 +5,25 @@ Decimals are rounded and not proved; crnsim's figures are.
 from __future__ import annotations
 
 from collections.abc import Sequence
-from typing import TYPE_CHECKING
+from dataclasses import dataclass
 
 from ..crnsim.report import Row
-from ..table import aligned, named
 from ..scenario import BY_ITS_LAWS, Scenario
+from ..table import DataTable, Json, Result, names_of, number, text, whole
 from .intervals import Compared, with_intervals, with_verdict
 
-if TYPE_CHECKING:
-    import pandas as pd
-
-# The figures of the table with their decimals. The first one is named as in the table, not as in a report.
-FIGURES = {"cost_a_period": 3, "cost_low": 3, "cost_high": 3, "diff_mean": 3, "percent": 2, "std_error": 3, "low": 3,
-           "high": 3}
-COLUMNS = ["policy", "s", "S", *FIGURES, "verdict"]
+POLICY = (text("policy", "name of the policy"), whole("s", "items", "reorder point"),
+          whole("S", "items", "order-up-to level"))
+VERDICT = text("verdict", "`base`, `better`, `worse` or `undecided`, by the joint interval")
+COLUMNS = (
+    *POLICY, number("cost_a_period", "money a period", "mean cost", ".3f"),
+    number("cost_low", "money a period", "low end of the interval of that cost, by itself", ".3f"),
+    number("cost_high", "money a period", "high end of that interval", ".3f"),
+    number("diff_mean", "money a replication", "mean cost less the base's", ".3f"),
+    number("percent", "percent of the base's cost", "the same difference", ".2f"),
+    number("std_error", "money a replication", "standard error of the difference", ".3f"),
+    number("low", "money a replication", "low end of the interval of the difference; all hold together", ".3f"),
+    number("high", "money a replication", "high end of that interval", ".3f"), VERDICT)
 MOST_ROWS = 20
 VERDICTS = {"better": "better than {}", "worse": "worse than {}", "undecided": "can't be told apart from {}"}
 
@@ -28,73 +33,82 @@ def horizon_of(scenario: Scenario) -> str:
     return f"coming {scenario.periods:,} periods from a stock of {scenario.initial:,}"
 
 
-def heading_of(scenario: Scenario) -> str:
-    """Returns what stands above a table on the coming periods."""
-    return f"The {horizon_of(scenario)}\n\n"
+def table_of(rows: Sequence[Compared]) -> DataTable:
+    """Returns the table of compared policies, in this order."""
+    def cells(row: Compared) -> list[str | int | float | None]:
+        """Returns the cells of a row."""
+        figures = (row.per_period, row.cost_low, row.cost_high, row.diff_mean, row.percent, row.std_error, row.low,
+                   row.high)
+        return [row.policy, row.s, row.S, *(None if it is None else float(it) for it in figures), row.verdict]
+    return DataTable(COLUMNS, [cells(row) for row in rows], index="policy")
 
 
-def figures_of(row: Compared) -> dict[str, float | None]:
-    """Returns the figures of the table as floats, by their names. None stands for no figure."""
-    exact = {"cost_a_period": row.per_period, **{name: getattr(row, name) for name in list(FIGURES)[1:]}}
-    return {name: None if figure is None else float(figure) for name, figure in exact.items()}
+@dataclass(frozen=True)
+class Decision(Result):
+    """The policies of a report compared with its first one, `base`, the cheapest first, at a joint level.
 
-
-def records_of(rows: Sequence[Compared]) -> list[dict[str, int | float | str | None]]:
-    """Returns the rows of the table as data, without rounding to decimals."""
-    return [{"policy": row.policy, "s": row.s, "S": row.S, **figures_of(row), "verdict": row.verdict} for row in rows]
-
-
-def frame_of(rows: Sequence[Compared]) -> pd.DataFrame:
-    """Returns the table as data, indexed by `policy`, the cheapest first. NaN stands for no figure."""
-    import pandas as pd
-    frame = pd.DataFrame(records_of(rows)).set_index("policy")
-    return frame.astype({name: float for name in FIGURES})
-
-
-def decided(rows: Sequence[Row], replications: int, level: float = 0.95) -> pd.DataFrame:
-    """Compares all rows of a report with its first one.
-
-    Returns a table indexed by `policy`, the cheapest first, with the columns s, S (items), cost_a_period, its interval
-    cost_low to cost_high, diff_mean, percent, std_error, its joint interval low to high (money), and verdict.
+    `horizon` says in words which coming periods they are compared over, if that is known. The text lists so many
+    policies as `most`, of which one is always the base.
     """
-    return frame_of(with_intervals(rows, replications, level))
+
+    rows: tuple[Compared, ...]
+    base: str
+    replications: int
+    level: float
+    horizon: str = ""
+    warnings: tuple[str, ...] = ()
+    most: int = MOST_ROWS
+
+    @property
+    def table(self) -> DataTable:
+        """Returns the table of all policies, indexed by `policy`."""
+        return table_of(self.rows)
+
+    @property
+    def text(self) -> str:
+        """Returns the horizon, the table of the listed policies, and the notes."""
+        shown = listed(self.rows, self.most)
+        rest = len(self.rows) - len(shown)
+        more = f"{rest} more policies are not listed; --all lists them\n" * (rest > 0)
+        heading = f"The {self.horizon}\n\n" if self.horizon else ""
+        return f"{heading}{table_of(shown).text}{more}{self.notes}"
+
+    @property
+    def notes(self) -> str:
+        """Returns what the intervals say of each policy compared with the base, and the warnings."""
+        comparisons = len(self.rows) - 1
+        lines = ["", f"replications: {self.replications}, comparisons with {self.base}: {comparisons}, joint level: "
+                 f"{self.level:g}", BY_ITS_LAWS]
+        if self.replications == 1:
+            lines.append("one replication tells nothing of spread, so there are no intervals")
+        elif comparisons:
+            lines.append(f"low to high: the interval of diff_mean; all {comparisons} hold together at the joint level")
+        if self.replications > 1:
+            lines.append(f"cost_low to cost_high: the interval of a policy's own cost, each at {self.level:g} by "
+                         "itself; to compare policies use low and high")
+        lines += [f"{words.format(self.base)}: {names_of(list(with_verdict(self.rows, verdict)), self.most)}"
+                  for verdict, words in VERDICTS.items()]
+        return "\n".join(lines) + "\n" + "".join(f"\n{it}" for it in self.warnings)
+
+    @property
+    def tree(self) -> dict[str, Json]:
+        """Returns all as data, without rounding to decimals."""
+        head = {"horizon": f"the {self.horizon}"} if self.horizon else {}
+        return {**head, "base": self.base, "replications": self.replications, "level": self.level,
+                "policies": self.table.records, "warnings": self.warnings}
 
 
-def table_of(rows: Sequence[Compared]) -> list[list[str]]:
-    """Returns the cells of the table, its heading first; `-` stands for no figure."""
-    cells = [["-" if figure is None else f"{figure:.{FIGURES[name]}f}" for name, figure in figures_of(row).items()]
-             for row in rows]
-    return [COLUMNS, *([row.policy, str(row.s), str(row.S), *cell, row.verdict] for row, cell in zip(rows, cells))]
+def decided(rows: Sequence[Row], replications: int, level: float = 0.95) -> Decision:
+    """Compares all rows of a report with its first one. Raises Refused for a level that is not between 0 and 1."""
+    return Decision(tuple(with_intervals(rows, replications, level)), rows[0].policy, replications, level)
 
 
-def table_text(rows: Sequence[Compared]) -> str:
-    """Returns the table with its columns in line."""
-    return aligned(table_of(rows), (0, len(COLUMNS) - 1))
-
-
-def listed(rows: Sequence[Compared], every: bool = False) -> Sequence[Compared]:
-    """Returns the rows to show: all, or the first 20 by rank of which one is always the base."""
-    if every or len(rows) <= MOST_ROWS:
+def listed(rows: Sequence[Compared], most: int = MOST_ROWS) -> Sequence[Compared]:
+    """Returns the rows to show: all, or the first by rank of which one is always the base."""
+    if len(rows) <= most:
         return rows
     base = next(row for row in rows if row.verdict == "base")
-    return rows[:MOST_ROWS] if base in rows[:MOST_ROWS] else [*rows[:MOST_ROWS - 1], base]
-
-
-def decision_text(rows: Sequence[Compared], base: str, replications: int, level: float, most_names: int) -> str:
-    """Returns what the intervals say of each policy compared with the base, with so many names in a line at most."""
-    comparisons = len(rows) - 1
-    lines = ["", f"replications: {replications}, comparisons with {base}: {comparisons}, joint level: {level:g}",
-             BY_ITS_LAWS]
-    if replications == 1:
-        lines.append("one replication tells nothing of spread, so there are no intervals")
-    elif comparisons:
-        lines.append(f"low to high: the interval of diff_mean; all {comparisons} hold together at the joint level")
-    if replications > 1:
-        lines.append(f"cost_low to cost_high: the interval of a policy's own cost, each at {level:g} by itself; to "
-                     "compare policies use low and high")
-    lines += [f"{words.format(base)}: {named(list(with_verdict(rows, verdict)), most_names)}"
-              for verdict, words in VERDICTS.items()]
-    return "\n".join(lines) + "\n"
+    return rows[:most] if base in rows[:most] else [*rows[:most - 1], base]
 
 
 def end_warning(scenario: Scenario, rows: Sequence[Row]) -> str:

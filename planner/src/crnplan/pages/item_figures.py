@@ -180,7 +180,7 @@ class ItemFigures:
             return []
         doubt = Doubt(scenario, self.policies, WITHIN, AllowedLaws({}, demands), None, figures)
         levels = {it.name: self.items(it) for it in self.policies}
-        return [{**row, **dict(zip(("s", "S"), levels[row["policy"]]))} for row in doubt.records]
+        return [{**row, **dict(zip(("s", "S"), levels[str(row["policy"])]))} for row in doubt.table.records]
 
     def _costed(self) -> Scenario:
         """Returns the scenario; without a backlog cost, with the one by which a newsvendor would meet the wanted share.

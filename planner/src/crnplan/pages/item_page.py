@@ -3,7 +3,6 @@
 """
 from __future__ import annotations
 
-import math
 from collections.abc import Callable, Iterable, Mapping, Sequence
 from dataclasses import dataclass
 from typing import Any
@@ -139,7 +138,7 @@ def more_of(value: Any) -> str:
 
     It costs less if the best has to meet a fill rate that it does not.
     """
-    return "-" if math.isnan(float(value)) else f"{number(100 * float(value), 1)}%"
+    return "-" if value in (None, "-") else f"{number(100 * float(value), 1)}%"
 
 
 def moves_grid(rows: Iterable[Mapping[str, Any]], period: str, money: Money, notes: Sequence[str]) -> Grid:

@@ -203,10 +203,9 @@ class _Page:
         """Returns how the best policy moves."""
         found, settings = self.its.moves(), self.its.settings
         sure = settings.confidence is not None and self.question.fill is not None
-        notes = [*found.notes,
+        notes = [*found.remarks,
                  *(["best policies meet the fill rate by their law, without a confidence"] if sure else [])]
-        heading, *rows = found.rows
-        return moves_grid([dict(zip(heading, row)) for row in rows], self.every, self.money, notes)
+        return moves_grid(found.table.records, self.every, self.money, notes)
 
     def tables(self) -> list[Grid]:
         """Returns the item's figures of decisions.csv and of exact.csv, as they are spelt there."""

@@ -43,20 +43,14 @@ def make_report(item: Item) -> dict[str, str]:
 
 def make_decision(item: Item) -> dict[str, str]:
     """Says which policies are better than today's by more than chance."""
-    from ..decide.long_run import horizon_warnings, long_run_decision
-    from ..decide.intervals import with_intervals
-    from ..decide.verdicts import decision_text, heading_of, table_of, table_text
+    from ..decide.long_run import coming_decision, long_run_decision
     from ..crnsim.report import read_rows
     run, scenario = item.settings["run"], item.scenario("suggested.toml")
     if item.settings.is_long_run:
         found = long_run_decision(report_of_costs(item.text("long_run.csv"), scenario), run["level"])
-        return {"decision.txt": found.text, "decision.csv": csv_text(found.cells)}
-    given = read_rows(item.text("report.csv"), "report.csv")
-    rows = with_intervals(given, run["replications"], run["level"])
-    text = heading_of(scenario) + table_text(rows) + decision_text(rows, "today", run["replications"], run["level"],
-                                                                   len(rows))
-    warnings = "".join(f"\n{it}" for it in horizon_warnings(given, rows, scenario))
-    return {"decision.txt": text + warnings, "decision.csv": csv_text(table_of(rows))}
+        return {"decision.txt": found.text, "decision.csv": found.table.csv}
+    its = coming_decision(read_rows(item.text("report.csv"), "report.csv"), scenario, run["level"])
+    return {"decision.txt": its.text, "decision.csv": its.table.csv}
 
 
 def keys_of(item: Item) -> list[list[str]]:
@@ -76,13 +70,12 @@ def make_check(item: Item) -> dict[str, str]:
     """Runs the chosen policy and all others on new random numbers."""
     from ..decide.keys import check_keys
     from ..decide.long_run import check_long_run
-    from ..decide.verdicts import table_of
     scenario, replications = item.scenario("suggested.toml"), item.settings["check"]["replications"]
     level = item.settings["run"]["level"]
     if item.settings.is_long_run:
-        its = check_long_run(scenario, item.chosen, keys=keys_of(item), runs=replications, level=level,
-                             program=item.program)
-        return {"check.txt": its.text, "check.csv": csv_text(its.decision.cells)}
-    found = check_keys(scenario, item.chosen, keys=keys_of(item), replications=replications, level=level,
-                       program=item.program)
-    return {"check.txt": found.text, "check.csv": csv_text(table_of(found.rows))}
+        found = check_long_run(scenario, item.chosen, keys=keys_of(item), runs=replications, level=level,
+                               program=item.program)
+    else:
+        found = check_keys(scenario, item.chosen, keys=keys_of(item), replications=replications, level=level,
+                           program=item.program)
+    return {"check.txt": found.text, "check.csv": found.table.csv}

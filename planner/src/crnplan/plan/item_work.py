@@ -169,15 +169,12 @@ def make_scenario(item: Item) -> dict[str, str]:
 def make_suggestions(item: Item) -> dict[str, str]:
     """Finds policies worth comparing with today's, by theory."""
     from ..demand.posterior import allowed_laws, allowed_leads
-    from ..table import aligned
     from ..theory.suggestions import suggestions_of
     (demand, leads), run = item.seen, item.settings["run"]
     laws = allowed_laws(demand, times=run["laws"], box=item.settings["history"]["box"]).laws
     found = suggestions_of(item.scenario("scenario.toml"), laws, allowed_leads(leads, times=run["laws"]).laws,
                            run["confidence"])
-    rows = [[it.policy.name, it.policy.s, it.policy.S, *it.figures] for it in found.rows]
-    return {"suggested.toml": found.text(), "suggested.txt": aligned(found.cells) + found.notes,
-            "suggested.csv": csv_text([found.cells[0], *rows])}
+    return {"suggested.toml": found.toml(), "suggested.txt": found.text, "suggested.csv": found.table.csv}
 
 
 def make_doubt(item: Item) -> dict[str, str]:
@@ -185,19 +182,16 @@ def make_doubt(item: Item) -> dict[str, str]:
     from ..decide.doubt import doubt
     found = doubt(item.scenario("suggested.toml"), *item.seen, times=item.settings["run"]["laws"],
                   box=item.settings["history"]["box"])
-    rows = (["-" if it is None else it for it in row.values()] for row in found.records)
-    return {"doubt.txt": found.text, "doubt.csv": csv_text([list(found.records[0]), *rows])}
+    return {"doubt.txt": found.text, "doubt.csv": found.table.csv}
 
 
 def make_trajectory(item: Item) -> dict[str, str]:
     """Shows today's and the chosen policy period by period, in one replication."""
-    from ..crnsim.trajectory import Period, trajectories
+    from ..crnsim.trajectory import table_of, trajectories
     scenario = item.scenario("suggested.toml")
     shown = list(dict.fromkeys([scenario.policies[0], *(it for it in scenario.policies if it.name == item.chosen)]))
     found = trajectories(scenario.with_policies(shown), min(scenario.periods, MOST_DRAWN), program=item.program)
-    rows = ([policy.name, number, *period] for policy, periods in zip(shown, found)
-            for number, period in enumerate(periods))
-    return {"trajectory.csv": csv_text([["policy", "period", *Period._fields], *rows])}
+    return {"trajectory.csv": table_of(shown, found).csv}
 
 
 def make_sensitivity(item: Item) -> dict[str, str]:
@@ -206,4 +200,4 @@ def make_sensitivity(item: Item) -> dict[str, str]:
     scenario = item.scenario("suggested.toml")
     kept = next(it for it in scenario.policies if it.name == item.chosen)
     found = moves_of(scenario, kept.name, (kept.s, kept.S))
-    return {"sensitivity.txt": found.text, "sensitivity.csv": csv_text(found.rows)}
+    return {"sensitivity.txt": found.text, "sensitivity.csv": found.table.csv}

@@ -21,7 +21,7 @@ from ..crnsim.keys import MOST_KEYS
 from ..crnsim.long_run import KEYS
 from ..errors import Fault, Refused, RefusedFaults
 from ..money import scaled_costs
-from ..table import named
+from ..table import names_of
 
 NOWHERE = Place(0, 0)
 MOST_NAMED = 3  # of the texts that may stand at a key
@@ -135,7 +135,7 @@ def choice(*values: str) -> Check:
         close = get_close_matches(str(value), values, 1)
         advice = " or ".join(f'"{it}"' for it in values[:MOST_NAMED])
         advice = f'did you mean "{close[0]}"?' if close else f"write {advice}"
-        return f"{shown(value)} is none of {named(values, MOST_NAMED)}; {advice}"
+        return f"{shown(value)} is none of {names_of(values, MOST_NAMED)}; {advice}"
     return check
 
 

@@ -9,27 +9,31 @@ from __future__ import annotations
 import math
 from collections.abc import Iterable, Sequence
 from dataclasses import dataclass
-from typing import TYPE_CHECKING, Any
 
 from ..toml import read_document
 from ..toml.writing import head_of, plain_text
 from ..formats import MOST_ITEMS, POLICIES
 from ..scenario import BY_ITS_LAWS, Policy, Scenario, Table
+from ..table import Cell, DataTable, Json, Result, number, text, whole
 from .behaviour import Depths
 from .confidence import CONFIDENCE, FillLevels, Promises
 from .lattice import theories_of
 from .long_run import Candidate, Figures, LongRun, exactness_of
-
-if TYPE_CHECKING:
-    import pandas as pd
 
 FILLS = {"95": 0.95, "98": 0.98, "99": 0.99, "995": 0.995}
 ORDERS = [("fewer_orders", 1.5, "fewer orders"), ("more_orders", 0.65, "more orders, and less stock"),
           ("fewest_orders", 2.2, "far fewer orders"), ("most_orders", 0.4, "far more orders")]
 NEIGHBOURS = [(1, "higher"), (-1, "lower"), (2, "higher_2"), (-2, "lower_2"), (3, "higher_3"), (-3, "lower_3")]
 ROUGH = 0.05
-HEADING = ("policy", "s", "S", *Figures._fields)
-SPELT = (".2f", ".2%", ".2%", ".1f", ".4f")  # how each figure is written for a reader
+COLUMNS = (
+    text("policy", "name of the policy"), whole("s", "items", "reorder point"),
+    whole("S", "items", "order-up-to level"),
+    number("cost", "money a period", "cost in the long run, without `unit`", ".10g", ".2f"),
+    number("fill", "share", "demand met at once", ".10g", ".2%"),
+    number("short", "share", "periods that end with items owed", ".10g", ".2%"),
+    number("stock", "items", "mean stock at the end of a period", ".10g", ".1f"),
+    number("orders", "orders a period", "mean number of orders", ".10g", ".4f"))
+REASONS = text("reasons", "why it is suggested")
 
 
 class Chosen:
@@ -107,7 +111,7 @@ class Suggestion:
 
 
 @dataclass(frozen=True)
-class Suggestions:
+class Suggestions(Result):
     """The suggested policies of a scenario, today's first, and what is known of their figures.
 
     Demand is counted in steps of `step` items. `error` bounds the relative error of the costs, about; it is None if
@@ -129,22 +133,22 @@ class Suggestions:
         return min(max(round(self.position), 0), MOST_ITEMS)
 
     @property
-    def frame(self) -> pd.DataFrame:
-        """Returns the figures of all policies: see `suggested`."""
-        return _frame((it.policy, it.figures) for it in self.rows)
+    def table(self) -> DataTable:
+        """Returns the figures of all policies, today's first, with the reasons of each."""
+        rows: list[list[Cell]] = [[it.policy.name, it.policy.s, it.policy.S, *it.figures, "; ".join(it.reasons)]
+                                  for it in self.rows]
+        return DataTable([*COLUMNS, REASONS], rows)
 
     @property
-    def records(self) -> list[dict[str, Any]]:
-        """Returns the row of each policy by column, with ten digits of each figure, and with its reasons."""
-        return [{"policy": it.policy.name, "s": it.policy.s, "S": it.policy.S,
-                 **{name: float(f"{value:.10g}") for name, value in it.figures._asdict().items()},
-                 "reasons": "; ".join(it.reasons)} for it in self.rows]
+    def text(self) -> str:
+        """Returns the table without the reasons, and the notes."""
+        return figures_table((it.policy, it.figures) for it in self.rows).text + self.notes
 
     @property
-    def cells(self) -> list[list[str]]:
-        """Returns the table for a reader, its heading first."""
-        return [list(HEADING), *([it.policy.name, str(it.policy.s), str(it.policy.S), *map(format, it.figures, SPELT)]
-                                 for it in self.rows)]
+    def tree(self) -> dict[str, Json]:
+        """Returns all as data, without rounding."""
+        return {"initial": self.initial, "position": self.position, "error": self.error, "step": self.step,
+                "policies": self.table.records}
 
     @property
     def notes(self) -> str:
@@ -182,7 +186,7 @@ error: {self._error_text()}
                      "little stock; take unit = 0 unless the item is given up then (--unit-zero writes it)\n")
         return text
 
-    def text(self, *, initial: bool = False, unit_zero: bool = False) -> str:
+    def toml(self, *, initial: bool = False, unit_zero: bool = False) -> str:
         """Returns the scenario with the suggested policies as TOML, each with its reasons and its cost as a comment.
 
         The comment at the top stays. `initial` writes the proposed start, `unit_zero` an item cost of 0.
@@ -197,10 +201,9 @@ error: {self._error_text()}
         return "".join([head_of(source), plain_text(tree), *(it.text for it in self.rows)])
 
 
-def _frame(rows: Iterable[tuple[Policy, Figures]]) -> pd.DataFrame:
-    """Returns a DataFrame with a row for each policy."""
-    import pandas as pd
-    return pd.DataFrame([(it.name, it.s, it.S, *figures) for it, figures in rows], columns=list(HEADING))
+def figures_table(rows: Iterable[tuple[Policy, Figures]]) -> DataTable:
+    """Returns the figures of policies as a table."""
+    return DataTable(COLUMNS, [(it.name, it.s, it.S, *figures) for it, figures in rows])
 
 
 def suggestions_of(scenario: Scenario, laws: Sequence[Table] = (), leads: Sequence[Table] = (),
@@ -227,22 +230,7 @@ def suggestions_of(scenario: Scenario, laws: Sequence[Table] = (), leads: Sequen
                        theory.net.mean * theory.step, tuple(it for it in remarks if it))
 
 
-def suggested(scenario: Scenario, **doubt: Any) -> pd.DataFrame:
-    """Returns suggested policies with figures of a period of the long run, today's first, no behaviour twice.
-
-    Columns: policy, s, S, cost (without `unit`), fill (the share of demand met at once), short (the share of periods
-    that end with items owed), stock (the mean at the end of a period, in items), orders. `doubt` has the further words
-    of `suggestions_of`, which raises what this raises.
-    """
-    return suggestions_of(scenario, **doubt).frame
-
-
-def suggested_text(scenario: Scenario, *, initial: bool = False, unit_zero: bool = False) -> str:
-    """Returns the scenario with the suggested policies as TOML: see `Suggestions.text`."""
-    return suggestions_of(scenario).text(initial=initial, unit_zero=unit_zero)
-
-
-def figures_of(scenario: Scenario, policies: Sequence[Policy]) -> pd.DataFrame:
-    """Returns the long-run figures of these policies, with the columns of `suggested`. Raises NoTheory as that does."""
+def figures_of(scenario: Scenario, policies: Sequence[Policy]) -> DataTable:
+    """Returns the long-run figures of these policies, with the columns of `COLUMNS`. Raises NoTheory."""
     theory, _ = theories_of(scenario, max((it.S - it.s for it in policies), default=0))
-    return _frame((it, theory.figures(it.s, it.S)) for it in policies)
+    return figures_table((it, theory.figures(it.s, it.S)) for it in policies)

@@ -1,0 +1,99 @@
+"""Tests tables with declared columns: each form has the same cells, and a spreadsheet runs none of them."""
+from __future__ import annotations
+
+import csv
+import html
+import io
+import json
+import math
+import re
+from fractions import Fraction
+
+import pytest
+from hypothesis import given
+from hypothesis import strategies as st
+
+from crnplan.table import MONEY, Cell, DataTable, aligned, exact, names_of, number, page_of, text, whole
+
+TEXTS = st.text("ab .9", max_size=5)
+COLUMNS = (text("name", "its name"), whole("count", "items", "how many"), number("cost", "money", "cost", MONEY, ".1f"),
+           number("share", "share", "share", ".4f", ".1%"), exact("mean", "items", "mean"))
+ROWS: list[list[Cell]] = [["A", 3, 1234.5678, 0.25, Fraction(7, 2)], ["b, c", None, math.nan, None, None],
+                          ["-", -4, -0.001, 1, 5]]
+# What a spreadsheet would run, by OWASP; and what it would not.
+RUN = ("=1+1", "+1+1", "-1+1", "@SUM(A1)", "\t=1", "\r=1", "-cmd|' /C calc'!A0", "+A1")
+PLAIN = ("-5", "+49", "-0.5", "-", "A=1", "1-2", "", "a@b", "'x")
+
+
+def test_a_file_has_all_cells() -> None:
+    """Money has the decimals of its smallest unit, a share its own, and no figure is a mark. -0.00 is 0.00."""
+    assert DataTable(COLUMNS, ROWS, decimals=3).csv == (
+        'name,count,cost,share,mean\nA,3,1234.568,0.2500,7/2\n"b, c",-,-,-,-\n-,-4,-0.001,1.0000,5\n')
+    assert DataTable(COLUMNS, ROWS, missing="").csv.splitlines()[2:] == ['"b, c",,,,', "-,-4,0.00,1.0000,5"]
+
+
+def test_a_reader_gets_the_shown_spelling() -> None:
+    """Texts are set to the left, numbers to the right."""
+    assert DataTable(COLUMNS, ROWS).text == ("name  count    cost   share  mean\n"
+                                             "A         3  1234.6   25.0%   7/2\n"
+                                             "b, c      -       -       -     -\n"
+                                             "-        -4     0.0  100.0%     5\n")
+
+
+def test_data_is_not_rounded() -> None:
+    """JSON and frames have the numbers as they are; None, nan and an absent figure are one."""
+    table = DataTable(COLUMNS, ROWS, index="name")
+    assert table.records[0] == {"name": "A", "count": 3, "cost": 1234.5678, "share": 0.25, "mean": "7/2"}
+    assert json.loads(json.dumps(table.records))[1] == dict.fromkeys(table.names) | {"name": "b, c"}
+    frame = table.frame
+    assert list(frame.dtypes.astype(str)) == ["Int64", "float64", "float64", "object"] and frame.index.name == "name"
+    assert frame.loc["A", "mean"] == Fraction(7, 2) and frame.loc["A", "cost"] == 1234.5678
+    assert frame.loc["b, c"].isna().all()
+
+
+def test_html_has_the_cells_of_the_text() -> None:
+    """Markup in a cell stays text, and a heading says what its column means."""
+    page = DataTable(COLUMNS, [["<b>&", 1, 2.0, 0.5, 1]]).html
+    cells = [html.unescape(it) for it in re.findall(r"<td[^>]*>(.*?)</td>", page)]
+    assert cells == ["<b>&", "1", "2.0", "50.0%", "1"] and "<b>" not in page
+    assert re.findall(r'title="(.*?)"', page) == [it.meaning for it in COLUMNS]
+
+
+@pytest.mark.parametrize("cell, is_run", [*((it, True) for it in RUN), *((it, False) for it in PLAIN)])
+def test_a_spreadsheet_runs_no_cell(cell: str, is_run: bool) -> None:
+    """A text that would run stands behind an apostrophe in a file, and as it is everywhere else."""
+    table = DataTable(COLUMNS[:1], [[cell]])
+    (_, [written]) = csv.reader(io.StringIO(table.csv, newline=""))
+    assert written == ("'" + cell if is_run else cell)
+    assert table.records == [{"name": cell}] and html.escape(cell) in table.html
+
+
+def test_columns_without_a_figure() -> None:
+    """Only the named columns are left out, and only if no row has a figure."""
+    table = DataTable(COLUMNS, [["A", None, math.nan, 0.0, None]]).without_empty(("count", "cost", "share"))
+    assert table.names == ["name", "share", "mean"] and table.rows == [["A", 0.0, None]]
+
+
+def test_the_page_of_columns() -> None:
+    """The page has a row for each column."""
+    assert page_of(COLUMNS[:2]) == ("| Column | Unit | Meaning |\n|---|---|---|\n| `name` | text | its name |\n"
+                                    "| `count` | items | how many |\n")
+
+
+@given(st.integers(1, 4).flatmap(lambda width: st.lists(st.lists(TEXTS, min_size=width, max_size=width), min_size=1,
+                                                        max_size=4)))
+def test_cells_end_at_the_same_place(rows: list[list[str]]) -> None:
+    """Each cell of a column to the right ends where the column ends, and no line ends with a blank."""
+    lines = aligned(rows, ()).split("\n")
+    ends = [sum(max(len(row[it]) for row in rows) + 2 for it in range(place + 1)) - 2 for place in range(len(rows[0]))]
+    assert lines.pop() == "" and len(lines) == len(rows)
+    for line, row in zip(lines, rows):
+        padded = line.ljust(ends[-1])
+        assert line == line.rstrip() and all(padded[:end].endswith(cell) for end, cell in zip(ends, row))
+
+
+@pytest.mark.parametrize("names, most, words", [([], 3, "none"), (["a"], 1, "a"), (["a", "b", "c"], 3, "a, b, c"),
+                                                (["a", "b", "c"], 1, "a and 2 more")])
+def test_names_as_one_text(names: list[str], most: int, words: str) -> None:
+    """The first names are listed, the others counted."""
+    assert names_of(names, most) == words
