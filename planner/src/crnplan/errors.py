@@ -1,21 +1,53 @@
 """The errors of the package, each with the exit status that a command ends with.
 
-A message is one line for each thing that is wrong. It says where, what, and what to do.
+A message is one line for each thing that is wrong. It says where, what, and what to do. It names arguments by
+`argument`, so that a function shows them as they are called and a command as its options.
 """
 from __future__ import annotations
 
-from collections.abc import Sequence
+from collections.abc import Callable, Sequence
 from dataclasses import dataclass
 from typing import ClassVar
 
+# The signs around the name of an argument, and before its value. No text of a user has them: control characters of
+# theirs are shown as escapes.
+MARK, VALUE = "\x1f", "\x1e"
+
+
+def argument(name: str, value: str = "") -> str:
+    """Returns the name of an argument, perhaps with a value, as it stands in a message until that is shown."""
+    return f"{MARK}{name}{VALUE}{value}{MARK}" if value else f"{MARK}{name}{MARK}"
+
+
+def as_python(name: str, value: str) -> str:
+    """Returns an argument as a call of Python has it."""
+    return f"{name}={value!r}" if value else name
+
+
+def worded(message: str, spell: Callable[[str, str], str] = as_python) -> str:
+    """Returns a message with its arguments spelt by a function of name and value (empty if there is none)."""
+    parts = message.split(MARK)
+    parts[1::2] = [spell(name, value) for name, _, value in (part.partition(VALUE) for part in parts[1::2])]
+    return "".join(parts)
+
 
 class CrnplanError(Exception):
-    """Any error that the package raises on purpose. Its text is meant for the user."""
+    """Any error that the package raises on purpose. Its text is meant for the user; `message` names arguments by
+    `argument`."""
 
     status: ClassVar[int] = 2
 
+    @property
+    def message(self) -> str:
+        """Returns the message before its arguments are spelt."""
+        return super().__str__()
 
-class Refused(CrnplanError):
+    def __str__(self) -> str:
+        """Returns the message with arguments as a call of Python has them."""
+        return worded(self.message)
+
+
+class Refused(CrnplanError, ValueError):
     """An input, an option or an argument that cannot be used: what is wrong with it, and what to do."""
 
     def __init__(self, what: str = "", advice: str = "") -> None:
@@ -37,10 +69,15 @@ class Fault:
     line: int = 0
     column: int = 0
 
-    def __str__(self) -> str:
-        """Returns `FILE:LINE:COLUMN: WHAT`, without the parts that are not known."""
+    @property
+    def message(self) -> str:
+        """Returns `FILE:LINE:COLUMN: WHAT`, without the parts that are not known, before arguments are spelt."""
         places = [str(it) for it in (self.file, self.line, self.column) if it]
         return ": ".join([":".join(places), self.what]) if places else self.what
+
+    def __str__(self) -> str:
+        """Returns the message with arguments as a call of Python has them."""
+        return worded(self.message)
 
 
 class RefusedFaults(Refused):
@@ -49,7 +86,7 @@ class RefusedFaults(Refused):
     def __init__(self, faults: Sequence[Fault], text: str = "") -> None:
         """Keeps the faults. The text is that of the faults, one a line, if none is given."""
         self.faults = tuple(faults)
-        super().__init__(text or "\n".join(map(str, self.faults)))
+        super().__init__(text or "\n".join(it.message for it in self.faults))
 
 
 class ScenarioError(RefusedFaults):

@@ -174,7 +174,7 @@ def test_runs_the_scenario_but_for_key_and_order(part: Path, room: Path, program
     """Checks what is run: the scenario but for its key, replications and order. Its own key gives another report."""
     tree = tomllib.loads(part.read_text("utf-8"))
     told = crnplan("check", part, "both", *given, "--out", "kept")
-    keys = [line.split()[1:] for line in told.output.splitlines() if line.startswith("--key ")]
+    keys = [line.split()[1:] for line in told.output.splitlines() if line.startswith("key ")]
     assert told.status in (0, 1) and {len(key) for key in keys} == {4}
     assert len({tuple(key) for key in [*keys, tree["key"]]}) == count + 1 and (count == 1 or keys[0][0] == KEYS[0])
     assert f"\nreplications: {256 * count}, comparisons" in told.output
@@ -193,7 +193,7 @@ def test_keys_are_drawn_anew(room: Path, crnplan: Command) -> None:
     """Checks that two checks without a key draw two keys."""
     words = ["check", "examples/spare_part.toml", "both", "--replications", "2"]
     lines = [crnplan(*words).output.split("\n")[0] for _ in range(2)]
-    assert all(re.fullmatch("--key( [0-9a-f]{16}){4}", line) for line in lines) and lines[0] != lines[1]
+    assert all(re.fullmatch("key( [0-9a-f]{16}){4}", line) for line in lines) and lines[0] != lines[1]
 
 
 def test_the_function_is_the_command(part: Path, crnplan: Command) -> None:

@@ -147,7 +147,7 @@ def test_decide_warns_of_the_start(crnplan: Command, room: Path, program: Path) 
     text, table, tree = (crnplan("decide", "report.csv", "--scenario", "part.toml", *it)
                          for it in ([], ["--csv"], ["--json"]))
     assert text.output.startswith("The coming 40 periods from a stock of 25\n\npolicy ")
-    assert text.output.endswith(f"\n\n{warning}") and table.errors == warning
+    assert text.output.endswith(f"\n\n{warning}") and table.errors.endswith(f"\n\n{warning}")
     read = json.loads(tree.output)
     assert read["warnings"] == [warning] and read["horizon"] == "the coming 40 periods from a stock of 25"
     assert "WARNING" not in crnplan("decide", "report.csv", "--replications", "64").output
@@ -258,7 +258,7 @@ def test_check_in_the_long_run(crnplan: Command, room: Path, program: Path) -> N
     keys = [(word, *KEY[1:]) for word in ("00000000000000a1", "00000000000000a2")]
     first, second = (replace(turned, key=key).long_run(program=program) for key in keys)
     both = replace(first, scenario=turned, costs=first.costs + second.costs)
-    assert "".join(f"--key {' '.join(key)}\n" for key in keys) + f"\n{long_run_decision(both).text}\n" in found.output
+    assert "".join(f"key {' '.join(key)}\n" for key in keys) + f"\n{long_run_decision(both).text}\n" in found.output
     less = by_name(long_run_decision(both))["less"]
     assert less.verdict == "better" and found.status == 1
     assert found.output.endswith("On these new histories more does not hold: less, today are better.\n")

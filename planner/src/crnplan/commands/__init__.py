@@ -51,7 +51,9 @@ class Group(click.Group):
         """Imports a subcommand."""
         if cmd_name not in COMMANDS:
             return None
+        from .output import asked
         command: click.Command = importlib.import_module(f"{__name__}.{cmd_name}").command
+        asked[:] = [command]
         return command
 
     def resolve_command(
@@ -95,8 +97,8 @@ def main() -> None:
         print(f"crnplan: {fault.format_message()}", file=sys.stderr)
         sys.exit(2)
     except CrnplanError as fault:
-        for line in str(fault).splitlines():
-            print(f"crnplan: {line}", file=sys.stderr)
+        from .output import note
+        note(fault.message)
         sys.exit(fault.status)
     except (KeyboardInterrupt, click.Abort):
         print("crnplan: interrupted", file=sys.stderr)

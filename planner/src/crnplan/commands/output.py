@@ -9,9 +9,27 @@ from typing import Any, TypeVar
 import click
 
 from ..crnsim.report import Report
+from ..errors import worded
 from ..table import Result
 
 Command = TypeVar("Command", bound=Callable[..., Any])
+
+
+# The command that was asked for. Its options have the names of the arguments that they are for.
+asked: list[click.Command] = []
+
+
+def as_option(name: str, value: str) -> str:
+    """Returns an argument of the library as the option of the command."""
+    options = {it.name: it.opts[0] for command in asked for it in command.params if isinstance(it, click.Option)}
+    return options.get(name, f"--{name.replace('_', '-')}") + f" {value}" * bool(value)
+
+
+def note(message: str) -> None:
+    """Prints the lines of a message on standard error, with the options of a command for the arguments of the library.
+    """
+    for line in worded(message, as_option).splitlines():
+        click.echo(f"crnplan: {line}", err=True)
 
 
 def form_options(command: Command) -> Command:

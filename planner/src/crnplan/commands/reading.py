@@ -14,6 +14,7 @@ from ..records.amounts import DECIMALS
 from ..records.dates import EVERY
 from ..records.faults import RefusedFiles, printed, write_rejects
 from ..records.observed import LeadTimes, Observed
+from .output import note
 
 Decorator = Callable[[Callable[..., Any]], Callable[..., Any]]
 
@@ -114,8 +115,8 @@ class Attempts:
 
     def say(self, more: Iterable[str]) -> None:
         """Prints on standard error which rows were left out, what is to be said of the files, and more lines."""
-        for line in [*printed(self.left_out), *(note for its in self.read for note in its.notes), *more]:
-            click.echo(f"crnplan: {line}", err=True)
+        for line in [*printed(self.left_out), *(line for its in self.read for line in its.notes), *more]:
+            note(line)
 
 
 def read_files(attempts: Attempts, asked: dict[str, Any]) -> tuple[History | None, LeadTimes | None]:

@@ -4,7 +4,7 @@ from __future__ import annotations
 import secrets
 from collections.abc import Sequence
 
-from ..errors import Refused
+from ..errors import Refused, argument
 from ..formats import DIGITS_OF_WORD, WORD, WORDS_OF_KEY
 
 Key = tuple[str, ...]
@@ -14,15 +14,16 @@ MOST_KEYS = 64
 
 
 def key_of(words: Sequence[str], own: Key) -> Key:
-    """Returns the key that `--key` has: four words, or one that replaces the first of the scenario's own.
+    """Returns the key that words name: four words, or one that replaces the first of the scenario's own.
 
     Raises Refused if there is another number of words, or if one is not 16 digits of 0-9a-f.
     """
     wrong = next((word for word in words if not WORD.fullmatch(word)), None)
     if wrong is not None:
-        raise Refused(f"--key: {wrong!r} is not {DIGITS_OF_WORD} digits of 0-9a-f (in lower case)")
+        raise Refused(f"{argument('keys')}: {wrong!r} is not {DIGITS_OF_WORD} digits of 0-9a-f (in lower case)")
     if len(words) not in (1, WORDS_OF_KEY):
-        raise Refused(f"--key: there are {len(words)} words; give four, or one that replaces the first of the scenario")
+        raise Refused(f"{argument('keys')}: there are {len(words)} words; give four, or one that replaces the first of "
+                      "the scenario")
     return (*words, *own[len(words):])
 
 
@@ -41,13 +42,14 @@ def keys_of(given: Sequence[Sequence[str]], count: int | None, own: Key) -> list
     least = max(1, len(keys))
     count = least if count is None else count
     if not least <= count <= MOST_KEYS:
-        raise Refused(f"--keys {count}: there can be {least} to {MOST_KEYS} keys here")
+        raise Refused(f"{argument('count', str(count))}: there can be {least} to {MOST_KEYS} keys here")
     if own in keys:
-        raise Refused(f"--key {' '.join(own)} is the scenario's own key, with the same histories again; give another "
-                      "one, or none to draw one")
+        raise Refused(f"{argument('keys', ' '.join(own))} is the scenario's own key, with the same histories again; give "
+                      "another one, or none to draw one")
     for place, key in enumerate(keys):
         if key in keys[:place]:
-            raise Refused(f"--key {' '.join(key)} is given twice, with the same histories again; give another one")
+            raise Refused(f"{argument('keys', ' '.join(key))} is given twice, with the same histories again; give "
+                          "another one")
     while len(keys) < count:
         drawn = drawn_key()
         keys += [drawn] if drawn not in [own, *keys] else []

@@ -25,7 +25,7 @@ import numpy as np
 from .. import formats
 from ..toml.reading import checked_tree
 from ..toml.writing import plain_text
-from ..errors import ProgramError, Refused
+from ..errors import ProgramError, Refused, argument
 from ..scenario import Costs, Scenario, Table, key_words
 from ..table import DataTable, Result, exact
 from .checkpoints import MOST_STOCK, PERIODS_OF_BLOCK, State, checkpoint_text, resume_all
@@ -164,7 +164,7 @@ def _checked(scenario: Scenario, keys: int) -> None:
     """Raises Refused if there is no long run of a scenario, and for too few or too many keys."""
     checked_tree(scenario.tree, any_number=True)
     if not 2 <= keys <= MOST_KEYS:
-        raise Refused(f"--keys {keys}: the long run takes 2 to {MOST_KEYS} keys")
+        raise Refused(f"{argument('keys', str(keys))}: the long run takes 2 to {MOST_KEYS} keys")
     if scenario.demand.mean <= (scenario.returns.mean if scenario.returns else 0):
         raise Refused("there is no long run: on average as much comes back as is asked for, so that nothing is "
                       "ordered; look at the tables demand and returns")
@@ -205,7 +205,7 @@ class _Runs:
         found = [self._part(costs, part) for part in parts]
         if any(its[0] != first[0] for others in found for its, first in zip(others, found[0])):
             raise ProgramError(f"{self.program}: the base has not the same cost in all runs; name crnsim with "
-                               "--program")
+                               f"{argument('program')}")
         return [(its[0][0], *(cost for part in its for cost in part[1:])) for its in zip(*found)]
 
     def _part(self, costs: Costs, part: Sequence[int]) -> list[list[int]]:

@@ -11,7 +11,7 @@ from collections.abc import Iterable
 from concurrent.futures import ThreadPoolExecutor
 from pathlib import Path
 
-from ..errors import ProgramError
+from ..errors import ProgramError, argument
 from ..formats import status_of
 
 VARIABLE = "CRNSIM"
@@ -24,7 +24,7 @@ def _named(path: str | Path, how: str) -> Path:
     found = shutil.which(path)
     if found is None:
         here = f"{path} can't be run" if os.path.exists(path) else f"there is no program {path}"
-        raise ProgramError(f"{how}: {here}; build crnsim, or name it with --program")
+        raise ProgramError(f"{how}: {here}; build crnsim, or name it with {argument('program')}")
     return Path(os.path.abspath(found))
 
 
@@ -42,7 +42,7 @@ def program_and_reason(named: str | Path | None = None) -> tuple[Path, str]:
     missing.
     """
     if named is not None:
-        return _named(named, "--program"), "named"
+        return _named(named, argument("program")), "named"
     if os.environ.get(VARIABLE):
         return _named(os.environ[VARIABLE], VARIABLE), f"the variable {VARIABLE}"
     build = _build()
@@ -50,8 +50,8 @@ def program_and_reason(named: str | Path | None = None) -> tuple[Path, str]:
         return build, "the build of the repository"
     if shutil.which("crnsim"):
         return _named("crnsim", "PATH"), "PATH"
-    raise ProgramError(f"crnsim was not found; build it, put it on PATH, or name it with --program or the variable "
-                       f"{VARIABLE}")
+    raise ProgramError(f"crnsim was not found; build it, put it on PATH, or name it with {argument('program')} or the "
+                       f"variable {VARIABLE}")
 
 
 def find_program(named: str | Path | None = None) -> Path:
@@ -67,7 +67,8 @@ def run_program(program: Path, text: str, *words: str) -> str:
     try:
         ran = subprocess.run([program, *words], input=text.encode(), capture_output=True)
     except OSError as fault:
-        raise ProgramError(f"{program}: {fault.strerror}; build crnsim, or name it with --program") from fault
+        raise ProgramError(f"{program}: {fault.strerror}; build crnsim, or name it with "
+                           f"{argument('program')}") from fault
     if ran.returncode == 0:
         return ran.stdout.decode()
     line = "; ".join(ran.stderr.decode(errors="replace").splitlines()) or f"no output, status {ran.returncode}"

@@ -17,7 +17,7 @@ from .. import formats
 from ..toml.reading import checked_tree
 from ..toml.values import name_faults, shown
 from ..toml.writing import plain_text
-from ..errors import Fault, ProgramError, Refused
+from ..errors import Fault, ProgramError, Refused, argument
 from ..table import DataTable, Json, Result, exact, text, whole
 from .program import find_program, run_all
 
@@ -135,7 +135,8 @@ def rows_of(policies: Sequence[Policy], text: str, program: str) -> list[Row]:
     except Refused:
         rows = []
     if [(it.policy, it.s, it.S) for it in rows] != [(it.name, it.s, it.S) for it in policies]:
-        raise ProgramError(f"{program}: what it writes is no report of the scenario; name crnsim with --program")
+        raise ProgramError(f"{program}: what it writes is no report of the scenario; name crnsim with "
+                           f"{argument('program')}")
     return rows
 
 
@@ -187,5 +188,6 @@ def report_of(scenario: Scenario, program: str | Path | None = None) -> Report:
     texts = run_all(found, [plain_text(it.tree) for it in parts])
     reports = [rows_of(part.policies, text, str(found)) for part, text in zip(parts, texts)]
     if any(rows[0] != reports[0][0] for rows in reports):
-        raise ProgramError(f"{found}: the base has not the same row in all reports; name crnsim with --program")
+        raise ProgramError(f"{found}: the base has not the same row in all reports; name crnsim with "
+                           f"{argument('program')}")
     return Report((reports[0][0], *(row for rows in reports for row in rows[1:])), scenario)

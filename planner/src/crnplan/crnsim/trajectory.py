@@ -21,7 +21,7 @@ from pathlib import Path
 from typing import NamedTuple
 
 from .. import formats
-from ..errors import Refused
+from ..errors import Refused, argument
 from ..scenario import Costs, Policy, Scenario
 from ..table import DataTable, text, whole
 from .checkpoints import PERIODS_OF_BLOCK, replication_costs
@@ -74,9 +74,9 @@ def shown_periods(scenario: Scenario, asked: int | None, is_drawn: bool) -> int:
     """Returns how many periods are shown: `asked`, or as many as a picture has room for."""
     periods = min(scenario.periods, MOST_DRAWN) if asked is None else asked
     if not 1 <= periods <= scenario.periods:
-        raise Refused(f"--periods {periods}: the scenario has 1 to {scenario.periods} periods")
+        raise Refused(f"{argument('periods', str(periods))}: the scenario has 1 to {scenario.periods} periods")
     if is_drawn and periods > MOST_DRAWN:
-        raise Refused(f"--periods {periods}: a picture has room for {MOST_DRAWN} periods")
+        raise Refused(f"{argument('periods', str(periods))}: a picture has room for {MOST_DRAWN} periods")
     return periods
 
 

@@ -21,7 +21,7 @@ from typing import TYPE_CHECKING, Any
 
 from ..toml.reading import checked_tree
 from ..crnsim.report import report_of
-from ..errors import Refused
+from ..errors import Refused, argument
 from ..records.observed import Observed
 from ..scenario import Policy, Scenario, Table, policies_of
 from ..table import Cell, DataTable, Json, Result, number
@@ -263,9 +263,9 @@ def doubt(scenario: Scenario, history: Observed | Iterable[Any], leads: Observed
     from ..demand.posterior import allowed_laws, allowed_leads
     from ..theory.many_laws import figures_of_laws
     if not TIMES[0] <= times <= TIMES[1]:
-        raise Refused(f"--times {times}: there can be {TIMES[0]:,} to {TIMES[1]:,} laws")
+        raise Refused(f"{argument('times', str(times))}: there can be {TIMES[0]:,} to {TIMES[1]:,} laws")
     if not 0 <= within < math.inf:
-        raise Refused(f"--within {within:g}: it is a share of at least 0, as 0.03 for 3%")
+        raise Refused(f"{argument('within', f'{within:g}')}: it is a share of at least 0, as 0.03 for 3%")
     candidates = candidates_of(scenario, policies)
     demand = allowed_laws(history, times=times, box=box, seed=seed)
     lead = None if leads is None else allowed_leads(leads, times=times, seed=seed)

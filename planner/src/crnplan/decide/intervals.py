@@ -20,7 +20,7 @@ from typing import Protocol
 from .. import formats
 from ..crnsim.keys import MOST_KEYS
 from ..crnsim.report import Row
-from ..errors import Refused
+from ..errors import Refused, argument
 
 
 @dataclass(frozen=True)
@@ -44,7 +44,7 @@ class Compared(Row):
 def checked_level(level: float) -> float:
     """Returns a level of confidence. Raises Refused if it is not between 0 and 1."""
     if not 0 < level < 1:
-        raise Refused(f"--level {level:g}: a level is between 0 and 1, as 0.95")
+        raise Refused(f"{argument('level', f'{level:g}')}: a level is between 0 and 1, as 0.95")
     return level
 
 

@@ -20,7 +20,7 @@ from ..toml.writing import plain_text
 from ..crnsim.keys import MOST_KEYS, Key, keys_of
 from ..crnsim.pooling import pooled
 from ..crnsim.report import report_text
-from ..errors import Refused
+from ..errors import Refused, argument
 from ..files import own_folder
 from ..scenario import Policy, Scenario
 from ..table import DataTable, Json, Result
@@ -66,7 +66,7 @@ class Check(Result):
     @property
     def text(self) -> str:
         """Returns the keys, the decision and the sentence."""
-        keys = "".join(f"--key {' '.join(key)}\n" for key in self.keys)
+        keys = "".join(f"key {' '.join(key)}\n" for key in self.keys)
         return f"{keys}\n{self.decision.text}\n{self.sentence}"
 
     @property
@@ -102,8 +102,8 @@ def policies_of(scenario: Scenario, best: str) -> list[Policy]:
 def checked_replications(replications: int) -> int:
     """Returns the number of replications for each key. Raises Refused if it is out of range."""
     if not LEAST_REPLICATIONS <= replications <= formats.MOST_REPLICATIONS:
-        raise Refused(f"--replications {replications}: there can be {LEAST_REPLICATIONS} to "
-                      f"{formats.MOST_REPLICATIONS} for each key; more come from more keys (--keys)")
+        raise Refused(f"{argument('replications', str(replications))}: there can be {LEAST_REPLICATIONS} to "
+                      f"{formats.MOST_REPLICATIONS} for each key; more come from more keys ({argument('keys')})")
     return replications
 
 

@@ -249,7 +249,7 @@ def start_warning(rows: Sequence[Row], scenario: Scenario) -> str:
     strong = start.strong(rows) if start.bias.theory.exact else []
     return (f"WARNING: these verdicts are on the {horizon_of(scenario)}, not on the long run.\nBy theory the start "
             f"adds more than {MOST_EFFECT} standard errors to the difference of {names_of(strong, MOST_ROWS)}.\n"
-            "--long-run takes that out.\n" if strong else "")
+            "A comparison in the long run takes that out.\n" if strong else "")
 
 
 def coming_decision(given: Sequence[Row], scenario: Scenario, level: float = 0.95) -> Decision:

@@ -6,7 +6,7 @@ from collections.abc import Sequence
 from pathlib import Path
 
 from ..crnsim.report import Row, read_rows
-from ..errors import Refused
+from ..errors import Refused, argument
 from ..scenario import Policy
 from .intervals import check_replications
 
@@ -44,5 +44,5 @@ def check_policies(rows: Sequence[Row], policies: Sequence[Policy], names: tuple
                           .format(names[0], number, *its, names[1], *other))
     if len(found) != len(wanted):
         is_sweep = found[:1] == wanted[:1] and len(found) > len(wanted)
-        hint = "; for a table of crnplan sweep add --sweep" * is_sweep
+        hint = f"; for a table of crnplan sweep add {argument('sweep')}" * is_sweep
         raise Refused(f"{names[0]}: it has {len(found)} policies, but {names[1]} has {len(wanted)}{hint}")

@@ -69,7 +69,7 @@ class Decision(Result):
         """Returns the horizon, the table of the listed policies, and the notes."""
         shown = listed(self.rows, self.most)
         rest = len(self.rows) - len(shown)
-        more = f"{rest} more policies are not listed; --all lists them\n" * (rest > 0)
+        more = f"{rest} more policies are not listed\n" * (rest > 0)
         heading = f"The {self.horizon}\n\n" if self.horizon else ""
         return f"{heading}{table_of(shown).text}{more}{self.notes}"
 

@@ -179,11 +179,11 @@ error: {self._error_text()}
         """Returns the lines on the run: its start, and what `unit` charges at its end."""
         today, mean = self.scenario.initial, self.position
         text = (f"initial: the best policy's mean position at the beginning of a period is {mean:.1f}; today's initial "
-                f"= {today} is {abs(today - mean):.1f} {'above' if today > mean else 'below'} it (--initial writes "
-                f"initial = {self.initial})\n")
+                f"= {today} is {abs(today - mean):.1f} {'above' if today > mean else 'below'} it; a run from the "
+                f"long run has initial = {self.initial}\n")
         if self.scenario.costs.unit > 0:
             text += ("unit: a run also pays it for items in stock at its end, which favours policies that end with "
-                     "little stock; take unit = 0 unless the item is given up then (--unit-zero writes it)\n")
+                     "little stock; take unit = 0 unless the item is given up then\n")
         return text
 
     def toml(self, *, initial: bool = False, unit_zero: bool = False) -> str:
