@@ -21,7 +21,7 @@ def argument(name: str, value: str = "") -> str:
 
 def as_python(name: str, value: str) -> str:
     """Returns an argument as a call of Python has it."""
-    return f"{name}={value!r}" if value else name
+    return f"{name}={value}" if value else name
 
 
 def worded(message: str, spell: Callable[[str, str], str] = as_python) -> str:

@@ -167,7 +167,7 @@ def test_orders_are_counted_by_setup_alone() -> None:
 
 
 @pytest.mark.parametrize("scenario, keys, message", [
-    (PLAIN, 1, "--keys 1: the long run takes 2 to 256 keys"), (PLAIN, 257, "--keys 257"),
+    (PLAIN, 1, "keys=1: the long run takes 2 to 256 keys"), (PLAIN, 257, "keys=257"),
     (replace(PLAIN, version=2, returns=PLAIN.demand), 2, "no long run: on average as much comes back"),
     (replace(PLAIN, demand=Table((0,), (1,))), 2, "no long run"),
     (replace(PLAIN, version=2, demand=Table((0, 10_000), (1, 1)), returns=Table((0, 9_999), (1, 1)),

@@ -52,10 +52,10 @@ def test_named(places: dict[str, Path], tmp_path: Path, monkeypatch: pytest.Monk
     missing."""
     monkeypatch.chdir(tmp_path)
     assert find_program("crnsim") == places["PATH"] and find_program("./named") == places["named"]
-    with pytest.raises(ProgramError, match="--program: there is no program ./missing; build crnsim, or name it with"):
+    with pytest.raises(ProgramError, match="program: there is no program ./missing; build crnsim, or name it with"):
         find_program("./missing")
     places["named"].chmod(0o644)
-    with pytest.raises(ProgramError, match="--program: ./named can't be run"):
+    with pytest.raises(ProgramError, match="program: ./named can't be run"):
         find_program("./named")
 
 

@@ -165,7 +165,7 @@ def test_a_winner_that_does_not_hold(room: Path, crnplan: Command, write_program
     data = crnplan(*words, "--level", "0.9", "--json")
     assert data.status == 1 and json.loads(data.output)["holds"] is False
     data = crnplan(*words, "--level", "0.9", "--csv")
-    assert data.status == 1 and data.errors == "On these new histories B does not hold: A is better.\n"
+    assert data.status == 1 and data.errors.endswith("\n\nOn these new histories B does not hold: A is better.\n")
 
 
 @pytest.mark.parametrize(("count", "given"), [(1, []), (3, ["--keys", "3", "--key", KEYS[0]])], ids=["one", "three"])

@@ -123,8 +123,8 @@ def test_returns(part: Scenario) -> None:
 
 
 @pytest.mark.parametrize(("words", "text"), [
-    ({"times": 9}, "--times 9: there can be 10 to 2,000 laws"), ({"within": -0.1}, "--within -0.1: it is a share"),
-    ({"within": math.nan}, "--within nan"), ({"policies": []}, "there is none; give at least one"),
+    ({"times": 9}, "times=9: there can be 10 to 2,000 laws"), ({"within": -0.1}, "within=-0.1: it is a share"),
+    ({"within": math.nan}, "within=nan"), ({"policies": []}, "there is none; give at least one"),
     ({"seed": -1}, "-1 is no seed")])
 def test_refused(part: Scenario, words: dict[str, object], text: str) -> None:
     with pytest.raises(Refused, match=text):

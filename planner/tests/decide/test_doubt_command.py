@@ -11,9 +11,12 @@ import numpy as np
 import pytest
 
 import crnplan as crn
-from crnplan.pages.doubt_pictures import draw_regrets
-from crnplan.pages.pictures import open_pyplot
+from crnplan.decide.doubt import Doubt
+from crnplan.demand.posterior import AllowedLaws
+from crnplan.pages.doubt_pictures import regrets_picture
+from crnplan.pages.pictures import save
 from crnplan.scenario import Policy
+from crnplan.theory.many_laws import LawFigures
 from planner.tests.conftest import Command
 
 HISTORY = [0, 3, 1, 2, 4, 2, 2, 5, 3, 1, 8, 3, 2, 1, 3, 2, 0, 4, 3, 2]
@@ -105,8 +108,10 @@ def test_picture(demand: Path, crnplan: Command) -> None:
 @pytest.mark.parametrize("most", [0.0, 0.004, 0.4, 80.0])
 def test_ticks_have_room(tmp_path: Path, most: float) -> None:
     """Ticks stand apart, whether regrets are small or large."""
-    path, regrets = tmp_path / "doubt.svg", np.array([[0.0, most], [most / 2, 0.0]])
-    draw_regrets(open_pyplot(), [Policy("one", 1, 2), Policy("other", 3, 4)], regrets, 0.03, 0.9, path)
+    path, costs = tmp_path / "doubt.svg", 1 + np.array([[0.0, most], [most / 2, 0.0]])
+    scenario = crn.Scenario.read(SCENARIO).with_policies([Policy("one", 1, 2), Policy("other", 3, 4)])
+    figures = LawFigures((0, 1), costs, costs, costs[:, 0], 1, None)
+    save(regrets_picture(Doubt(scenario, scenario.policies, 0.03, AllowedLaws({}, ()), None, figures)), path)
     texts = [it.text or "" for it in ElementTree.parse(path).iter("{http://www.w3.org/2000/svg}text")]
     percents = [float(it[:-1].replace(",", "")) for it in texts if re.fullmatch("[0-9.,]+%", it)]
     shares, ticks = percents[:2], percents[2:]

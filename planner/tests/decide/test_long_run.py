@@ -118,7 +118,7 @@ def test_the_start_of_a_report_is_warned_of(initial: int, unit: int, program: Pa
     warning = start_warning(rows, asked)
     assert warning == (f"WARNING: these verdicts are on the coming 40 periods from a stock of {initial}, not on the "
                        "long run.\nBy theory the start adds more than 0.25 standard errors to the difference of "
-                       f"{', '.join(strong)}.\n--long-run takes that out.\n" if strong else "")
+                       f"{', '.join(strong)}.\nA comparison in the long run takes that out.\n" if strong else "")
     assert strong or initial != 25
 
 
@@ -196,7 +196,7 @@ def test_runs_without_theory(report: LongRunReport, monkeypatch: pytest.MonkeyPa
         raise NoTheory("too far apart")
     monkeypatch.setattr(long_run, "theory_of", refuse)
     found = long_run_decision(report)
-    assert "theory_cost" not in found.columns and "theory is not known: too far apart" in found.text
+    assert "theory_cost" not in found.table.names and "theory is not known: too far apart" in found.text
 
 
 def test_corrections_need_replications() -> None:

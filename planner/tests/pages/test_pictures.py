@@ -10,7 +10,7 @@ from pathlib import Path
 import pytest
 
 from crnplan.errors import Refused
-from crnplan.pages.pictures import open_pyplot, picture_path
+from crnplan.pages.pictures import picture_path
 from planner.tests.conftest import Command
 
 PNG = b"\x89PNG\r\n\x1a\n"
@@ -101,6 +101,9 @@ def test_other_kind(name: str) -> None:
         picture_path(name)
 
 
-def test_pyplot_is_set_up() -> None:
-    """Texts of an SVG stay texts."""
-    assert open_pyplot().rcParams["svg.fonttype"] == "none"
+def test_nothing_else_is_changed(crnplan: Command, tmp_path: Path) -> None:
+    """Texts of an SVG stay texts, and settings of matplotlib outside are as before."""
+    import matplotlib
+    before = dict(matplotlib.rcParams), sys.modules.get("matplotlib.pyplot")
+    assert drawn(crnplan, "few", tmp_path)[0]
+    assert (dict(matplotlib.rcParams), sys.modules.get("matplotlib.pyplot")) == before

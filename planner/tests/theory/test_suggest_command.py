@@ -80,7 +80,8 @@ def test_the_table_in_other_forms(crnplan: Command, top: Path) -> None:
     status, output, errors = crnplan("suggest", path, "--json")
     told = json.loads(output)
     assert (status, errors, told["error"], told["step"]) == (0, "", None, 1)
-    assert [{name: str(value) for name, value in it.items()} for it in told["policies"]] == rows
+    assert [{name: f"{value:.10g}" if isinstance(value, float) else str(value) for name, value in it.items()}
+            for it in told["policies"]] == rows
     assert told["initial"] == round(told["position"])
 
 

@@ -5,7 +5,8 @@ from pathlib import Path
 
 import click
 
-from ..pages.pictures import picture_path
+from ..pages.pictures import save
+from .output import Picture
 
 
 @click.command(epilog="Example: crnplan curve plan --fill 0.95 --plot curve.png")
@@ -15,12 +16,12 @@ from ..pages.pictures import picture_path
 @click.option("--orders", type=float, metavar="N", help="Orders a period, at most; alone, with today's service.")
 @click.option("--confirm", type=click.IntRange(min=0), default=20, show_default=True, metavar="N",
               help="Count the stock of N items by crnsim.")
-@click.option("--plot", metavar="FILE", help="Draw the curve, as .png or .svg.")
+@click.option("--plot", type=Picture(), metavar="FILE", help="Draw the curve, as .png or .svg.")
 @click.option("--csv", "is_csv", is_flag=True, help="Print curve.csv in place of the text.")
 @click.option("--jobs", type=click.IntRange(min=1), metavar="N", help="Processes; by default one for each processor.")
 @click.option("--cluster", metavar="ADDRESS", help="A Dask scheduler, as tcp://host:8786. Its workers need crnplan.")
 @click.option("--program", metavar="PATH", help="The program crnsim.")
-def command(folder: Path, value: float | None, fill: float | None, orders: float | None, confirm: int, plot: str | None,
+def command(folder: Path, value: float | None, fill: float | None, orders: float | None, confirm: int, plot: Path | None,
             is_csv: bool, jobs: int | None, cluster: str | None, program: str | None) -> None:
     """Show how much service the whole stock can give for its value.
 
@@ -35,13 +36,11 @@ def command(folder: Path, value: float | None, fill: float | None, orders: float
 
     All of it is by theory. --confirm has crnsim count the stock of a sample of items at each named point.
     """
-    picture = picture_path(plot) if plot else None
     from ..curve.exchange_curve import CURVE, curve_text, draw_curve
     from ..curve.exchange import Budget
     drawn = draw_curve(folder, Budget(value, fill, orders), jobs=jobs, address=cluster, program=program,
                        confirm=confirm, shown=True)
-    if picture:
-        from ..pages.curve_pictures import draw_exchange
-        from ..pages.pictures import open_pyplot
-        draw_exchange(open_pyplot(), drawn.curve, drawn.named, picture)
+    if plot:
+        from ..pages.curve_pictures import exchange_picture
+        save(exchange_picture(drawn.curve, drawn.named), plot)
     click.echo((folder / CURVE).read_text("utf-8") if is_csv else curve_text(drawn, folder), nl=False)

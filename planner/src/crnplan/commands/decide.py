@@ -2,27 +2,24 @@
 from __future__ import annotations
 
 from dataclasses import replace
+from pathlib import Path
 
 import click
 
 from ..decide.reports import check_policies, read_report
-from ..decide.verdicts import Decision, decided, listed
+from ..decide.verdicts import Decision, decided
 from ..errors import Refused
-from ..pages.pictures import picture_path
+from ..pages.pictures import save
 from ..scenario import Scenario
-from .output import form_options, show
+from .output import Picture, form_options, show
 
 
-def draw(found: Decision, plot: str | None, of_costs: str | None) -> None:
+def draw(found: Decision, plot: Path | None, of_costs: Path | None) -> None:
     """Draws the pictures that are asked for."""
-    from ..pages.decision_pictures import draw_differences, draw_map
-    from ..pages.pictures import open_pyplot
-    pyplot, base = open_pyplot(), next(row for row in found.rows if row.verdict == "base")
-    if plot:
-        sample = found.replications, len(found.rows) - 1, found.level
-        draw_differences(pyplot, listed(found.rows), base, sample, plot)
-    if of_costs:
-        draw_map(pyplot, found.rows, base, of_costs)
+    from ..pages.decision_pictures import differences_picture, map_picture
+    for path, picture_of in ((plot, differences_picture), (of_costs, map_picture)):
+        if path:
+            save(picture_of(found), path)
 
 
 def replications_of(asked: int | None, scenario: Scenario | None, name: str | None) -> int:
@@ -45,10 +42,10 @@ def replications_of(asked: int | None, scenario: Scenario | None, name: str | No
 @click.option("--level", type=float, default=0.95, show_default=True, help="The joint level of the intervals.")
 @click.option("--all", "every", is_flag=True, help="List all policies, not the first 20.")
 @form_options
-@click.option("--plot", metavar="FILE.png", help="Draw the intervals, as PNG or SVG.")
-@click.option("--map", "of_costs", metavar="FILE.png", help="Draw the cost over s and S, as PNG or SVG.")
+@click.option("--plot", type=Picture(), metavar="FILE.png", help="Draw the intervals, as PNG or SVG.")
+@click.option("--map", "of_costs", type=Picture(), metavar="FILE.png", help="Draw the cost over s and S, as PNG or SVG.")
 def command(report: str, scenario_path: str | None, sweep: bool, replications: int | None, long_run: bool, level: float,
-            every: bool, form: str | None, plot: str | None, of_costs: str | None) -> None:
+            every: bool, form: str | None, plot: Path | None, of_costs: Path | None) -> None:
     """Turn a report of crnsim into decimals, confidence intervals and a decision. `-` is standard input.
 
     The first policy of the report is the base. Each other policy gets a paired-t interval for its diff_mean, from low
@@ -70,8 +67,6 @@ def command(report: str, scenario_path: str | None, sweep: bool, replications: i
     unit is left out, since it adds the same to each policy in the long run. crnplan run --long-run needs no theory, and
     takes longer.
     """
-    for path in (plot, of_costs):
-        picture_path(path or ".png")
     if (sweep or long_run) and scenario_path is None:
         raise click.UsageError("give --scenario", click.get_current_context())
     if long_run and (plot or of_costs):

@@ -1,17 +1,16 @@
 """Says how sure a choice among policies is under the laws that a short history allows."""
 from __future__ import annotations
 
-from pathlib import Path
 from typing import Any
 
 import click
 
-from ..decide.doubt import MOST, TIMES, WITHIN, Doubt, doubt
+from ..decide.doubt import TIMES, WITHIN, Doubt, doubt
 from ..toml.lines import places_of
 from ..errors import Fault, RefusedFaults
-from ..pages.pictures import picture_path
+from ..pages.pictures import save
 from ..scenario import Scenario
-from .output import form_options, show
+from .output import Picture, form_options, show
 from .reading import Attempts, demand_option, file_options, read_files, record_options, rejects_in, rules_of
 
 DEMAND = "demand"  # the column, unless another one is named
@@ -32,14 +31,6 @@ def doubt_of(scenario: Scenario, asked: dict[str, Any], attempts: Attempts) -> D
         raise RefusedFaults([Fault(str(fault), asked["scenario"].removeprefix("-"), *place)]) from None
 
 
-def draw(found: Doubt, path: Path) -> None:
-    """Draws the regrets of all policies."""
-    from ..pages.doubt_pictures import draw_regrets
-    from ..pages.pictures import open_pyplot
-    policies = [found.policies[it] for it in found.order]
-    draw_regrets(open_pyplot(), policies, found.regrets_shown, found.within, MOST, path)
-
-
 @click.command(epilog="Example: crnplan doubt plan/suggested.toml plan/demand.csv --plot plan/doubt.png")
 @click.argument("scenario", metavar="SCENARIO.toml")
 @click.argument("file", metavar="HISTORY.csv")
@@ -54,7 +45,7 @@ def draw(found: Doubt, path: Path) -> None:
               help="The same seed draws the same laws.")
 @click.option("--runs", is_flag=True, help="Run crnsim under each law too, for the coming periods.")
 @click.option("--program", metavar="PATH", help="The program crnsim.")
-@click.option("--plot", type=picture_path, metavar="FILE", help="Draw the regrets, as .png or .svg.")
+@click.option("--plot", type=Picture(), metavar="FILE", help="Draw the regrets, as .png or .svg.")
 @form_options
 def command(**asked: Any) -> int:
     """Say how sure a choice among the policies of a scenario is, if the demand is known from a short history alone.
@@ -82,6 +73,7 @@ def command(**asked: Any) -> int:
         found = doubt_of(scenario, asked, attempts)
     attempts.say(())
     if asked["plot"]:
-        draw(found, asked["plot"])
+        from ..pages.doubt_pictures import regrets_picture
+        save(regrets_picture(found), asked["plot"])
     show(found, asked["form"])
     return 0

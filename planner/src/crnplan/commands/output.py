@@ -4,6 +4,7 @@ from __future__ import annotations
 import json
 import sys
 from collections.abc import Callable
+from pathlib import Path
 from typing import Any, TypeVar
 
 import click
@@ -30,6 +31,17 @@ def note(message: str) -> None:
     """
     for line in worded(message, as_option).splitlines():
         click.echo(f"crnplan: {line}", err=True)
+
+
+class Picture(click.ParamType):
+    """The path of a picture, whose ending says its kind."""
+
+    name = "picture"
+
+    def convert(self, value: Any, param: click.Parameter | None, ctx: click.Context | None) -> Path:
+        """Returns the path. Raises Refused for another ending."""
+        from ..pages.pictures import picture_path
+        return picture_path(value)
 
 
 def form_options(command: Command) -> Command:

@@ -7,9 +7,9 @@ from pathlib import Path
 import click
 
 from ..crnsim.trajectory import MOST_DRAWN, chosen, shown_periods, table_of, trajectories
-from ..pages.pictures import open_pyplot, picture_path
+from ..pages.pictures import save
 from ..scenario import Scenario
-from .output import form_options
+from .output import Picture, form_options
 
 
 @click.command(epilog="Example: crnplan trajectory examples/spare_part.toml today both --out stock.svg")
@@ -17,7 +17,7 @@ from .output import form_options
 @click.argument("names", metavar="POLICY...", nargs=-1, required=True)
 @click.option("--periods", type=int, metavar="N", help=f"The first N periods; at most {MOST_DRAWN} if N is not given.")
 @click.option("--program", metavar="PATH", help="The program crnsim.")
-@click.option("--out", type=picture_path, metavar="FILE", help="Draw a picture, as .png or .svg.")
+@click.option("--out", type=Picture(), metavar="FILE", help="Draw a picture, as .png or .svg.")
 @form_options
 def command(scenario: str, names: tuple[str, ...], periods: int | None, program: str | None, out: Path | None,
             form: str | None) -> None:
@@ -29,11 +29,10 @@ def command(scenario: str, names: tuple[str, ...], periods: int | None, program:
     """
     read = Scenario.read(scenario)
     policies, count = chosen(read, names), shown_periods(read, periods, out is not None)
-    pyplot = open_pyplot() if out else None
     found = trajectories(read.with_policies(policies), count, program=program)
     if out:
-        from ..pages.trajectory_pictures import draw_trajectories
-        draw_trajectories(pyplot, policies, found, read.initial, out)
+        from ..pages.trajectory_pictures import trajectories_picture
+        save(trajectories_picture(policies, found, read.initial), out)
     table = table_of(policies, found)
     if form:
         print(table.csv if form == "csv" else json.dumps(table.records, indent=2) + "\n", end="")

@@ -1,77 +1,31 @@
-"""Draws a decision: the differences from the base, and the cost over s and S. Both pictures can be read in grey."""
+"""Draws a decision: the differences from the base, and the cost over s and S."""
 from __future__ import annotations
 
 from collections.abc import Sequence
-from fractions import Fraction
-from pathlib import Path
-from typing import Any, Protocol
+from typing import TYPE_CHECKING
 
-from .pictures import save
+from ..crnsim.report import Row
+from ..decide.intervals import Compared
+from ..decide.verdicts import Decision, listed
+from .pictures import ABOVE, BLUE, GREY, NUMBER, ORANGE, TITLE, blank, picture
+
+if TYPE_CHECKING:
+    from matplotlib.axes import Axes
+    from matplotlib.cm import ScalarMappable
+    from matplotlib.figure import Figure
 
 # Colour, marker and filling of each verdict. The colours differ in brightness too.
-STYLES = {"better": ("#08458c", "o", True), "undecided": ("#777777", "D", False), "worse": ("#e8862e", "s", True),
+STYLES = {"better": (BLUE, "o", True), "undecided": (GREY, "D", False), "worse": (ORANGE, "s", True),
           "base": ("black", "|", True)}
-# A legend between the title and the axes, at the left.
-ABOVE = {"loc": "lower left", "bbox_to_anchor": (0, 1), "borderaxespad": 0.2, "borderpad": 0.2, "frameon": False}
-TITLE = {"x": 0.01, "ha": "left", "fontsize": 12}
-NUMBER = "{x:,.10g}"
 NARROW_CELLS = 14  # More cells in a row have no room for figures.
 
 
-class Costed(Protocol):
-    """A row of a report: a policy and its cost."""
-
-    @property
-    def policy(self) -> str:
-        """Returns the policy's name."""
-
-    @property
-    def s(self) -> int:
-        """Returns the reorder point."""
-
-    @property
-    def S(self) -> int:
-        """Returns the order-up-to level."""
-
-    @property
-    def total(self) -> int:
-        """Returns the cost over all periods."""
-
-    @property
-    def per_period(self) -> Fraction:
-        """Returns the cost per period."""
-
-
-class Judged(Costed, Protocol):
-    """A row with its interval, which is None if there is one replication, and its verdict: a key of `STYLES`."""
-
-    @property
-    def diff_mean(self) -> Fraction:
-        """Returns the mean difference from the base's cost."""
-
-    @property
-    def percent(self) -> Fraction | None:
-        """Returns the difference in percent of the base's cost. None if the base costs nothing."""
-
-    @property
-    def low(self) -> float | None:
-        """Returns the low end of the interval of `diff_mean`."""
-
-    @property
-    def high(self) -> float | None:
-        """Returns the high end of the interval of `diff_mean`."""
-
-    @property
-    def verdict(self) -> str:
-        """Returns better, undecided, worse or base."""
-
-
-def label_of(row: Costed) -> str:
+def label_of(row: Row) -> str:
     """Returns a policy's name with its levels."""
     return f"{row.policy} ({row.s}, {row.S})"
 
 
-def draw_row(axes: Any, place: int, row: Judged) -> None:
+def draw_row(axes: Axes, place: int, row: Compared) -> None:
     """Draws the difference of one policy with its interval."""
     colour, marker, filled = STYLES[row.verdict]
     if row.low is not None:
@@ -80,16 +34,17 @@ def draw_row(axes: Any, place: int, row: Judged) -> None:
               markersize=12 if marker == "|" else 7, markeredgewidth=1.5)
 
 
-def draw_legend(axes: Any, rows: Sequence[Judged], pyplot: Any) -> None:
+def draw_legend(axes: Axes, rows: Sequence[Compared]) -> None:
     """Draws what the markers mean, between the title and the axes."""
+    from matplotlib.lines import Line2D
     used = [verdict for verdict in STYLES if any(row.verdict == verdict for row in rows)]
-    handles = [pyplot.Line2D([], [], linestyle="none", color=colour, marker=marker, markersize=7,
+    handles = [Line2D([], [], linestyle="none", color=colour, marker=marker, markersize=7,
                              markerfacecolor=colour if filled else "white", markeredgewidth=1.5)
                for colour, marker, filled in (STYLES[it] for it in used)]
     axes.legend(handles, used, ncol=len(used), **ABOVE)
 
 
-def draw_percents(axes: Any, rows: Sequence[Judged]) -> None:
+def draw_percents(axes: Axes, rows: Sequence[Compared]) -> None:
     """Writes the differences in percent at the right."""
     right = axes.secondary_yaxis("right")
     right.set_yticks(range(len(rows)), ["" if row.percent is None else f"{float(row.percent):+.2f}%" for row in rows])
@@ -97,11 +52,11 @@ def draw_percents(axes: Any, rows: Sequence[Judged]) -> None:
     right.spines["right"].set_visible(False)
 
 
-def draw_differences(pyplot: Any, rows: Sequence[Judged], base: Costed, sample: tuple[int, int, float],
-                     path: str | Path) -> None:
-    """Draws `diff_mean` of each row with its interval. `sample` has the replications, the comparisons and the level."""
-    replications, comparisons, level = sample
-    figure, axes = pyplot.subplots(figsize=(9, 2.3 + 0.3 * len(rows)), layout="constrained")
+@picture
+def differences_picture(decision: Decision) -> Figure:
+    """Returns a picture of `diff_mean` of each listed policy with its interval."""
+    rows, base = listed(decision.rows), base_of(decision)
+    figure, (axes,) = blank(9, 2.3 + 0.3 * len(rows))
     axes.axvline(0, color="black", linewidth=0.8)
     for place, row in enumerate(rows):
         draw_row(axes, place, row)
@@ -114,16 +69,22 @@ def draw_differences(pyplot: Any, rows: Sequence[Judged], base: Costed, sample: 
     axes.locator_params(axis="x", nbins=7)
     if base.total:
         draw_percents(axes, rows)
-    spread = "one replication: no intervals" if replications == 1 else f"joint level {100 * level:g}%"
+    is_single, most = decision.replications == 1, len(decision.rows)
+    spread = "one replication: no intervals" if is_single else f"joint level {100 * decision.level:g}%"
     axes.set_xlabel(f"cost of a replication less that of {base.policy}\nin the scenario's money; {spread}")
-    counted = "1 replication" if replications == 1 else f"{replications} replications"
-    left_out = "" if comparisons + 1 == len(rows) else f", {len(rows)} of {comparisons + 1} policies shown"
+    counted = "1 replication" if is_single else f"{decision.replications} replications"
+    left_out = "" if most == len(rows) else f", {len(rows)} of {most} policies shown"
     figure.suptitle(f"Policies compared with {label_of(base)}\n{counted}{left_out}", **TITLE)
-    draw_legend(axes, rows, pyplot)
-    save(pyplot, figure, path)
+    draw_legend(axes, rows)
+    return figure
 
 
-def widths_of(rows: Sequence[Costed]) -> tuple[int, int]:
+def base_of(decision: Decision) -> Compared:
+    """Returns the policy that the others are compared with."""
+    return next(row for row in decision.rows if row.verdict == "base")
+
+
+def widths_of(rows: Sequence[Row]) -> tuple[int, int]:
     """Returns how wide and how high a cell is: the least distances of two s and of two S."""
     def least(levels: set[int]) -> int:
         """Returns the least distance of two levels, 1 if there is one level."""
@@ -132,15 +93,16 @@ def widths_of(rows: Sequence[Costed]) -> tuple[int, int]:
     return least({row.s for row in rows}), least({row.S for row in rows})
 
 
-def draw_cells(axes: Any, rows: Sequence[Costed], widths: tuple[int, int], shades: Any, pyplot: Any) -> None:
+def draw_cells(axes: Axes, rows: Sequence[Row], widths: tuple[int, int], shades: ScalarMappable) -> None:
     """Draws a cell for each pair of s and S, with its cost if there is room."""
+    from matplotlib.patches import Rectangle
     across = max(row.s for row in rows) - min(row.s for row in rows)
     down = max(row.S for row in rows) - min(row.S for row in rows)
     has_room = across / widths[0] < NARROW_CELLS and down / widths[1] < 2 * NARROW_CELLS
     for row in rows:
         cost = float(row.per_period)
         colour = shades.to_rgba(cost)
-        axes.add_patch(pyplot.Rectangle((row.s - widths[0] / 2, row.S - widths[1] / 2), *widths, facecolor=colour,
+        axes.add_patch(Rectangle((row.s - widths[0] / 2, row.S - widths[1] / 2), *widths, facecolor=colour,
                                         edgecolor="white", linewidth=0.4))
         if has_room:
             grey = 0.3 * colour[0] + 0.59 * colour[1] + 0.11 * colour[2]
@@ -149,21 +111,22 @@ def draw_cells(axes: Any, rows: Sequence[Costed], widths: tuple[int, int], shade
                       color="black" if grey > 0.5 else "white")
 
 
-def draw_frames(axes: Any, best: Costed, base: Costed, widths: tuple[int, int], pyplot: Any) -> None:
+def draw_frames(axes: Axes, best: Row, base: Row, widths: tuple[int, int]) -> None:
     """Frames the best pair and the base, and names both above the axes."""
+    from matplotlib.patches import Rectangle
     handles, names = [], []
     for row, style, name in ((best, "solid", "best"), (base, "dashed", "base")):
         frame = {"fill": False, "edgecolor": "black", "linewidth": 2.2, "linestyle": style, "zorder": 5}
         corner = row.s - widths[0] / 2, row.S - widths[1] / 2
-        axes.add_patch(pyplot.Rectangle(corner, *widths, **{**frame, "edgecolor": "white", "linewidth": 5,
+        axes.add_patch(Rectangle(corner, *widths, **{**frame, "edgecolor": "white", "linewidth": 5,
                                                             "linestyle": "solid"}))
-        axes.add_patch(pyplot.Rectangle(corner, *widths, **frame))
-        handles.append(pyplot.Rectangle((0, 0), 1, 1, **frame))
+        axes.add_patch(Rectangle(corner, *widths, **frame))
+        handles.append(Rectangle((0, 0), 1, 1, **frame))
         names.append(f"{name}: {label_of(row)}, {float(row.per_period):,.3f} a period")
     axes.legend(handles, names, **ABOVE)
 
 
-def set_axes(axes: Any, rows: Sequence[Costed], widths: tuple[int, int]) -> None:
+def set_axes(axes: Axes, rows: Sequence[Row], widths: tuple[int, int]) -> None:
     """Sets the limits, marks and names of both axes."""
     from matplotlib import ticker
     for levels, width, limit in (([row.s for row in rows], widths[0], axes.set_xlim),
@@ -176,21 +139,23 @@ def set_axes(axes: Any, rows: Sequence[Costed], widths: tuple[int, int]) -> None
     axes.set_ylabel("order-up-to level S, in items")
 
 
-def draw_map(pyplot: Any, rows: Sequence[Judged], base: Costed, path: str | Path) -> None:
-    """Draws the cost per period over reorder point and order-up-to level. `rows` are ranked, the best first."""
+@picture
+def map_picture(decision: Decision) -> Figure:
+    """Returns a picture of the cost per period over reorder point and order-up-to level."""
     from matplotlib import cm, colors
+    rows, base = decision.rows, base_of(decision)
     costs = [float(row.per_period) for row in rows]
-    figure, axes = pyplot.subplots(figsize=(9, 7), layout="constrained")
+    figure, (axes,) = blank(9, 7)
     norm = colors.PowerNorm(0.5, min(costs), max(max(costs), min(costs) + 1e-9))
     shades = cm.ScalarMappable(norm, "cividis")
     # The base may lie off a grid: it is drawn first, and its frame last.
     others = [row for row in rows if row.verdict != "base"]
     widths = widths_of(others or rows)
-    draw_cells(axes, [base, *others], widths, shades, pyplot)
-    draw_frames(axes, rows[0], base, widths, pyplot)
+    draw_cells(axes, [base, *others], widths, shades)
+    draw_frames(axes, rows[0], base, widths)
     set_axes(axes, rows, widths)
     figure.suptitle("Cost per period over reorder point and order-up-to level", **TITLE)
     bar = figure.colorbar(shades, ax=axes, label="cost per period, in the scenario's money (dark is cheap)")
     bar.set_ticks([tick for tick in bar.get_ticks() if norm.vmin <= tick <= norm.vmax], minor=False)
     bar.ax.yaxis.set_major_formatter(NUMBER)
-    save(pyplot, figure, path)
+    return figure
