@@ -102,8 +102,8 @@ def _lines(text: str, place: str) -> list[list[str]]:
 def _value(name: str, cell: str, place: str, line: int) -> Any:
     """Returns the value of a cell."""
     if name == "policy":
-        for _, _, reason in name_faults(("policy",), cell):
-            raise _refused(f"column policy: {reason}", place, line)
+        for fault in name_faults(("policy",), cell):
+            raise _refused(f"column policy: {fault.reason}", place, line)
         return cell
     if cell == "-" and name in MAY_LACK:
         return None

@@ -1,40 +1,107 @@
-"""Finds the faults 2 to 13 of a scenario's tree, all of them, by the rules of tables, lists of draws and policies.
+"""Finds the faults 2 to 13 of a scenario's tree, all of them: the keys of its tables, and what stands beside each other.
 
 Which number crnsim reports is proved of the program; this module is not.
 """
 from __future__ import annotations
 
-from collections.abc import Callable
-from difflib import get_close_matches
+from collections.abc import Container, Mapping
 from typing import Any, TypeGuard
 
 from .. import formats
-from ..formats import Shape
-from .characters import odd_advice
-from .values import (
-    Path, TreeFault, key_faults, name_faults, number_faults, numbers_faults, once_each, ring_faults, shown, wrong_kind)
+from .rules import Judge, Key, Table
+from .values import Check, Path, TreeFault, key_faults, name_faults, number, numbers, once_each, ring_faults, shown
 
-NEWEST = formats.SHAPES[formats.VERSIONS[-1]]
-TABLES = [name for name, (kind, *_) in NEWEST.items() if kind in ("table", "draws", "policies")]
+VERSION, LENGTHS, ORDER, SUM, LEVELS, NAMES, COUNT = 2, 7, 8, 9, 10, 11, 13
 LONGEST_NAME = 20
 
 
-def _homes() -> dict[str, str]:
-    """Returns where each key belongs, in words."""
-    *draws, last = (f"[{name}]" for name in formats.DRAWS)
-    words = {"": "the document, above its first table", "policy": "[[policy]]",
-             **dict.fromkeys(formats.DRAWS, f"{', '.join(draws)} or {last}")}
-    return {key.name: words.get(key.table, f"[{key.table}]") for key in formats.KEYS}
+def _order_faults(path: Path, values: list[int]) -> list[TreeFault]:
+    """Returns the fault of values that do not rise, once."""
+    falls = [TreeFault(ORDER, (*path, entry), f"{shown(high)} is not above the {shown(low)} before it",
+                       "write each value once, rising, with its weight")
+             for entry, (low, high) in enumerate(zip(values, values[1:]), 2) if low >= high]
+    return once_each(falls, [ORDER] * len(falls))
 
 
-HOMES = _homes()
+def _are_whole(values: Any) -> TypeGuard[list[int]]:
+    """Returns whether this is a list of whole numbers."""
+    return isinstance(values, list) and all(type(it) is int for it in values)
+
+
+def _draws_faults(path: Path, table: Mapping[str, Any], _good: Container[str]) -> list[TreeFault]:
+    """Returns the faults of values and weights beside each other."""
+    values, weights, faults = table.get("values"), table.get("weights"), list[TreeFault]()
+    if isinstance(values, list) and isinstance(weights, list) and len(values) != len(weights):
+        faults.append(TreeFault(LENGTHS, path, f"there are {len(values)} values and {len(weights)} weights",
+                                "write one weight for each value"))
+    if _are_whole(values):
+        faults += _order_faults((*path, "values"), values)
+    least, most = formats.WEIGHT_SUMS
+    if _are_whole(weights) and not least <= sum(weights) <= most:
+        advice = "divide all weights by the same number" if sum(weights) > 0 else "give some value a weight above 0"
+        faults.append(TreeFault(SUM, (*path, "weights"), f"they come to {shown(sum(weights))}, which is not from "
+                                f"{least:,} to {most:,}", advice))
+    return faults
+
+
+def _levels_faults(path: Path, policy: Mapping[str, Any], _good: Container[str]) -> list[TreeFault]:
+    """Returns the fault of a policy whose reorder point is above its order-up-to level."""
+    point, level = policy.get("s"), policy.get("S")
+    if type(point) is not int or type(level) is not int or point <= level:
+        return []
+    return [TreeFault(LEVELS, path, f"the reorder point s = {shown(point)} is above the order-up-to level S = "
+                      f"{shown(level)}", "interchange them, or raise S")]
+
+
+def _policies_faults(path: Path, policies: list[Any]) -> list[TreeFault]:
+    """Returns the faults of policies beside each other: their number, and names that stand twice."""
+    faults, seen, (least, most) = list[TreeFault](), dict[str, int](), formats.POLICIES
+    if not least <= len(policies) <= most:
+        advice = "split them over several scenarios, with the same first policy" if policies else "write one at least"
+        faults.append(TreeFault(COUNT, path, f"there are {len(policies)} policies, not {least} to {most}", advice))
+    for entry, policy in enumerate(policies, 1):
+        name = policy.get("name") if isinstance(policy, dict) else None
+        if isinstance(name, str) and seen.setdefault(name, entry) != entry:
+            faults.append(TreeFault(NAMES, (*path, entry, "name"), f"{shown(name)} is the name of policy {seen[name]} "
+                                    "too", "write another name"))
+    return faults
+
+
+# The version is judged by itself: with another one, the rest is judged as the version that fits it.
+CHECKS: dict[str, Check] = {"version": lambda path, value: [], "key": key_faults, "ring": ring_faults,
+                            "name": name_faults}
+RANGES = {"number": number, "numbers": numbers}
+
+
+def _rule(kind: str, *more: Any) -> Key | Table:
+    """Returns what may stand at a key of a kind, given its range, or its shape if it is a table."""
+    if kind in CHECKS:
+        return Key(CHECKS[kind], needed=kind != "version")
+    if kind in RANGES:
+        return Key(RANGES[kind](*more), needed=True)
+    keys = {name: _rule(*its) for name, its in more[0].items()}
+    if kind == "policies":
+        return Table(keys, True, is_list=True, joint=_levels_faults, joint_of_list=_policies_faults)
+    return Table(keys, True, joint=_draws_faults) if kind == "draws" else Table(keys, True)
+
+
+def _rules(version: int) -> Table:
+    """Returns the rules of a version's scenarios."""
+    shape, newest = formats.SHAPES[version], formats.SHAPES[formats.VERSIONS[-1]]
+    newer = {key: f"write version = {formats.version_with([key])}, which has {key}" for key in newest.keys() - shape}
+    return Table({key: _rule(*its) for key, its in shape.items()}, elsewhere=newer)
+
+
+NEWEST = _rules(formats.VERSIONS[-1])
+JUDGES = {version: Judge(_rules(version), NEWEST, says_both=True) for version in formats.VERSIONS}
 
 
 def place_text(path: Path, tree: Any) -> str:
     """Returns a path in words; a policy has its name beside its number, where the tree has one."""
     if not path:
         return "the document"
-    home, rest = (f"table {path[0]}", path[1:]) if path[0] in TABLES else ("the document", path)
+    is_table = isinstance(NEWEST.keys.get(str(path[0])), Table)
+    home, rest = (f"table {path[0]}", path[1:]) if is_table else ("the document", path)
     if path[0] == "policy" and rest and isinstance(rest[0], int) and isinstance(tree["policy"], list):
         policy = tree["policy"][rest[0] - 1]
         name = policy.get("name") if isinstance(policy, dict) else None
@@ -45,112 +112,6 @@ def place_text(path: Path, tree: Any) -> str:
     parts = [f"entry {part}" if isinstance(part, int) else f"key {part if part.isascii() else ascii(part)[1:-1]}"
              for part in rest]
     return ", ".join([home, *parts])
-
-
-def _version_faults(_path: Path, _value: Any) -> list[TreeFault]:
-    """Returns no fault: `faults_of` judges the version."""
-    return []
-
-
-def _advice_on_key(path: Path, key: str, known: Shape) -> str:
-    """Returns what to do about a key that should not be there."""
-    if not path and key in NEWEST and key not in known:
-        return f"write version = {formats.version_with([key])}, which has {key}"
-    if key in HOMES:
-        return f"it belongs to {HOMES[key]}: move this line there"
-    close = [it for it in [*HOMES, *TABLES] if it.lower() == key.lower()] or get_close_matches(key, known, 1)
-    return odd_advice(key) or (f"write {close[0]}" if close else "remove it")
-
-
-def _unknown_fault(path: Path, key: str, known: Shape) -> TreeFault:
-    """Returns fault 3, with what to do."""
-    return TreeFault(3, (*path, key), f"there should be no such key ({_advice_on_key(path, key, known)})")
-
-
-def _missing_fault(path: Path, key: str) -> TreeFault:
-    """Returns fault 4, with what to do."""
-    advice = "write it in this table" if path else "write it at the top, above the first table"
-    if key in TABLES:
-        advice = "write [[policy]], and below it name, s and S" if key == "policy" else f"write a table [{key}]"
-    return TreeFault(4, path, f"the key {key} is missing ({advice})")
-
-
-def _table_faults(path: Path, table: Any, keys: Shape) -> list[TreeFault]:
-    """Returns the faults of a table's keys and of their values."""
-    if not isinstance(table, dict):
-        return wrong_kind(path, table, "a table")
-    faults = [_unknown_fault(path, key, keys) for key in table if key not in keys]
-    faults += [_missing_fault(path, key) for key in keys if key not in table and key != "version"]
-    for key, (rule, *more) in keys.items():
-        if key in table:
-            faults += RULES[rule]((*path, key), table[key], *more)
-    return faults
-
-
-def _order_faults(path: Path, values: list[int]) -> list[TreeFault]:
-    """Returns fault 8 of values that do not rise, once."""
-    falls = [TreeFault(8, (*path, entry), f"{shown(high)} is not above the {shown(low)} before it (write each value "
-                       "once, rising, with its weight)")
-             for entry, (low, high) in enumerate(zip(values, values[1:]), 2) if low >= high]
-    return once_each(falls, [8] * len(falls))
-
-
-def _are_whole(values: Any) -> TypeGuard[list[int]]:
-    """Returns whether this is a list of whole numbers."""
-    return isinstance(values, list) and all(type(it) is int for it in values)
-
-
-def _draws_faults(path: Path, table: Any, keys: Shape) -> list[TreeFault]:
-    """Returns the faults of values with weights, also of those beside each other."""
-    faults = _table_faults(path, table, keys)
-    values, weights = (table.get(key) if isinstance(table, dict) else None for key in ("values", "weights"))
-    if isinstance(values, list) and isinstance(weights, list) and len(values) != len(weights):
-        faults.append(TreeFault(7, path, f"there are {len(values)} values and {len(weights)} weights (write one weight "
-                                "for each value)"))
-    if _are_whole(values):
-        faults += _order_faults((*path, "values"), values)
-    least, most = formats.WEIGHT_SUMS
-    if _are_whole(weights) and not least <= sum(weights) <= most:
-        advice = "divide all weights by the same number" if sum(weights) > 0 else "give some value a weight above 0"
-        faults.append(TreeFault(9, (*path, "weights"), f"they come to {shown(sum(weights))}, which is not from "
-                                f"{least:,} to {most:,} ({advice})"))
-    return faults
-
-
-def _policy_faults(path: Path, policy: Any, keys: Shape, seen: dict[str, str | int]) -> list[TreeFault]:
-    """Returns the faults of a policy. `seen` has the entry of each name before it; this one is added."""
-    faults = _table_faults(path, policy, keys)
-    if not isinstance(policy, dict):
-        return faults
-    point, level, name = (policy.get(key) for key in ("s", "S", "name"))
-    if type(point) is int and type(level) is int and point > level:
-        faults.append(TreeFault(10, path, f"the reorder point s = {shown(point)} is above the order-up-to level S = "
-                                f"{shown(level)} (interchange them, or raise S)"))
-    if isinstance(name, str) and seen.setdefault(name, path[-1]) != path[-1]:
-        faults.append(TreeFault(11, (*path, "name"), f"{shown(name)} is the name of policy {seen[name]} too (write "
-                                "another name)"))
-    return faults
-
-
-def _policies_faults(path: Path, policies: Any, keys: Shape) -> list[TreeFault]:
-    """Returns the faults of all policies, also of those beside each other."""
-    if not isinstance(policies, list):
-        return wrong_kind(path, policies, "a list of tables")
-    faults: list[TreeFault] = []
-    seen: dict[str, str | int] = {}
-    least, most = formats.POLICIES
-    if not least <= len(policies) <= most:
-        advice = "split them over several scenarios, with the same first policy" if policies else "write one at least"
-        faults.append(TreeFault(13, path, f"there are {len(policies)} policies, not {least} to {most} ({advice})"))
-    for entry, policy in enumerate(policies, 1):
-        faults += _policy_faults((*path, entry), policy, keys, seen)
-    return faults
-
-
-RULES: dict[str, Callable[..., list[TreeFault]]] = {
-    "version": _version_faults, "number": number_faults, "numbers": numbers_faults, "key": key_faults,
-    "ring": ring_faults, "name": name_faults, "table": _table_faults, "draws": _draws_faults,
-    "policies": _policies_faults}
 
 
 def _advice_on_version() -> str:
@@ -169,11 +130,10 @@ def faults_of(tree: dict[str, Any]) -> list[TreeFault]:
     faults: list[TreeFault] = []
     version, known = tree.get("version"), formats.VERSIONS
     if "version" not in tree:
-        faults.append(TreeFault(2, (), f"the key version is missing ({_advice_on_version()})"))
+        faults.append(TreeFault(VERSION, (), "the key version is missing", _advice_on_version()))
     elif type(version) is not int or version not in known:
         either = " or ".join(map(str, known))
-        faults.append(TreeFault(2, ("version",), f"{shown(version)} is not {either} ({_advice_on_version()})"))
-    # With another version, the rest is judged as the version that fits it.
+        faults.append(TreeFault(VERSION, ("version",), f"{shown(version)} is not {either}", _advice_on_version()))
     if type(version) is not int or faults:
         version = formats.version_with(tree)
-    return sorted(faults + _table_faults((), tree, formats.SHAPES[version]), key=lambda fault: fault.rule)
+    return sorted(faults + JUDGES[version].faults(tree), key=lambda fault: fault.rule)
