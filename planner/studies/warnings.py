@@ -31,12 +31,11 @@ import numpy as np
 import numpy.typing as npt
 import pandas as pd
 
-from crnplan.demand.checks import FALSE_ALARMS
-from crnplan.demand.effects import Facts, tested
+from crnplan.demand.checks.facts import FALSE_ALARMS, Facts, Tested
+from crnplan.demand.checks.outliers import outliers_of
+from crnplan.demand.checks.permutation import Orders, p_value, statistics_of
+from crnplan.demand.checks.seasons import seasons_of
 from crnplan.demand.sample import Sample
-from crnplan.demand.outliers import outliers_of
-from crnplan.demand.permutation import Orders, p_value, statistics_of
-from crnplan.demand.seasons import seasons_of
 from planner.studies import dependence, laws
 from planner.studies.dependence import effect_of
 from planner.studies.page import markdown
@@ -109,7 +108,7 @@ def histories(draw: Callable[[], Whole]) -> Iterator[list[int]]:
 
 def p_values(numbers: list[int]) -> dict[str, float]:
     """Returns the p value of each test."""
-    seasons, _ = seasons_of(None, len(numbers), YEAR)
+    seasons, _ = seasons_of(None, 1, len(numbers), YEAR)
     kinds = statistics_of({it.name: np.array(it.parts) for it in seasons})
     return {name: p_value(its) for name, its in Orders(numbers).statistics(kinds).items()}
 
@@ -145,8 +144,8 @@ def stated(law: str, kind: str, periods: int, count: int) -> dict[str, Any]:
     random = np.random.default_rng([2, SAID.index((law, kind)), periods])
     said, seen = [], []
     for numbers in itertools.islice(histories(lambda: independent(law, random, periods)), count):
-        facts = Facts(numbers, None, seasons_of(None, periods, YEAR)[0])
-        size = next(it.least_seen for it in tested(facts) if it.name == kind)
+        facts = Facts(numbers, seasons_of(None, 1, periods, YEAR)[0])
+        size = next(it.least_seen for it in Tested(facts).checks(True) if it.name == kind)
         said.append(size)
         if size is not None and size != math.inf:
             seen.append(kind in warned(p_values(next(histories(lambda: drawn(law, kind, size, random, periods))))))

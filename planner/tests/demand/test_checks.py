@@ -16,14 +16,18 @@ from scipy import optimize, stats
 
 import crnplan as crn
 from crnplan.demand import Checks, checks_of, lines_of
-from crnplan.demand.checks import Check
-from crnplan.demand.losses import LAWS, LOSSES, Loss, loss_of, loss_text
-from crnplan.demand.outliers import bound_of, outliers_of
-from crnplan.demand.permutation import Orders, drawn_orders, p_value, statistics_of
-from crnplan.demand.permutation import bound_of as bound_of_orders
-from crnplan.demand.power import Tilted, autocorrelation_seen, least_seen, season_seen, trend_seen
-from crnplan.demand.seasons import seasons_of
+from crnplan.demand.checks import remarks_of
+from crnplan.demand.checks.facts import Check
+from crnplan.demand.checks.outliers import bound_of, outliers_of
+from crnplan.demand.checks.permutation import Orders, drawn_orders, p_value, statistics_of
+from crnplan.demand.checks.permutation import bound_of as bound_of_orders
+from crnplan.demand.checks.power import Tilted, autocorrelation_seen, least_seen, season_seen, trend_seen
+from crnplan.demand.checks.seasons import Season, seasons_of
+from crnplan.demand.checks.study import LAWS, loss_of, losses
 from crnplan.errors import Refused
+from crnplan.records.dates import period_of
+from crnplan.remarks import Remark
+from crnplan.words import advised, sentence
 from planner.tests.conftest import Command
 
 RANDOM = np.random.default_rng(8)
@@ -44,6 +48,8 @@ def chained(stay: float, periods: int) -> list[int]:
 
 
 CHAINED = chained(0.6, 104)
+ERRATIC = RANDOM.negative_binomial(1.5, 1 / 3, 104).tolist()
+RARE = np.where(RANDOM.random(104) < 0.2, RANDOM.geometric(1 / 8, 104), 0).tolist()
 
 
 def history_of(numbers: Sequence[int], first: date, every: str, folder: Path) -> crn.History:
@@ -61,6 +67,16 @@ def named(checks: Checks, name: str) -> Any:
     return next(it for it in checks.tests if it.name == name)
 
 
+def said(remarks: Sequence[Remark]) -> list[str]:
+    """Returns remarks in words, with advice."""
+    return [advised(remark) for remark in remarks]
+
+
+def seasons(length: int, first: date, every: str) -> list[Season]:
+    """Returns the seasons of so many periods from a day on."""
+    return seasons_of(every, period_of(first, every), length, None)[0]
+
+
 def test_quiet_history() -> None:
     """A history of independent periods of one law has no warning, and says what would have been seen."""
     checks = checks_of(STEADY, season=52)
@@ -75,7 +91,7 @@ def test_quiet_history() -> None:
 
 def test_level() -> None:
     """A test warns up to 5% over the number of tests."""
-    tests = [Check(str(p), p, 0.0, "") for p in (0.0125, 0.0126, 0.05, 0.9)]
+    tests = [Check(str(p), p, 0.0, {}) for p in (0.0125, 0.0126, 0.05, 0.9)]
     assert Checks(9, 9, tuple(tests), (), (), ()).warned == ("0.0125",)
     assert Checks(9, 9, tuple(tests[:1]), (), (), ()).level == 0.05
 
@@ -85,12 +101,13 @@ def test_trend() -> None:
     checks = checks_of(RISING)
     ratio = np.mean(RISING[-34:]) / np.mean(RISING[:34])
     words = f"the mean of the last third is {ratio - 1:.0%} above that of the first"
-    assert checks.warnings[0].startswith(f"demand has a trend: {words} (p 0.001). Plan from the part of the record ")
-    assert "shift" in checks.warned and not any(it.startswith("the level") for it in checks.warnings)
+    assert said(checks.warnings)[0].startswith(f"demand has a trend: {words} (p 0.001). Plan from the part of the ")
+    assert "shift" in checks.warned and not any(it.code == "shift" for it in checks.warnings)
     slope = np.polyfit(range(104), RISING, 1)[0]
     assert named(checks, "trend").size == pytest.approx(slope * 103 / 2 / np.mean(RISING))
     falling = checks_of(RISING[::-1])
-    assert f"{1 - 1 / ratio:.0%} below that of the first" in falling.warnings[0] and "trend -50%" in falling.warnings[0]
+    text, = said(falling.warnings)[:1]
+    assert f"{1 - 1 / ratio:.0%} below that of the first" in text and "trend -50%" in text
 
 
 def test_shift() -> None:
@@ -99,22 +116,22 @@ def test_shift() -> None:
     after = max(range(11, 94), key=lambda it: abs(stats.ttest_ind(RAISED[:it], RAISED[it:]).statistic))
     ratio = np.mean(RAISED[after:]) / np.mean(RAISED[:after])
     assert abs(after - 78) < 5 and named(checks, "shift").size == pytest.approx(ratio - 1)
-    assert checks.warnings[0].startswith(
+    assert said(checks.warnings)[0].startswith(
         f"the level of demand has changed: from period {after + 1} on the mean is {ratio - 1:.0%} above that before "
         "(p 0.001). If that is for good, plan from the record since then (leave out the rows before period "
         f"{after + 1}). In a study (Poisson, mean 10; shift +50%) such a plan cost ")
-    assert not any("trend" in it.split(":")[0] for it in checks.warnings)
+    assert not any(it.code == "trend" for it in checks.warnings)
 
 
 def test_shift_with_dates(tmp_path: Path) -> None:
     """With dates, the period has its name and the advice the option with its first day."""
     checks = checks_of(history_of([3] * 40 + [9, 8] * 10, date(2025, 1, 6), "week", tmp_path))
-    assert "from 2025-W42 on the mean is 183% above that before" in checks.warnings[0]
-    assert "(--from 2025-10-13)" in checks.warnings[0]
-    assert checks.unknown[-1] == "a season is tested from 104 weeks on"
+    assert "from 2025-W42 on the mean is 183% above that before" in said(checks.warnings)[0]
+    assert "(--from 2025-10-13)" in said(checks.warnings)[0]
+    assert said(checks.unknown)[-1] == "a season is tested from 104 weeks on"
     nothing = checks_of([0] * 30 + [4, 5] * 15)
-    assert "there is no demand before period 31" in nothing.warnings[0]
-    assert named(nothing, "trend").words == "the first third has no demand"
+    assert "there is no demand before period 31" in said(nothing.warnings)[0]
+    assert sentence(Remark("found trend", named(nothing, "trend").facts)) == "the first third has no demand"
 
 
 def test_season() -> None:
@@ -124,12 +141,12 @@ def test_season() -> None:
     first, last = (sorted(range(4), key=means.__getitem__)[it] * 13 for it in (-1, 0))
     assert (f"{max(means) / np.mean(SEASONAL):.2g} times the mean in periods {first + 1} to {first + 13} of 52, "
             f"{min(means) / np.mean(SEASONAL):.2g} times in periods {last + 1} to {last + 13} of 52 (p 0.001)") \
-        in checks.warnings[0]
+        in said(checks.warnings)[0]
     assert named(checks, "season").size == pytest.approx(0.6, abs=0.1)
     # The season raises and lowers the level within a year, but that is no shift.
     assert checks.warned == ("autocorrelation", "season") and len(checks.warnings) == 2
-    assert checks.warnings[1].endswith("What the other warnings say may be why")
-    assert "no season was tested" in checks_of(SEASONAL).unknown[-1]
+    assert said(checks.warnings)[1].endswith("What the other warnings say may be why")
+    assert "no season was tested" in said(checks_of(SEASONAL).unknown)[-1]
 
 
 def test_trend_beside_a_season() -> None:
@@ -143,8 +160,8 @@ def test_quarters_of_months(tmp_path: Path) -> None:
     numbers = [30 if month % 12 in (9, 10, 11) else 10 for month in range(2, 38)]
     numbers = [it + place % 3 for place, it in enumerate(numbers)]
     checks = checks_of(history_of(numbers, date(2023, 3, 1), "month", tmp_path))
-    assert "times the mean from October to December, " in checks.warnings[0]
-    parts = seasons_of(history_of(numbers, date(2023, 3, 1), "month", tmp_path), 36, None)[0][0].parts
+    assert "times the mean from October to December, " in said(checks.warnings)[0]
+    parts = seasons(36, date(2023, 3, 1), "month")[0].parts
     assert parts[:11] == (0, 1, 1, 1, 2, 2, 2, 3, 3, 3, 0)
 
 
@@ -152,28 +169,28 @@ def test_weekdays(tmp_path: Path) -> None:
     """Days are divided by weekdays from two weeks on, and by quarters from two years on."""
     numbers = [0 if it % 7 > 4 else 5 + it % 3 for it in range(70)]
     checks = checks_of(history_of(numbers, date(2025, 1, 6), "day", tmp_path))
-    assert checks.warnings[0].startswith("demand follows the weekdays: 1.4 times the mean on ")
-    assert "0 times on Sat" in checks.warnings[0] and "Take weeks (--every week)" in checks.warnings[0]
-    assert checks.unknown[-1] == "a season is tested from 730 days on" and named(checks, "weekday").p < 0.002
-    seasons, _ = seasons_of(history_of([1, 2] * 400, date(2024, 1, 1), "day", tmp_path), 800, None)
-    assert [(it.name, it.length) for it in seasons] == [("weekday", 7), ("season", 365)]
-    assert seasons[1].parts[:92] == (0,) * 91 + (1,) and seasons[0].parts[:8] == (0, 1, 2, 3, 4, 5, 6, 0)
-    short, untested = seasons_of(history_of([1, 2] * 6, date(2024, 1, 1), "day", tmp_path), 12, None)
-    assert not short and untested[0] == "weekdays are tested from 14 days on"
+    assert said(checks.warnings)[0].startswith("demand follows the weekdays: 1.4 times the mean on ")
+    assert "0 times on Sat" in said(checks.warnings)[0] and "Take weeks (--every week)" in said(checks.warnings)[0]
+    assert said(checks.unknown)[-1] == "a season is tested from 730 days on" and named(checks, "weekday").p < 0.002
+    weekday, season = seasons(800, date(2024, 1, 1), "day")
+    assert (weekday.name, weekday.length, season.name, season.length) == ("weekday", 7, "season", 365)
+    assert season.parts[:92] == (0,) * 91 + (1,) and weekday.parts[:8] == (0, 1, 2, 3, 4, 5, 6, 0)
+    short, untested = seasons_of("day", period_of(date(2024, 1, 1), "day"), 12, None)
+    assert not short and said(untested)[0] == "weekdays are tested from 14 days on"
 
 
-def test_weeks_belong_to_the_quarter_of_their_thursday(tmp_path: Path) -> None:
+def test_weeks_belong_to_the_quarter_of_their_thursday() -> None:
     """The week from 2024-12-30 is in January, and that from 2024-04-29 in the second quarter."""
-    seasons, _ = seasons_of(history_of([1, 2] * 60, date(2024, 1, 1), "week", tmp_path), 120, None)
-    assert seasons[0].parts[12:14] == (0, 1) and seasons[0].parts[51:53] == (3, 0)
+    season, = seasons(120, date(2024, 1, 1), "week")
+    assert season.parts[12:14] == (0, 1) and season.parts[51:53] == (3, 0)
 
 
 def test_season_of_a_named_length(tmp_path: Path) -> None:
     """A named length takes the place of the calendar's, counts from the first period, and needs two seasons."""
     history = history_of([4, 1, 1, 1, 1] * 8, date(2025, 1, 6), "week", tmp_path)
     checks = checks_of(history, season=5)
-    assert checks.warned[-1] == "season" and "2.5 times the mean in period 1 of 5" in checks.warnings[0]
-    assert checks_of([1, 2] * 10, season=11).unknown[-1] == "a season is tested from 22 periods on"
+    assert checks.warned[-1] == "season" and "2.5 times the mean in period 1 of 5" in said(checks.warnings)[0]
+    assert said(checks_of([1, 2] * 10, season=11).unknown)[-1] == "a season is tested from 22 periods on"
     assert "season" in [it.name for it in checks_of([1, 2] * 11, season=11).tests]
     for wrong, message in ((1, "a season of 1 periods is none; say 2 or more"), (2.5, "season: 2.5 ")):
         with pytest.raises(Refused, match=message):
@@ -186,17 +203,17 @@ def test_autocorrelation() -> None:
     one, other = np.array(CHAINED[1:]) - np.mean(CHAINED), np.array(CHAINED[:-1]) - np.mean(CHAINED)
     found = one @ other / (np.var(CHAINED) * 104)
     assert named(checks, "autocorrelation").size == pytest.approx(found)
-    text = checks.warnings[-1]
+    text = said(checks.warnings)[-1]
     assert text.startswith(f"periods are not independent: autocorrelation {found:.2f} at lag 1 (p 0.001). Ask what ")
     assert "In a study (Poisson, mean 10; autocorrelation 0.6) such a plan cost " in text
     turns = checks_of(([2, 9, 3, 8, 1, 9] * 12)[:70])
-    assert "High and low periods take turns" in turns.warnings[0] and "study" not in turns.warnings[0]
+    assert "High and low periods take turns" in said(turns.warnings)[0] and "study" not in said(turns.warnings)[0]
 
 
 def test_losses() -> None:
     """The figure that is cited is the nearest by law, length of a season, and size."""
     kinds = ("autocorrelation", "trend", "shift", "season")
-    assert {(it.kind, it.law) for it in LOSSES} == {(kind, law) for kind in kinds for law in LAWS}
+    assert {(it.kind, it.law) for it in losses()} == {(kind, law) for kind in kinds for law in LAWS}
     for kind, size, variation, length, expected in (
             ("autocorrelation", 0.33, 0.3, 0, ("steady", 30, 0)), ("autocorrelation", 0.9, 1.5, 0, ("erratic", 60, 0)),
             ("trend", -0.4, 0.5, 0, ("steady", -50, 0)), ("shift", math.inf, 3, 0, ("erratic", 100, 0)),
@@ -206,16 +223,50 @@ def test_losses() -> None:
         assert (loss.law, loss.size, loss.length) == expected and loss.kind == kind
 
 
-def test_loss_text() -> None:
+def test_words_of_losses() -> None:
     """A sentence has the figures of a loss in their places, with their signs in words."""
-    assert loss_text(Loss("season", "steady", 60, 52, 29.3, -31.1, 12.6)) == (
-        "In a study (Poisson, mean 10; season of ±60% in 52 periods) such a plan cost 29% more than the best policy, "
-        "whose S was 13% higher, and promised a cost 31% too low")
-    assert loss_text(Loss("shift", "erratic", -25, 0, 6.4, 4.5, -13.8)) == (
+    def advice(name: str, **facts: Any) -> str:
+        """Returns the advice of a warning with some facts."""
+        return advised(Remark(name, {"p": 0.001, "change": 0.5, "name": "period 9", "beside": 0, **facts}))
+    trend = {"effect": "trend", "effect_size": 25, "effect_length": 0, "regret": 70.2, "promise": -37.1, "level": 16.2}
+    assert advice("trend", study="steady", **trend).endswith(
+        "In a study (Poisson, mean 10; trend +25%) such a plan cost 70% more than the best policy, whose S was 16% "
+        "higher, and promised a cost 37% too low")
+    shift = {"effect": "shift", "effect_size": -25, "effect_length": 0, "regret": 6.4, "promise": 4.5, "level": -13.8}
+    assert advice("shift", study="erratic", **shift).endswith(
         "In a study (negative binomial, mean 3, variance 9; shift -25%) such a plan cost 6.4% more than the best "
         "policy, whose S was 14% lower, and promised a cost 4.5% too high")
-    assert "trend +25%" in loss_text(loss_of("trend", 0.3, 1)) and "(Poisson, mean 10; autocorrelation 0.45)" in \
-        loss_text(loss_of("autocorrelation", 0.41, 0.3))
+    parts = {"unit": "quarter", "most": 1.2, "most_first": 1, "most_last": 1, "least": 0.8, "least_first": 4,
+             "least_last": 4}
+    season = {"effect": "season", "effect_size": 60, "effect_length": 52, "regret": 29.3, "promise": -31.1,
+              "level": 12.6}
+    assert "season of ±60% in 52 periods" in advice("season", study="steady", **season, **parts)
+
+
+@pytest.mark.parametrize("counts, periods, chance", [
+    ([3, 1, 0, 2, 5, 0, 0, 1, 4, 2] + [0] * 10, 10, 1.548e-3),  # by hand: 10! 13! / (3! 20!)
+    ([0] * 5 + [2, 0, 1] + [0] * 44, 44, 0.0211), ([7] + [0] * 20, 20, 0.0476)])
+def test_no_recent_demand(counts: list[int], periods: int, chance: float) -> None:
+    """Periods without demand at the end are named with the chance that scipy's hypergeometric law gives, if as many are
+    unlikely by luck."""
+    note, = (it for it in checks_of(counts).notes if it.code == "no recent demand")
+    demands, last = sum(it > 0 for it in counts), f"period {len(counts) - periods}"
+    assert note.facts["periods"] == periods and note.facts["last"] == last
+    assert note.facts["chance"] == pytest.approx(stats.hypergeom(len(counts), demands, periods).pmf(0))
+    assert note.facts["chance"] == pytest.approx(chance, rel=0.01)
+    shorter = counts[:len(counts) - periods] + [0] * (periods // 4)
+    assert not any(it.code == "no recent demand" for it in checks_of(shorter).notes)
+
+
+@settings(max_examples=40)
+@given(data=st.data())
+def test_remarks_of_a_catalogue(data: st.DataObject) -> None:
+    """They are the warnings and the notes of all checks, though most p values are not computed."""
+    numbers = data.draw(st.lists(st.integers(0, 9), min_size=1, max_size=30) | st.sampled_from(
+        [STEADY, RISING, RAISED, SEASONAL, CHAINED, RARE[:60], [0] * 40 + [5, 9] * 6, [3, 4] * 20]))
+    season = data.draw(st.sampled_from([None, 4, 52]))
+    checks = checks_of(numbers, season=season)
+    assert remarks_of(numbers, season=season) == (*checks.warnings, *checks.notes)
 
 
 @pytest.mark.parametrize("numbers, notes", [
@@ -234,7 +285,7 @@ def test_loss_text() -> None:
     ([1, 1, 1, 2, 1, 3, 0, 1, 1, 1, 1, 2, 1, 1], [])], ids=["none", "few", "packs", "far", "two far", "ones"])
 def test_notes(numbers: list[int], notes: list[str]) -> None:
     """Few demands, packs, demands far above all others and one that decides are named."""
-    assert [it for it in checks_of(numbers).notes if "one period" not in it or it in notes] == notes
+    assert [it for it in said(checks_of(numbers).notes) if "one period" not in it or it in notes] == notes
 
 
 def test_outlier_bounds() -> None:
@@ -258,7 +309,7 @@ def test_nothing_to_test(numbers: list[int]) -> None:
     checks = checks_of(numbers)
     assert checks.tests == checks.warnings == () and checks.level == 0.05 and len(checks.frame) == 0
     few = f"{len(numbers)} periods are too few to test whether they are independent and of one law"
-    assert checks.unknown == ((few,) if len(numbers) < 8 else ())
+    assert said(checks.unknown) == ([few] if len(numbers) < 8 else [])
 
 
 @settings(max_examples=60)
@@ -282,10 +333,6 @@ def tilted(numbers: Sequence[int], mean: float) -> Any:
         powers = np.log(counts) + rate * values
         return np.exp(powers - powers.max()) / np.exp(powers - powers.max()).sum()
     return chances(optimize.brentq(lambda rate: chances(rate) @ values - mean, -20, 20))
-
-
-ERRATIC = RANDOM.negative_binomial(1.5, 1 / 3, 104).tolist()
-RARE = np.where(RANDOM.random(104) < 0.2, RANDOM.geometric(1 / 8, 104), 0).tolist()
 
 
 @pytest.mark.parametrize("kind, size", [("trend", 0.6), ("season", 0.7)])

@@ -8,7 +8,7 @@ import numpy as np
 import pandas as pd
 import pytest
 
-from crnplan.demand.losses import LAWS, LOSSES
+from crnplan.demand.checks.study import LAWS, losses
 from planner.studies import dependence, laws
 from planner.studies.dependence import Case
 from planner.tests.demand.test_study import compare
@@ -73,12 +73,12 @@ def test_stored_figures(top: Path) -> None:
     keys = ["kind", "law", "size", "length"]
     assert [tuple(it) for it in stored[keys].to_numpy()] == [tuple(it) for it in dependence.CASES]
     cited = stored[stored["size"] != 0]
-    assert [it[:4] for it in LOSSES] == [tuple(it) for it in cited[keys].to_numpy()]
-    for loss, row in zip(LOSSES, cited.to_dict("records")):
+    assert [it[:4] for it in losses()] == [tuple(it) for it in cited[keys].to_numpy()]
+    for loss, row in zip(losses(), cited.to_dict("records")):
         assert loss[4:] == pytest.approx((row["regret"], row["promise"], row["level"]), abs=0.051)
     control = stored[stored["size"] == 0]
     assert (control["regret"].abs() <= 4 * control["regret_error"] + 0.05).all()
-    for name, (_, variation) in LAWS.items():
+    for name, variation in LAWS.items():
         law = dependence.scaled_law(name, 1.0)
         mean = law @ np.arange(len(law))
         assert math.sqrt(law @ (np.arange(len(law)) - mean)**2) / mean == pytest.approx(variation, abs=0.001)

@@ -12,8 +12,8 @@ from hypothesis import given, settings
 from hypothesis import strategies as st
 from scipy import stats
 
-from crnplan.demand import permutation
-from crnplan.demand.permutation import Orders, bound_of, centred, p_value, statistics_of
+from crnplan.demand.checks import permutation
+from crnplan.demand.checks.permutation import Orders, bound_of, centred, p_value, statistics_of
 
 ALL_ORDERS = [*itertools.permutations([0, 5, 2, 0, 9, 1])]
 KINDS = statistics_of({"season": np.array([0, 1, 0, 1, 0, 1])})
@@ -130,6 +130,18 @@ def test_orders_in_parts(monkeypatch: pytest.MonkeyPatch) -> None:
     # Each number comes to each place about as often: the statistic has 29^2 degrees of freedom.
     counts = np.array([np.bincount(place, minlength=30) for place in drawn[1:].T])
     assert stats.chi2.sf(((counts - 1199 / 30)**2 / (1199 / 30)).sum(), 29**2) > 1e-4
+
+
+@pytest.mark.parametrize("numbers", [[*range(6, 0, -1)], [3, 0, 0, 9, 1, 0, 2, 2], [0, 1] * 12],
+                         ids=["falling", "few", "turns"])
+def test_seen_at_a_level(numbers: list[int]) -> None:
+    """A test is seen at its own p value and above, and not below it, though not all orders are looked at."""
+    kinds = statistics_of({"season": np.arange(len(numbers)) % 2})
+    orders = Orders(numbers)
+    for name, statistics in orders.statistics(kinds).items():
+        p = p_value(statistics)
+        assert (name in orders.seen(kinds, p)) and (name in orders.seen(kinds, p + 1 / 1200))
+        assert name not in orders.seen(kinds, p - 1 / 1200)
 
 
 @pytest.mark.parametrize("kind", KINDS)

@@ -184,9 +184,8 @@ class LongRun(Walk, ABC):
         _, costs = self.costs_of(places, cells * self.step - levels)
         unmet = places.here[1] + (cells - levels / self.step) * (places.below[1] - places.here[1])
         fills = 1 - unmet / places.totals / (self.demand.mean * self.step)
-        sums = np.zeros((2, len(policies)))
-        np.add.at(sums, (slice(None), rows), shares * np.array([costs, fills]))
-        return sums[0], sums[1]
+        costs, fills = (np.asarray(np.bincount(rows, shares * figures), float) for figures in (costs, fills))
+        return costs, fills
 
     def fill(self, gap: int, level: int) -> float:
         """Returns the share of demand that is met at once: what is not adds to what is owed before the demand."""

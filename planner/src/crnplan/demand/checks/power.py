@@ -12,7 +12,8 @@ from collections.abc import Callable
 import numpy as np
 from scipy import special
 
-from .permutation import LAGS, Floats, Orders, centred
+from ...chances import Floats
+from .permutation import LAGS, Orders, centred
 
 SEEN = 0.8
 SIZES = [it / 100 for it in range(5, 101, 5)]  # of the effects that are tried

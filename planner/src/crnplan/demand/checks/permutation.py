@@ -16,10 +16,9 @@ import math
 from collections.abc import Callable, Iterator, Mapping, Sequence
 
 import numpy as np
-import numpy.typing as npt
 
-Floats = npt.NDArray[np.float64]
-Whole = npt.NDArray[np.int64]
+from ...chances import Floats, Whole
+
 Statistic = Callable[[Floats, Floats], Floats]  # of the numbers' distances from their mean, and of their ranks'
 
 SEED = 1
@@ -27,7 +26,8 @@ TIMES = 1199  # orders; with the history there are 1,200, of which 5% over 2, 3,
 LAGS = 3  # More of them see less of a dependence between neighbours. Seasons, trends and shifts have their own tests.
 EDGE = 0.1  # the share of the periods at either end in which no shift is looked for
 MOST_CELLS = 1 << 18  # of the orders that are in memory at a time
-KEPT = 4  # such parts of the drawn orders, for further histories of as many periods
+AT_ONCE = 150  # orders that are looked at before a test is left
+KEPT = 8  # such parts of the drawn orders, for further histories of as many periods
 ROUNDING = 1e-9  # Orders whose statistics differ by less are as suspicious.
 
 
@@ -117,12 +117,23 @@ def statistics_of(seasons: Mapping[str, Whole]) -> dict[str, Statistic]:
             "shift": lambda far, ranks: shift(far), **{name: of_season(parts) for name, parts in seasons.items()}}
 
 
-@functools.lru_cache(KEPT)
-def drawn_orders(size: int, first: int, many: int) -> Whole:
-    """Returns drawn orders of the places of so many periods, in rows, from the number of the first of them on."""
-    random = np.random.default_rng([SEED, first])
-    orders: Whole = random.permuted(np.tile(np.arange(size), (many, 1)), axis=1)
-    return orders
+class Drawn:
+    """Drawn orders of the places of so many periods, from the number of the first of them on."""
+
+    def __init__(self, size: int, first: int) -> None:
+        """Draws none yet."""
+        self.random, self.rows = np.random.default_rng([SEED, first]), np.empty((0, size), np.int64)
+
+    def orders(self, start: int, end: int) -> Whole:
+        """Returns some of them, in rows. They are drawn as they are needed, always the same."""
+        missing = end - len(self.rows)
+        if missing > 0:
+            places = np.tile(np.arange(self.rows.shape[1]), (missing, 1))
+            self.rows = np.vstack([self.rows, self.random.permuted(places, axis=1)])
+        return self.rows[start:end]
+
+
+drawn_orders = functools.lru_cache(KEPT)(Drawn)
 
 
 class Orders:
@@ -134,23 +145,45 @@ class Orders:
         self.far = self.values - np.mean(numbers)
         self.ranks = np.cumsum(self.counts) - self.counts / 2 - len(numbers) / 2
 
-    def drawn(self) -> Iterator[Whole]:
-        """Yields the order of the history, and then drawn orders, some in each array: places in the history."""
+    def drawn(self, at_once: int = TIMES) -> Iterator[Whole]:
+        """Yields the order of the history, and then drawn orders, so many in each array: places in the history."""
         size = len(self.codes)
         yield np.arange(size)[None]
         many = max(1, MOST_CELLS // size)
         for first in range(0, TIMES, many):
-            yield drawn_orders(size, first, min(many, TIMES - first))
+            count = min(many, TIMES - first)
+            for start in range(0, count, at_once):
+                yield drawn_orders(size, first).orders(start, min(start + at_once, count))
+
+    def _rows(self, at_once: int = TIMES) -> Iterator[tuple[Floats, Floats]]:
+        """Yields the distances of the numbers from their mean, and of their ranks, in the orders of `drawn`."""
+        far, ranks = self.far[self.codes], self.ranks[self.codes]
+        for order in self.drawn(at_once):
+            yield far.take(order), ranks.take(order)
 
     def statistics(self, kinds: Mapping[str, Statistic]) -> dict[str, Floats]:
         """Returns each statistic of the history and, after it, of the drawn orders. The same history has the same."""
-        found: dict[str, list[Floats]] = {name: [] for name in kinds}
-        far, ranks = self.far[self.codes], self.ranks[self.codes]
-        for order in self.drawn():
-            far_rows, rank_rows = far[order], ranks[order]
-            for name, kind in kinds.items():
-                found[name].append(kind(far_rows, rank_rows))
-        return {name: np.concatenate(its) for name, its in found.items()}
+        parts = [{name: kind(*rows) for name, kind in kinds.items()} for rows in self._rows()]
+        return {name: np.concatenate([part[name] for part in parts]) for name in kinds}
+
+    def seen(self, kinds: Mapping[str, Statistic], level: float) -> set[str]:
+        """Returns the tests with a p value of at most a level. A test is left when enough orders are as suspicious."""
+        rows = self._rows(AT_ONCE)
+        history, left = next(rows), dict(kinds)
+        least = {name: kind(*history)[0] * (1 - ROUNDING) for name, kind in kinds.items()}
+        counts, most = dict.fromkeys(kinds, 1), most_of(level, TIMES + 1)
+        for part in rows:
+            for name, kind in left.items():
+                counts[name] += int((kind(*part) >= least[name]).sum())
+            left = {name: kind for name, kind in left.items() if counts[name] <= most}
+            if not left:
+                break
+        return {*left}
+
+
+def most_of(level: float, orders: int) -> int:
+    """Returns how many orders may be as suspicious as the history, which is one of them, at a level."""
+    return math.floor(level * orders * (1 + ROUNDING))
 
 
 def p_value(statistics: Floats) -> float:
@@ -160,5 +193,5 @@ def p_value(statistics: Floats) -> float:
 
 def bound_of(statistics: Floats, level: float) -> float:
     """Returns the number above which a statistic has a p value of at most a level; infinity if none has."""
-    allowed = math.floor(level * len(statistics) * (1 + ROUNDING))
+    allowed = most_of(level, len(statistics))
     return float(np.sort(statistics[1:])[-allowed]) if allowed else math.inf

@@ -1,0 +1,107 @@
+"""The words of everything that is said as a code with facts: one sentence for each code, without a full stop.
+
+A template is a format of Python over the facts of a remark. Where words depend on a fact, a function makes them. Nothing
+reads these words again.
+"""
+from __future__ import annotations
+
+from collections.abc import Callable, Mapping
+from dataclasses import dataclass
+
+from .formats import MOST_ITEMS
+from .law_words import CHECKS
+from .remarks import Remark, Value
+
+Facts = Mapping[str, Value]
+Say = str | Callable[[Facts], str]
+REPORT = "please report it with this item's rows"
+
+
+@dataclass(frozen=True)
+class Words:
+    """What is said of a code, and what to do about it."""
+
+    text: Say
+    advice: Say = ""
+
+
+def counted(count: Value, noun: str) -> str:
+    """Returns a count with its noun, in the singular or the plural."""
+    return f"{count:,} {noun}{'s' * (count != 1)}"
+
+
+# Of the answer to an item (plan/answer.py).
+PLAN: dict[str, Words] = {
+    "few demands": Words(lambda it: f"demand in {counted(it['demands'], 'period')} alone, so its law is " + (
+        "nearly that of the catalogue" if it["learned"] else "hardly known")),
+    "learns nothing": Words("its law is learned from no others: {reason}"),
+    "unlike the catalogue": Words("unlike the catalogue from which laws are learned: see borrow = none"),
+    "steps": Words("theory counts in steps of {items:,} items"),
+    "rounded costs": Words("costs are rounded by up to {error:.1%}"),
+    "no promise": Words("its fill rate holds for its own law: no policy keeps it under {confidence:.0%} of the laws that "
+                        "its history allows"),
+    "no interval": Words(lambda it: "the run has no interval: " + (
+        "the difference is the same in all replications" if float(it["orders"] or 0) >= 2 else
+        "the rarer policy places fewer than 2 orders in all replications")),
+    "refused": Words("{what}", "{advice}"),
+    "no policy": Words(lambda it: "no policy " + ("is best" if it["fill"] is None else f"meets {it['fill']} of demand")
+                       + f" within s and S up to {MOST_ITEMS:,}", "count in larger units"),
+    "disagrees": Words("crnsim and theory differ by more than chance allows: {figure} is {run:g} by the run and "
+                       "{theory:g} by theory, with a standard error of {error:g}", REPORT),
+    "failed": Words("crnplan failed ({kind}: {what})", REPORT)}
+
+# Of what a catalogue has learned (plan/learning.py).
+LEARNING: dict[str, Words] = {
+    "own laws": Words(lambda it: "each item has the law of its own history" + f" ({it['reason']})" * bool(it["reason"])),
+    "learned": Words(lambda it: f"laws of demand were learned from {counted(it['items'], 'item')}"
+                     + f" and {it['classes']:,} classes" * bool(it["classes"])
+                     + " in an earlier run" * bool(it["earlier"])),
+    "masters say otherwise": Words("the masters say otherwise for {items:,} items (borrow)")}
+
+# Of an item of a catalogue (records/staging.py).
+RECORDS: dict[str, Words] = {
+    "equal masters": Words("{masters} equal masters"), "late": Words("begins with its first movement, in {period}"),
+    "boxes": Words("counted in boxes of {items}"), "rows twice": Words("rows that stand twice: {rows}"),
+    "stock below 0": Words("its stock is below 0, which plays no part in the long run")}
+
+# Of an item that is not on the exchange curve (curve/gathering.py).
+CURVE: dict[str, Words] = {
+    "no price": Words("it has no price above 0, so its stock has no value", "give it a price in the masters"),
+    "not planned": Words("it is not planned as its rows are now", "run crnplan catalogue again")}
+
+WORDS = {**PLAN, **LEARNING, **RECORDS, **CURVE, **{code: Words(*said) for code, said in CHECKS.items()}}
+
+
+def _said(say: Say, facts: Facts) -> str:
+    """Returns the words for facts."""
+    return say.format_map(facts) if isinstance(say, str) else say(facts)
+
+
+def sentence(remark: Remark) -> str:
+    """Returns what is said of a remark, without a full stop."""
+    return _said(WORDS[remark.code].text, remark.facts)
+
+
+class _Blank(str):
+    """A fact that is left out."""
+
+    def __format__(self, style: str) -> str:
+        """Returns a mark, whatever the style."""
+        return "\u2026"
+
+
+def pattern(remark: Remark) -> str:
+    """Returns what is said of all remarks with this code: facts are left out. Words that a function makes are those of
+    this remark."""
+    say = WORDS[remark.code].text
+    return say.format_map(dict.fromkeys(remark.facts, _Blank())) if isinstance(say, str) else say(remark.facts)
+
+
+def advice(remark: Remark) -> str:
+    """Returns what to do about a remark; nothing if there is no advice."""
+    return _said(WORDS[remark.code].advice, remark.facts)
+
+
+def advised(remark: Remark) -> str:
+    """Returns what is said of a remark, and what to do about it."""
+    return ". ".join(filter(None, (sentence(remark), advice(remark))))
