@@ -8,6 +8,7 @@ from __future__ import annotations
 
 import contextlib
 import csv
+import errno
 import fcntl
 import functools
 import hashlib
@@ -86,25 +87,25 @@ def faults_of(folder: Path) -> Iterator[None]:
 class Folder:
     """A folder of one kind that is crnplan's, held by this run alone. `own_folder` gives it."""
 
-    def __init__(self, path: Path, kind: str, marker: IO[str]) -> None:
+    def __init__(self, path: Path, kind: str, marker: int) -> None:
         """Takes the open marker, whose lock is held. Raises Refused if its first line is not the signature."""
-        self.path, self._marker = path, marker
-        self._room: Path | None = None
-        text, signature = marker.read(), SIGNATURE.format(kind=kind)
-        first, *names = text.splitlines() or [signature]
-        if first != signature or not text and any(it.name != MARKER for it in path.iterdir()):
+        self.path, self._marker, self._signature = path, marker, SIGNATURE.format(kind=kind)
+        self._text = os.pread(marker, os.fstat(marker).st_size, 0).decode("utf-8", "replace")
+        first, *names = self._text.splitlines() or [self._signature]
+        if first != self._signature or not self._text and any(it.name != MARKER for it in path.iterdir()):
             raise Refused(f"{path}: {MARKER} is not that of a folder of crnplan {kind}; name a new folder")
-        if not text.endswith("\n"):
-            self._append("" if text else signature)
         self._names = set(names)
-        for name in filter(UNFINISHED.fullmatch, names):
-            shutil.rmtree(path / name, ignore_errors=True)
+        self.close()
 
-    def _append(self, *lines: str) -> None:
-        """Adds lines to the marker, before what they name is made."""
-        self._marker.write("".join(f"{line}\n" for line in lines))
-        self._marker.flush()
-        os.fsync(self._marker.fileno())
+    def _keep(self) -> None:
+        """Writes the marker if it has changed, in place: so it keeps its lock."""
+        text = "\n".join([self._signature, *sorted(self._names), ""])
+        if text != self._text:
+            data, self._text = text.encode(), text
+            if os.pwrite(self._marker, data, 0) < len(data):
+                raise OSError(errno.ENOSPC, os.strerror(errno.ENOSPC))
+            os.ftruncate(self._marker, len(data))
+            os.fsync(self._marker)
 
     def claim(self, *names: str) -> None:
         """Makes files and folders (whose names end with /) crnplan's, to be overwritten or removed. Raises Refused for
@@ -115,8 +116,8 @@ class Folder:
             raise Refused(f"{self.path / foreign}: crnplan has not made it, and would overwrite it; move it away, or "
                           "name another folder")
         if new:
-            self._append(*new)
             self._names.update(new)
+            self._keep()
 
     def subfolder(self, name: str) -> None:
         """Makes a folder in this one, and claims it. Raises Refused for a symlink."""
@@ -159,17 +160,18 @@ class Folder:
     def room(self) -> Path:
         """Returns a folder for what is not finished, on the same disk. It is removed at the end of the run, or, if that
         was ended by force, at the beginning of the next."""
-        if self._room is None:
-            name = f"unfinished-{secrets.token_hex(8)}/"
+        name = next(filter(UNFINISHED.fullmatch, self._names), f"unfinished-{secrets.token_hex(8)}/")
+        if name not in self._names:
             self.claim(name)
-            self._room = self.path / name
-            self._room.mkdir(mode=0o700)
-        return self._room
+            (self.path / name).mkdir(mode=0o700)
+        return self.path / name
 
     def close(self) -> None:
-        """Removes what is not finished."""
-        if self._room:
-            shutil.rmtree(self._room, ignore_errors=True)
+        """Removes what is not finished, of this run or of one that was ended by force."""
+        for name in filter(UNFINISHED.fullmatch, [*self._names]):
+            shutil.rmtree(self.path / name, ignore_errors=True)
+            self._names.remove(name)
+        self._keep()
 
 
 @contextlib.contextmanager
@@ -183,9 +185,9 @@ def own_folder(path: Path, kind: str, names: Iterable[str] = ()) -> Iterator[Fol
         path.mkdir(parents=True, exist_ok=True)
         if not os.path.lexists(path / MARKER) and any(path.iterdir()):
             raise Refused(f"{path}: the folder is not empty, and is not one of crnplan {kind}; name a new folder")
-        descriptor = os.open(path / MARKER, os.O_RDWR | os.O_CREAT | os.O_APPEND | os.O_NOFOLLOW, 0o666)
-    with open(descriptor, "r+", encoding="utf-8", errors="replace", newline="") as marker:
-        if not stat.S_ISREG(os.fstat(descriptor).st_mode):
+        marker = os.open(path / MARKER, os.O_RDWR | os.O_CREAT | os.O_NOFOLLOW | os.O_NONBLOCK, 0o666)
+    try:
+        if not stat.S_ISREG(os.fstat(marker).st_mode):
             raise Refused(f"{path / MARKER}: it is no file; name a new folder")
         try:
             fcntl.flock(marker, fcntl.LOCK_EX | fcntl.LOCK_NB)
@@ -194,8 +196,11 @@ def own_folder(path: Path, kind: str, names: Iterable[str] = ()) -> Iterator[Fol
                           "folder") from fault
         with faults_of(path):
             folder = Folder(path, kind, marker)
-        try:
             folder.claim(*names)
+        try:
             yield folder
         finally:
-            folder.close()
+            with contextlib.suppress(OSError):
+                folder.close()
+    finally:
+        os.close(marker)

@@ -275,7 +275,7 @@ def test_refused_settings(folder: Path, crnplan: Command, text: str, said: str) 
 def test_other_folders_are_refused(folder: Path, crnplan: Command) -> None:
     """Writes into no folder that has other files."""
     told = crnplan("catalogue", *WORDS, "--out", ".")
-    assert told.status == 2 and "no catalogue is in it" in told.errors
+    assert told.status == 2 and "is not one of crnplan catalogue" in told.errors
     (folder / "crnplan.toml").write_text("[catalogue]\nfit = 'empirical'\n", "utf-8")
     told = crnplan("catalogue", *WORDS, "--out", "plan", "--borrow", "all")
     assert told.status == 2 and "--fit empirical fits each item alone" in told.errors

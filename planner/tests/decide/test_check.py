@@ -74,8 +74,8 @@ REFUSED = [
     ("there is no program ./no_program; build crnsim, or name it with", "both --program ./no_program", "", ""),
     ("two_lines: first; second\n", "both --program ./two_lines", "", ""),
     ("true: what it writes is no report of the scenario", "both --program /bin/true", "", ""),
-    ("--out examples: the folder is not empty", "both --out examples", "", ""),
-    ("--out asked.toml: File exists", "both --out asked.toml", "", ""),
+    ("examples: the folder is not empty", "both --out examples", "", ""),
+    ("asked.toml: File exists", "both --out asked.toml", "", ""),
 ]
 
 

@@ -31,7 +31,7 @@ STEPS = ["tables", "scenario", "suggestions", "doubt", "run", "decision", "check
 FILES = {"tables.toml", "demand.csv", "lead_times.csv", "laws.csv", "laws.txt", "notes.txt", "scenario.toml",
          "suggested.toml", "suggested.txt", "suggested.csv", "doubt.txt", "doubt.csv", "decision.txt", "decision.csv",
          "check.txt", "check.csv", "trajectory.csv", "sensitivity.txt", "sensitivity.csv", "summary.txt",
-         "summary.html", "state.json"}
+         "summary.html", "state.json", "crnplan-folder.txt"}
 # The line of the settings that asks for a horizon, and the file of the run with it and without.
 HORIZONS = {"horizon = 12\n": "report.csv", "": "long_run.csv"}
 NOTHING = "nothing has changed since the last run; nothing was done"
@@ -114,7 +114,7 @@ def test_interrupted_at_a_write(writes: int, room: Path, whole: Path, plan: Plan
         patched.setattr(os, "replace", counted)
         assert plan().status == 130
     wanted, cut = bytes_of(whole), bytes_of(room / "plan")
-    assert all(wanted[name] == data for name, data in cut.items() if name != "state.json" and ".part" not in name)
+    assert all(wanted[name] == data for name, data in cut.items() if name != "state.json")
     plan()
     assert bytes_of(room / "plan") == wanted
 
@@ -363,7 +363,7 @@ REFUSED: dict[str, tuple[Change, str]] = {
     "no settings": (lambda room: (room / "settings.toml").unlink(), "settings.toml: No such file"),
     "no column": (setting('"demand"', '"sales"'), "no column 'sales'"),
     "a folder with other files": (lambda room: [(room / "plan").mkdir(), (room / "plan/mine.txt").touch()],
-                                  "the folder is not empty, and no plan is in it; name a new folder"),
+                                  "the folder is not empty, and is not one of crnplan item; name a new folder"),
     "a file for a folder": (lambda room: (room / "plan").touch(), "plan: File exists; name a folder"),
     "no such policy": (setting("[check]", '[check]\npolicy = "bets"'), "there is no policy 'bets'"),
     "no cost of backlog": (setting("9.00", "0"), "backlog")}
