@@ -9,7 +9,7 @@ from difflib import get_close_matches
 from typing import Any, NamedTuple
 
 from .. import formats
-from ..table import named as names_of
+from ..table import names_of
 from .characters import odd_advice
 
 # Keys, and numbers of entries, counted from 1: ("policy", 3, "s").
