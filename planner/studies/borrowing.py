@@ -32,13 +32,12 @@ import numpy as np
 import pandas as pd
 from tqdm import tqdm
 
-from crnplan.chances import in_items
+from crnplan.chances import Floats, in_items
 from crnplan.demand import DemandLaw, fit_demand
 from crnplan.demand.borrowing import Borrowed, Prior, law_of, learn
 from crnplan.demand.families import predictive_of
 from crnplan.demand.fitting import weights_of
 from crnplan.demand.sample import Sample
-from crnplan.theory.laws import Floats
 from planner.studies.laws import COVERS, Choice, LongRuns
 from planner.studies.made_catalogues import DESIGNED, UNSEEN, catalogue, drawn, hurdle, negative_binomial
 from planner.studies.page import markdown
@@ -119,13 +118,13 @@ def predictive_law(single: DemandLaw, history: list[int]) -> DemandLaw:
 
 def judged(law: Floats, history: list[int], prior: Prior, by_class: Prior | None, item_class: str) -> Judgement:
     """Returns the regrets of all methods for an item."""
-    truth, borrowed = Truth(law), law_of(prior, history)
+    truth, borrowed = Truth(law), LatticeLaw.of(prior, history)
     known: Borrowed = borrowed.diagnostics["borrowed"]
     single = known.single or borrowed
     laws = {"empirical": fit_demand(history, method="empirical"), "predictive": predictive_law(single, history),
             "auto": single, "borrowed": borrowed}
     if by_class:
-        laws["class"] = law_of(by_class, history, item_class, beside=False)
+        laws["class"] = LatticeLaw.of(by_class, history, item_class, beside=False)
     return Judgement({name: truth.regret(it) for name, it in laws.items()}, known.demands,
                      1 / (1 - float(law[0])) > MOST_INTERVAL, truth.best[1].cost, known)
 

@@ -30,10 +30,11 @@ import click
 import numpy as np
 import pandas as pd
 
+from crnplan.chances import Floats
 from crnplan.demand import fit_demand
 from crnplan.demand.posterior import allowed_laws
 from crnplan.scenario import Table
-from crnplan.theory.laws import Floats, room_for
+from crnplan.theory.lattice_law import room_for
 from planner.studies.laws import COVERS, GROUPS, LAWS, LEADS, PERIODS, SETTINGS, Choice, LongRuns, Truth
 from planner.studies.page import markdown
 

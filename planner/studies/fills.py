@@ -28,7 +28,7 @@ from crnplan.demand.posterior import allowed_laws
 from crnplan.scenario import Costs, Policy, Scenario, Table
 from crnplan.theory.confidence import FillLevels, Promises
 from crnplan.theory.lattice import theories_of
-from crnplan.theory.laws import Floats
+from crnplan.chances import Floats
 from crnplan.theory.long_run import Candidate, LongRun
 from planner.studies.laws import DESIGNED, GROUPS, LAWS, PERIODS, Truth
 from planner.studies.page import markdown

@@ -28,9 +28,10 @@ import numpy as np
 import pandas as pd
 from scipy import stats
 
+from crnplan.chances import Floats
 from crnplan.demand import DemandLaw, fit_demand
-from crnplan.theory.ladder import with_more_lows
-from crnplan.theory.laws import Floats, Law, power_of, scaled
+from crnplan.theory.wiener_hopf import renewal_sequence
+from crnplan.theory.lattice_law import LatticeLaw, power_of
 from planner.studies.page import markdown
 
 PERIODS = (26, 52, 104, 208)
@@ -60,13 +61,13 @@ class LongRuns:
 
     def __init__(self, chances: Floats, gaps: int, levels: int) -> None:
         """Makes the table of the costs of stock, one row for each lead time and backlog cost."""
-        law = scaled(0, chances)
+        law = LatticeLaw.scaled(0, chances)
         stay = chances[0] / chances.sum()
         falls = np.zeros(law.high + 1)
         falls[law.low:] = law.chances / (1 - stay)
         falls[0] = 0.0
         self.span = 1 / (1 - stay)
-        self.lows = with_more_lows(np.ones(1), falls, gaps)
+        self.lows = renewal_sequence(np.ones(1), falls, gaps)
         self.visits = np.cumsum(self.lows)
         self.costs = np.array([stock_costs(power_of(law, lead + 1), backlog, levels)
                                for lead, backlog in itertools.product(LEADS, BACKLOGS)])
@@ -92,7 +93,7 @@ class LongRuns:
         return float((stock + order / self.span) / self.visits[gap])
 
 
-def stock_costs(under_way: Law, backlog: float, levels: int) -> Floats:
+def stock_costs(under_way: LatticeLaw, backlog: float, levels: int) -> Floats:
     """Returns the mean cost of stock and of backlog of each level, if this demand is under way."""
     chances = np.zeros(max(levels, under_way.high + 1))
     chances[under_way.cells] = under_way.chances

@@ -12,7 +12,7 @@ from typing import NamedTuple
 import numpy as np
 from scipy import stats
 
-from crnplan.theory.laws import Floats
+from crnplan.chances import Floats
 
 LEAST_TAIL = 1e-10  # what is cut off a law
 

@@ -6,22 +6,23 @@ import pytest
 from hypothesis import given, settings
 from hypothesis import strategies as st
 
-from crnplan.theory.falls import Falls, reciprocal
-from crnplan.theory.laws import NOTHING, Floats, Law, scaled
+from crnplan.chances import Floats
+from crnplan.theory.review_sums import ReviewSums, reciprocal
+from crnplan.theory.lattice_law import NOTHING, LatticeLaw
 from crnplan.theory.reviews import Falling, Start
 
 WEIGHTS = st.lists(st.integers(0, 9), min_size=1, max_size=9).filter(any)
 # Nets that are never 0, nearly always 0, always the same, and wide.
-NETS = [scaled(2, np.array([3.0, 1, 0, 2])), scaled(0, np.array([500.0, 0, 1])), Law(1, np.ones(1)), Law(4, np.ones(1)),
-        scaled(0, np.ones(200))]
+NETS = [LatticeLaw.scaled(2, np.array([3.0, 1, 0, 2])), LatticeLaw.scaled(0, np.array([500.0, 0, 1])),
+        LatticeLaw(1, np.ones(1)), LatticeLaw(4, np.ones(1)), LatticeLaw.scaled(0, np.ones(200))]
 
 
-def net_of(weights: list[int], low: int) -> Law:
+def net_of(weights: list[int], low: int) -> LatticeLaw:
     """Returns a net demand that is not always 0."""
-    return scaled(low, np.array([*weights, 1.0]) if low == 0 else np.array(weights, float))
+    return LatticeLaw.scaled(low, np.array([*weights, 1.0]) if low == 0 else np.array(weights, float))
 
 
-def powers(net: Law, width: int, count: int) -> Floats:
+def powers(net: LatticeLaw, width: int, count: int) -> Floats:
     """Returns the laws of 0, 1, .. times the net demand, up to the width, one by one."""
     once, rows = np.zeros(max(net.high, width) + 1), [np.eye(1, width + 1)[0]]
     once[net.low:net.high + 1] = net.chances
@@ -30,7 +31,7 @@ def powers(net: Law, width: int, count: int) -> Floats:
     return np.array(rows)
 
 
-def walked(net: Law, start: Start, gap: int, count: int) -> tuple[Floats, list[dict[int, float]]]:
+def walked(net: LatticeLaw, start: Start, gap: int, count: int) -> tuple[Floats, list[dict[int, float]]]:
     """Returns the chance that each review places an order, and the law of the position after each: cell by cell."""
     law = {cell: chance for cell, chance in zip(start.law.cells.tolist(), start.law.chances.tolist()) if chance}
     orders, laws = [float(start.ordered)], [law]
@@ -53,9 +54,9 @@ def chances_of(law: dict[int, float], low: int, gap: int) -> Floats:
     return np.array([law.get(cell, 0.0) for cell in range(low, gap + 1)])
 
 
-def check_falls(net: Law, width: int, count: int) -> None:
+def check_falls(net: LatticeLaw, width: int, count: int) -> None:
     """Compares sums and tails of all laws with those made one by one."""
-    falls, rows = Falls(net, width, count), powers(net, width, count)
+    falls, rows = ReviewSums(net, width, count), powers(net, width, count)
     weights = np.linspace(1, 3, count)
     assert falls.weighted(weights) == pytest.approx(weights @ rows, rel=1e-12, abs=1e-12)
     for part in {0, width // 2, width}:
@@ -65,7 +66,7 @@ def check_falls(net: Law, width: int, count: int) -> None:
 
 @pytest.mark.parametrize("width, count", [(0, 1), (0, 40), (7, 1), (7, 2), (90, 700), (700, 90)])
 @pytest.mark.parametrize("net", NETS, ids=lambda it: f"{it.low} to {it.high}")
-def test_laws_of_some_nets(net: Law, width: int, count: int) -> None:
+def test_laws_of_some_nets(net: LatticeLaw, width: int, count: int) -> None:
     check_falls(net, width, count)
 
 
@@ -91,9 +92,9 @@ def test_reviews(weights: list[int], low: int, gap: int, cell: int, share: float
     """Orders and laws are those of a walk cell by cell, from two cells beside one another, above S too."""
     net, counted = net_of(weights, low), data.draw(st.integers(1, count))
     ordered = data.draw(st.booleans())
-    first = Law(min(cell, gap), np.array([1 - share, share])[:gap - min(cell, gap) + 1])
-    start = Start(NOTHING if ordered else scaled(first.low, first.chances + 1e-3), ordered)
-    reviews = Falling(Falls(net, gap - min(start.law.low, 0), count), start, gap, counted)
+    first = LatticeLaw(min(cell, gap), np.array([1 - share, share])[:gap - min(cell, gap) + 1])
+    start = Start(NOTHING if ordered else LatticeLaw.scaled(first.low, first.chances + 1e-3), ordered)
+    reviews = Falling(ReviewSums(net, gap - min(start.law.low, 0), count), start, gap, counted)
     orders, laws = walked(net, start, gap, count)
     assert reviews.placing == pytest.approx(orders, abs=1e-12)
     assert reviews.orders == pytest.approx(orders.sum(), abs=1e-11)

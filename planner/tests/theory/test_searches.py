@@ -11,7 +11,7 @@ from hypothesis import strategies as st
 from crnplan.scenario import Costs, Scenario
 from crnplan.theory.lattice import shape_of, theories_of, theory_on
 from crnplan.theory.long_run import Candidate, LongRun, search
-from crnplan.theory.overtaking import SEARCHED
+from crnplan.theory.several_leads import SEARCHED
 
 from planner.tests.theory.chain import by_chain
 from planner.tests.theory.long_run_costs import costs_of, fills_of, shortfall_of

@@ -30,7 +30,7 @@ from .verdicts import POLICY, horizon_of
 
 if TYPE_CHECKING:
     from ..demand.posterior import AllowedLaws
-    from ..theory.laws import Floats
+    from ..chances import Floats
     from ..theory.many_laws import LawFigures
 
 TIMES = 10, 2_000  # laws that can be asked for

@@ -5,7 +5,7 @@ import math
 from typing import TYPE_CHECKING
 
 from ..decide.doubt import MOST, Doubt
-from ..theory.laws import Floats
+from ..chances import Floats
 from .pictures import ABOVE, BLUE, ORANGE, TITLE, blank, picture
 
 if TYPE_CHECKING:

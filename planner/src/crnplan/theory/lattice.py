@@ -14,11 +14,11 @@ import numpy as np
 from ..errors import Refused
 from ..formats import MOST_ITEMS
 from ..scenario import Scenario, Table
-from .ladder import DIGITS, decay_of
-from .laws import law_of, reflected, sum_of
+from .wiener_hopf import DIGITS, decay_of
+from .lattice_law import LatticeLaw, sum_of
 from .long_run import LongRun, gap_grid
 from .one_lead import OneLead
-from .overtaking import SeveralLeads, work_of
+from .several_leads import SeveralLeads, work_of
 from .walk import Walk
 
 # Tables of this size are searched in at most half a second: gaps with one lead time, and work for late orders with
@@ -86,7 +86,7 @@ def height_of(scenario: Scenario, high: int) -> float:
     if scenario.returns is None:
         return 0.0
     step = max(1, high // CELLS_OF_SHAPE)
-    net = sum_of(law_of(scenario.demand, step), reflected(law_of(scenario.returns, step)))
+    net = sum_of(LatticeLaw.of(scenario.demand, step), LatticeLaw.of(scenario.returns, step).reflected)
     return 0.0 if net.low >= 0 else step * DIGITS / decay_of(net)
 
 

@@ -2,7 +2,7 @@
 
 Let m be the longest lead time. All orders of the reviews up to period t have arrived in period t + m. So the stock at
 the end of that period follows from the position after the review of period t (`Walk`) and from what happens in the m
-periods after it: see `one_lead.py` and `overtaking.py`.
+periods after it: see `one_lead.py` and `several_leads.py`.
 
 A policy costs more than another one if its gap is wider than `LongRun.widest` says. Let m(j) be the chance that the
 place j cells below S is a low of a cycle, and M(g) their sum up to the gap g.
@@ -22,9 +22,10 @@ from typing import NamedTuple
 import numpy as np
 from scipy import fft
 
+from ..chances import Floats, Whole
 from ..formats import MOST_ITEMS
 from ..scenario import Policy, Scenario
-from .laws import Floats, Law, Places, Surplus, Whole, reflected, room_for, sum_of
+from .lattice_law import LatticeLaw, Places, Surplus, room_for, sum_of
 from .means import GapLevels, Levels, LevelsOf, Means
 from .walk import Walk
 
@@ -110,11 +111,11 @@ class LongRun(Walk, ABC):
         """Returns the share of periods without backlog that is best for a newsvendor, but for rounding."""
         return self.backlog / (self.backlog + self.holding) * (1 - NEAR)
 
-    def start_from(self, under_way: Law, beside: int) -> None:
+    def start_from(self, under_way: LatticeLaw, beside: int) -> None:
         """Takes the law of what is independently lost of a stock before a period's net demand. A gap's row in a table
         has about so many cells beside those of the gap."""
         self.beside = beside
-        self.after, self.before = sum_of(under_way, self.net), sum_of(under_way, reflected(self.back))
+        self.after, self.before = sum_of(under_way, self.net), sum_of(under_way, self.back.reflected)
         self.one_period, self.one_before = Surplus(self.after, self.step), Surplus(self.before, self.step)
 
     def stock_costs(self, levels: Whole) -> Floats:
@@ -138,7 +139,7 @@ class LongRun(Walk, ABC):
         """Computes what `levels_with_fill` needs of many gaps at once, which is faster than one by one."""
 
     @abstractmethod
-    def laws(self, gap: int) -> tuple[Law, Law]:
+    def laws(self, gap: int) -> tuple[LatticeLaw, LatticeLaw]:
         """Returns the laws of how far the stock is below S at the end of a period, and just before its demand."""
 
     def surpluses(self, gap: int) -> tuple[Surplus, Surplus]:

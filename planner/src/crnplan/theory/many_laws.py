@@ -14,7 +14,7 @@ import numpy as np
 from ..chances import Floats
 from ..scenario import Policy, Scenario, Table
 from .lattice import LEAST_CELLS, NoTheory, Shape, shape_of, theory_on, values_of
-from .laws import room_for
+from .lattice_law import room_for
 from .long_run import LongRun
 from .walk import Walk
 

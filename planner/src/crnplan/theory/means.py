@@ -7,7 +7,7 @@ from typing import NamedTuple
 import numpy as np
 from numpy.lib.stride_tricks import sliding_window_view
 
-from .laws import Floats, Whole
+from ..chances import Floats, Whole
 
 # For each of some gaps a level in items, and what it costs.
 Levels = tuple[Whole, Floats]

@@ -20,9 +20,10 @@ from functools import partial
 import numpy as np
 import numpy.typing as npt
 
+from ..chances import Floats, Whole
 from ..formats import MOST_ITEMS
 from ..scenario import Scenario
-from .laws import Floats, Law, Whole, convolved, power_of, room_for, scaled, sum_of
+from .lattice_law import LatticeLaw, convolved, power_of, room_for, sum_of
 from .long_run import CLOSE, NEAR, NO_POLICY, Candidate, LongRun, gap_grid
 from .means import GapLevels
 
@@ -122,9 +123,9 @@ class OneLead(LongRun):
         self.start_from(under_way, under_way.high)
         self.found: Candidate | None = None
 
-    def laws(self, gap: int) -> tuple[Law, Law]:
+    def laws(self, gap: int) -> tuple[LatticeLaw, LatticeLaw]:
         """Returns the laws of how far the stock is below S at the end of a period, and just before its demand."""
-        lows = scaled(0, self.lows_of(gap))
+        lows = LatticeLaw.scaled(0, self.lows_of(gap))
         return sum_of(lows, self.after), sum_of(lows, self.before)
 
     def rows_of(self, gaps: Whole) -> tuple[int, list[Floats]]:

@@ -17,8 +17,9 @@ from typing import NamedTuple
 
 import numpy as np
 
-from .falls import Falls, reciprocal
-from .laws import Floats, Law, convolved
+from .review_sums import ReviewSums, reciprocal
+from ..chances import Floats
+from .lattice_law import LatticeLaw, convolved
 
 # A chain whose law is as close to that of the long run stays there.
 SETTLED = 1e-12
@@ -31,7 +32,7 @@ MOST_DENSE = 100
 class Start(NamedTuple):
     """The position after the first review: its law in cells below S, and whether an order was placed in it."""
 
-    law: Law
+    law: LatticeLaw
     ordered: bool
 
 
@@ -41,19 +42,19 @@ class Reviews(ABC):
     orders: float
 
     @abstractmethod
-    def mean_law(self) -> Law:
+    def mean_law(self) -> LatticeLaw:
         """Returns the law of the position, in cells below S, after one of the first reviews at random: of those whose
         orders matter for the stock."""
 
     @abstractmethod
-    def last_law(self) -> Law:
+    def last_law(self) -> LatticeLaw:
         """Returns the law of the position, in cells below S, after the last review."""
 
 
 class Falling(Reviews):
     """Reviews if nothing comes back: all those of `falls`, of which the first `counted` matter for the stock."""
 
-    def __init__(self, falls: Falls, start: Start, gap: int, counted: int) -> None:
+    def __init__(self, falls: ReviewSums, start: Start, gap: int, counted: int) -> None:
         """Computes the chance that a review places an order, for each."""
         self.falls, self.gap, self.counted = falls, gap, counted
         self.low, its = min(start.law.low, 0), zip(start.law.cells.tolist(), start.law.chances.tolist())
@@ -66,7 +67,7 @@ class Falling(Reviews):
         self.placing = convolved(first, reciprocal(cycle, falls.count))[:falls.count]
         self.orders = float(self.placing.sum())
 
-    def _law(self, from_start: Floats, from_order: Floats) -> Law:
+    def _law(self, from_start: Floats, from_order: Floats) -> LatticeLaw:
         """Returns the sum of laws after 0, 1, .. reviews from the start and from an order, with these weights."""
         chances = np.zeros(self.gap - self.low + 1)
         chances[-self.low:] = self.falls.weighted(from_order)[:self.gap + 1]
@@ -74,14 +75,14 @@ class Falling(Reviews):
             after = self.falls.weighted(from_start)
             for cell, chance in self.begun:
                 chances[cell - self.low:] += chance * after[:self.gap - cell + 1]
-        return Law(self.low, np.clip(chances, 0, None))
+        return LatticeLaw(self.low, np.clip(chances, 0, None))
 
-    def mean_law(self) -> Law:
+    def mean_law(self) -> LatticeLaw:
         """Returns the law after one of the first reviews at random."""
         shares = np.full(self.counted, 1 / self.counted)
         return self._law(shares, np.cumsum(self.placing[:self.counted])[::-1] / self.counted)
 
-    def last_law(self) -> Law:
+    def last_law(self) -> LatticeLaw:
         """Returns the law after the last review."""
         return self._law(np.append(np.zeros(self.falls.count - 1), 1.0), self.placing[::-1])
 
@@ -92,7 +93,7 @@ class Moving(Reviews):
     For few cells, powers of the matrix of the moves take many reviews at once.
     """
 
-    def __init__(self, net: Law, start: Start, settled: Law, orders: float, periods: int, counted: int) -> None:
+    def __init__(self, net: LatticeLaw, start: Start, settled: LatticeLaw, orders: float, periods: int, counted: int) -> None:
         """Takes the net demand of a period, and the law and the orders of a review in the long run."""
         self.net, self.low, self.count = net, start.law.low, len(start.law.chances)
         self.places, self.settled = np.arange(self.count), np.zeros(self.count)
@@ -148,10 +149,10 @@ class Moving(Reviews):
             excess = self._moved(excess)
         return total, excess
 
-    def mean_law(self) -> Law:
+    def mean_law(self) -> LatticeLaw:
         """Returns the law after one of the first reviews at random."""
-        return Law(self.low, np.clip(self.mean, 0, None))
+        return LatticeLaw(self.low, np.clip(self.mean, 0, None))
 
-    def last_law(self) -> Law:
+    def last_law(self) -> LatticeLaw:
         """Returns the law after the last review."""
-        return Law(self.low, self.settled + self.last)
+        return LatticeLaw(self.low, self.settled + self.last)

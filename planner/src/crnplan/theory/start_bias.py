@@ -19,8 +19,8 @@ from typing import NamedTuple
 import numpy as np
 
 from ..scenario import Policy, Scenario
-from .falls import Falls
-from .laws import Law
+from .review_sums import ReviewSums
+from .lattice_law import LatticeLaw
 from .lattice import MOST_GAPS, has_room, late_work, lattice_of, shape_of, theory_on, values_of
 from .long_run import LongRun, exactness_of
 from .reviews import Falling, Moving, Reviews, Start
@@ -57,14 +57,14 @@ def start_of(theory: LongRun, initial: int, point: int, level: int, gap: int) ->
     """Returns the start of a policy. The law has room for what may come back."""
     highs = min(theory.positions(gap).low, 0)
     if initial < point:
-        return Start(Law(highs, np.concatenate([np.zeros(-highs), [1.0], np.zeros(gap)])), True)
+        return Start(LatticeLaw(highs, np.concatenate([np.zeros(-highs), [1.0], np.zeros(gap)])), True)
     cell, rest = divmod(level - initial, theory.step)
     low = min(cell, 0) + highs
     chances = np.zeros(max(gap, cell + 1) - low + 1)
     chances[cell - low] += (theory.step - rest) / theory.step
     chances[cell + 1 - low] += rest / theory.step
     chances[gap - low] += chances[gap - low + 1:].sum()
-    return Start(Law(low, chances[:gap - low + 1]), False)
+    return Start(LatticeLaw(low, chances[:gap - low + 1]), False)
 
 
 class Runs:
@@ -77,9 +77,9 @@ class Runs:
                        for it in scenario.policies for gap, _ in theory.gaps_of(it.s, it.S)}
         self.stock = StockBias(theory, scenario)
         widest = max(gap - min(start.law.low, 0) for (_, gap), start in self.starts.items())
-        self.falls: Falls | None = None
+        self.falls: ReviewSums | None = None
         if theory.net.low >= 0 and widest <= MOST_WIDTH:
-            self.falls = Falls(theory.net, widest, scenario.periods)
+            self.falls = ReviewSums(theory.net, widest, scenario.periods)
 
     def reviews(self, start: Start, gap: int) -> Reviews:
         """Returns the reviews from a start."""

@@ -2,7 +2,7 @@
 
 Let l be the shortest and L the longest lead time. In the first l periods no order of the run arrives, so their costs
 are the same for all policies. The stock in period t + l follows from the position after review t, from the orders of
-this and the reviews before that are late, and from the net demand since then (`overtaking.py`). From review L - l on,
+this and the reviews before that are late, and from the net demand since then (`renewal.py`). From review L - l on,
 its expected cost is linear in the law of the position L - l reviews before, so the mean law of all these suffices.
 """
 from __future__ import annotations
@@ -10,20 +10,21 @@ from __future__ import annotations
 import numpy as np
 from scipy import fft
 
+from ..chances import Floats, Whole
 from ..scenario import Policy, Scenario
-from .laws import NOTHING, Floats, Law, Surplus, Whole, power_of, room_for, sum_of
+from .lattice_law import NOTHING, LatticeLaw, Surplus, power_of, room_for, sum_of
 from .long_run import LongRun
-from .overtaking import renewed, transforms_of
+from .renewal import chances_of_leads, lateness, renewed, transforms_of
 from .reviews import Reviews, Start
 
 
-def difference(left: Law, right: Law) -> Law:
+def difference(left: LatticeLaw, right: LatticeLaw) -> LatticeLaw:
     """Returns the chances of a law less those of another one."""
     low, high = min(left.low, right.low), max(left.high, right.high)
     chances = np.zeros(high - low + 1)
     chances[left.low - low:left.high - low + 1] = left.chances
     chances[right.low - low:right.high - low + 1] -= right.chances
-    return Law(low, chances)
+    return LatticeLaw(low, chances)
 
 
 class StockBias:
@@ -35,13 +36,9 @@ class StockBias:
     def __init__(self, theory: LongRun, scenario: Scenario) -> None:
         """Computes the costs of the periods before the shortest lead time has passed."""
         self.theory, self.initial, self.periods = theory, scenario.initial, scenario.periods
-        lead = scenario.lead
-        leads = {value: weight / sum(lead.weights) for value, weight in zip(lead.values, lead.weights) if weight}
-        least, longest = min(leads), max(leads)
-        self.counted = max(self.periods - longest, 0)
-        # The chances that an order is late, by its age beyond the shortest lead time.
-        self.late = np.array([sum(chance for value, chance in leads.items() if value > least + age)
-                              for age in range(longest - least)])
+        leads = chances_of_leads(scenario.lead)
+        least, self.late = min(leads), lateness(leads)
+        self.counted = max(self.periods - max(leads), 0)
         amounts = [theory.net]
         while len(amounts) <= least:
             amounts.append(sum_of(amounts[-1], theory.net))
@@ -57,7 +54,7 @@ class StockBias:
         found: Floats = self.theory.holding * amount.left(levels) + self.theory.backlog * amount.lacking(levels)
         return found
 
-    def _excess(self, short: Law, level: int, usual: float) -> float:
+    def _excess(self, short: LatticeLaw, level: int, usual: float) -> float:
         """Returns what a period costs more than usual if the stock a shortest lead time before is so far below a level.
         """
         return float(short.chances @ (self._costs(self.amount, level - self.theory.step * short.cells) - usual))
@@ -73,7 +70,7 @@ class StockBias:
             total += (1 - late) * self._excess(law, policy.S, usual) + late * self._excess(law, self.initial, usual)
         return total
 
-    def _shortfalls(self, start: Law, deviation: Law, gap: int) -> list[Law]:
+    def _shortfalls(self, start: LatticeLaw, deviation: LatticeLaw, gap: int) -> list[LatticeLaw]:
         """Returns how far the stock is below S when all but late orders have arrived: the laws 0, 1, .. reviews after
         the start, and at last what a deviation of the position makes of it, after as many as orders may be late."""
         net, last = self.theory.net, len(self.late)
@@ -94,4 +91,4 @@ class StockBias:
             solved[time:time + 1] = its[0]
             found.append(its[-1])
         chances = np.roll(fft.irfft(found, room), above, axis=1)
-        return [start, *(Law(-above, it) for it in chances)]
+        return [start, *(LatticeLaw(-above, it) for it in chances)]

@@ -5,9 +5,10 @@ import math
 
 import numpy as np
 
+from ..chances import Floats
 from ..scenario import Scenario
-from .ladder import ladder, with_more_lows
-from .laws import NOTHING, Floats, Law, law_of, reflected, scaled, sum_of
+from .wiener_hopf import factors_of, renewal_sequence
+from .lattice_law import NOTHING, LatticeLaw, sum_of
 
 
 class Walk:
@@ -19,13 +20,13 @@ class Walk:
     def __init__(self, scenario: Scenario, step: int, exact: bool) -> None:
         """Makes the laws of the position. `exact` says that all demands and returns lie on the lattice."""
         self.step, self.exact = step, exact
-        self.demand = law_of(scenario.demand, step)
-        self.back = law_of(scenario.returns, step) if scenario.returns else NOTHING
-        self.net = sum_of(self.demand, reflected(self.back))
-        self.visits, self.falls = ladder(self.net)
+        self.demand = LatticeLaw.of(scenario.demand, step)
+        self.back = LatticeLaw.of(scenario.returns, step) if scenario.returns else NOTHING
+        self.net = sum_of(self.demand, self.back.reflected)
+        self.visits, self.falls = factors_of(self.net)
         self.span = float(self.visits.sum())
         self.lows: Floats = np.ones(1)
-        self.above_low = reflected(scaled(0, self.visits))
+        self.above_low = LatticeLaw.scaled(0, self.visits).reflected
 
     @property
     def deviation(self) -> float:
@@ -35,7 +36,7 @@ class Walk:
     def lows_of(self, gap: int) -> Floats:
         """Returns the chances of the places S, S - 1, .. to be a low of a cycle."""
         if gap >= len(self.lows):
-            self.lows = with_more_lows(self.lows, self.falls, gap + 1)
+            self.lows = renewal_sequence(self.lows, self.falls, gap + 1)
         return self.lows[:gap + 1]
 
     def periods(self, gap: int) -> float:
@@ -47,9 +48,9 @@ class Walk:
         lows = self.lows_of(gap)
         return float(lows @ np.arange(gap + 1) / lows.sum())
 
-    def positions(self, gap: int) -> Law:
+    def positions(self, gap: int) -> LatticeLaw:
         """Returns the law of how far the position after a review is below S."""
-        return sum_of(scaled(0, self.lows_of(gap)), self.above_low)
+        return sum_of(LatticeLaw.scaled(0, self.lows_of(gap)), self.above_low)
 
     def gap_of(self, point: int, level: int) -> int:
         """Returns the gap of a policy."""

@@ -1,4 +1,4 @@
-"""Computes with laws (probability distributions) of whole numbers: sums, tails and expected surpluses.
+"""Computes with laws of whole numbers on a lattice: sums, tails and expected surpluses.
 
 A law is counted in cells of `step` items. Levels of stock are counted in items. All figures are rounded and unproved.
 """
@@ -9,12 +9,10 @@ from functools import cached_property
 from typing import TypeVar
 
 import numpy as np
-import numpy.typing as npt
 
+from ..chances import Floats, Whole
 from ..scenario import Table
 
-Floats = npt.NDArray[np.float64]
-Whole = npt.NDArray[np.int64]
 Places = TypeVar("Places", int, Whole)
 
 LEAST_CHANCE = 1e-17
@@ -22,11 +20,29 @@ MOST_PRODUCTS = 50_000  # of a direct convolution; a transform is faster for mor
 
 
 @dataclass(frozen=True, eq=False)
-class Law:
+class LatticeLaw:
     """The chances of the cells low, low + 1, and so on."""
 
     low: int
     chances: Floats
+
+    @classmethod
+    def scaled(cls, low: int, chances: Floats) -> LatticeLaw:
+        """Returns the law with these chances, cut where its ends are all but impossible, and scaled to a sum of 1."""
+        chances = np.maximum(chances, 0)
+        kept = np.flatnonzero(chances > LEAST_CHANCE * chances.sum())
+        chances = chances[kept[0]:kept[-1] + 1]
+        return cls(int(low + kept[0]), chances / chances.sum())
+
+    @classmethod
+    def of(cls, table: Table, step: int) -> LatticeLaw:
+        """Returns the law of a table. A value between two cells is shared by both, such that the mean stays."""
+        chances = np.zeros(max(table.values) // step + 2)
+        for value, weight in zip(table.values, table.weights):
+            cell, rest = divmod(value, step)
+            chances[cell] += weight * (step - rest) / step
+            chances[cell + 1] += weight * rest / step
+        return cls.scaled(0, chances)
 
     @property
     def high(self) -> int:
@@ -48,31 +64,13 @@ class Law:
         """Returns the variance, in squared cells."""
         return float(self.chances @ (self.cells - self.mean)**2)
 
-
-NOTHING = Law(0, np.ones(1))
-
-
-def scaled(low: int, chances: Floats) -> Law:
-    """Returns the law with these chances, cut where its ends are all but impossible, and scaled to a sum of 1."""
-    chances = np.maximum(chances, 0)
-    kept = np.flatnonzero(chances > LEAST_CHANCE * chances.sum())
-    chances = chances[kept[0]:kept[-1] + 1]
-    return Law(int(low + kept[0]), chances / chances.sum())
+    @property
+    def reflected(self) -> LatticeLaw:
+        """Returns the law of the number with the other sign."""
+        return LatticeLaw(-self.high, self.chances[::-1])
 
 
-def law_of(table: Table, step: int) -> Law:
-    """Returns the law of a table. A value between two cells is shared by both, such that the mean stays."""
-    chances = np.zeros(max(table.values) // step + 2)
-    for value, weight in zip(table.values, table.weights):
-        cell, rest = divmod(value, step)
-        chances[cell] += weight * (step - rest) / step
-        chances[cell + 1] += weight * rest / step
-    return scaled(0, chances)
-
-
-def reflected(law: Law) -> Law:
-    """Returns the law of the number with the other sign."""
-    return Law(-law.high, law.chances[::-1])
+NOTHING = LatticeLaw(0, np.ones(1))
 
 
 def room_for(size: int) -> int:
@@ -92,12 +90,12 @@ def convolved(left: Floats, right: Floats) -> Floats:
     return np.fft.irfft(np.fft.rfft(left, room) * np.fft.rfft(right, room), room)[:size]
 
 
-def sum_of(left: Law, right: Law) -> Law:
+def sum_of(left: LatticeLaw, right: LatticeLaw) -> LatticeLaw:
     """Returns the law of the sum of two independent numbers."""
-    return scaled(left.low + right.low, convolved(left.chances, right.chances))
+    return LatticeLaw.scaled(left.low + right.low, convolved(left.chances, right.chances))
 
 
-def power_of(law: Law, count: int) -> Law:
+def power_of(law: LatticeLaw, count: int) -> LatticeLaw:
     """Returns the law of the sum of `count` independent numbers of one law."""
     total = NOTHING
     while count:
@@ -110,7 +108,7 @@ def power_of(law: Law, count: int) -> Law:
 class Surplus:
     """What is expected to be left of a level, and to be lacking, if a random amount is taken from it."""
 
-    def __init__(self, law: Law, step: int) -> None:
+    def __init__(self, law: LatticeLaw, step: int) -> None:
         """Sums up the law of the amount, so that each level takes one look."""
         self.law, self.step, self.mean = law, step, law.mean * step
         self.below = np.concatenate([[0], np.cumsum(law.chances)])

@@ -6,15 +6,15 @@ import pytest
 from hypothesis import given, settings
 from hypothesis import strategies as st
 
-from crnplan.theory.ladder import ladder, with_more_lows
-from crnplan.theory.laws import Law, law_of, reflected, sum_of
+from crnplan.theory.wiener_hopf import factors_of, renewal_sequence
+from crnplan.theory.lattice_law import LatticeLaw, sum_of
 
 from planner.tests.theory.scenarios import table
 
 MOST_HEIGHT = 300
 
 
-def walked(net: Law) -> tuple[np.ndarray, np.ndarray]:
+def walked(net: LatticeLaw) -> tuple[np.ndarray, np.ndarray]:
     """Returns how often each height above a low is visited before the next low, and the law of the fall to that low."""
     visits, falls, heights = np.zeros(MOST_HEIGHT), np.zeros(net.high + 1), {0: 1.0}
     while heights:
@@ -31,24 +31,24 @@ def walked(net: Law) -> tuple[np.ndarray, np.ndarray]:
     return visits, falls
 
 
-def error_of(net: Law) -> float:
-    """Returns how far the ladder is from the walk."""
+def error_of(net: LatticeLaw) -> float:
+    """Returns how far the factors are from the walk."""
     visits, falls = walked(net)
-    told, its_falls = ladder(net)
+    told, its_falls = factors_of(net)
     rest = visits[len(told):].max(initial=0.0)
     return max(abs(told[:MOST_HEIGHT] - visits[:len(told)]).max(), abs(its_falls - falls).max(), rest)
 
 
 def test_the_walk_with_returns() -> None:
-    back = reflected(law_of(table(([0, 1, 2], [5, 2, 1])), 1))
-    assert error_of(sum_of(law_of(table(([0, 1, 4], [3, 2, 2])), 1), back)) < 1e-9
+    back = LatticeLaw.of(table(([0, 1, 2], [5, 2, 1])), 1).reflected
+    assert error_of(sum_of(LatticeLaw.of(table(([0, 1, 4], [3, 2, 2])), 1), back)) < 1e-9
 
 
 @settings(max_examples=40)
 @given(st.lists(st.integers(0, 9), min_size=2, max_size=6), st.lists(st.integers(0, 2), min_size=1, max_size=3))
 def test_any_walk_that_falls(demand: list[int], back: list[int]) -> None:
-    down, up = (Law(0, np.array([9 - sum(its) % 3, *its]) / (sum(its) + 9 - sum(its) % 3)) for its in (demand, back))
-    net = sum_of(down, reflected(up))
+    down, up = (LatticeLaw(0, np.array([9 - sum(its) % 3, *its]) / (sum(its) + 9 - sum(its) % 3)) for its in (demand, back))
+    net = sum_of(down, up.reflected)
     if net.mean > 0.5:
         assert error_of(net) < 1e-9
 
@@ -59,5 +59,5 @@ def test_lows_are_a_renewal_sequence(weights: list[int], first: int, count: int)
     chances = [1.0]
     for place in range(1, first + count + 1):
         chances.append(sum(falls[it] * chances[place - it] for it in range(1, min(place, len(weights)) + 1)))
-    lows = with_more_lows(np.array(chances[:first + 1]), falls, first + count + 1)
+    lows = renewal_sequence(np.array(chances[:first + 1]), falls, first + count + 1)
     assert lows == pytest.approx(chances, abs=1e-14)

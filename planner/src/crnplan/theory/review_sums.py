@@ -8,7 +8,8 @@ import numpy as np
 import numpy.typing as npt
 from scipy import fft
 
-from .laws import Floats, Law, convolved, room_for
+from ..chances import Floats
+from .lattice_law import LatticeLaw, convolved, room_for
 
 LEAST_CHANCE = 1e-16  # Transforms round chances by about as much.
 LEAST_MASS = 1e-14  # Laws are left out whose chance to be within the width is less.
@@ -28,7 +29,7 @@ def reciprocal(series: Floats, count: int) -> Floats:
     return found
 
 
-class Falls:
+class ReviewSums:
     """The laws of the net demand of 0, 1, .. count - 1 reviews, up to the width, in cells.
 
     The law of i * m + j reviews is the product of that of i * m and that of j reviews. Only these two factors are kept,
@@ -36,7 +37,7 @@ class Falls:
     nonscalar multiplications necessary to evaluate polynomials, SIAM Journal on Computing 2, 1973).
     """
 
-    def __init__(self, net: Law, width: int, count: int) -> None:
+    def __init__(self, net: LatticeLaw, width: int, count: int) -> None:
         """Takes the law of the net demand of a review. It is never below 0, and not always 0."""
         self.size, self.count = width + 1, count
         self.room = room_for(2 * self.size - 1)

@@ -12,7 +12,8 @@ import math
 
 import numpy as np
 
-from .laws import Floats, Law
+from ..chances import Floats
+from .lattice_law import LatticeLaw
 
 DIGITS = 36  # e^-36 is below the rounding of a number.
 # Chances that differ by no more than this share are equal but for rounding. They are compared once in so many places.
@@ -20,7 +21,7 @@ EQUAL = 1e-13
 LOOK_EVERY = 64
 
 
-def decay_of(net: Law) -> float:
+def decay_of(net: LatticeLaw) -> float:
     """Returns the rate at which the chance of a height above the last low falls, from one cell to the next."""
     def excess(rate: float) -> float:
         """Returns the logarithm of the mean of e^(-rate * net demand)."""
@@ -37,14 +38,14 @@ def decay_of(net: Law) -> float:
     return low
 
 
-def cells_of_ladder(net: Law, decay: float) -> tuple[float, int]:
-    """Returns the tilt of the transforms in `ladder`, and how many cells they need."""
+def cells_of_factors(net: LatticeLaw, decay: float) -> tuple[float, int]:
+    """Returns the tilt of the transforms in `factors_of`, and how many cells they need."""
     tilt = min(decay / 2, 10 / net.high)
     need = max(2 * DIGITS / tilt, 2 * DIGITS / (decay - tilt), 4 * len(net.chances))
     return tilt, 1 << math.ceil(math.log2(need))
 
 
-def ladder(net: Law) -> tuple[Floats, Floats]:
+def factors_of(net: LatticeLaw) -> tuple[Floats, Floats]:
     """Returns how often each height above a low is visited before the next low, and the law of the fall to that low.
 
     Without returns, the only height is 0. With returns, these are the Wiener-Hopf factors of 1 less the transform of
@@ -56,7 +57,7 @@ def ladder(net: Law) -> tuple[Floats, Floats]:
         falls[net.low:] = net.chances / (1 - stay)
         falls[0] = 0.0
         return np.array([1 / (1 - stay)]), falls
-    tilt, room = cells_of_ladder(net, decay_of(net))
+    tilt, room = cells_of_factors(net, decay_of(net))
     tilted = np.zeros(room)
     tilted[net.cells % room] = net.chances * np.exp(-tilt * net.cells)
     logarithm = np.fft.ifft(np.log(1 - np.fft.fft(tilted))).real
@@ -71,7 +72,7 @@ def ladder(net: Law) -> tuple[Floats, Floats]:
     return visits[:kept], falls / falls.sum()
 
 
-def with_more_lows(lows: Floats, falls: Floats, count: int) -> Floats:
+def renewal_sequence(lows: Floats, falls: Floats, count: int) -> Floats:
     """Returns the chances that each of the first `count` places is a low of the walk. `lows` are the first of them.
 
     Each chance is a mean of as many chances before it as a fall has cells. So once these are equal, all others are.

@@ -7,16 +7,16 @@ from hypothesis import given
 from hypothesis import strategies as st
 
 from crnplan.scenario import Table
-from crnplan.theory.laws import (MOST_PRODUCTS, NOTHING, Law, Surplus, convolved, law_of, power_of, reflected, room_for,
-                                 sum_of)
+from crnplan.theory.lattice_law import (MOST_PRODUCTS, NOTHING, LatticeLaw, Surplus, convolved, power_of, room_for,
+                                        sum_of)
 
 chances = st.lists(st.integers(1, 1000), min_size=1, max_size=12)
-laws = st.builds(lambda low, weights: Law(low, np.array(weights) / sum(weights)), st.integers(-20, 20), chances)
+laws = st.builds(lambda low, weights: LatticeLaw(low, np.array(weights) / sum(weights)), st.integers(-20, 20), chances)
 tables = st.dictionaries(st.integers(0, 10_000), st.integers(0, 65_536), min_size=1, max_size=9).filter(
     lambda weights: any(weights.values())).map(Table.of)
 
 
-def as_dict(law: Law) -> dict[int, float]:
+def as_dict(law: LatticeLaw) -> dict[int, float]:
     """Returns the chance of each cell."""
     return dict(zip(law.cells.tolist(), law.chances.tolist()))
 
@@ -31,7 +31,7 @@ def direct_sum(left: dict[int, float], right: dict[int, float]) -> dict[int, flo
 
 
 @given(laws, laws)
-def test_a_sum_equals_the_direct_sum(left: Law, right: Law) -> None:
+def test_a_sum_equals_the_direct_sum(left: LatticeLaw, right: LatticeLaw) -> None:
     assert as_dict(sum_of(left, right)) == pytest.approx(direct_sum(as_dict(left), as_dict(right)), abs=1e-14)
 
 
@@ -47,14 +47,14 @@ def test_a_convolution_by_transform_equals_the_direct_sum(left: int, right: int)
 
 
 @given(laws)
-def test_a_law_reflected_twice_is_itself(law: Law) -> None:
-    twice = reflected(reflected(law))
+def test_a_law_reflected_twice_is_itself(law: LatticeLaw) -> None:
+    twice = law.reflected.reflected
     assert (twice.low, twice.chances.tolist()) == (law.low, law.chances.tolist())
-    assert as_dict(reflected(law)) == {-cell: chance for cell, chance in as_dict(law).items()}
+    assert as_dict(law.reflected) == {-cell: chance for cell, chance in as_dict(law).items()}
 
 
 @given(laws, st.integers(0, 7))
-def test_a_power_equals_repeated_sums(law: Law, count: int) -> None:
+def test_a_power_equals_repeated_sums(law: LatticeLaw, count: int) -> None:
     total = as_dict(NOTHING)
     for _ in range(count):
         total = direct_sum(total, as_dict(law))
@@ -64,7 +64,7 @@ def test_a_power_equals_repeated_sums(law: Law, count: int) -> None:
 
 @given(tables, st.integers(1, 700))
 def test_a_lattice_keeps_mean_and_sum(table: Table, step: int) -> None:
-    law = law_of(table, step)
+    law = LatticeLaw.of(table, step)
     assert law.mean * step == pytest.approx(float(table.mean), rel=1e-9, abs=1e-9)
     assert law.chances.sum() == pytest.approx(1)
     if all(value % step == 0 for value in table.values):
@@ -74,7 +74,7 @@ def test_a_lattice_keeps_mean_and_sum(table: Table, step: int) -> None:
 
 
 @given(laws, st.integers(1, 9), st.integers(-300, 300))
-def test_surpluses_equal_direct_sums(law: Law, step: int, level: int) -> None:
+def test_surpluses_equal_direct_sums(law: LatticeLaw, step: int, level: int) -> None:
     surplus, amounts = Surplus(law, step), {cell * step: chance for cell, chance in as_dict(law).items()}
     assert surplus.left(level) == pytest.approx(sum(max(level - it, 0) * p for it, p in amounts.items()), abs=1e-9)
     assert surplus.lacking(level) == pytest.approx(sum(max(it - level, 0) * p for it, p in amounts.items()), abs=1e-9)
@@ -83,7 +83,7 @@ def test_surpluses_equal_direct_sums(law: Law, step: int, level: int) -> None:
 
 
 @given(laws, st.integers(1, 9), st.floats(0.001, 0.999))
-def test_a_quantile_is_the_least_level(law: Law, step: int, share: float) -> None:
+def test_a_quantile_is_the_least_level(law: LatticeLaw, step: int, share: float) -> None:
     surplus = Surplus(law, step)
     level = surplus.quantile(share)
     assert level % step == 0
