@@ -30,6 +30,7 @@ CHAIN = {
     "crn_ring::laws::steps_are_a_run": "the running table, and the ring's moves",
     "crn_proto::laws::every_schedule": "what holds of every run",
     "crn_cipher::block": "the words of a block",
+    "crn_proto::laws::progress": "that the ring cannot stick, and when it ends",
 }
 IMPL = re.compile(r"impl\s*(?:<(?:[^<>]|<[^<>]*>)*>)?\s*(?:(\S+?)(?:<.*>)?\s+for\s+)?[&\s]*([\w:]+)", re.DOTALL)
 
@@ -194,8 +195,9 @@ def place_of(node):
 PAGE = """# Definitions
 
 What the contracts of [READING](READING.md) state, from the first contract down: {stated} of {all} definitions in `specs/`, each
-with its meaning. A mistake in one of these could change what the sentence at the head of [README](../README.md) says; a
-mistake in another can only make a proof fail. `tools/definitions.py page` writes this page.
+with its meaning. A mistake in one of these could change what the sentence at the head of [README](../README.md) says, and in
+one of the last contract what README says of progress; a mistake in another can only make a proof fail.
+`tools/definitions.py page` writes this page.
 """
 KEPT = """
 ## By invariants alone

@@ -8,4 +8,5 @@ pub mod Views
 pub mod Laws
 pub mod Machine
 pub mod Traces
+pub mod Progress
 pub mod Inner

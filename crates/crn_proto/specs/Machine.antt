@@ -28,9 +28,11 @@ machine_of spec words published ended passed stored takers =
 
 -- ---- before any step
 
+-- where each reader stands
 abbrev pub open_taker : RingSpec → Taker
 open_taker spec = record { taken = spec.id.first; left = false; seen_end = false; reading = false; read = 0 }
 
+-- the machine as a ring is opened
 abbrev pub open_machine : RingSpec → MachineState
 open_machine spec = record {
   spec = spec;
@@ -156,12 +158,14 @@ IsActor spec Finish = Unit {0}
 IsActor spec (Reader r) = r < spec.readers
 IsActor spec (Leave r) = r < spec.readers
 
--- ---- a schedule: the machine after the actors' steps in turn, and the answers
+-- ---- a schedule
 
+-- the machine after the actors' steps in turn
 abbrev pub machine_after : MachineState → List Actor → MachineState
 machine_after m [] = m
 machine_after m (who ∷ actors) = machine_after (machine_steps m who).0 actors
 
+-- the steps that they took, or None
 abbrev pub machine_answers : MachineState → List Actor → List (Option Step)
 machine_answers m [] = []
 machine_answers m (who ∷ actors) = (machine_steps m who).1 ∷ machine_answers (machine_steps m who).0 actors

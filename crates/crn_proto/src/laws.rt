@@ -2,6 +2,7 @@
 
 ghost use Rattle.crn_proto.specs.Laws.{EveryRunShowsABroadcast, EveryRunIsLawful, NoUnreadSlotIsWritten, WhatIsTakenWasRead, NothingFollowsTheEnd};
 ghost use Rattle.crn_proto.specs.Traces.{EveryReplayIsARun};
+ghost use Rattle.crn_proto.specs.Progress.{NeverStuck, StoresAreBounded, ProgressIsBounded, EndsByRounds};
 
 /// States what holds under every schedule of single loads and stores, with batches of every length and with gates
 /// remembered from any earlier load. The ring shows a broadcast list, and its words and all parts are lawful. No slot is
@@ -19,4 +20,19 @@ pub fn every_schedule()
 /// the state that this run leads to.
 pub fn every_replay()
     ensures { EveryReplayIsARun }
+{}
+
+/// States that a machine's ring cannot stick, and when it ends, whatever actors take turns. A turn is progress if it
+/// stores a word of the ring, or if a reader sees the end mark by it.
+///
+/// As long as not all have finished, some actor makes progress in its next turns: the producer in `readers + 1`, a reader
+/// in `BLOCK_WORDS + 2`. With n blocks to publish a run has at most `(BLOCK_WORDS + 1) * n + 1 + readers * (n + 1)`
+/// stores, with batches of every length. In a round each actor that has not finished has its turns, in any order: the
+/// producer `readers + BLOCK_WORDS + 1`, a reader `BLOCK_WORDS + 2`. After n + 2 rounds the end is marked, and each reader
+/// has seen it or has left. On one slot there is one more between two blocks.
+pub fn progress()
+    ensures never_stuck { NeverStuck }
+    ensures stores_are_bounded { StoresAreBounded }
+    ensures progress_is_bounded { ProgressIsBounded }
+    ensures ends_by_rounds { EndsByRounds }
 {}
