@@ -12,14 +12,14 @@ from tests.runs import TOP
 from tools.edits import FOLDERS, Edit, crates, edits_of
 
 LISTED = {name: below.split() for name, below in re.findall(r"^(\w+):(.*)$", text_of("crates.txt"), re.MULTILINE)}
-ROWS = dict(re.findall(r"^\| `((?:crn|tests_|uses)[a-z_]*)` \|[^|]*\|([^|]*)\|", text_of("docs/ARCHITECTURE.md"),
-                       re.MULTILINE))
+# The table of crates stands above that of crnplan's packages.
+CRATES = text_of("docs/ARCHITECTURE.md").partition("| Module | Contents |")[0]
+ROWS = dict(re.findall(r"^\| `((?:crn|tests_|uses)[a-z_]*)` \|[^|]*\|([^|]*)\|", CRATES, re.MULTILINE))
 # What the program gives out. Each is defined in a crate below it, so main.rt compiles only if it is there.
 PROGRAM_NAMES = {"simulate", "leg", "resume", "migrate", "replay_run", "read_words", "Command", "Fault"}
 # Names in pages that stand for any of their kind.
 STANDING_FOR_ANY = {"crn_x", "tests_x", "tests_ring_tests", "what_it_does_wrong"}
-ENGINEERS = ["docs/CALLING.md", "docs/CHANGING.md", "docs/ARCHITECTURE.md", "docs/PROOFS.md", "docs/READING.md",
-             "CONTRIBUTING.md"]
+ENGINEERS = ["docs/CALLING.md", "docs/ARCHITECTURE.md", "docs/PROOFS.md", "docs/READING.md", "CONTRIBUTING.md"]
 EDITS = [it for crate in crates() for folder in FOLDERS for it in edits_of(crate, folder)]
 SENTENCES = Counter(it.what for it in EDITS)
 
