@@ -367,3 +367,14 @@ def test_command_run(program: Path, crnplan: Command, tmp_path: Path) -> None:
     assert report.output.splitlines()[3].startswith("low,1,2,")
     answer = crnplan("run", path, "--program", program, "--json")
     assert '"diff_total": 74,\n    "diff_mean": "74/1",\n    "diff_var": null' in answer.output
+
+
+@pytest.mark.parametrize("name", ["demand", "lead", "returns"])
+def test_a_changed_law_that_is_none(name: str) -> None:
+    """A law is named in its fault, whichever it is, and None is no returns."""
+    scenario = Scenario.parse(COMMENTED).changed(returns={0: 1, 1: 1})
+    for law, what in (("x", "entry 1"), ({1: 0.5}, "weight of 1"), ({0.5: 1}, "value"), ([2, 1.5], "entry 2")):
+        with pytest.raises(Refused, match=f"^{name}: {what}: "):
+            scenario.changed(**{name: law})
+    if name == "returns":
+        assert scenario.changed(returns=None).returns is None

@@ -13,7 +13,7 @@ from hypothesis import given, settings
 from hypothesis import strategies as st
 
 from crnplan.curve.candidates import DEARER_ORDERS, DEARER_STOCK, PRICES, VARIANTS, candidates_of, variants_of
-from crnplan.curve.exchange import Budget, Dearer, Items, Ladder, chosen_by, gap_of
+from crnplan.curve.exchange import Budget, Dearer, Items, Ladder, Point, chosen_by, gap_of
 from crnplan.curve.hull import lower_hull, slopes
 from crnplan.plan.planned import read_planned
 from crnplan.plan.planning import question_of, theory_of
@@ -123,6 +123,26 @@ def test_bound_against_every_choice(seed: int) -> None:
         assert best <= its.cost * (1 + 1e-9) <= best * (1 + found.gap) * (1 + 1e-6)
         tested += 1
     assert tested >= 7
+
+
+@pytest.mark.parametrize("scarce", ["nothing", "orders", "stock"])
+@pytest.mark.parametrize("seed", range(3))
+def test_each_bound_against_every_choice(seed: int, scarce: str) -> None:
+    """Says of any point, whatever orders or stock cost, no more than the best of all choices costs that have its
+    service and no more orders or stock; and at most so much less that the bound is worth something."""
+    source = np.random.default_rng(50 + seed)
+    answers, points = zip(*(made_item(source, 9) for _ in range(4)))
+    items = Items.of([(str(place), its, 1.0) for place, its in enumerate(answers)])
+    values, unmet, orders, cost = every_choice(list(answers), list(points)).T
+    used = {"nothing": None, "orders": orders, "stock": values}[scarce]
+    bounds = []
+    for place in source.integers(len(cost), size=60):
+        point = Point(values[place], 1 - unmet[place] / items.asked, orders[place], cost[place])
+        kept = unmet <= unmet[place] * (1 + 1e-9)
+        kept &= True if used is None else used <= used[place] * (1 + 1e-9)
+        asked = [Dearer()] if used is None else [Dearer(**{scarce: it}) for it in np.geomspace(0.01, 4, 12)]
+        bounds.append(max(items.least_cost(point, it) for it in asked) / cost[kept].min())
+    assert max(bounds) <= 1 + 1e-9 and np.median(bounds) > 0.8
 
 
 @pytest.mark.parametrize("seed", range(4))

@@ -267,3 +267,24 @@ def test_a_cluster_that_loses_a_worker(folder: Path, drawn: Path, holding: Path,
     finally:
         cluster.end_all()
     assert cluster.have_all_ended()
+
+
+@pytest.mark.timeout(2 * SECONDS)
+def test_a_cluster_whose_scheduler_ends(folder: Path, whole: Path, crnplan: Command, holding: Path) -> None:
+    """Ends the scheduler in the middle: a status and one line, no table of a part of the items, and the plan goes on."""
+    cluster = Cluster(folder)
+    try:
+        cluster.open(hidden=False)
+        cluster.start("driver", "-m", "crnplan", *PLAN[0], "--program", str(holding), "--cluster", cluster.address,
+                      hidden=False)
+        cluster.wait_until("the first batch", lambda: kept(folder) >= 1, "driver")
+        cluster.end("scheduler")
+        (folder / "go_on").touch()
+        assert cluster.wait_for_end("driver") not in (0, 1), cluster.last_words("driver")
+        errors = (folder / "driver.errors").read_text("utf-8")
+        lines = [it for it in errors.splitlines() if it.startswith("crnplan:")]
+        assert len(lines) == 1 and f"--cluster {cluster.address}: " in lines[0], errors
+        assert kept(folder) < FEW and not (folder / "plan" / "decisions.csv").exists()
+    finally:
+        cluster.end_all()
+    assert goes_on(folder, whole, crnplan, holding)[1] >= 1

@@ -72,6 +72,18 @@ def test_theory_beside_is_that_of_a_chain(report: LongRunReport) -> None:
     assert report.decide().frame.loc["more", "theory_cost"] == pytest.approx(exact["more"])
 
 
+@pytest.mark.parametrize("returns", [None, {0: 3, 1: 1, 2: 1}], ids=["none", "returns"])
+def test_what_items_cost_is_left_out(returns: dict[int, int] | None, program: Path) -> None:
+    """In the long run each policy buys what is asked for less what comes back, whatever an item costs: a run of so
+    many periods differs from that by less than the stock of its end."""
+    asked = PART.changed(returns=returns, periods=60)
+    free, priced = (by_name(corrected_decision(its.run(program=program).rows, its))
+                    for its in (asked, asked.changed(costs={"unit": 10})))
+    for name, row in free.items():
+        assert priced[name].cost == pytest.approx(row.cost, abs=10 * 0.05 * float(asked.demand.mean))
+        assert priced[name].theory_cost == pytest.approx(row.theory_cost)
+
+
 @pytest.mark.parametrize("unit", [0, 3])
 def test_corrected_costs_are_less_the_bias_of_a_chain(unit: int, program: Path) -> None:
     asked = replace(PART, costs=replace(PART.costs, unit=unit))

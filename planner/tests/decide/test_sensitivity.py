@@ -11,6 +11,7 @@ import pytest
 from hypothesis import given
 from hypothesis import strategies as st
 
+import crnplan as crn
 from crnplan.decide.sensitivity import changed_demand
 from crnplan.scenario import Table
 from planner.tests.conftest import Command
@@ -72,6 +73,15 @@ def test_regrets_are_those_of_runs(program: Path, owing: str, shown: Rows, case:
         row = shown[policy]
         assert float(row[case[0]]) == pytest.approx(total - min(totals), abs=1e-5)
         assert float(row[f"{case[0]}_percent"]) == pytest.approx(100 * (total / min(totals) - 1), abs=1e-4)
+
+
+def test_cheapest_of_each_case(top: Path, program: Path) -> None:
+    """Of many policies the one that is named has the least cost of its case, which is not the same in all cases."""
+    found = crn.sensitivity(crn.Scenario.read(top / "examples/case/scenario.toml"), program=program)
+    named = {case: name for case, name, _ in found.cheapest}
+    assert len({*named.values()}) > 1 and len(named) == 6
+    for case, name in named.items():
+        assert found.frame[case].idxmin() == name and found.frame[case].min() == 0
 
 
 def test_ranks_by_the_greatest_regret(program: Path, owing: str, shown: Rows) -> None:

@@ -431,6 +431,14 @@ def test_drawn_laws_spread(known: Prior) -> None:
     assert shares.std() == pytest.approx(deviation, rel=0.1)
 
 
+def test_share_and_sizes_are_drawn_apart(known: Prior) -> None:
+    """How often something is asked for says nothing of how much, in the laws that a long history allows."""
+    drawn = borrowed_laws(known, history(5, 300), times=1_000).laws
+    shares = np.array([1 - it.weights[0] / sum(it.weights) for it in drawn])
+    sizes = np.array([float(it.mean) for it in drawn]) / shares
+    assert abs(np.corrcoef(shares, sizes)[0, 1]) < 4 / math.sqrt(1_000)
+
+
 def test_units() -> None:
     """A prior is kept in whole units, none of which is 0, so that no law is impossible."""
     chances = np.zeros(em.FLAT.shape)

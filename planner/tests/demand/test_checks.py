@@ -1,6 +1,7 @@
 """Tests of the checks of a history: planted effects, notes, what is said to be seen, and the lines for planners."""
 from __future__ import annotations
 
+import bisect
 import math
 import time
 from collections.abc import Sequence
@@ -301,6 +302,25 @@ def test_outliers() -> None:
     assert outliers_of([24, 30, 36, 30] * 10 + [540], 6) == [540]
     assert outliers_of([1] * 60 + [2], 1) == [] and outliers_of([12] * 60 + [24], 12) == []
     assert outliers_of([1] * 8 + [900], 1) == []  # too few
+
+
+@pytest.mark.parametrize("seed", range(12))
+def test_the_least_outlier(seed: int) -> None:
+    """A demand is far above all others from a size on that is computed here, in pieces of which 1,000 are a pack."""
+    others = np.random.default_rng(seed).geometric(0.55, 12 + 2 * seed)
+    def is_far(demand: int) -> bool:
+        """Returns whether it is, by the test of Rosner with a variance of 1/12 of a pack for its rounding."""
+        packs = np.append(others, demand / 1_000)
+        logarithms = np.log(packs)
+        deviation = math.sqrt(np.var(logarithms, ddof=1) + np.mean(1 / 12 / packs**2))
+        quantile = stats.t.ppf(1 - 0.01 / len(packs), len(packs) - 2)
+        bound = (len(packs) - 1) * quantile / math.sqrt(len(packs) * (len(packs) - 2 + quantile**2))
+        return bool(logarithms.max() - logarithms.mean() > bound * deviation)
+    near = int(1_000 * others.max())
+    least = near + bisect.bisect_left(range(near, 1_000 * near), True, key=is_far)
+    assert least > near and not is_far(least - 1)
+    found = [outliers_of([*(1_000 * others).tolist(), it], 1_000) for it in (least - 1, least)]
+    assert found == [[], [least]]
 
 
 @pytest.mark.parametrize("numbers", [[5], [0, 1], [3] * 30, [0] * 30], ids=["one", "two", "constant", "zeros"])

@@ -89,6 +89,8 @@ def test_tables_are_those_of_the_files(caption: str, long_run: Path) -> None:
 def test_intervals_are_those_of_the_files(title: str, name: str, long_run: Path) -> None:
     """Each difference stands in a table, and is the label of its picture with both ends."""
     page, rows = page_of(long_run), rows_of(long_run, name)
+    base, = (it for it, row in rows.items() if row["verdict"] == "base")
+    assert f"difference from {base}" in page.tables[title][0]
     shown = {cells[0].split("(")[0]: cells[-1] for cells in page.tables[title][1:-1]}
     assert shown == {it: f"{money(row['diff'])}{row['verdict']}" for it, row in rows.items()}
     for it, row in rows.items():
@@ -115,6 +117,18 @@ def test_pictures_say_their_figures(long_run: Path) -> None:
         said = f"{name}: from {min(its)} to {max(its)}, {sum(its) / len(its):.1f} in the mean, items owed at the end of"
         text = page.pictures["Stock at the end of each week of one run"]
         assert f"{said} {owed} weeks".replace("-", "\u2212") in text
+
+
+def test_picture_of_the_law_whatever_the_order(room: Path, plan: Plan) -> None:
+    """The picture of the law is that of a history in another order, though its weeks are others."""
+    pictures = []
+    for number, lines in enumerate(2 * [(room / "history.csv").read_text().splitlines()]):
+        (room / "history.csv").write_text("\n".join([lines[0], *lines[:0:-1]] if number else lines) + "\n")
+        plan(f"plan_{number}")
+        text = (room / f"plan_{number}/summary.html").read_text()
+        pictures.append(re.findall(r"<figure.*?</figure>", text, re.DOTALL)[:2])
+    assert pictures[0][1] == pictures[1][1] and "as it was seen" in pictures[0][1]
+    assert pictures[0][0] != pictures[1][0]
 
 
 def test_policy_allows_what_stands_in_the_page(long_run: Path) -> None:
