@@ -1,7 +1,7 @@
 """The ring's protocol as a second program, which shares no line with crnsim, and a search over all schedules.
 
-It is written from docs/ARCHITECTURE.md and docs/FORMATS.md. It holds no words of blocks, since no turn depends on what
-they hold. For the same reason the search may take blocks of one word, on which a ring has few states.
+It is written from docs/ARCHITECTURE.md and docs/FORMATS.md. It keeps no words of blocks, since no turn depends on what
+they are. For the same reason the search may take blocks of one word, with which a ring has few states.
 
 Actors are named as in a schedule: `p`, `e`, `r0`, `l0`.
 """
@@ -30,6 +30,8 @@ class Reader(NamedTuple):
     taken: int
     cursor: int
     stage: int
+    # The blocks of the batch that it reads.
+    batch: int = 0
 
     @property
     def has_left(self) -> bool:
@@ -55,6 +57,11 @@ class State(NamedTuple):
     passed: int
     stored: int
     readers: tuple[Reader, ...]
+    # With batches: the blocks of the one that is being stored, the least count that is remembered, and that of the
+    # cursors loaded since.
+    batch: int = 0
+    least: int = 0
+    loaded: int = LEFT_MARK
 
     def with_reader(self, number: int, reader: Reader) -> State:
         """Returns the state with one reader changed."""
@@ -208,6 +215,58 @@ class Protocol:
                 return number
             states = self.round_ends(states, turns or self.turns_a_round())
         return None
+
+
+@dataclass(frozen=True)
+class Batches(Protocol):
+    """A ring whose actors publish, and take, batches of at most so many blocks, as the program's threads do.
+
+    The producer remembers the least count that it has loaded. It loads cursors only if that leaves too little room.
+    """
+
+    most: int
+
+    def producer_turn(self, state: State) -> tuple[State, Step]:
+        """Returns what a turn `p` leads to."""
+        published, passed = state.published, state.passed
+        wanted = min(self.most, self.blocks - published)
+        if state.ended or not wanted:
+            return super().producer_turn(state)
+        if state.batch and state.stored == self.words * state.batch:
+            published += state.batch
+            return state._replace(published=published, stored=0, batch=0), ("P3", 0, 2 * published)
+        if state.batch:
+            return state._replace(stored=state.stored + 1), ("P2", 0, None)
+        if not passed and published + wanted <= state.least + self.size:
+            return state._replace(batch=wanted, stored=1), ("P2", 0, None)
+        if passed < self.readers:
+            cursor = state.readers[passed].cursor
+            if not self.lets_in(published, state.readers[passed]):
+                return state._replace(passed=0, least=cursor, loaded=LEFT_MARK), ("P1", 1 + passed, cursor)
+            return state._replace(passed=passed + 1, loaded=min(state.loaded, cursor)), ("P1", 1 + passed, cursor)
+        batch = min(wanted, state.loaded + self.size - published)
+        return state._replace(passed=0, least=state.loaded, loaded=LEFT_MARK, batch=batch, stored=1), ("P2", 0, None)
+
+    def finish_turn(self, state: State) -> tuple[State, Step]:
+        """Returns what a turn `e` leads to."""
+        return (state, None) if state.batch else super().finish_turn(state)
+
+    def reader_turn(self, state: State, number: int) -> tuple[State, Step]:
+        """Returns what a turn `r` of a reader leads to."""
+        it = state.readers[number]
+        if it.stage < READS:
+            after, step = super().reader_turn(state, number)
+            batch = min(self.most, state.published - it.taken)
+            return after.with_reader(number, after.readers[number]._replace(batch=batch)), step
+        if it.stage - READS < self.words * it.batch:
+            return state.with_reader(number, it._replace(stage=it.stage + 1)), ("R2", 0, None)
+        taken = it.taken + it.batch
+        return state.with_reader(number, Reader(taken, taken, RESTS)), ("R3", 1 + number, taken)
+
+    def turns_a_round(self) -> Counts:
+        """Returns the turns of a round, by which the producer publishes a batch and a reader takes one."""
+        words = self.words * self.most
+        return (self.readers + words + 1, *(words + 2,) * self.readers)
 
 
 def trace_of(protocol: Protocol, schedule: Schedule) -> Iterator[list[str]]:

@@ -11,7 +11,7 @@ from pathlib import Path
 
 import pytest
 
-from tests.program.protocol import Protocol, Reader, Schedule, State, trace_of
+from tests.program.protocol import Batches, Protocol, Reader, Schedule, State, trace_of
 from tests.runs import run
 
 WORDS = 12
@@ -58,6 +58,9 @@ class EndsOnceOneHasLeft(Protocol):
         return any(it.has_left for it in readers) and all(it.has_left or it.taken == state.published for it in readers)
 
 
+WRONG = [WaitsForOneThatLeft, KeepsASlotFree, KeepsTheLastBlock, NeverLoadsAnew, EndsOnceOneHasLeft]
+
+
 @pytest.mark.parametrize("ring", ROUNDS, ids=str)
 def test_rounds(ring: tuple[int, int, int, int]) -> None:
     """Under every schedule all have finished after these rounds, and under some not before."""
@@ -74,7 +77,15 @@ def test_a_turn_fewer(fewer: tuple[int, int]) -> None:
     assert needed is not None and needed > ROUNDS[ring]
 
 
-@pytest.mark.parametrize("wrong", Protocol.__subclasses__(), ids=lambda it: it.__name__)
+@pytest.mark.parametrize("ring", [(2, 2, 2, 1), (2, 1, 4, 1), (4, 1, 5, 1), (1, 1, 3, 1)], ids=str)
+def test_batches(ring: tuple[int, int, int, int]) -> None:
+    """With batches of two blocks and remembered counts, which the law leaves out, these rings end in its rounds too."""
+    size, _, blocks, _ = ring
+    needed = Batches(*ring, 2).rounds_needed()
+    assert needed is not None and needed <= blocks + 2 + (blocks - 1 if size == 1 else 0)
+
+
+@pytest.mark.parametrize("wrong", WRONG, ids=lambda it: it.__name__)
 def test_wrong_protocols(wrong: type[Protocol]) -> None:
     """Under some schedule a wrong protocol never ends on one slot. On two it takes more rounds, or never ends."""
     assert wrong(1, 2, 2, 1).rounds_needed() is None
