@@ -6,7 +6,6 @@ Both get the same whole law of demand, that of the plan. If crnplan counts deman
 from __future__ import annotations
 
 import contextlib
-import json
 import time
 from collections.abc import Callable, Iterator, Sequence
 from pathlib import Path
@@ -15,10 +14,14 @@ from typing import Any, NamedTuple, TypeVar
 import numpy as np
 import pandas as pd
 
-from crnplan.plan.learning import prior_of
-from crnplan.plan.planning import ALL, Question, Settings, question_of, theory_of
+from crnplan.plan.answer import Answer
+from crnplan.plan.folder import ANSWERS
+from crnplan.plan.learning import learned_of
+from crnplan.plan.question import ALL, Question, Settings, question_of
 from crnplan.records.catalogue_reading import Words, read_alone
-from crnplan.records.store import CATALOGUE, Catalogued
+from crnplan.records.catalogued import CATALOGUE, Catalogued
+from crnplan.records.item import Item
+from crnplan.stored import Store
 from crnplan.plan.workers import answers_of, processes
 from crnplan.demand.borrowing import Prior
 from crnplan.files import own_folder
@@ -72,7 +75,7 @@ def compared(question: Question, kind: str) -> Compared:
 
     def plan() -> tuple[int, tuple[int, int]]:
         """Returns the step of crnplan's theory, and its best policy."""
-        theory = theory_of(question, SETTINGS)
+        theory = question.theory()
         best = theory.best()
         return theory.step, (best.point, best.level)
     ours, (step, policy) = timed(plan)
@@ -87,16 +90,15 @@ def is_comparable(question: Question) -> bool:
     return question.has_backlog and question.returns is None and len(leads) == 1
 
 
-def compared_batch(batch: Sequence[tuple[str, str]], prior: Prior) -> list[Compared]:
+def compared_batch(batch: Sequence[Item], prior: Prior) -> list[Compared]:
     """Compares both on those of some items that both can plan."""
-    facts = [(name, json.loads(text)) for name, text in batch]
-    questions = [(question_of(name, its, SETTINGS, prior), its["class"]) for name, its in facts]
-    return [compared(question, kind) for question, kind in questions if is_comparable(question)]
+    questions = [question_of(item, SETTINGS, prior) for item in batch]
+    return [compared(question, question.item.group) for question in questions if is_comparable(question)]
 
 
-def batches_of(read: Catalogued, prior: Prior) -> Iterator[tuple[list[tuple[str, str]], Prior]]:
+def batches_of(read: Catalogued, prior: Prior) -> Iterator[tuple[list[Item], Prior]]:
     """Yields items, some at a time."""
-    items = [*read.facts_of_items()]
+    items = [*read.items()]
     for start in range(0, len(items), BATCH):
         yield items[start:start + BATCH], prior
 
@@ -106,8 +108,8 @@ def compare(folder: Path, items: int, jobs: int) -> list[Compared]:
     made, plan = make(folder / "files", items), folder / "plan"
     path = read_alone(plan, made.paths, Words())
     with (own_folder(plan, CATALOGUE) as own, contextlib.closing(Catalogued(path)) as read,
-          processes(jobs) as workers):
-        prior, *_ = prior_of(own, read, SETTINGS, False)
+          contextlib.closing(Store(own.store(ANSWERS), Answer)) as answers, processes(jobs) as workers):
+        prior = learned_of(answers, read, SETTINGS, False).prior
         return [it for its in answers_of(workers, compared_batch, batches_of(read, prior)) for it in its]
 
 

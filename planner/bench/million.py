@@ -18,10 +18,10 @@ import click
 
 from crnplan.curve.exchange import Items
 from crnplan.curve.gathering import CANDIDATES, gather
-from crnplan.pages.report import PAGE
-from crnplan.plan.planned import read_planned
-from crnplan.records.store import ANSWERS, CATALOGUE, READ, Catalogued
-from crnplan.plan.tables import DECISIONS, EXACT
+from crnplan.pages.catalogue_tables import DECISIONS, EXACT, planned_of
+from crnplan.pages.exports import PAGE
+from crnplan.plan.folder import ANSWERS, PlannedFolder, planned_folder
+from crnplan.records.catalogued import CATALOGUE, READ
 from crnplan.files import own_folder
 from planner.bench.made import Made
 from planner.bench.page import ARRAYS, FIRST_PASS, LOOP, SENT, TRANSACTIONS, million_table
@@ -32,10 +32,12 @@ from planner.bench.stored import circumstances, keep
 Measured = tuple[str, float, str]
 
 
-def mean_bytes(path: Path, column: str, table: str) -> float:
-    """Returns the mean bytes of a column of texts."""
+def row_bytes(path: Path, table: str) -> float:
+    """Returns the mean bytes of a row of a table, as texts."""
     with contextlib.closing(sqlite3.connect(path)) as base:
-        (mean,) = base.execute(f"SELECT avg(length(CAST({column} AS BLOB))) FROM {table}").fetchone()
+        names = [name for _, name, *_ in base.execute(f"PRAGMA table_info({table})")]
+        total = " + ".join(f'coalesce(length(CAST("{name}" AS BLOB)), 0)' for name in names)
+        (mean,) = base.execute(f"SELECT avg({total}) FROM {table}").fetchone()
     return float(mean)
 
 
@@ -44,38 +46,38 @@ def array_bytes(items: Items) -> int:
     return sum(getattr(its, "nbytes", 0) for its in vars(items).values())
 
 
-def bytes_of(folder: Path, items: int) -> Iterator[Measured]:
+def bytes_of(plan: PlannedFolder, items: int) -> Iterator[Measured]:
     """Yields what is sent and kept for an item."""
+    folder = plan.path
     sent, plans, curve = folder / READ, folder / ANSWERS, folder / CANDIDATES
     facts, answer, candidates = SENT
-    yield facts, mean_bytes(sent, "facts", "items"), "bytes an item"
-    yield "what was learned, with each batch", len(pickle.dumps(read_planned(folder).prior)), "bytes"
-    yield answer, mean_bytes(plans, "answer", "answers"), "bytes an item"
-    yield candidates, mean_bytes(curve, "answer", "answers"), "bytes an item"
+    yield facts, row_bytes(sent, "items"), "bytes an item"
+    yield "what was learned, with each batch", len(pickle.dumps(plan.planned.prior)), "bytes"
+    yield answer, row_bytes(plans, "answers"), "bytes an item"
+    yield candidates, row_bytes(curve, "answers"), "bytes an item"
     for path in (sent, plans, curve, folder / DECISIONS, folder / EXACT):
         yield f"{path.name}, on disk", path.stat().st_size / items, "bytes an item"
     yield f"{PAGE}, up to 5,000 items", (folder / PAGE).stat().st_size / items, "bytes an item"
 
 
-def rates_of(folder: Path, read: Catalogued) -> Iterator[Measured]:
+def rates_of(plan: PlannedFolder) -> Iterator[Measured]:
     """Yields how fast the main process of a planned folder sends out items and keeps answers."""
-    text = int(mean_bytes(folder / ANSWERS, "answer", "answers")) * "x"
-    yield TRANSACTIONS, transactions(folder, text), "a second"
-    for where, rate in loop_rates(folder, read, read_planned(folder), text):
+    _, answer = next(planned_of(plan))
+    yield TRANSACTIONS, transactions(plan.path, answer), "a second"
+    for where, rate in loop_rates(plan.path, plan.read, plan.planned, answer):
         yield f"{LOOP}, with {where}", rate, "items a second"
 
 
 def measured_of(folder: Path) -> Iterator[Measured]:
     """Yields what each figure is, the figure and its unit."""
-    plan = folder / PLAN
-    with contextlib.closing(Catalogued(plan / READ)) as read:
-        rows, items = read.fact("counts")["files"]["demand"]["read"], sum(1 for _ in read.facts_of_items())
-        yield FIRST_PASS, 1e6 * split_seconds(plan, Made(folder / FILES).paths) / rows, "µs a row"
+    with planned_folder(folder / PLAN) as plan:
+        rows, items = plan.counts["files"]["demand"]["read"], sum(1 for _ in plan.read.names())
+        yield FIRST_PASS, 1e6 * split_seconds(plan.path, Made(folder / FILES).paths) / rows, "µs a row"
         yield from bytes_of(plan, items)
-        yield from rates_of(plan, read)
-    start = time.process_time()
-    with own_folder(plan, CATALOGUE) as own:
-        gathered = gather(own, read_planned(plan), 1, None, False)
+        yield from rates_of(plan)
+        start = time.process_time()
+        with own_folder(plan.path, CATALOGUE) as own:
+            gathered = gather(own, plan, 1, None, False)
     yield "reading all candidates", 1e6 * (time.process_time() - start) / items, "µs an item"
     yield ARRAYS, array_bytes(gathered.items) / len(gathered.items.names), "bytes an item"
 

@@ -12,9 +12,9 @@ from pathlib import Path
 
 import click
 
-from crnplan.plan.planning import Settings
+from crnplan.plan.question import Settings
 from crnplan.records.catalogue_reading import Words, read_alone
-from crnplan.records.store import CATALOGUE, READ, Catalogued
+from crnplan.records.catalogued import CATALOGUE, READ, Catalogued
 from crnplan.files import own_folder
 from planner.bench.made import Made
 
@@ -28,15 +28,20 @@ def read(folder: Path, jobs: int) -> None:
 
 def learn(folder: Path, jobs: int) -> None:
     """Learns laws of demand from all items, which the plan then uses."""
-    from crnplan.plan.learning import prior_of
-    with own_folder(folder / PLAN, CATALOGUE) as own, contextlib.closing(Catalogued(own.path / READ)) as its:
-        prior_of(own, its, Settings(), True)
+    from crnplan.plan.answer import Answer
+    from crnplan.plan.folder import ANSWERS
+    from crnplan.plan.learning import learned_of
+    from crnplan.stored import Store
+    with (own_folder(folder / PLAN, CATALOGUE) as own, contextlib.closing(Catalogued(own.path / READ)) as its,
+          contextlib.closing(Store(own.store(ANSWERS), Answer)) as answers):
+        learned_of(answers, its, Settings(), True)
 
 
 def plan(folder: Path, jobs: int) -> None:
     """Plans all items, and writes the tables."""
-    from crnplan.plan.running import plan_into
-    with own_folder(folder / PLAN, CATALOGUE) as own:
+    from crnplan.pages.exports import CATALOGUE_FILES
+    from crnplan.plan.catalogue import plan_into
+    with own_folder(folder / PLAN, CATALOGUE, CATALOGUE_FILES) as own:
         plan_into(own, Settings(), jobs=jobs)
 
 
@@ -49,7 +54,7 @@ def curve(folder: Path, jobs: int) -> None:
 
 def page(folder: Path, jobs: int) -> None:
     """Writes the page of all items."""
-    from crnplan.pages.report import report
+    from crnplan.pages.exports import report
     report(folder / PLAN)
 
 

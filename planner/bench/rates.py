@@ -10,11 +10,14 @@ from contextlib import AbstractContextManager
 from pathlib import Path
 from typing import Any
 
-from crnplan.plan.planned import Planned
-from crnplan.records.catalogue_reading import Words, open_sources
-from crnplan.records.splitting import split_sources
-from crnplan.records.store import ANSWERS, CATALOGUE, Answers, Catalogued, Writer
+from crnplan.plan.answer import Answer
+from crnplan.plan.folder import Planned
 from crnplan.plan.work import BATCH, Work
+from crnplan.records.catalogue_reading import Words, open_sources
+from crnplan.records.catalogued import CATALOGUE, Catalogued, Writer
+from crnplan.records.item import Item
+from crnplan.records.splitting import split_sources
+from crnplan.stored import Store
 from crnplan.plan.workers import Workers, cluster, processes
 from crnplan.files import own_folder
 
@@ -22,12 +25,13 @@ SECONDS = 10
 WORKERS, LEAST_ITEMS = 4, 3_000
 
 
-def transactions(folder: Path, text: str) -> float:
-    """Returns how many transactions a second keep a batch of answers with this text, in a new file of a folder."""
+def transactions(folder: Path, answer: Answer) -> float:
+    """Returns how many transactions a second keep a batch of such answers, in a new file of a folder."""
     count, start = 0, time.perf_counter()
-    with tempfile.TemporaryDirectory(dir=folder) as path, contextlib.closing(Answers(Path(path) / ANSWERS)) as answers:
+    with (tempfile.TemporaryDirectory(dir=folder) as path,
+          contextlib.closing(Store(Path(path) / "answers", Answer)) as answers):
         while time.perf_counter() - start < SECONDS:
-            answers.keep([(f"P{BATCH * count + it:08}", 32 * "0", text) for it in range(BATCH)])
+            answers.keep([(f"P{BATCH * count + it:08}", 32 * "0", answer) for it in range(BATCH)])
             count += 1
     return count / (time.perf_counter() - start)
 
@@ -44,9 +48,9 @@ def split_seconds(folder: Path, paths: dict[str, str | Path | None]) -> float:
             return time.process_time() - start
 
 
-def instant(batch: Sequence[tuple[str, str]], settings: Any, prior: Any, text: str) -> list[tuple[str, str]]:
-    """Answers each item of a batch by the same text."""
-    return [(name, text) for name, _ in batch]
+def instant(batch: Sequence[Item], settings: Any, prior: Any, answer: Answer) -> list[Answer]:
+    """Gives each item of a batch the same answer."""
+    return [answer for _ in batch]
 
 
 @contextlib.contextmanager
@@ -58,24 +62,24 @@ def dask() -> Iterator[Workers]:
         yield workers
 
 
-def loop_rate(folder: Path, read: Catalogued, planned: Planned, text: str,
+def loop_rate(folder: Path, read: Catalogued, planned: Planned, answer: Answer,
               given: AbstractContextManager[Workers]) -> float:
     """Returns how many items a second the main process sends out, gets back and keeps, if workers answer at once."""
-    items = [name for name, _ in read.facts_of_items()]
+    items = [*read.names()]
     names = {f"{name} {again}": 32 * "0" for again in range(-(-LEAST_ITEMS // len(items)))
              for name in items}
-    with (tempfile.TemporaryDirectory(dir=folder) as path, contextlib.closing(Answers(Path(path) / ANSWERS)) as answers,
-          given as workers):
-        started = [workers.executor.submit(instant, [], None, None, text) for _ in range(BATCH * WORKERS)]
+    with (tempfile.TemporaryDirectory(dir=folder) as path,
+          contextlib.closing(Store(Path(path) / "answers", Answer)) as answers, given as workers):
+        started = [workers.executor.submit(instant, [], None, None, answer) for _ in range(BATCH * WORKERS)]
         assert all(it.result() == [] for it in started)
         work, start = Work(answers, names), time.perf_counter()
-        work.finish(instant, lambda name: (name, read.text(name.rpartition(" ")[0])), planned, text,
+        work.finish(instant, lambda name: read.item(name.rpartition(" ")[0]), planned, answer,
                     workers=contextlib.nullcontext(workers), shown=False)
         return len(names) / (time.perf_counter() - start)
 
 
-def loop_rates(folder: Path, read: Catalogued, planned: Planned, text: str) -> Iterator[tuple[str, float]]:
+def loop_rates(folder: Path, read: Catalogued, planned: Planned, answer: Answer) -> Iterator[tuple[str, float]]:
     """Yields where the workers are, and how many items a second go through the main process."""
     for where, given in (("no other process", processes(1)), (f"{WORKERS} processes", processes(WORKERS)),
                          (f"{WORKERS} Dask workers", dask())):
-        yield where, loop_rate(folder, read, planned, text, given)
+        yield where, loop_rate(folder, read, planned, answer, given)

@@ -6,7 +6,6 @@ tables, down to numbers, texts and lists of them, unrounded.
 from __future__ import annotations
 
 import contextlib
-import csv
 import tempfile
 from collections.abc import Iterable, Mapping, Sequence
 from dataclasses import asdict
@@ -15,21 +14,22 @@ from pathlib import Path
 from typing import Any
 
 import crnplan as crn
-from crnplan.records.store import Answers, Catalogued
+from crnplan.curve.candidates import Candidates
 from crnplan.decide.intervals import with_intervals
 from crnplan.decide.long_run import check_long_run, corrected_decision, long_run_decision
 from crnplan.decide.verdicts import table_of
 from crnplan.demand import checks_of
-from crnplan.plan.comparison import report_of_costs
 from crnplan.decide.moves import moves_of
+from crnplan.plan.answer import CHOSEN, Answer
+from crnplan.plan.folder import planned_folder
+from crnplan.plan.item import ItemPlan, planned, read_item
+from crnplan.records.catalogued import Catalogued
+from crnplan.records.item import Item
+from crnplan.remarks import Remark
+from crnplan.stored import Store
 from crnplan.theory.suggestions import suggestions_of
 
 Figures = dict[str, Any]
-# A sentence of a plan's warnings by how it begins, and its code.
-CODES = {"demand in": "few demands", "its law is learned from no others": "learns nothing",
-         "unlike the catalogue": "unlike the catalogue",
-         "theory counts in steps": "steps", "costs are rounded": "rounded costs", "its fill rate holds": "no promise",
-         "no interval": "no interval"}
 
 
 def by_policy(rows: Iterable[Mapping[str, Any]]) -> Figures:
@@ -123,22 +123,27 @@ def plan_catalogue(files: Mapping[str, Any], folder: Path, program: str, jobs: i
 
 def plan_rows(folder: Path) -> dict[str, Figures]:
     """Returns the answer to each item of a planned folder."""
-    with contextlib.closing(Catalogued(folder / "catalogue.sqlite")) as read, \
-            contextlib.closing(Answers(folder / "answers.sqlite")) as answers:
-        return {name: answer_figures(answers.answer(name)) for name, _ in read.facts_of_items()}
+    with planned_folder(folder) as its:
+        return {item.name: answer_figures(answer) for item, answer in its.answers()}
 
 
-def answer_figures(answer: Mapping[str, Any]) -> Figures:
-    """Returns the figures of an item's answer: what belongs to a policy below its name, and codes of warnings."""
-    if "fault" in answer:
+def answer_figures(answer: Answer | Remark) -> Figures:
+    """Returns the figures of an item's answer: what belongs to a policy below its name, and codes of remarks."""
+    if isinstance(answer, Remark):
         return {"fault": True}
-    policies = {name: {"s": answer["levels"][name][0], "S": answer["levels"][name][1], **its,
-                       **({"run_cost": answer["cost"][name]} if name in answer["cost"] else {})}
-                for name, its in answer["theory"].items()}
-    whole = ("verdict", "saving", "error", "low", "high", "confidence_cost", "law", "share", "log10_bayes", "mean",
-             "demands", "periods", "step")
-    codes = [code for line in answer["warnings"] for start, code in CODES.items() if line.startswith(start)]
-    return {**policies, **{name: answer[name] for name in whole}, "warnings": codes, "exact": answer["exact"]}
+    run, estimate = answer.run, answer.run.estimate
+    costs = {"today": estimate.cost_today, "chosen": estimate.cost_chosen}
+    policies = {name: {"s": its.point, "S": its.level, "cost": its.cost, "fill": its.fill, "short": its.short,
+                       "stock": its.stock, "orders": its.orders, **({"run_cost": costs[name]} if name in costs else {})}
+                for name, its in (("today", answer.today), ("chosen", answer.chosen), ("alone", answer.alone)) if its}
+    exact = {"scale": str(run.scale), "key": run.key, "initial": run.initial,
+             "rates": {"setup": run.setup, "unit": 0, "holding": run.holding, "backlog": run.backlog},
+             "totals": [run.total_today, run.total_chosen], "diff_mean": str(run.difference), "diff_var": str(run.variance)}
+    law = answer.law
+    return {**policies, "verdict": answer.verdict, "saving": answer.saving, "error": estimate.error,
+            "low": estimate.low, "high": estimate.high, "confidence_cost": answer.confidence_cost, "law": law.family,
+            "share": law.share, "log10_bayes": law.log10_bayes, "mean": law.mean, "demands": answer.demands,
+            "periods": answer.periods, "step": answer.step, "warnings": [it.code for it in answer.remarks], "exact": exact}
 
 
 def read_rows(folder: Path) -> Figures:
@@ -158,17 +163,17 @@ def curve_rows(folder: Path, program: str, jobs: int, **budget: float) -> list[F
 def candidate_rows(folder: Path, names: Iterable[str]) -> dict[str, Figures]:
     """Returns the candidates of items by variant of costs: in full as they are, and the sums of each column else."""
     found: dict[str, Figures] = {}
-    with contextlib.closing(Answers(folder / "curve.sqlite")) as answers:
+    with contextlib.closing(Store(folder / "curve.sqlite", Candidates)) as answers:
         for name in names:
             its = answers.answer(name)
-            if "fault" in its:
+            if isinstance(its, Remark):
                 found[name] = {"fault": True}
                 continue
             rows: dict[int, list[list[float]]] = {}
-            for variant, *row in its["rows"]:
-                rows.setdefault(variant, []).append(row)
+            for variant, *row in its.rows:
+                rows.setdefault(int(variant), []).append(row)
             sums = {str(variant): [len(some), *map(sum, zip(*some))] for variant, some in rows.items() if variant}
-            found[name] = {"demand": its["demand"], "rows": rows[0], "sums": sums}
+            found[name] = {"demand": its.demand, "rows": rows[0], "sums": sums}
     return found
 
 
@@ -187,57 +192,44 @@ s = {s}
 S = {S}
 stock = {S}
 [run]
-key = "{name}"
+name = "{name}"
 """
 
 
-def item_rows(name: str, facts: Mapping[str, Any], program: str) -> Figures:
-    """Plans an item alone, and returns each figure: of theory, of the program, of doubt, of the check and the moves."""
-    holding = float(f"{float(Fraction(facts['holding'])):.1g}")  # so that all costs are whole numbers of one unit
-    ratio = round(Fraction(facts["backlog"]) / Fraction(facts["holding"]))
-    text = SETTINGS.format(name=name, leads=facts["leads"], s=facts["levels"][0], S=facts["levels"][1],
-                           setup=facts["setup"], holding=f"{holding:.6f}", backlog=f"{ratio * holding:.6f}")
+def item_rows(name: str, item: Item, program: str) -> Figures:
+    """Plans an item alone, and returns each figure: of theory, of the program, of doubt and the moves."""
+    assert item.backlog is not None
+    holding = float(f"{float(item.holding):.1g}")  # so that all costs are whole numbers of one unit
+    text = SETTINGS.format(name=name, leads=[*item.leads], s=item.levels[0], S=item.levels[1], setup=item.setup,
+                           holding=f"{holding:.6f}", backlog=f"{round(item.backlog / item.holding) * holding:.6f}")
     with tempfile.TemporaryDirectory() as room:
         folder = Path(room)
-        (folder / "history.csv").write_text("\n".join(["demand", *map(str, facts["counts"])]) + "\n", "utf-8")
+        (folder / "history.csv").write_text("\n".join(["demand", *map(str, item.counts)]) + "\n", "utf-8")
         (folder / "settings.toml").write_text(text, "utf-8")
-        crn.plan_item(folder / "history.csv", folder / "settings.toml", folder / "plan", program=program)
-        return plan_files(folder / "plan")
+        return item_figures(planned(read_item(folder / "history.csv", folder / "settings.toml"), program))
 
 
-# What is kept of the decision on an item.
-DECIDED = ("policy", "cost", "diff", "std_error", "verdict", "theory_cost")
-
-
-def plan_files(folder: Path) -> Figures:
-    """Returns the figures of the files of an item's plan."""
-    tables = {name: [*csv.DictReader((folder / f"{name}.csv").open(encoding="utf-8"))]
-              for name in ("suggested", "doubt", "check", "sensitivity")}
-    scenario = crn.Scenario.read(folder / "suggested.toml")
-    report = report_of_costs((folder / "long_run.csv").read_text("utf-8"), scenario)
+def item_figures(plan: ItemPlan) -> Figures:
+    """Returns the figures of an item's plan, in the program's units as its scenario has them."""
+    depth, scale = plan.depth, float(plan.question.scale)
+    scenario, doubt, names = depth.scenario, depth.doubt(), {CHOSEN: "best"}
     law = {name: {"mean": float(its.mean), "largest": its.values[-1], "values": len(its.values)}
            for name, its in (("demand", scenario.demand), ("lead", scenario.lead))}
-    decided = [{name: row[name] for name in DECIDED} for row in records(long_run_decision(report).frame)]
-    checked = [{name: row[name] for name in ("policy", "diff", "verdict")} for row in tables["check"]]
-    return {"laws": law, "theory": by_policy(map(numbers, tables["suggested"])),
-            "doubt": by_policy(map(numbers, tables["doubt"])), "check": by_policy(map(numbers, checked)),
-            "sensitivity": {row["case"]: numbers(row) for row in tables["sensitivity"]},
-            "decision": by_policy(decided), "costs": [sum(it) for it in zip(*report.costs)]}
+    compared = {names.get(it.name, it.name): it for it in depth.compared()}
+    theory = {name: {"s": it.figures.point, "S": it.figures.level, "cost": it.figures.cost * scale,
+                     "fill": it.figures.fill, "short": it.figures.short, "stock": it.figures.stock,
+                     "orders": it.figures.orders} for name, it in compared.items()}
+    decision = {name: {"cost": it.run.cost * scale, "diff": it.run.difference * scale, "verdict": it.verdict}
+                for name, it in compared.items()}
+    return {"laws": law, "theory": theory, "decision": decision,
+            "doubt": by_policy({**row, "policy": names.get(row["policy"], row["policy"])}
+                               for row in records(doubt.frame)) if doubt else {},
+            "sensitivity": {it.words: {**asdict(it), "words": None, "cost": it.cost * scale,
+                                       "kept_cost": it.kept_cost * scale} for it in depth.moves().moves}}
 
 
-def numbers(row: Mapping[str, str]) -> Figures:
-    """Returns a row of a CSV table with numbers in place of their texts, without what is prose."""
-    def number(text: str) -> Any:
-        """Returns the number of a text, or the text."""
-        for kind in (int, float):
-            with contextlib.suppress(ValueError):
-                return kind(text)
-        return text
-    return {name: number(text) for name, text in row.items() if name != "reasons"}
-
-
-def facts_of(files: Mapping[str, Any], folder: Path) -> dict[str, Figures]:
-    """Reads a catalogue in a folder, and returns what the plan of each item depends on."""
+def items_of(files: Mapping[str, Any], folder: Path) -> dict[str, Item]:
+    """Reads a catalogue in a folder, and returns its items."""
     read = crn.read_catalogue(files["demand"], files["items"], files["orders"])
     with contextlib.closing(Catalogued(read.path)) as base:
-        return {name: base.item(name)[0] for name, _ in base.facts_of_items()}
+        return {item.name: item for item in base.items()}

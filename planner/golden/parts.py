@@ -12,6 +12,7 @@ from typing import Any
 import pandas as pd
 
 import crnplan as crn
+from crnplan.records.item import Item
 from planner.bench.made import make
 from planner.golden import house
 from planner.golden.house import Figures
@@ -42,9 +43,7 @@ def case(program: str, jobs: int) -> Figures:
     counts = crn.read_history(folder / "history.csv", demand="demand")
     leads = crn.read_lead_times(folder / "lead_times.csv", lead="weeks")
     own, suggested = (crn.Scenario.read(folder / f"{name}.toml") for name in ("scenario", "suggested"))
-    with tempfile.TemporaryDirectory() as room:
-        crn.plan_item(folder / "history.csv", folder / "settings.toml", Path(room) / "plan", program=program)
-        planned = house.plan_files(Path(room) / "plan")
+    planned = house.item_figures(house.planned(house.read_item(folder / "history.csv", folder / "settings.toml"), program))
     return {"fit": house.fitted(counts, leads), "run": house.run_rows(own, program),
             "theory": house.theory_rows(own), "long_run": house.long_run_rows(suggested, program, 48),
             "sensitivity": house.sensitivity_rows(suggested, program), "item": planned,
@@ -111,17 +110,17 @@ def few(program: str, jobs: int) -> Figures:
         return planned(made.paths, program, jobs, FEW // 2, borrow="all", confidence=0.8, periods=64, replications=8)
 
 
-def alone_of(program: str, name_and_facts: tuple[str, Figures]) -> tuple[str, Figures]:
+def alone_of(program: str, item: Item) -> tuple[str, Figures]:
     """Plans an item alone."""
-    return name_and_facts[0], house.item_rows(*name_and_facts, program)
+    return item.name, house.item_rows(item.name, item, program)
 
 
 def items(program: str, jobs: int) -> Figures:
     """Returns the figures of items that are planned alone: those of the made catalogue with a backlog cost,
     counted one by one."""
     with tempfile.TemporaryDirectory() as room:
-        facts = house.facts_of(make(Path(room) / "files", ITEMS).paths, Path(room))
-    asked = [(name, its) for name, its in facts.items() if its["backlog"] and its["box"] == 1][:ALONE]
+        found = house.items_of(make(Path(room) / "files", ITEMS).paths, Path(room))
+    asked = [item for item in found.values() if item.backlog and item.box == 1][:ALONE]
     with ProcessPoolExecutor(jobs) as pool:
         return dict(pool.map(partial(alone_of, program), asked))
 

@@ -44,9 +44,9 @@ _HOMES = {
     "plan_item": "plan.item",
     "Catalogue": "records.catalogue_reading",
     "read_catalogue": "records.catalogue_reading",
-    "plan": "plan.running",
+    "plan": "plan.catalogue",
     "exchange_curve": "curve.exchange_curve",
-    "report": "pages.report",
+    "report": "pages.exports",
 }
 
 __all__ = ["__version__", *_HOMES]
@@ -54,8 +54,8 @@ __all__ = ["__version__", *_HOMES]
 if TYPE_CHECKING:
     from .records.catalogue_reading import Catalogue, read_catalogue
     from .curve.exchange_curve import exchange_curve
-    from .plan.running import plan
-    from .pages.report import report
+    from .plan.catalogue import plan
+    from .pages.exports import report
     from .decide.doubt import doubt
     from .decide.keys import check_keys
     from .decide.sensitivity import sensitivity

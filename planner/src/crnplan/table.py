@@ -117,6 +117,11 @@ class DataTable:
         for row in self.rows:
             yield [function(cell) for function, cell in zip(spell, row, strict=True)]
 
+    def cells(self, is_shown: bool = False) -> Iterator[dict[str, str]]:
+        """Yields the rows by column: each cell as a file has it, or as it is shown to a reader."""
+        heading, *rows = self.spelt(is_shown)
+        yield from (dict(zip(heading, row)) for row in rows)
+
     @property
     def lines(self) -> Iterator[str]:
         """Yields the lines of the table as CSV. Rows may be many: they are not kept."""

@@ -60,6 +60,8 @@ LEARNING: dict[str, Words] = {
 
 # Of an item of a catalogue (records/staging.py).
 RECORDS: dict[str, Words] = {
+    "same row": Words("the row is the same as that of line {line}",
+                      "if it was exported twice, remove it, or say --twice leave-out"),
     "equal masters": Words("{masters} equal masters"), "late": Words("begins with its first movement, in {period}"),
     "boxes": Words("counted in boxes of {items}"), "rows twice": Words("rows that stand twice: {rows}"),
     "stock below 0": Words("its stock is below 0, which plays no part in the long run")}
@@ -91,10 +93,11 @@ class _Blank(str):
 
 
 def pattern(remark: Remark) -> str:
-    """Returns what is said of all remarks with this code: facts are left out. Words that a function makes are those of
-    this remark."""
+    """Returns what is said of all remarks with this code: facts are left out. Words that a function makes, or that are
+    a fact alone, are those of this remark."""
     say = WORDS[remark.code].text
-    return say.format_map(dict.fromkeys(remark.facts, _Blank())) if isinstance(say, str) else say(remark.facts)
+    text = say.format_map(dict.fromkeys(remark.facts, _Blank())) if isinstance(say, str) else ""
+    return text if any(map(str.isalpha, text)) else sentence(remark)
 
 
 def advice(remark: Remark) -> str:

@@ -9,11 +9,11 @@ from pathlib import Path
 
 import pytest
 
-from crnplan.plan import item
-from crnplan.plan.running import plan
-from crnplan.records.catalogue_reading import read_catalogue
+from crnplan.pages.exports import report
 from crnplan.pages.item_files import file_of
-from crnplan.pages.report import report
+from crnplan.plan.catalogue import plan
+from crnplan.plan.item import plan_item
+from crnplan.records.catalogue_reading import read_catalogue
 from planner.tests.browser.browser import Browser
 from planner.tests.catalogue.conftest import SETTINGS
 from planner.tests.item.conftest import furnished
@@ -68,8 +68,8 @@ def pages(tmp_path_factory: pytest.TempPathFactory, request: pytest.FixtureReque
 
 def planned_item(folder: Path) -> Path:
     """Plans the item of a folder and returns its page."""
-    plan = item.plan_item(folder / "history.csv", folder / "settings.toml", folder / "plan", program=folder / "program")
-    return plan.folder / "summary.html"
+    plan_item(folder / "history.csv", folder / "settings.toml", folder / "plan", program=folder / "program")
+    return folder / "plan/summary.html"
 
 
 def write_table(path: Path, rows: Iterable[Iterable[object]]) -> None:

@@ -25,9 +25,10 @@ Row = dict[str, str]
 
 
 def decisions_of(folder: Path) -> list[Row]:
-    """Returns the rows of decisions.csv as they are spelt."""
+    """Returns the rows of decisions.csv as they are spelt, but for the apostrophe before what a spreadsheet would run.
+    """
     with (folder / "decisions.csv").open(encoding="utf-8", newline="") as file:
-        return list(csv.DictReader(file))
+        return [{name: re.sub("^'(?=[=@+-])", "", cell) for name, cell in row.items()} for row in csv.DictReader(file)]
 
 
 def order_of(text: str) -> list[str | int]:

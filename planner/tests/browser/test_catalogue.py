@@ -14,8 +14,8 @@ from planner.tests.browser.items import PLAIN, Items, Row, decisions_of, in_orde
 
 SEARCHED = ("item", "description", "class", "warnings")
 COLUMNS = ("item", "description", "class", "verdict", "s_today", "S_today", "s_chosen", "S_chosen", "cost_today",
-           "cost_chosen", "saving", "saving_low", "saving_high", "fill_today", "fill_chosen", "value_today",
-           "value_chosen", "warnings")
+           "cost_chosen", "saving", "by", "run_saving", "run_low", "run_high", "fill_today", "fill_chosen",
+           "value_today", "value_chosen", "warnings")
 # Seconds in which thousands of items are sorted on a quiet machine.
 LONGEST_SORT = 0.3
 MOST_BYTES, MOST_LAYOUTS = 2_000_000, 100

@@ -9,7 +9,7 @@ from typing import Any
 import pytest
 
 from crnplan.records.catalogue_reading import Catalogue, read_catalogue
-from crnplan.plan.running import plan
+from crnplan.plan.catalogue import plan
 from planner.tests.catalogue.made import NO_PLAN, TODAY, Made, made
 
 FILES = ("Bewegungen.csv", "Artikel.csv", "Bestellungen.csv")

@@ -8,7 +8,7 @@ from hypothesis import assume, given, settings
 from hypothesis import strategies as st
 
 from crnplan import formats
-from crnplan.plan.planning import finest
+from crnplan.plan.question import finest
 from crnplan.errors import Refused
 from crnplan.records.amounts import AmountReader, readings
 from crnplan.records.faults import Unreadable

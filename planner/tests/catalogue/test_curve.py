@@ -17,8 +17,10 @@ import crnplan as crn
 from crnplan.curve.exchange_curve import CURVE, LEFT_OUT, POLICIES, Drawn, draw_curve, points_of
 from crnplan.curve.exchange import Budget, chosen_by, with_more_orders
 from crnplan.curve.gathering import CANDIDATES
-from crnplan.plan.planning import figures_of, question_of, theory_of
-from crnplan.records.store import READ, Catalogued
+from crnplan.plan.folder import ANSWERS, planned_folder
+from crnplan.plan.one import figures_of
+from crnplan.records.catalogued import READ
+from crnplan.words import advice, sentence
 from planner.tests.catalogue.conftest import FILES, SETTINGS, leave_few
 from planner.tests.catalogue.made import NO_PLAN, TODAY, Made
 from planner.tests.conftest import Command
@@ -113,18 +115,16 @@ def test_budget_is_kept(plan: Path, budget: Budget) -> None:
     assert budget.fill is None or budget.fill - 1e-9 <= point.fill < budget.fill + 0.01
     assert budget.orders is None or point.orders <= budget.orders * (1 + 1e-9)
     assert 0 <= gap < 0.5
-    read, planned, sums = Catalogued(plan / READ), its.gathered.planned, np.zeros(4)
-    for row in csv.DictReader((plan / POLICIES).open(encoding="utf-8")):
-        facts, shown = read.item(row["item"])
-        question = question_of(row["item"], facts, planned.settings, planned.prior)
-        price = float(pd.eval(shown["price"]))
-        levels = int(row["s"]) // question.box, int(row["S"]) // question.box
-        theory = figures_of(question, theory_of(question, planned.settings), levels)
-        asked = price * float(question.demand.table.mean) * question.box
-        assert float(row["fill"]) == pytest.approx(theory["fill"], abs=2e-6)
-        assert float(row["value"]) == pytest.approx(price * theory["stock"], abs=1e-3)
-        sums += price * theory["stock"], asked * theory["fill"], theory["orders"], asked
-    read.close()
+    sums = np.zeros(4)
+    with planned_folder(plan) as folder:
+        for row in csv.DictReader((plan / POLICIES).open(encoding="utf-8")):
+            item, _ = folder.item(row["item"])
+            question, price = folder.question(item), float(item.price or 0)
+            theory = figures_of(question, question.theory(), (int(row["s"]) // item.box, int(row["S"]) // item.box))
+            asked = price * float(question.demand.table.mean) * item.box
+            assert float(row["fill"]) == pytest.approx(theory.fill, abs=2e-6)
+            assert float(row["value"]) == pytest.approx(price * theory.stock, abs=1e-3)
+            sums += price * theory.stock, asked * theory.fill, theory.orders, asked
     assert point[:3] == pytest.approx((sums[0], sums[1] / sums[3], sums[2]))
 
 
@@ -138,11 +138,12 @@ def test_bytes_and_what_is_kept(plan: Path, twenty: Path) -> None:
     crn.exchange_curve(plan, jobs=2)
     assert tables_of(plan) == tables_of(twenty)
     with sqlite3.connect(plan / READ) as base:
-        base.execute("UPDATE items SET shown = json_set(shown, '$.price', '77/2') WHERE item = 'A-050'")
-        base.execute("UPDATE items SET facts = json_set(facts, '$.setup', '99') WHERE item = 'A-051'")
+        base.execute("UPDATE items SET price = '77/2' WHERE name = 'A-050'")
+        base.execute("UPDATE items SET setup = '99' WHERE name = 'A-051'")
     its = drawn(plan).gathered
-    assert its.new == 1 and ("A-051", "it is not planned as its rows are now", "run crnplan catalogue again") in \
-        its.left_out
+    remark = dict(its.left_out)["A-051"]
+    assert its.new == 1 and (sentence(remark), advice(remark)) == (
+        "it is not planned as its rows are now", "run crnplan catalogue again")
 
 
 def test_items_that_are_left_out(twenty: Path, planned: Path, tmp_path: Path) -> None:
@@ -154,10 +155,10 @@ def test_items_that_are_left_out(twenty: Path, planned: Path, tmp_path: Path) ->
     assert len(policies) == ITEMS - len(NO_PRICE)
     plan = Path(shutil.copytree(planned, tmp_path / "plan"))
     with sqlite3.connect(plan / READ) as base:
-        base.execute("UPDATE items SET shown = json_set(shown, '$.price', NULL) WHERE item <> 'A-050'")
-    assert [it[0] for it in drawn(plan).gathered.left_out if "could not be planned" in it[1]] == [NO_PLAN]
+        base.execute("UPDATE items SET price = NULL WHERE name <> 'A-050'")
+    assert [name for name, remark in drawn(plan).gathered.left_out if "too far apart" in sentence(remark)] == [NO_PLAN]
     with sqlite3.connect(plan / READ) as base:
-        base.execute("UPDATE items SET shown = json_set(shown, '$.price', NULL)")
+        base.execute("UPDATE items SET price = NULL")
     with pytest.raises(crn.Refused, match="no item can be on the curve: .* items are left out; the first, A-"):
         drawn(plan)
 
@@ -204,6 +205,7 @@ def test_folders_without_a_plan(plan: Path, tmp_path: Path, crnplan: Command) ->
     told = crnplan("curve", tmp_path / "none")
     assert told.status == 2 and "no plan is in it; run crnplan catalogue DEMAND.csv ITEMS.csv --out" in told.errors
     assert not (tmp_path / "none").exists()
-    (plan / "planned.json").write_text("{}", "utf-8")
+    with sqlite3.connect(plan / ANSWERS) as base:
+        base.execute("UPDATE facts SET value = '{}' WHERE name = 'planned'")
     told = crnplan("curve", plan)
-    assert told.status == 2 and "planned.json: not as crnplan catalogue writes it" in told.errors
+    assert told.status == 3 and "answers.sqlite: what was planned is not as it was kept" in told.errors

@@ -1,8 +1,8 @@
 """Tests hulls, candidates and choices against all policies and all choices, one by one."""
 from __future__ import annotations
 
+import dataclasses
 import itertools
-import json
 from fractions import Fraction
 from pathlib import Path
 from typing import Any
@@ -12,12 +12,11 @@ import pytest
 from hypothesis import given, settings
 from hypothesis import strategies as st
 
-from crnplan.curve.candidates import DEARER_ORDERS, DEARER_STOCK, PRICES, VARIANTS, candidates_of, variants_of
+from crnplan.curve.candidates import (DEARER_ORDERS, DEARER_STOCK, PRICES, VARIANTS, Candidates, candidates_of,
+                                      variants_of)
 from crnplan.curve.exchange import Budget, Dearer, Items, Ladder, Point, chosen_by, gap_of
 from crnplan.curve.hull import lower_hull, slopes
-from crnplan.plan.planned import read_planned
-from crnplan.plan.planning import question_of, theory_of
-from crnplan.records.store import READ, Catalogued
+from crnplan.plan.folder import planned_folder
 from crnplan.errors import Refused
 
 NUMBERS = st.integers(0, 30)
@@ -46,49 +45,47 @@ def test_hull(points: list[tuple[int, int, int]]) -> None:
 @pytest.mark.parametrize("name", ["A-036", "A-041", "A-054"])
 def test_candidates_are_the_best_of_all(planned: Path, name: str) -> None:
     """Has for each variant and some prices the least of setup, holding and unmet demand of all (s,S) nearby."""
-    its, read = read_planned(planned), Catalogued(planned / READ)
-    facts = json.loads(read.text(name))
-    read.close()
-    answer, price = candidates_of(name, facts, 7.0, its.settings, its.prior), 7.0
-    question = question_of(name, facts, its.settings, its.prior)
-    theory = theory_of(question, its.settings)
-    assert theory.exact and question.box == 1 and answer["demand"] == pytest.approx(np.mean(facts["counts"]))
-    costs = variants_of(answer["setup"], answer["holding"], answer["demand"])
-    most = max(row[3] for row in answer["rows"] if PRICES[row[1]] < 30)
+    with planned_folder(planned) as folder:
+        item, price = dataclasses.replace(folder.item(name)[0], price=Fraction(7)), 7.0
+        question = folder.question(item)
+    answer, theory = candidates_of(question), question.theory()
+    assert theory.exact and item.box == 1 and answer.demand == pytest.approx(np.mean(item.counts))
+    costs = variants_of(answer.setup, answer.holding, answer.demand)
+    most = int(max(row[3] for row in answer.rows if PRICES[int(row[1])] < 30))
     every = [(s, S, theory.figures(s, S)) for S in range(0, most + 3) for s in range(max(0, S - 60), S + 1)]
-    found = np.array([(it.orders, it.stock, answer["demand"] * (1 - it.fill)) for _, _, it in every])
+    found = np.array([(it.orders, it.stock, answer.demand * (1 - it.fill)) for _, _, it in every])
     for variant, (order, holding) in enumerate(costs):
-        rows = [row for row in answer["rows"] if row[0] == variant]
+        rows = [row for row in answer.rows if row[0] == variant]
         for place in np.flatnonzero((PRICES > 1e-2) & (PRICES < 30))[::3]:
             row = [row for row in rows if row[1] <= place][-1]
             mine = order * row[6] + holding * row[4] + PRICES[place] * price * row[5]
             totals = found @ [order, holding, PRICES[place] * price]
             assert mine <= totals.min() * (1 + 1e-8)
-            assert theory.figures(row[2], row[3]).stock == pytest.approx(row[4])
+            assert theory.figures(int(row[2]), int(row[3])).stock == pytest.approx(row[4])
 
 
-def made_item(source: np.random.Generator, count: int) -> tuple[dict[str, Any], Any]:
+def made_item(source: np.random.Generator, count: int) -> tuple[Candidates, Any]:
     """Returns candidates as `candidates_of` gives them, found one by one among random policies, and these: stock, unmet
     demand and orders."""
     setup, holding, demand = source.uniform(1, 20), source.uniform(0.05, 0.2), source.uniform(1, 5)
     points = np.column_stack([source.uniform(0, 40, count), demand * source.uniform(0, 1, count)**2,
                               source.uniform(0.1, 1, count)])
-    rows: list[list[float]] = []
+    rows: list[tuple[float, ...]] = []
     for variant, (order, held) in enumerate(variants_of(setup, holding, demand)):
         last = -1
         for place, price in enumerate(PRICES):
             best = int((points @ [held, price, order]).argmin())
             if best != last:
-                rows.append([variant, place, best, best, *points[best]])
+                rows.append((variant, place, best, best, *points[best]))
                 last = best
-    return {"demand": demand, "setup": setup, "holding": holding, "rows": rows}, points
+    return Candidates(demand, setup, holding, tuple(rows)), points
 
 
-def every_choice(answers: list[dict[str, Any]], points: list[Any]) -> Any:
+def every_choice(answers: list[Candidates], points: list[Any]) -> Any:
     """Returns stock value, unmet value, orders and costs of all choices of policies, one by one."""
     found = []
     for its in itertools.product(*points):
-        cost = sum(answer["setup"] * it[2] + answer["holding"] * it[0] for answer, it in zip(answers, its))
+        cost = sum(answer.setup * it[2] + answer.holding * it[0] for answer, it in zip(answers, its))
         found.append((*np.sum(its, axis=0), cost))
     return np.array(found)
 
@@ -98,7 +95,7 @@ def test_bound_against_every_choice(seed: int) -> None:
     """Loses no more against the best of all choices than it says, and keeps what was asked for."""
     source = np.random.default_rng(seed)
     answers, points = zip(*(made_item(source, 9) for _ in range(4)))
-    items = Items.of([(str(place), its, 1.0) for place, its in enumerate(answers)])
+    items = Items.of((str(place), 1.0, its) for place, its in enumerate(answers))
     values, unmet, orders, cost = every_choice(list(answers), list(points)).T
     ladder, tested = Ladder(items), 0
     low, high = ladder.along(items.value).min(), ladder.along(items.value).max()
@@ -150,7 +147,7 @@ def test_the_curve_is_the_best(seed: int) -> None:
     """Has no gap at the prices of the grid, and no choice of all is as good for less there. Other points have a gap."""
     source = np.random.default_rng(100 + seed)
     answers, points = zip(*(made_item(source, 9) for _ in range(4)))
-    items = Items.of([(str(place), its, 1.0) for place, its in enumerate(answers)])
+    items = Items.of((str(place), 1.0, its) for place, its in enumerate(answers))
     _, unmet, _, cost = every_choice(list(answers), list(points)).T
     ladder = Ladder(items)
     for price in PRICES[::6]:

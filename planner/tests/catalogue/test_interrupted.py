@@ -17,12 +17,12 @@ from pathlib import Path
 import pytest
 
 from crnplan.curve.exchange_curve import exchange_curve
-from crnplan.plan.running import plan
+from crnplan.plan.catalogue import plan
 from crnplan.records.catalogue_reading import read_catalogue
 from crnplan.curve.exchange_curve import CURVE, LEFT_OUT, POLICIES, draw_curve
 from crnplan.curve.exchange import Budget
 from crnplan.curve.gathering import CANDIDATES
-from crnplan.records.store import ANSWERS
+from crnplan.plan.folder import ANSWERS
 from crnplan.plan.work import BATCH
 from crnplan.files import MARKER
 from planner.tests.catalogue.conftest import FILES, SETTINGS, TABLES, WORDS, leave_few
@@ -99,12 +99,12 @@ def start(folder: Path, holding: Path) -> Iterator[Start]:
         process.communicate()
 
 
-def answers(folder: Path, name: str = ANSWERS) -> set[tuple[str, str, str]]:
-    """Returns the answers that are kept, by a look from outside: item, digest and text."""
+def answers(folder: Path, name: str = ANSWERS) -> set[tuple[object, ...]]:
+    """Returns the answers that are kept, by a look from outside: all columns."""
     try:
         base = sqlite3.connect(f"file:{folder}/plan/{name}?mode=ro", uri=True)
         with contextlib.closing(base):
-            return {*base.execute("SELECT item, digest, answer FROM answers")}
+            return {*base.execute("SELECT * FROM answers")}
     except sqlite3.OperationalError:
         return set()
 

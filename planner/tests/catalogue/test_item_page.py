@@ -11,10 +11,10 @@ from pathlib import Path
 import pytest
 
 import crnplan
-from crnplan.plan.running import plan
+from crnplan.plan.catalogue import plan
 from crnplan.records.catalogue_reading import read_catalogue
+from crnplan.pages.exports import report
 from crnplan.pages.item_files import file_of
-from crnplan.pages.planned_item import item_page
 from crnplan.errors import CrnplanError, Refused
 from planner.tests.catalogue.conftest import FILES, SETTINGS
 from planner.tests.catalogue.made import NO_PLAN, TODAY, made
@@ -24,9 +24,10 @@ PAIRS = "Today's and the chosen policy, as in decisions.csv"
 EXACT = "The run's exact figures, as in exact.csv"
 ALL = "All policies in the long run"
 # The rows of the table of both policies, and the columns of decisions.csv without the policy's name.
-COLUMNS = {"s": "s", "S": "S", "cost a week, crnsim": "cost", "cost a week, theory": "theory_cost",
-           "met at once": "fill", "mean stock": "stock", "value of the mean stock": "value", "orders a week": "orders"}
-SAVINGS = {"saving a week": "saving", "saving a week, low end": "saving_low", "saving a week, high end": "saving_high"}
+COLUMNS = {"s": "s", "S": "S", "cost a week": "cost", "met at once": "fill", "mean stock": "stock",
+           "value of the mean stock": "value", "orders a week": "orders"}
+SAVINGS = {"saving a week": "saving", "saving a week, by crnsim": "run_saving", "its low end": "run_low",
+           "its high end": "run_high"}
 
 
 def rows_of(path: Path) -> dict[str, dict[str, str]]:
@@ -48,6 +49,12 @@ def negated(text: str) -> str:
 def spoken(text: str) -> str:
     """Returns a saving in words."""
     return f"{text.lstrip('-')} {'more' if text.startswith('-') else 'less'}"
+
+
+def item_page(folder: Path, name: str, program: Path) -> Path:
+    """Writes the page of an item, and returns its path."""
+    report(folder, [name], program=program)
+    return file_of(folder, name)
 
 
 @pytest.fixture(scope="module")
@@ -91,10 +98,10 @@ def test_tables_of_policies_have_them_too(folder: Path, pages: dict[str, Page]) 
         row, shown = rows_of(folder / "decisions.csv")[name], {it[0]: it for it in page.tables[ALL]}
         for policy in ("today", "chosen") if row["verdict"] != "same" else ("today",):
             cells = [plain(it) for it in shown[policy]]
-            assert cells[:4] == [policy, *(row[f"{it}_{policy}"] for it in ("s", "S", "theory_cost"))]
-            assert cells[8] == row[f"cost_{policy}"]
-        if row["verdict"] != "same" and row["saving_low"]:
-            mean, low, high = (negated(row[it]) for it in ("saving", "saving_high", "saving_low"))
+            assert cells[:3] == [policy, row[f"s_{policy}"], row[f"S_{policy}"]]
+            assert cells[3 if row["by"] == "theory" else 8] == row[f"cost_{policy}"]
+        if row["verdict"] != "same" and row["run_low"]:
+            mean, low, high = (negated(row[it]) for it in ("saving", "run_high", "run_low"))
             assert any(plain(it).startswith(f"chosen: {mean} from {low} to {high} ") for it in page.pictures)
 
 
@@ -113,8 +120,8 @@ def test_headline_has_the_decision(folder: Path, pages: dict[str, Page]) -> None
         row, words = rows_of(folder / "decisions.csv")[name], plain(page.words)
         assert f"Below {row['s_chosen']} order up to {row['S_chosen']}: " in words
         assert row["verdict"] == "same" or f"policy costs {spoken(row['saving'])} a week than today's " in words
-        if row["saving_low"] and row["verdict"] != "same":
-            assert f"from {spoken(row['saving_low'])} to {spoken(row['saving_high'])} at 95%" in words
+        if row["run_low"] and row["verdict"] != "same":
+            assert f"from {spoken(row['run_low'])} to {spoken(row['run_high'])} at 95%" in words
 
 
 def test_pages_stand_alone(pages: dict[str, Page]) -> None:
@@ -152,7 +159,7 @@ def forget(folder: Path) -> None:
     """Changes what the plan of an item depends on, as if a row had changed since."""
     base = sqlite3.connect(folder / "catalogue.sqlite")
     with base:
-        base.execute("UPDATE items SET facts = replace(facts, '\"box\":1', '\"box\": 1') WHERE item = 'A-040'")
+        base.execute("UPDATE items SET setup = '1/3' WHERE name = 'A-040'")
     base.close()
 
 
@@ -160,8 +167,8 @@ REFUSED: dict[str, tuple[str, Callable[[Path], object], str]] = {
     "no such item": ("A-04", lambda folder: None, "there is no item 'A-04'; did you mean 'A-0"),
     "left out": ("A-031", lambda folder: None, "item 'A-031' is left out: Artikel.csv:"),
     "not planned": (NO_PLAN, lambda folder: None, "it could not be planned: costs: these are too far apart"),
-    "changed": ("A-040", forget, "item 'A-040': it is not planned as its rows are now; run crnplan catalogue again"),
-    "no plan": ("A-040", lambda folder: (folder / "planned.json").unlink(), "no plan is in it; run crnplan catalogue"),
+    "changed": ("A-040", forget, "its plan is not as the rows that were read last; run crnplan catalogue again"),
+    "no plan": ("A-040", lambda folder: (folder / "answers.sqlite").unlink(), "no plan is in it; run crnplan catalogue"),
     "no folder": ("A-040", shutil.rmtree, "no plan is in it; run crnplan catalogue")}
 
 

@@ -25,8 +25,8 @@ START, WEEKS = datetime.date(2024, 12, 2), 60  # a Monday
 SETTINGS = {"periods": 48, "replications": 6, "least": 13}
 Row = dict[str, str]
 # Columns of decisions.csv that are amounts of money, and those that count items.
-MONEY = ("cost_today", "cost_chosen", "saving", "saving_low", "saving_high", "theory_cost_today", "theory_cost_chosen",
-         "theory_saving", "value_today", "value_chosen", "theory_cost_confidence", "theory_cost_alone")
+MONEY = ("cost_today", "cost_chosen", "saving", "run_saving", "run_low", "run_high", "value_today", "value_chosen",
+         "cost_confidence", "cost_alone")
 ITEMS = ("s_today", "S_today", "s_chosen", "S_chosen", "stock_today", "stock_chosen", "s_alone", "S_alone", "demand")
 SHARES = ("fill_wanted", "fill_today", "fill_chosen", "fill_alone", "orders_today", "orders_chosen", "law_share",
           "log10_bayes")
@@ -214,8 +214,8 @@ def test_items_have_other_names(planner: Planner) -> None:
     items = slow_sellers()
     before = planner(Files(items))
     after = planner(Files([dataclasses.replace(it, name=f"{it.name}-new") for it in items]))
-    assert_same(before, after, [it for it in (*MONEY, *ITEMS, *SHARES) if not it.startswith(("cost", "saving"))])
-    assert [its["cost_today"] for its in before] != [its["cost_today"] for its in after]
+    assert_same(before, after, [it for it in (*MONEY, *ITEMS, *SHARES) if not it.startswith("run")])
+    assert [its["run_saving"] for its in before] != [its["run_saving"] for its in after]
 
 
 def test_other_items_of_the_catalogue(planner: Planner) -> None:

@@ -17,7 +17,7 @@ import pandas as pd
 import pytest
 
 import crnplan as crn
-from crnplan.plan.planning import Settings
+from crnplan.plan.question import Settings
 from planner.tests.catalogue.audit import audit
 from planner.tests.catalogue.conftest import FILES, SETTINGS, TABLES, WORDS, leave_few
 from planner.tests.catalogue.made import NO_PLAN, START, TITLES, WEEKS, Made
@@ -94,18 +94,17 @@ def test_decisions(planned: Path, planted: Made) -> None:
     assert "too far apart" in rejects[NO_PLAN]["reason"] and int(rejects[NO_PLAN]["rows"]) > 0
     for name, row in table.items():
         its = {column: float(value) for column, value in row.items()
-               if value and column not in ("item", "description", "class", "verdict", "law", "warnings")}
+               if value and column not in ("item", "description", "class", "verdict", "by", "law", "warnings")}
         if "fill_wanted" in its:
             assert its["fill_chosen"] >= its["fill_wanted"] - 1e-4
             assert row["verdict"] != "more service" or its["fill_today"] < its["fill_wanted"]
         else:
-            assert its["theory_cost_chosen"] <= its["theory_cost_today"]
+            assert its["cost_chosen"] <= its["cost_today"] and row["verdict"] in ("cheaper", "same")
         assert math.isclose(its["saving"], its["cost_today"] - its["cost_chosen"], abs_tol=2e-4)
-        if "saving_low" in its:
-            middle = (its["saving_low"] + its["saving_high"]) / 2
-            assert math.isclose(middle, its["saving"], abs_tol=2e-4) or row["verdict"] == "same"
-            sure = its["saving_low"] > 0 or its["saving_high"] < 0
-            assert sure == (row["verdict"] in ("cheaper", "dearer")) or row["verdict"] == "more service"
+        assert row["by"] == "theory" and (its["saving"] > 0) == (row["verdict"] == "cheaper")
+        if "run_low" in its:
+            middle = (its["run_low"] + its["run_high"]) / 2
+            assert math.isclose(middle, its["run_saving"], abs_tol=2e-4)
     price, its = float(planted.masters[1]["Preis"].replace(",", ".")), table["A-001"]
     assert math.isclose(float(its["value_today"]), price * float(its["stock_today"]), rel_tol=1e-3)
 
@@ -113,26 +112,29 @@ def test_decisions(planned: Path, planted: Made) -> None:
 def test_money_has_the_decimals_of_the_masters(planned: Path) -> None:
     """Spells money with four decimals, as the finest amount of the masters has."""
     for row in rows_of(planned / "decisions.csv").values():
-        assert {len(row[it].partition(".")[2]) for it in ("cost_today", "saving", "theory_cost_chosen")} == {4}
+        assert {len(row[it].partition(".")[2]) for it in ("cost_today", "saving", "run_saving")} == {4}
 
 
 def test_savings_lie_in_their_intervals(planned: Path) -> None:
-    """Has theory's saving in most of the intervals: with 95%, in at least 85% of some forty."""
-    table = pd.read_csv(planned / "decisions.csv").dropna(subset=["saving_low"])
+    """Has theory's saving in most of the intervals of runs: with 95%, in at least 85% of some forty."""
+    table = pd.read_csv(planned / "decisions.csv").dropna(subset=["run_low"])
     table = table[table.verdict != "same"]
-    inside = (table.saving_low <= table.theory_saving) & (table.theory_saving <= table.saving_high)
+    inside = (table.run_low <= table.saving) & (table.saving <= table.run_high)
     assert len(table) > 30 and inside.mean() > 0.85
 
 
 def test_summary_adds_up(planned: Path, planted: Made) -> None:
-    """Has the sum of all savings, with an interval of the square root of the sum of squares."""
+    """Has the sum of all savings, and of those by runs with an interval of the square root of the sum of squares. The
+    page has the same."""
     table, text = pd.read_csv(planned / "decisions.csv"), (planned / "summary.txt").read_text("utf-8")
     lines = {line.partition(":")[0]: line for line in text.splitlines()}
-    words = lines["saved"].replace(",", "").split()
-    saving, low, high = float(words[1]), float(words[6]), float(words[8])
+    saving, run, low, high = (float(it) for it in re.findall(r"-?\d+\.\d\d", lines["saved"].replace(" 0.95 ", "")))
     assert math.isclose(saving, table.saving.sum(), abs_tol=0.01)
+    assert math.isclose(run, table.run_saving.sum(), abs_tol=0.01)
+    page = (planned / "report.html").read_text("utf-8")
+    assert all(f"{it:,.2f}" in page for it in (saving, run, low, high))
     # Half an interval is 2.365 standard errors with 7 degrees of freedom (Student's table), and 1.96 in the sum.
-    errors = (table.saving_high - table.saving_low) / 2 / 2.365
+    errors = (table.run_high - table.run_low) / 2 / 2.365
     assert math.isclose(high - low, 2 * 1.96 * math.sqrt((errors**2).sum()), rel_tol=0.02)
     bad = len({*set.union(*planted.bad_items.values()), NO_PLAN})
     assert lines["items"].startswith(f"items: {len(table) + bad} named = {len(table)} planned + {bad} left out")
@@ -220,7 +222,7 @@ def test_learning_from_others(begun: Path, files: Path, crnplan: Command, progra
     shutil.copy(files / FILES[1], begun / FILES[1])
     first = crnplan(*words)
     assert planned_now(first) == len(rows_of(begun / "plan/decisions.csv")) + 1  # and the item without a plan
-    assert "laws of demand were learned from" in first.output and (begun / "plan/prior.json").is_file()
+    assert "laws of demand were learned from" in first.output
     laws = Counter(row["law"] for row in rows_of(begun / "plan/decisions.csv").values())
     assert laws["borrowed"] > laws.total() / 2
     change(begun / FILES[0], ";A-001;", 3, "7")
@@ -247,9 +249,9 @@ def test_confidence_and_its_price(begun: Path, crnplan: Command, program: Path) 
     assert planned_now(told) == len(after) == 6
     price = 0.0
     for name, row in after.items():
-        rise = float(row["theory_cost_chosen"]) - float(before[name]["theory_cost_chosen"])
-        assert math.isclose(rise, float(row["theory_cost_confidence"] or 0), abs_tol=2e-4)
-        assert bool(row["theory_cost_confidence"]) == bool(row["fill_wanted"]) and rise >= 0
+        rise = float(row["cost_chosen"]) - float(before[name]["cost_chosen"])
+        assert math.isclose(rise, float(row["cost_confidence"] or 0), abs_tol=2e-4)
+        assert bool(row["cost_confidence"]) == bool(row["fill_wanted"]) and rise >= 0
         assert row["fill_chosen"] >= before[name]["fill_chosen"]
         price += rise
     line, = (it for it in told.output.splitlines() if it.startswith("fill rates kept under 80% of the laws"))

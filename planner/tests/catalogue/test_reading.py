@@ -9,6 +9,8 @@ from typing import Any
 import pandas as pd
 import pytest
 
+from crnplan.records.item import Item
+from crnplan.words import sentence
 from crnplan.records.catalogue_reading import Catalogue, read_catalogue
 from crnplan.records.staging import Reader, far_above
 from crnplan.records.catalogue_reading import Words, read_alone
@@ -34,10 +36,10 @@ def second(files: Path) -> Audit:
     return audit(files / FILES[0], len(TITLES) + 1, START, LAST)
 
 
-def items_of(catalogue: Catalogue) -> dict[str, tuple[dict[str, Any], dict[str, Any]]]:
+def items_of(catalogue: Catalogue) -> dict[str, Item]:
     """Returns all items that can be planned."""
     with catalogue.opened() as read:
-        return {name: read.item(name) for name, _ in read.facts_of_items()}
+        return {item.name: item for item in read.items()}
 
 
 def test_planted_rows_are_rejected_or_named(planted: Made, rejects: pd.DataFrame) -> None:
@@ -84,14 +86,13 @@ def test_columns_of_faulty_masters(rejects: pd.DataFrame) -> None:
 def test_sums_of_a_second_program(catalogue: Catalogue, second: Audit) -> None:
     """Has the same quantities and returns by item and week as the second program, and nothing beside."""
     first = period_of(START, "week")
-    for name, (facts, shown) in items_of(catalogue).items():
-        weeks = [datetime.date.fromordinal(7 * (shown["first"] + it) + 1).isocalendar()[:2]
-                 for it in range(len(facts["counts"]))]
-        assert {week: it for week, it in zip(weeks, facts["counts"]) if it} == second.asked[name], name
-        back = facts["back"] or [0] * len(weeks)
-        assert {week: it for week, it in zip(weeks, back) if it} == +second.back[name], name
-        assert len(weeks) == (WEEKS if shown["first"] == first else first + WEEKS - shown["first"])
-        assert shown["rows"] == second.taken[name]
+    for name, item in items_of(catalogue).items():
+        weeks = [datetime.date.fromordinal(7 * (item.first + it) + 1).isocalendar()[:2]
+                 for it in range(len(item.counts))]
+        assert {week: it for week, it in zip(weeks, item.counts) if it} == second.asked[name], name
+        assert {week: it for week, it in zip(weeks, item.returns) if it} == +second.back[name], name
+        assert len(weeks) == (WEEKS if item.first == first else first + WEEKS - item.first)
+        assert item.rows == second.taken[name]
 
 
 def test_rows_reconcile_with_a_second_program(catalogue: Catalogue, rejects: pd.DataFrame, second: Audit) -> None:
@@ -108,17 +109,17 @@ def test_rows_reconcile_with_a_second_program(catalogue: Catalogue, rejects: pd.
 def test_record_is_that_of_the_file(catalogue: Catalogue) -> None:
     """An item begins with the record, unless it is first seen after half a year, which is said."""
     items = items_of(catalogue)
-    assert len(items["A-001"][0]["counts"]) == WEEKS and "begins" not in "".join(items["A-001"][1]["notes"])
-    assert len(items["A-009"][0]["counts"]) == WEEKS and not any(items["A-009"][0]["counts"][:20])
-    assert len(items["A-007"][0]["counts"]) == WEEKS - 60
-    assert items["A-007"][1]["notes"] == ["begins with its first movement, in 2026-W04"]
+    assert len(items["A-001"].counts) == WEEKS and "late" not in {it.code for it in items["A-001"].remarks}
+    assert len(items["A-009"].counts) == WEEKS and not any(items["A-009"].counts[:20])
+    assert len(items["A-007"].counts) == WEEKS - 60
+    assert [*map(sentence, items["A-007"].remarks)] == ["begins with its first movement, in 2026-W04"]
 
 
 def test_lead_times_of_orders(files: Path, catalogue: Catalogue) -> None:
     """Takes lead times from orders if the master has none: those of a second computation."""
     leads = [it.split(";") for it in (files / FILES[2]).read_text("utf-8").splitlines()[1:] if it.startswith("A-012;")]
     weeks = [[datetime.datetime.strptime(it, "%Y-%m-%d").date().toordinal() - 1 for it in row[1:]] for row in leads]
-    assert items_of(catalogue)["A-012"][0]["leads"] == [max(1, b // 7 - a // 7) for a, b in weeks]
+    assert items_of(catalogue)["A-012"].leads == tuple(max(1, b // 7 - a // 7) for a, b in weeks)
 
 
 def test_what_was_found_is_stated(catalogue: Catalogue, files: Path) -> None:
@@ -243,7 +244,7 @@ def test_decimal_sign_is_never_guessed(tmp_path: Path, holdings: list[str], deci
         f"{name};10;{it};5;2;3;9\n" for name, it in zip(names, holdings))
     its = read_text(tmp_path, "item,date,quantity\n" + rows, masters, decimal=decimal)
     found = items_of(its)
-    assert [found[name][0]["holding"] if name in found else None for name in names] == read
+    assert [str(found[name].holding) if name in found else None for name in names] == read
 
 
 def test_unused_words_are_refused(tmp_path: Path) -> None:
@@ -260,7 +261,7 @@ def test_record_from_and_to(tmp_path: Path) -> None:
     """Cuts the record where it is stated, and counts what is left out."""
     its = read_text(tmp_path, "item,date,quantity\n" + ROWS, start="2026-02-01", end="2026-09-30", every="month",
                     units={"items": dict.fromkeys(("lead", "holding", "backlog"), "month")})
-    facts, shown = items_of(its)["A"]
-    assert facts["counts"] == [3] * 8 and shown["rows"] == 8
+    item = items_of(its)["A"]
+    assert item.counts == (3,) * 8 and item.rows == 8
     assert list(its.rejects.reason) == ["2026-01-15 is before --from", "2026-10-15 is after --to"]
     assert json.loads(json.dumps(its.counts)) == its.counts and its.missing == []

@@ -7,7 +7,7 @@ from pathlib import Path
 
 import pytest
 
-from crnplan.plan import item
+from crnplan.plan.item import plan_item
 from planner.tests.conftest import Answer, Command
 
 HERE = Path(__file__).parent
@@ -34,7 +34,8 @@ def room(tmp_path: Path, top: Path, program: Path) -> Path:
 def whole(tmp_path_factory: pytest.TempPathFactory, top: Path, program: Path) -> Path:
     """Returns the folder of a plan that was made by the script at once. It is to be copied, not changed."""
     room = furnished(tmp_path_factory.mktemp("whole"), top, program)
-    return item.plan_item(room / "history.csv", room / "settings.toml", room / "plan", program=room / "program").folder
+    plan_item(room / "history.csv", room / "settings.toml", room / "plan", program=room / "program")
+    return room / "plan"
 
 
 @pytest.fixture

@@ -5,6 +5,7 @@ import csv
 import re
 import shutil
 from collections.abc import Callable, Mapping
+from decimal import Decimal
 from pathlib import Path
 
 import pytest
@@ -14,7 +15,6 @@ from planner.tests.conftest import Command
 from planner.tests.item.conftest import Plan
 from planner.tests.pages.page_reader import Page, digest_of
 
-UNITS = 10  # of the scenario's money, in one of the settings'
 Row = Mapping[str, str]
 
 
@@ -29,9 +29,9 @@ def rows_of(folder: Path, name: str) -> dict[str, Row]:
         return {next(iter(row.values())): row for row in csv.DictReader(file)}
 
 
-def money(text: str) -> str:
-    """Returns an amount of the scenario's money as the page has it."""
-    return f"{float(text) / UNITS:,.2f}".replace("-", "\u2212")
+def money(text: str, digits: int = 2) -> str:
+    """Returns an amount of money of a file as the page has it."""
+    return "-" if text == "-" else f"{round(Decimal(text), digits) + 0:,.{digits}f}".replace("-", "\u2212")
 
 
 def share(text: str) -> str:
@@ -39,11 +39,12 @@ def share(text: str) -> str:
     return f"{float(text):.1%}"
 
 
-def policy(row: Row, theory: Row) -> list[str]:
-    """Returns the row of a policy in the table of all, from decision.csv and suggested.csv."""
-    return [row["policy"], row["s"], row["S"], money(theory["cost"]), share(theory["fill"]), share(theory["short"]),
-            f"{float(theory['stock']):.1f}", f"{float(theory['orders']):.3f}", money(row["cost"]),
-            f"{money(row['cost_low'])} to {money(row['cost_high'])}"]
+def policy(row: Row) -> list[str]:
+    """Returns the row of a policy in the table of all, from policies.csv."""
+    ends = [money(row[f"run_cost_{end}"]) for end in ("low", "high")]
+    return [row["policy"], row["s"], row["S"], money(row["theory_cost"]), share(row["fill"]), share(row["short"]),
+            f"{float(row['stock']):.1f}", f"{float(row['orders']):.3f}", money(row["run_cost"]),
+            "-" if "-" in ends else " to ".join(ends)]
 
 
 def doubted(row: Row) -> list[str]:
@@ -57,60 +58,54 @@ def moved(row: Row) -> list[str]:
             f"{abs(float(row['kept_more'])):.1%}", share(row["kept_fill"])]
 
 
-TABLES: dict[str, Callable[[Path], list[list[str]]]] = {
-    "All policies in the long run": lambda plan: [policy(row, rows_of(plan, "suggested.csv")[name])
-                                                  for name, row in rows_of(plan, "decision.csv").items()],
-    "Each policy under the laws that the history allows": lambda plan: [
-        doubted(row) for row in [*rows_of(plan, "doubt.csv").values()][:10]],
-    "The best policy in each case, and what it costs to keep the chosen one": lambda plan: [
-        moved(row) for row in rows_of(plan, "sensitivity.csv").values()]}
+TABLES: dict[str, tuple[str, Callable[[Row], list[str]]]] = {
+    "All policies in the long run": ("policies.csv", policy),
+    "Each policy under the laws that the history allows": ("doubt.csv", doubted),
+    "The best policy in each case, and what it costs to keep the chosen one": ("sensitivity.csv", moved)}
 
 
 @pytest.fixture(scope="module")
-def long_run(whole: Path, tmp_path_factory: pytest.TempPathFactory) -> Path:
-    """Returns the folder of a plan in the long run, by the script at once."""
-    from crnplan.plan.item import plan_item
-    room = tmp_path_factory.mktemp("long")
-    shutil.copytree(whole.parent, room, dirs_exist_ok=True, ignore=shutil.ignore_patterns("plan"))
-    text = (room / "settings.toml").read_text()
-    (room / "settings.toml").write_text(text.replace("horizon = 12\n", ""))
-    return plan_item(room / "history.csv", room / "settings.toml", room / "plan", program=room / "program").folder
+def plan_folder(whole: Path) -> Path:
+    """Returns the folder of a plan, with coming periods."""
+    return whole
 
 
 @pytest.mark.parametrize("caption", TABLES)
-def test_tables_are_those_of_the_files(caption: str, long_run: Path) -> None:
-    """Each table has the rows of its file, in that order, with its figures in the settings' money."""
-    assert page_of(long_run).tables[caption][1:] == TABLES[caption](long_run)
+def test_tables_are_those_of_the_files(caption: str, plan_folder: Path) -> None:
+    """Each table has the rows of its file, in that order, with its figures as a reader has them."""
+    name, cells = TABLES[caption]
+    shown = page_of(plan_folder).tables[caption][1:]
+    assert shown == [cells(row) for row in rows_of(plan_folder, name).values()][:len(shown)] and len(shown) >= 9
 
 
-@pytest.mark.parametrize("title, name", [("Cost compared with today's policy, in the long run", "decision.csv"),
-                                         ("Check on new random numbers: cost compared with best, in the long run",
-                                          "check.csv")])
-def test_intervals_are_those_of_the_files(title: str, name: str, long_run: Path) -> None:
+@pytest.mark.parametrize("title, name, ends", [
+    ("Cost compared with today's policy, in the long run", "policies.csv", ("run_low", "run_high")),
+    ("Cost compared with today's policy, over the coming 12 weeks", "coming.csv", ("low", "high"))])
+def test_intervals_are_those_of_the_files(title: str, name: str, ends: tuple[str, str], plan_folder: Path) -> None:
     """Each difference stands in a table, and is the label of its picture with both ends."""
-    page, rows = page_of(long_run), rows_of(long_run, name)
-    base, = (it for it, row in rows.items() if row["verdict"] == "base")
-    assert f"difference from {base}" in page.tables[title][0]
+    page, rows = page_of(plan_folder), rows_of(plan_folder, name)
+    assert "difference from today" in page.tables[title][0]
     shown = {cells[0].split("(")[0]: cells[-1] for cells in page.tables[title][1:-1]}
-    assert shown == {it: f"{money(row['diff'])}{row['verdict']}" for it, row in rows.items()}
+    assert shown == {it: f"{money(row['difference'])}{row['verdict']}" for it, row in rows.items()}
     for it, row in rows.items():
-        ends = "" if row["low"] == "-" else f", from {money(row['low'])} to {money(row['high'])}"
-        assert f"{it}: {money(row['diff'])}{ends}, {row['verdict']}" in page.pictures
+        low, high = (money(row[end]) for end in ends)
+        between = "" if low == "-" else f", from {low} to {high}"
+        assert f"{it}: {money(row['difference'])}{between}, {row['verdict']}" in page.pictures
 
 
-def test_pictures_say_their_figures(long_run: Path) -> None:
+def test_pictures_say_their_figures(plan_folder: Path) -> None:
     """The pictures of the history and of the stock say in words what the files have."""
-    page = page_of(long_run)
-    demand = {name: int(row["demand"]) for name, row in rows_of(long_run, "demand.csv").items()}
+    page = page_of(plan_folder)
+    demand = {name: int(row["demand"]) for name, row in rows_of(plan_folder, "demand.csv").items()}
     text = page.pictures["Demand by week, and the law that it is planned by"]
     first, *_, last = demand
     assert f"{len(demand)} weeks from {first} to {last}, {sum(demand.values()):,} items" in text
     assert f"the greatest demand is {max(demand.values())}, in {max(demand, key=demand.__getitem__)};" in text
-    law = [row for row in csv.DictReader((long_run / "laws.csv").open()) if row["table"] == "demand"][-1]
+    law = [row for row in csv.DictReader((plan_folder / "laws.csv").open()) if row["table"] == "demand"][-1]
     assert f"mean of the law: {float(law['mean']):.2f} a week; 99 of 100 weeks by the law: at most " in text
     assert text.endswith(f" at most {law['99.0%']}.")
     stocks: dict[str, list[int]] = {}
-    for row in csv.DictReader((long_run / "trajectory.csv").open()):
+    for row in csv.DictReader((plan_folder / "trajectory.csv").open()):
         stocks.setdefault(row["policy"], []).append(int(row["stock"]))
     for name, its in stocks.items():
         owed = sum(it < 0 for it in its)
@@ -131,36 +126,38 @@ def test_picture_of_the_law_whatever_the_order(room: Path, plan: Plan) -> None:
     assert pictures[0][0] != pictures[1][0]
 
 
-def test_policy_allows_what_stands_in_the_page(long_run: Path) -> None:
-    """The security policy allows the page's own style alone. No element has a style or a handler of its own."""
-    page = page_of(long_run)
+def test_page_stands_alone(plan_folder: Path) -> None:
+    """The page is closed in itself, links to nothing, allows its own style alone, and has the summary's words and all
+    policies."""
+    text, page = (plan_folder / "summary.html").read_text(), page_of(plan_folder)
+    assert not page.open and set(page.links) == {"data:,"} and "url(" not in text
+    assert "http" not in text.replace("http-equiv", "")
     assert page.policy["default-src"] == page.policy["script-src"] == "'none'" and not page.parts["script"]
     assert page.policy["style-src"] == digest_of("".join(page.parts["style"]))
     assert not [it for it in page.attributes if it == "style" or it.startswith("on")]
+    wanted = " ".join((plan_folder / "summary.txt").read_text().split())
+    told = re.search(r"^(Below .*?) (history: .*? weeks[.]) policy s S .* (In the long run .*?[.]) The chosen policy is ",
+                     wanted)
+    assert told and all(part in page.words for part in told.groups())
+    scenario = Scenario.read(plan_folder / "scenario.toml")
+    assert [it.name for it in scenario.policies] and set(rows_of(plan_folder, "policies.csv")) == {
+        it.name for it in scenario.policies}
+    assert all(page.words.count(f" {it.name} ") >= 3 for it in scenario.policies)
+    assert f"Key {' '.join(scenario.key)}; scenario of version {scenario.version}. " in page.words
+    counts = [row["demand"] for row in rows_of(plan_folder, "demand.csv").values()]
+    assert text.count('class="bar"') == len(counts) - counts.count("0")
 
 
-def test_page_stands_alone(whole: Path, long_run: Path) -> None:
-    """The page is closed in itself, links to nothing, and has the summary's words and all policies."""
-    for plan, horizon in ((whole, "over the coming 12 weeks from a stock of 20"), (long_run, "in the long run")):
-        text, page = (plan / "summary.html").read_text(), page_of(plan)
-        assert not page.open and set(page.links) == {"data:,"} and "url(" not in text
-        assert "http" not in text.replace("http-equiv", "")
-        wanted = " ".join((plan / "summary.txt").read_text().split())
-        parts = r"^(Below .*?) (history.csv: .*?) policy s S .* ((?:Over the|In the long run).*?[.]) (On new .*?[.]) "
-        told = re.search(parts, wanted)
-        assert told and all(part in page.words for part in told.groups())
-        for it in Scenario.read(plan / "suggested.toml").policies:
-            assert page.words.count(f" {it.name} ") >= 3
-        assert f"Cost compared with today's policy, {horizon}" in page.words
-        scenario = Scenario.read(plan / "suggested.toml")
-        assert f"Key {' '.join(scenario.key)}; scenario of version {scenario.version}. " in page.words
-        counts = [row["demand"] for row in rows_of(plan, "demand.csv").values()]
-        assert text.count('class="bar"') == len(counts) - counts.count("0")
+def test_summary_fits_a_screen(plan_folder: Path) -> None:
+    """The summary has at most 24 lines of 80 characters, and begins with the headline of the page."""
+    lines = (plan_folder / "summary.txt").read_text().splitlines()
+    assert len(lines) <= 24 and max(map(len, lines)) <= 80
+    assert " ".join(lines[:lines.index("")]) == page_of(plan_folder).parts["h1"][0]
 
 
-def test_tables_and_pictures_are_named(whole: Path) -> None:
+def test_tables_and_pictures_are_named(plan_folder: Path) -> None:
     """Each table has a caption and headings with a scope, each picture a text, and each scroll region a name."""
-    text, page = (whole / "summary.html").read_text(), page_of(whole)
+    text, page = (plan_folder / "summary.html").read_text(), page_of(plan_folder)
     assert text.count("<table>") == text.count("<caption>") == len(page.tables)
     assert all(page.tables) and all(page.pictures.values())
     assert not re.search("<th(?![^>]*scope=)[ >]", text)
@@ -168,19 +165,32 @@ def test_tables_and_pictures_are_named(whole: Path) -> None:
 
 
 def test_page_escapes_texts(room: Path, crnplan: Command, program: Path) -> None:
-    """A file's name is no markup."""
+    """The name of an item is no markup. It is that of its file, if the settings have none."""
     shutil.copy(room / "history.csv", room / "a<b>&.csv")
     crnplan("item", room / "a<b>&.csv", room / "settings.toml", "--out", room / "plan", "--program", program)
     text = (room / "plan/summary.html").read_text()
-    assert "a&lt;b&gt;&amp;.csv" in text and "<b>&.csv" not in text and not Page(text).open
+    assert "a&lt;b&gt;&amp;" in text and "<b>&" not in text and not Page(text).open
 
 
-def test_boxes_are_items_on_the_page(room: Path, plan: Plan) -> None:
-    """If demand is counted in boxes, the picture of the history has the law's figures in items."""
-    text = (room / "settings.toml").read_text()
-    (room / "settings.toml").write_text(text.replace('demand = "demand"', 'demand = "demand"\nbox = 5'))
-    plan()
-    law = [row for row in csv.DictReader((room / "plan/laws.csv").open()) if row["table"] == "demand"][-1]
-    said = page_of(room / "plan").pictures["Demand by week, and the law that it is planned by"]
-    assert f"mean of the law: {5 * float(law['mean']):.2f} a week" in said
-    assert f"at most {5 * int(law['99.0%'])}." in said
+def test_all_amounts_are_items(plan: Plan, room: Path) -> None:
+    """Of an item that is counted in boxes, each file and the page have items: ten thousand times the demand, with a
+    ten-thousandth of each cost of an item, is the same plan."""
+    history, settings = (room / "history.csv").read_text(), (room / "settings.toml").read_text()
+    counts = [int(it.rpartition(",")[2]) for it in history.splitlines()[1:]]
+    assert plan().status == 0
+    before = rows_of(room / "plan", "policies.csv")
+    times = 10_000
+    (room / "history.csv").write_text("demand\n" + "".join(f"{times * it}\n" for it in counts))
+    for name in ("holding", "backlog"):
+        settings = re.sub(rf"^{name} = (\S+)$", lambda it: f"{it[0][:it[0].index('=')]}= {float(it[1]) / times:.10f}", settings,
+                          flags=re.MULTILINE)
+    for name in ("s", "S", "stock"):
+        settings = re.sub(rf"^{name} = (\d+)$", lambda it: f"{it[0][:it[0].index('=')]}= {int(it[1]) * times}", settings,
+                          flags=re.MULTILINE)
+    (room / "settings.toml").write_text(settings)
+    assert plan("boxes").status == 0
+    after = rows_of(room / "boxes", "policies.csv")
+    assert after["today"]["s"] == str(times * int(before["today"]["s"]))
+    assert float(after["today"]["theory_cost"]) == pytest.approx(float(before["today"]["theory_cost"]), rel=0.05)
+    said = page_of(room / "boxes").pictures["Demand by week, and the law that it is planned by"]
+    assert f"{times * sum(counts):,} items" in said

@@ -5,8 +5,10 @@ from __future__ import annotations
 import numpy as np
 import pytest
 
-from crnplan.demand import DemandLaw, LeadLaw, fit_demand, fit_lead
-from crnplan.plan.laws import law_words, rows_of_laws
+from crnplan.demand import DemandLaw, LeadLaw, fit_demand
+from crnplan.pages.laws import LAW_COLUMNS, law_rows, law_words
+from crnplan.plan.question import Settings, question_of
+from planner.tests.plan.items import item_of
 
 RANDOM = np.random.default_rng(2)
 ERRATIC = RANDOM.negative_binomial(1.5, 1 / 3, 104).tolist()
@@ -38,10 +40,10 @@ def test_words(its: DemandLaw | LeadLaw, method: str, words: str) -> None:
 def test_figures(numbers: list[int], method: str) -> None:
     """Each row has the figures that numpy has for the history, or for the law. The last one of a law names it."""
     leads = [2, 3, 2, 4]
-    laws = {"demand": fit_demand(numbers, method=method), "lead": fit_lead(leads, method="empirical")}
-    heading, *rows = rows_of_laws(laws, {"demand": method, "lead": "empirical"})
-    assert heading == ["table", "law", "mean", "variance", "95.0%", "99.0%", "99.9%", "largest"]
-    its = laws["demand"]
+    item = item_of(counts=tuple(numbers), leads=tuple(leads))
+    rows = [*law_rows(question_of(item, Settings(fit=method, lead_fit="empirical")), None)]
+    assert [it.name for it in LAW_COLUMNS] == ["table", "law", "mean", "variance", "95.0%", "99.0%", "99.9%", "largest"]
+    its = fit_demand(numbers, method=method)
     names, samples = ["this history"], [numbers]
     if its.family != "empirical":
         names, samples = ["what was seen", law_words(its, method)], [numbers, np.repeat(its.values, its.weights)]
@@ -51,5 +53,5 @@ def test_figures(numbers: list[int], method: str) -> None:
     for row, sample in zip(rows, [*samples, leads]):
         variance = np.var(sample, ddof=int(len(sample) < 65_536))
         quantiles = [int(np.quantile(sample, it, method="inverted_cdf")) for it in (0.95, 0.99, 0.999)]
-        assert [float(it) for it in row[2:4]] == pytest.approx([np.mean(sample), variance], abs=6e-5)
+        assert row[2:4] == pytest.approx([np.mean(sample), variance], abs=6e-5)
         assert row[4:] == [*quantiles, max(sample)]

@@ -2,7 +2,7 @@
 from __future__ import annotations
 
 import re
-from decimal import Decimal
+from fractions import Fraction
 from pathlib import Path
 
 import pytest
@@ -19,11 +19,11 @@ GOOD = (Path(__file__).parent / "settings.toml").read_text()
 FAULTS = {
     "a table that is misspelt": ("[costs]", "[cost]", "[cost]", "there is no such table; did you mean [costs]?"),
     "a table of levels that is misspelt": ("[today]", "[tody]", "[tody]", "did you mean [today]?"),
-    "a table that nobody knows": ("[check]", "[zebra]", "[zebra]",
-        "the tables are [history], [lead], [costs], [today], [run], [check]"),
+    "a table that nobody knows": ("[today]", "[zebra]\n[today]", "[zebra]",
+        "the tables are [history], [lead], [costs], [today], [run]"),
     "a key above the tables": ("# A small", "stock = 1\n# A small", "stock = 1",
         "there is no such key; move this line to [today]"),
-    "a list for a table": ("[check]", "[[check]]", "[[check]]", "write the keys of check below a line [check]"),
+    "a list for a table": ("[run]", "[[run]]", "[[run]]", "write the keys of run below a line [run]"),
     "a key that is misspelt": ("holding = 0.60", "holdng = 0.60", "holdng", "did you mean holding?"),
     "a key in capitals": ("stock = 20", "Stock = 20", "Stock", "did you mean stock?"),
     "a key of another table": ("[costs]", "[costs]\nhorizon = 12", "horizon = 12\nset", "move this line to [run]"),
@@ -36,7 +36,13 @@ FAULTS = {
     "a cost that is no number": ("0.60", "nan", "holding", "nan is no cost"),
     "an endless cost": ("0.60", "inf", "holding", "inf is no cost"),
     "true for a cost": ("0.60", "true", "holding", "true is true or false; write a number"),
-    "a cost out of range": ("0.60", "99999.61", "[costs]", "above 10,000"),
+    "a holding cost of 0": ("0.60", "0", "holding", "0 is free; write a cost above 0"),
+    "no cost of backlog": ("backlog = 9.00", "", "[costs]",
+        "there is neither a backlog cost nor a wanted fill rate; write backlog, or [run] fill"),
+    "a fill rate in percent": ("laws = 10", "fill = 95", "fill", "95 is not between 0 and 1; write 0.95 for 95%"),
+    "a table that has gone": ("[run]", "[check]\nkeys = 2\n[run]", "[check]", "run crnplan check on scenario.toml"),
+    "a key that has gone": ('seed = "a text"', 'key = "a text"', "key", "follow from the seed and the name of the item"),
+    "boxes of one's own": ('every = "week"', "box = 5", "box", "large numbers are counted in boxes by themselves"),
     "a number with a point for a level": ("S = 30", "S = 30.5", "S = 30.5",
         "30.5 is a number with a point; write a whole number"),
     "a level out of range": ("S = 30", "S = 2000000", "S = 2", "2000000 is not from 0 to 1,000,000"),
@@ -47,9 +53,7 @@ FAULTS = {
     "a horizon in words": ("horizon = 12", 'horizon = "long run"', "horizon",
         "write a whole number, as 60, or remove this line for the long run"),
     "one replication": ("replications = 4", "replications = 1", "replications = 1", "1 is not from 2 to 256"),
-    "a key of three words": ('key = "a text"', 'key = ["0000000000000000", "1", "2"]', "key",
-        "write four texts of 16 digits"),
-    "a level in percent": ('key = "a text"', "level = 95", "level", "95 is not between 0 and 1; write 0.95"),
+    "a level in percent": ('seed = "a text"', "level = 95", "level", "95 is not between 0 and 1; write 0.95"),
     "no period of that name": ('every = "week"', 'every = "weekly"', "every", 'did you mean "week"?'),
     "no fit of that name": ('every = "week"', 'fit = "auot"', "fit", 'did you mean "auto"?'),
     "a fit that nobody knows": ('every = "week"', 'fit = "zebra"', "fit",
@@ -82,11 +86,7 @@ FAULTS = {
         "this key is not used with times; remove it"),
     "no file of lead times": ("times = [2]", 'file = "none.csv"\ncolumn = "weeks"', "file",
         "there is no file"),
-    "no file of orders": ("times = [2]", 'orders = "none.csv"', "orders", "there is no file"),
-    "a check on no key": ("replications = 8", "keys = 0", "keys", "0 is not from 1 to 64"),
-    "a check on a text": ("replications = 8", 'key = "new"', 'key = "new"',
-        "'new' is no word of a key; write 16 digits of 0-9a-f"),
-    "a check on the run's key": ("replications = 8", 'key = "a text"', 'key = "a text"\n', "is no word of a key")}
+    "no file of orders": ("times = [2]", 'orders = "none.csv"', "orders", "there is no file")}
 
 
 def refused(path: Path, text: str) -> tuple[Fault, ...]:
@@ -108,20 +108,10 @@ def test_fault(name: str, tmp_path: Path) -> None:
     assert part in faults[0].what and len(faults[0].what) < 160
 
 
-def test_same_key_again(tmp_path: Path) -> None:
-    """The run's key, or its first word, is no key of a check."""
-    words = [f"{it:016x}" for it in range(4)]
-    for key in (words, words[0]):
-        text = GOOD.replace('key = "a text"', f"key = {words}").replace("replications = 8", f"key = {key!r}")
-        faults = refused(tmp_path / "settings.toml", text)
-        assert [it.what for it in faults] == ["[check] key: this is the key of the run, with the same random numbers "
-                                              "again; write another one, or remove it"]
-
-
 def test_all_at_once_by_line(crnplan: Command, tmp_path: Path) -> None:
     """All faults are reported, in the order of their lines, each once."""
     text = GOOD
-    for name in ("a key that is misspelt", "a text for a cost", "s above S", "no horizon", "a check on no key",
+    for name in ("a key that is misspelt", "a text for a cost", "s above S", "no horizon", "one law",
                  "no period of that name", "an empty list of lead times"):
         text = text.replace(*FAULTS[name][:2])
     faults = refused(tmp_path / "settings.toml", text)
@@ -139,15 +129,6 @@ def test_no_document(tmp_path: Path) -> None:
     assert fault.what.startswith("this is no TOML document: ")
 
 
-@pytest.mark.parametrize("horizon, run, check", [("horizon = 30", 64, 256), ("", 48, 48)])
-def test_sizes_by_horizon(tmp_path: Path, horizon: str, run: int, check: int) -> None:
-    """Without a horizon the settings are on the long run. The samples are larger with one, if none is given."""
-    text = re.sub("replications = .*", "", GOOD.replace("horizon = 12", horizon))
-    (tmp_path / "settings.toml").write_text(text)
-    read = read_settings(tmp_path / "settings.toml")
-    assert (read.is_long_run, read["run"]["replications"], read["check"]["replications"]) == (not horizon, run, check)
-
-
 def test_empty_document(tmp_path: Path) -> None:
     """An empty document lacks each key that must be there, and nothing else."""
     whats = [it.what for it in refused(tmp_path / "settings.toml", "")]
@@ -160,10 +141,16 @@ def test_good_settings(tmp_path: Path) -> None:
     """Good settings are read with their defaults, and costs as they are spelt."""
     (tmp_path / "settings.toml").write_text(GOOD)
     read = read_settings(tmp_path / "settings.toml")
-    assert read["costs"] == {"setup": 45, "holding": Decimal("0.60"), "backlog": 9, "unit": 0}
-    assert read.scaled == ({"setup": 450, "holding": 6, "backlog": 90, "unit": 0}, 10)
-    assert (read["run"]["level"], read["check"]["policy"], read.period, read.lead_path) == (0.95, "best", "week", None)
-    assert (read["history"]["fit"], read["lead"]["fit"], read["run"]["confidence"]) == ("auto", "auto", 0.8)
+    assert read["costs"] == {"setup": 45, "holding": Fraction(3, 5), "backlog": 9, "unit": 0}
+    assert (read["run"]["level"], read["run"]["seed"], read.fill, read.lead_path) == (0.95, "a text", None, None)
+    assert (read["history"]["fit"], read["lead"]["fit"], read["run"]["confidence"]) == ("auto", "auto", None)
+
+
+def test_a_wanted_fill_rate(tmp_path: Path) -> None:
+    """A fill rate takes the place of a backlog cost, as it is spelt."""
+    (tmp_path / "settings.toml").write_text(GOOD.replace("backlog = 9.00", "").replace("laws = 10", "fill = 0.95"))
+    read = read_settings(tmp_path / "settings.toml")
+    assert (read.fill, read["costs"]["backlog"]) == (Fraction(19, 20), None)
 
 
 @given(st.lists(st.tuples(st.integers(0, len(GOOD)), st.sampled_from('[]=" \n1éx{,')), max_size=4))

@@ -1,108 +1,121 @@
-"""Makes the folder of a planned catalogue without planning it: all files that its page needs, of so many items."""
+"""Makes the folder of a planned catalogue without planning it: what was read, and answers, of so many items."""
 from __future__ import annotations
 
+import contextlib
 import math
 import random
-from collections.abc import Sequence
+from collections.abc import Iterable, Sequence
+from dataclasses import replace
 from fractions import Fraction
 from pathlib import Path
 from typing import Any
 
-from crnplan.curve.exchange_curve import COLUMNS as CURVE_COLUMNS
-from crnplan.curve.exchange_curve import CURVE, LEFT_OUT, spelt_row
-from crnplan.plan.planned import Planned, keep_planned
-from crnplan.plan.planning import CHEAPER, DEARER, SAME, SERVICE, UNDECIDED, Settings
-from crnplan.records.store import ANSWERS, CATALOGUE, Answers, Reject, Writer
-from crnplan.plan.tables import COLUMNS, DECISIONS, EXACT, EXACT_COLUMNS, REJECTS, reject_rows, spelt
+from crnplan.curve.kept import Point, keep_curve
 from crnplan.demand.borrowing import Prior
-from crnplan.files import Folder, own_folder
+from crnplan.files import own_folder
+from crnplan.pages.exports import CATALOGUE_FILES, write_catalogue
+from crnplan.plan.answer import (CHEAPER, NO_INTERVAL, RUN, SAME, SERVICE, THEORY, UNDECIDED, UNLIKE, Answer, Estimate,
+                                 Figures, LawFacts, Run)
+from crnplan.plan.catalogue import Done
+from crnplan.plan.folder import ANSWERS, Planned, PlannedFolder
+from crnplan.plan.question import Settings
+from crnplan.plan.totals import Totals
+from crnplan.records.catalogued import CATALOGUE, READ, Catalogued, Reject, Writer
+from crnplan.records.item import Item
+from crnplan.remarks import Remark
+from crnplan.stored import Store
 
 DECIMALS = 2
 # The quantile of Student's t at 95% with 23 degrees of freedom (24 replications), from a published table.
 QUANTILE = 2.0687
 NOUNS = ("bearing", "gasket", "pump", "filter", "valve", "belt", "sensor", "fuse", "hose", "relay", "seal", "lamp")
-WARNINGS = ("", "", "", "", "demand in 3 periods alone, so its law is hardly known", "rows that stand twice: 2",
-            "unlike the catalogue from which laws are learned: see --borrow none")
+REMARKS = ((), (), (), (), (Remark("few demands", {"demands": 3, "learned": 0}),), (Remark(UNLIKE),))
+REASONS = (("the lead time 0 is not from 1 to 32 periods", "correct it"), ("the cell is empty", "give it a value"),
+           ("there is no row of demand in the record", "plan it by hand"))
+Pair = tuple[Item, Answer]
 
-Row = dict[str, Any]
 
-
-def made_folder(path: Path, items: int, names: Sequence[str] = (), has_curve: bool = True) -> Path:
-    """Makes a folder with so many planned items, and returns it.
+def made_folder(path: Path, items: int, names: Sequence[str] = (), has_curve: bool = True,
+                change: Pair | None = None) -> Path:
+    """Makes a folder with so many planned items, with its tables and its page, and returns it.
 
     The first items are called as `names` say, the others P00000 and so on. One item in twelve more is left out. Figures
-    follow from the number of items alone. `has_curve` adds the files of `crnplan curve`.
+    follow from the number of items alone. `has_curve` adds an exchange curve, `change` one more item.
     """
-    with own_folder(path, CATALOGUE) as folder:
-        _make(folder, items, names, has_curve)
+    source = random.Random(items)
+    called = [*names, *(f"P{number:05}" for number in range(len(names), items))]
+    pairs = [made_pair(source, name) for name in called[:items]] + ([change] if change else [])
+    with own_folder(path, CATALOGUE, CATALOGUE_FILES) as folder:
+        writer = Writer(folder)
+        writer.begin()
+        writer.add_items(item for item, _ in pairs)
+        rejects = made_rejects(source, items)
+        for reject in rejects:
+            writer.reject(reject)
+        writer.finish({"counts": made_counts(len(pairs), rejects), "every": "week", "decimals": DECIMALS})
+        planned = Planned(Settings(), Prior("none"), "made")
+        with (contextlib.closing(Catalogued(path / READ)) as read,
+              contextlib.closing(Store(folder.store(ANSWERS), Answer)) as answers):
+            planned.keep(answers)
+            digests = dict(read.digests(planned.common))
+            answers.keep((item.name, digests[item.name], answer) for item, answer in pairs)
+            if has_curve:
+                keep_curve(answers, made_curve(pairs))
+            its = PlannedFolder(path, read, answers, planned)
+            write_catalogue(folder, its, Done(items, 0, Totals.of(its.answers()), (), ()))
     return path
 
 
-def _make(folder: Folder, items: int, names: Sequence[str], has_curve: bool) -> None:
-    """Makes the files of a folder."""
-    source = random.Random(items)
-    called = [*names, *(f"P{number:05}" for number in range(len(names), items))]
-    rows = [made_row(source, name) for name in sorted(called[:items])]
-    folder.write_rows(DECISIONS, COLUMNS, ([spelt(name, row.get(name), DECIMALS) for name in COLUMNS] for row in rows))
-    folder.write_rows(EXACT, EXACT_COLUMNS, ([row.get(name, "") for name in EXACT_COLUMNS] for row in rows))
-    rejects = made_rejects(source, items)
-    folder.write_rows(REJECTS, Reject._fields, reject_rows(rejects))
-    Answers(folder.store(ANSWERS)).close()
-    keep_planned(folder, Planned(Settings(), Prior("none"), "made"))
-    writer = Writer(folder)
-    writer.begin()
-    writer.finish({"counts": made_counts(items, rejects), "every": "week", "decimals": DECIMALS})
-    if has_curve:
-        make_curve(folder, rows)
-
-
-def made_row(source: random.Random, name: str) -> Row:
-    """Returns the row of an item: plausible figures, unrounded."""
-    price, demand = source.lognormvariate(3, 1), source.lognormvariate(1, 1.5)
-    stocks = {it: demand * source.uniform(2, 12) for it in ("today", "chosen")}
-    fills = {"today": source.uniform(0.6, 1), "chosen": source.uniform(0.93, 1)}
-    cost = source.lognormvariate(2, 1.2)
+def made_pair(source: random.Random, name: str) -> Pair:
+    """Returns an item with its answer: plausible figures, unrounded."""
+    price, demand = Fraction(round(100 * source.lognormvariate(3, 1)) + 1, 100), source.lognormvariate(1, 1.5)
+    s, cost = source.randint(0, 60), source.lognormvariate(2, 1.2)
     saving, error = cost * source.triangular(-0.1, 0.8, 0.2), cost * 0.01 * source.random()
-    s_today, s_chosen = source.randint(-1, 60), source.randint(0, 60)
-    row: Row = {"item": name, "description": f"{source.choice(NOUNS)} {source.randrange(100)}",
-                "class": source.choice(("X", "Y", "Z", "")), "s_today": s_today, "S_today": s_today + 9,
-                "s_chosen": s_chosen, "S_chosen": s_chosen + 14, "cost_today": cost, "cost_chosen": cost - saving,
-                "saving": saving, "saving_low": saving - QUANTILE * error, "saving_high": saving + QUANTILE * error,
-                "demand": demand, "periods": 104, "periods_with_demand": 40, "law": "poisson", "law_share": 0.5,
-                "warnings": source.choice(WARNINGS), "saving_variance": Fraction(error)**2}
-    has_price = source.random() > 0.05
-    for policy, stock in stocks.items():
-        row |= {f"stock_{policy}": stock, f"fill_{policy}": fills[policy], f"orders_{policy}": demand / 14,
-                f"theory_cost_{policy}": row[f"cost_{policy}"], f"value_{policy}": price * stock if has_price else None}
-    return row | verdict_of(source, row)
+    today = Figures(s, s + 9, cost, source.uniform(0.6, 1), 0.1, demand * source.uniform(2, 12), demand / 9)
+    chosen = Figures(s + 2, s + 20, cost - saving, source.uniform(0.93, 1), 0.05, demand * source.uniform(2, 12),
+                     demand / 14)
+    near = saving + error * source.uniform(-1, 1)
+    estimate = Estimate(cost, cost - near, near, error, near - QUANTILE * error, near + QUANTILE * error)
+    run = Run("0 0 0 0", 1024, 24, 9, Fraction(100), 900, 60, 900, 1_000_000, 900_000, Fraction(-near), Fraction(error)**2,
+              True, estimate)
+    item = Item(name, (0, 3, 1), (2,), (s, s + 9), Fraction(9), Fraction(3, 5), Fraction(9), first=1000, line=7, rows=90,
+                group=source.choice(("X", "Y", "Z", "")), price=price if source.random() > 0.05 else None,
+                description=f"{source.choice(NOUNS)} {source.randrange(100)}")
+    answer = Answer(name, 1, CHEAPER if saving > 0 else SERVICE, THEORY, cost, cost - saving, saving, today, chosen, None, 1,
+                    None, LawFacts("poisson", 0.5, None, demand), 40, 104, run, source.choice(REMARKS))
+    return item, with_verdict(source, answer)
 
 
-def verdict_of(source: random.Random, row: Row) -> Row:
-    """Returns the verdict on an item, and what it changes of its figures."""
-    draw = source.random()
+def with_verdict(source: random.Random, answer: Answer) -> Answer:
+    """Returns the answer; few of them without a change, without an interval, or by the run."""
+    draw, run = source.random(), answer.run
     if draw < 0.03:
-        levels = {f"{it}_chosen": row[f"{it}_today"] for it in ("s", "S", "fill", "cost", "stock", "orders", "value")}
-        return {"verdict": SAME, "saving": 0.0, "saving_low": 0.0, "saving_high": 0.0, "saving_variance": 0, **levels}
+        same = replace(run.estimate, cost_chosen=answer.cost_today, saving=0.0, error=0.0, low=0.0, high=0.0)
+        return replace(answer, verdict=SAME, chosen=answer.today, cost_chosen=answer.cost_today, saving=0.0,
+                       run=replace(run, estimate=same))
     if draw < 0.06:
-        return {"verdict": UNDECIDED, "saving_low": None, "saving_high": None,
-                "warnings": "no interval: today places fewer than 10 orders in the run"}
-    if draw < 0.16 and row["saving_low"] < 0:
-        return {"verdict": SERVICE, "fill_wanted": 0.95}
-    return {"verdict": CHEAPER if row["saving_low"] > 0 else DEARER if row["saving_high"] < 0 else UNDECIDED}
+        estimate = replace(run.estimate, error=None, low=None, high=None)
+        return replace(answer, run=replace(run, estimate=estimate), remarks=(Remark(NO_INTERVAL, {"orders": 1.0}),))
+    if draw < 0.16:
+        its = run.estimate
+        low, high = its.low or 0.0, its.high or 0.0
+        return replace(answer, source=RUN, cost_chosen=its.cost_chosen, saving=its.saving, verdict=CHEAPER if low > 0 else
+                       SERVICE if high < 0 else UNDECIDED)
+    return answer
 
 
 def made_rejects(source: random.Random, items: int) -> list[Reject]:
     """Returns what is left out: items, rows, and rows that are suspicious."""
-    left = [Reject("item", "items.csv", line, f"L{line:05}", "lead", "0", *reason, source.randint(1, 90))
-            for line in range(2, 2 + items // 12)
-            for reason in [source.choice((("the lead time 0 is not from 1 to 32 periods", "correct it"),
-                                          ("the cell is empty", "give it a value"),
-                                          (f"a history of {line % 12} weeks is short", "wait, or say --least"),
-                                          ("there is no row of demand in the record", "plan it by hand")))]]
-    rows = [Reject("row", "demand.csv", 50 + 7 * it, f"P{it:05}", "quantity", text, f"{text!r} is not a number",
-                   "write digits alone", 1) for it, text in enumerate(["n/a", "five", "12 pcs"] * (items // 60 + 1))]
+    def remark(what: str, advice: str) -> Remark:
+        """Returns a remark whose words are those of the file."""
+        return Remark("refused", {"what": what, "advice": advice})
+    left = [Reject("item", "items.csv", line, f"L{line:05}", "lead", "0", remark(*source.choice(REASONS)),
+                   source.randint(1, 90)) for line in range(2, 2 + items // 12)]
+    rows = [Reject("row", "demand.csv", 50 + 7 * it, f"P{it:05}", "quantity", text,
+                   remark(f"{text!r} is not a number", "write digits alone"), 1)
+            for it, text in enumerate(["n/a", "five", "12 pcs"] * (items // 60 + 1))]
     twice = [Reject("suspicious", "demand.csv", 400 + it, f"P{it:05}", "item", f"P{it:05}",
-                    f"the row is the same as that of line {300 + it}", "if it was exported twice, remove it", 0)
+                    Remark("rows twice", {"rows": it}), 0)
              for it in range(items // 20)]
     return [*left, *rows, *twice]
 
@@ -118,22 +131,17 @@ def made_counts(items: int, rejects: Sequence[Reject]) -> dict[str, Any]:
                       "open_orders": 0, "late": 0}}
 
 
-def make_curve(folder: Folder, rows: Sequence[Row]) -> None:
-    """Writes the files of an exchange curve: today's point and the chosen one as the rows have them, others beside."""
-    priced = [row for row in rows if row["value_today"] is not None]
-    values = {it: sum(row[f"value_{it}"] for row in priced) for it in ("today", "chosen")}
-    most = max(values.values(), default=0.0) or 1.0
+def made_curve(pairs: Iterable[Pair]) -> list[Point]:
+    """Returns the points of an exchange curve: today's and the chosen one as the items have them, others beside."""
+    priced = [(float(item.price), answer) for item, answer in pairs if item.price is not None]
+    today, chosen = (math.fsum(price * stock(answer) for price, answer in priced)
+                     for stock in (lambda it: it.today.stock, lambda it: it.chosen.stock))
+    most = max(today, chosen) or 1.0
 
-    def best(value: float) -> float:
-        """Returns the share that a stock value can give."""
-        return 1 - 0.3 * math.exp(-4.5 * value / most)
-    points = [("today", None, values["today"], best(values["today"]) - 0.06, 250.0, 1900.0, 0.31),
-              ("chosen", None, values["chosen"], best(values["chosen"]) - 0.004, 215.0, 1500.0, 0.02),
-              ("same stock", None, values["today"], best(values["today"]), 214.0, 1450.0, 0.0),
-              ("same service", None, 0.4 * values["today"], best(0.4 * values["today"]), 203.0, 900.0, 0.0)]
-    curve = [("curve", 1.5**step, most * step / 12, best(most * step / 12), 210.0, 1000.0 + step, 0.0)
-             for step in range(1, 30)]
-    folder.write_rows(CURVE, CURVE_COLUMNS, (spelt_row(CURVE_COLUMNS, row, DECIMALS) for row in [*points, *curve]))
-    folder.write_rows(LEFT_OUT, ("item", "reason", "advice"),
-                      ([row["item"], "it has no price above 0", "give it a price"] for row in rows
-                       if row["value_today"] is None))
+    def point(name: str, value: float, less: float, orders: float, cost: float) -> Point:
+        """Returns a point, below the best share that its stock value can give."""
+        return Point(name=name, value=value, fill=1 - 0.3 * math.exp(-4.5 * value / most) - less, orders=orders, cost=cost)
+    return [point("today", today, 0.06, 250.0, 1900.0), point("chosen item by item", chosen, 0.004, 215.0, 1500.0),
+            point("today's stock, best service", today, 0.0, 214.0, 1450.0),
+            point("today's service, least stock", 0.4 * today, 0.0, 203.0, 900.0),
+            *(point("", most * step / 12, 0.0, 210.0, 1000.0 + step) for step in range(1, 30))]

@@ -7,16 +7,18 @@ from pathlib import Path
 from typing import Any
 
 from ..errors import Refused
-from ..files import Folder, faults_of, new_file, own_folder, write_rows
+from ..files import Folder, faults_of, new_file, own_folder
+from ..pages.catalogue_summary import counted_rows
+from ..pages.exports import CATALOGUE_FILES, FOUND
+from ..pages.reasons import rejects_of
+from ..plan.catalogue import Lost, plan_into
 from ..plan.config import read_config
-from ..plan.planning import Settings
-from ..plan.running import FOUND, NAMES, Lost, plan_into
-from ..plan.tables import counted, reject_rows
+from ..plan.question import Settings
 from ..records.catalogue_reading import Catalogue, Words, kinds_of, read_into
+from ..records.catalogued import CATALOGUE
 from ..records.cells import Rules
 from ..records.columns import ROLES
 from ..records.staging import KEEP, LEAVE_OUT, Ways
-from ..records.store import CATALOGUE, Reject
 
 SETTINGS = ("seed", "fit", "borrow", "confidence", "level", "periods", "replications")
 RULES = ("delimiter", "encoding", "decimal", "date_formats")
@@ -64,7 +66,7 @@ def commanded(asked: Mapping[str, Any], say: Callable[[str], None], note: Callab
     if not asked["only_read"] and asked["out"] is None:
         raise Refused("--out is missing; name the folder for the plan, or say --check to only read the files")
     with tempfile.TemporaryDirectory(prefix="crnplan-") as room:
-        with own_folder(Path(room if asked["only_read"] else asked["out"]), CATALOGUE, NAMES) as folder:
+        with own_folder(Path(room if asked["only_read"] else asked["out"]), CATALOGUE, CATALOGUE_FILES) as folder:
             return _planned(folder, asked, config, words, settings, say, note)
 
 
@@ -80,8 +82,8 @@ def _planned(folder: Folder, asked: Mapping[str, Any], config: Mapping[str, Any]
     if asked["only_read"]:
         if asked["rejects"]:
             with catalogue.opened() as read, faults_of(asked["rejects"]), new_file(asked["rejects"]) as file:
-                write_rows(file, Reject._fields, reject_rows(read.rejects()))
-        say("".join(f"{line}\n" for line in counted(catalogue.counts)))
+                file.writelines(rejects_of(read.rejects()).lines)
+        say("".join(f"{line}\n" for line in counted_rows(catalogue.counts["files"])))
         missing = catalogue.missing
     else:
         done = plan_into(folder, settings, jobs=asked["jobs"], address=asked["cluster"], program=asked["program"],

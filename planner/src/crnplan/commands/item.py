@@ -5,6 +5,9 @@ import sys
 
 import click
 
+from ..errors import CrnplanError
+from .output import note
+
 
 @click.command(epilog="Example: crnplan item examples/case/history.csv examples/case/settings.toml --out plan")
 @click.argument("history", metavar="HISTORY.csv", type=click.Path())
@@ -12,37 +15,35 @@ import click
 @click.option("--out", metavar="FOLDER", type=click.Path(), required=True, help="Keep every file here.")
 @click.option("--program", metavar="PATH", help="The program crnsim.")
 def command(history: str, settings: str, out: str, program: str | None) -> int:
-    """Plan one item: the whole way from a history and settings to a checked decision.
+    """Plan one item: from a history and settings to a decision.
 
-    HISTORY.csv has a row for each period, or for each dated movement. The steps are tables, scenario, suggestions,
-    doubt, run, decision, check on new random numbers, trajectory, sensitivity and summary. FOLDER keeps what each has
-    made; summary.html is the page to read.
+    HISTORY.csv has a row for each period, or for each dated movement. FOLDER gets tables of what was seen, of the laws,
+    the policies, the doubt and the sensitivity, the scenario of the run, and summary.html, which is the page to read.
 
     SETTINGS.toml has the tables [history] (demand, and perhaps date, every, decimal, fit), [lead] (file and column, or
-    orders, or times), [costs] (setup, holding, backlog), [today] (s, S, stock), [run] (horizon, replications, key,
-    level, laws, confidence) and [check] (policy, keys, replications). Costs may have decimals. A key that is misspelt is
-    reported with the keys that there are.
+    orders, or times), [costs] (setup, holding, backlog), [today] (s, S, stock) and [run] (name, seed, fill, confidence,
+    horizon, replications, level, laws). Costs may have decimals. A key that is misspelt is reported with the keys that
+    there are.
 
-    Laws of demand and of lead times are fitted as by crnplan history --fit auto, unless fit says otherwise. As many laws
-    as [run] laws are drawn that the history allows: the doubt is about these, and policies that keep a fill rate under
-    the share [run] confidence of them are suggested too.
+    The plan is that of crnplan catalogue for such an item: laws are fitted as by crnplan history --fit auto, unless fit
+    says otherwise, the policy is the best by theory, or the cheapest with the share [run] fill of demand met at once,
+    and crnsim runs it beside today's. The key of the run follows from the name and the seed. As many laws as [run] laws
+    are drawn that the history allows: the doubt is about these, and policies that keep a fill rate under the share
+    [run] confidence of them are suggested too.
 
-    Policies are compared in the long run, without the effect of the start. With [run] horizon they are compared over so
-    many coming periods from [today] stock instead, in the check too. Only the trajectory always shows coming periods.
-
-    Run again with nothing changed, it does nothing and says so. If it was interrupted, it goes on after the last
-    finished step. If an input has changed, it runs what depends on that. The exit status is 1 if the chosen policy does
-    not hold on new random numbers.
+    With [run] horizon the policies are compared over so many coming periods from [today] stock too.
     """
     from ..plan.item import plan_item
+    from ..plan.settings import as_setting
 
-    def told(step: str) -> None:
-        """Names a step on a terminal."""
+    def told(part: str) -> None:
+        """Names a part on a terminal."""
         if sys.stderr.isatty():
-            print(f"{step} ..", file=sys.stderr)
+            print(f"{part} ..", file=sys.stderr)
 
-    plan = plan_item(history, settings, out, program=program, told=told)
-    did = f"done: {', '.join(plan.done)}" if plan.done else "nothing has changed since the last run; nothing was done"
-    print(f"{plan.folder}: {did}", file=sys.stderr)
-    print(plan.summary, end="")
-    return 0 if plan.holds else 1
+    try:
+        print(plan_item(history, settings, out, program=program, told=told).summary, end="")
+    except CrnplanError as fault:
+        note(fault.message, as_setting)
+        return fault.status
+    return 0

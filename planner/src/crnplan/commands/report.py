@@ -21,7 +21,7 @@ def command(folder: Path, items: tuple[str, ...], program: str | None) -> None:
     A page is one file that asks for no other. It can be sent, printed and read without a network.
     """
     from ..pages.item_files import file_of
-    from ..pages.report import report
+    from ..pages.exports import report
     page = report(folder, items, program=program)
     for name in items:
         click.echo(file_of(folder, name))

@@ -6,9 +6,10 @@ those that are best. There are candidates for dearer orders too, of which fewer 
 """
 from __future__ import annotations
 
-import json
-from collections.abc import Iterable, Mapping, Sequence
-from typing import Any, NamedTuple
+import functools
+from collections.abc import Iterable, Sequence
+from dataclasses import dataclass
+from typing import NamedTuple
 
 import numpy as np
 import numpy.typing as npt
@@ -17,7 +18,10 @@ from ..demand.borrowing import Prior
 from ..formats import MOST_ITEMS
 from ..theory.long_run import LongRun, gap_grid
 from .hull import Floats, Whole, slopes, vertices
-from ..plan.planning import Question, Settings, question_of, text_of_answer, theory_of
+from ..plan.one import or_fault
+from ..plan.question import Question, Settings, question_of
+from ..records.item import Item
+from ..remarks import Remark
 
 # Answers of other versions are not used again.
 VERSION = 2
@@ -123,30 +127,34 @@ def variants_of(setup: float, holding: float, demand: float) -> list[tuple[float
     return [(setup + (orders - 1) * (setup or holding * demand), holding * stock) for orders, stock in VARIANTS]
 
 
-def costs_of(question: Question) -> tuple[float, float]:
-    """Returns the setup cost, and the holding cost of an item of theory (a box), in money."""
-    return question.rates["setup"] / float(question.scale), question.rates["holding"] / float(question.scale)
-
-
-def candidates_of(name: str, facts: Mapping[str, Any], price: float, settings: Settings,
-                  prior: Prior) -> dict[str, Any]:
-    """Returns the candidates of an item, with its mean demand and its costs. Raises Refused if it has no theory.
+@dataclass(frozen=True)
+class Candidates:
+    """The candidates of an item, with its mean demand and what an order and an item of stock cost.
 
     Each row has the place of the variant, the place of the first price that it is best for, s and S, stock and
     unmet demand in items, and orders, of a period.
     """
-    question = question_of(name, facts, settings, prior)
-    (setup, holding), box = costs_of(question), question.box
-    demand = float(question.demand.table.mean)
-    policies = Policies(theory_of(question, settings), holding, price * box)
-    rows = []
+
+    demand: float
+    setup: float
+    holding: float
+    rows: tuple[tuple[float, ...], ...]
+
+
+def candidates_of(question: Question) -> Candidates:
+    """Returns the candidates of an item with a price. Raises Refused if it has no theory."""
+    item, demand = question.item, float(question.demand.table.mean)
+    setup, holding = (question.money(question.rates[name]) for name in ("setup", "holding"))
+    assert item.price is not None
+    policies = Policies(question.theory(), holding, float(item.price) * item.box)
+    rows: list[tuple[float, ...]] = []
     for variant, places in enumerate(policies.search(variants_of(setup, holding, demand))):
-        rows += rows_of(policies, variant, places, box)
-    return {"demand": demand * box, "setup": setup, "holding": holding / box, "rows": rows}
+        rows += rows_of(policies, variant, places, item.box)
+    return Candidates(demand * item.box, setup, holding / item.box, tuple(rows))
 
 
-def rows_of(policies: Policies, variant: int, places: Whole, box: int) -> list[list[float]]:
-    """Returns the rows of `candidates_of` for a variant, from the places of the best gap for each price."""
+def rows_of(policies: Policies, variant: int, places: Whole, box: int) -> list[tuple[float, ...]]:
+    """Returns the rows of `Candidates` for a variant, from the places of the best gap for each price."""
     prices, known = np.arange(len(PRICES)), policies.known
     levels, stock, unmet = (its[places, STOCK.index(VARIANTS[variant][1]), prices] for its in known[1:])
     gaps, orders = known.gaps[places], policies.orders()[places]
@@ -154,11 +162,10 @@ def rows_of(policies: Policies, variant: int, places: Whole, box: int) -> list[l
     points = levels - policies.theory.items(gaps)
     figures = ([float(f"{it:.{DIGITS}g}") for it in row] for row in zip(stock * box, unmet * box, orders))
     whole = zip(prices.tolist(), (points * box).tolist(), (levels * box).tolist())
-    return [[variant, *row, *its] for new, row, its in zip(is_new, whole, figures) if new]
+    return [(variant, *row, *its) for new, row, its in zip(is_new, whole, figures) if new]
 
 
-def candidates_batch(batch: Sequence[tuple[str, str, float]], settings: Settings,
-                     prior: Prior) -> list[tuple[str, str]]:
-    """Returns the candidates of items, each as its name and a text. An item without any has its fault."""
-    return [(name, text_of_answer(lambda: candidates_of(name, json.loads(facts), price, settings, prior)))
-            for name, facts, price in batch]
+def candidates_batch(batch: Sequence[Item], settings: Settings, prior: Prior) -> list[Candidates | Remark]:
+    """Returns the candidates of items, or why an item has none."""
+    return [or_fault(functools.partial(lambda item: candidates_of(question_of(item, settings, prior)), item))
+            for item in batch]

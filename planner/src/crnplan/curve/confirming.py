@@ -1,14 +1,11 @@
 """Has crnsim count the stock of the points beside an exchange curve, for a sample of items, and compares theory."""
 from __future__ import annotations
 
-import contextlib
 import hashlib
-import json
 import math
 from collections.abc import Iterable, Mapping, Sequence
 from dataclasses import dataclass
 from pathlib import Path
-from typing import Any
 
 import numpy as np
 
@@ -18,15 +15,13 @@ from ..scenario import Policy
 from .exchange import Choice
 from .gathering import Gathered
 from .hull import Floats
-from ..plan.planning import Question, Settings, question_of
-from ..records.store import ANSWERS, READ, Answers, Catalogued
+from ..plan.answer import CHOSEN, TODAY, Answer
+from ..plan.question import Levels, Question
 
 # Runs of each item, of 1,024 periods each.
 KEYS = 8
 # Stock by runs is as theory says if it differs by no more.
 CLOSE = 0.02
-
-Levels = tuple[int, int]
 
 
 @dataclass(frozen=True)
@@ -73,43 +68,40 @@ def sample_of(names: Sequence[str], seed: str, count: int) -> list[int]:
     return sorted(order[:count])
 
 
-def stocks_by_run(question: Question, settings: Settings, asked: Iterable[Levels],
-                  program: str | Path | None) -> dict[Levels, Floats]:
+def stocks_by_run(question: Question, asked: Iterable[Levels], program: str | Path | None) -> dict[Levels, Floats]:
     """Returns the mean stock of each policy in each run. All meet the same demands; each run starts from a state of its
     own. Raises ProgramError."""
     levels = list(dict.fromkeys(asked))
     policies = [Policy(f"policy{number}", *its) for number, its in enumerate(levels)]
-    report = long_run_of(counting(question.scenario(settings, 0).with_policies(policies), "holding"), KEYS, program)
-    return dict(zip(levels, np.array(report.costs, float).T * question.box / report.periods))
+    report = long_run_of(counting(question.scenario(0).with_policies(policies), "holding"), KEYS, program)
+    return dict(zip(levels, np.array(report.costs, float).T * question.item.box / report.periods))
 
 
 def _policies(its: Gathered, place: int, choices: Mapping[str, Choice],
-              answer: Mapping[str, Any]) -> dict[str, tuple[Levels, float]]:
+              answer: Answer) -> dict[str, tuple[Levels, float]]:
     """Returns the levels of an item at each named point, in items, and the value of its stock by theory."""
-    items, price = its.items, float(its.prices[place])
-    found = {name: ((answer["levels"][name][0], answer["levels"][name][1]), price * answer["theory"][name]["stock"])
-             for name in its.points}
+    items, price = its.items, its.prices[place]
+    found = {name: ((figures.point, figures.level), price * figures.stock)
+             for name, figures in ((TODAY, answer.today), (CHOSEN, answer.chosen))}
     rows = {name: int(choice.rows[place]) for name, choice in choices.items()}
     return found | {name: ((int(items.point[row]), int(items.level[row])), float(items.value[row]))
                     for name, row in rows.items()}
 
 
-def confirmed(folder: Path, its: Gathered, choices: Mapping[str, Choice], count: int,
-              program: str | Path | None) -> Confirmed:
+def confirmed(its: Gathered, choices: Mapping[str, Choice], count: int, program: str | Path | None) -> Confirmed:
     """Counts the mean stock of a sample of items in the long run: today's, the chosen, and that of each choice.
 
     Raises Refused and ProgramError.
     """
-    names, settings = its.items.names, its.planned.settings
-    sample = sample_of(names, settings.seed, count)
-    with (contextlib.closing(Catalogued(folder / READ)) as read, contextlib.closing(Answers(folder / ANSWERS)) as plans):
-        given = [(place, read.text(names[place]), plans.answer(names[place])) for place in sample]
+    names = its.items.names
+    sample = sample_of(names, its.folder.settings.seed, count)
     points = dict.fromkeys([*its.points, *choices], Confirmation())
-    for place, facts, answer in given:
-        question = question_of(names[place], json.loads(facts), settings, its.planned.prior)
-        asked = {name: ((point // question.box, level // question.box), value)
+    for place in sample:
+        item, answer = its.folder.item(names[place])
+        question = its.folder.question(item)
+        asked = {name: ((round(point / item.box), round(level / item.box)), value)
                  for name, ((point, level), value) in _policies(its, place, choices, answer).items()}
-        stocks = stocks_by_run(question, settings, (levels for levels, _ in asked.values()), program)
-        points |= {name: points[name].with_item(value, float(its.prices[place]) * stocks[levels])
+        stocks = stocks_by_run(question, (levels for levels, _ in asked.values()), program)
+        points |= {name: points[name].with_item(value, its.prices[place] * stocks[levels])
                    for name, (levels, value) in asked.items()}
     return Confirmed(points, len(sample), len(names))

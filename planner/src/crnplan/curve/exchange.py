@@ -10,14 +10,14 @@ beside its holding cost buys less stock with more orders.
 from __future__ import annotations
 
 import math
-from collections.abc import Callable, Mapping, Sequence
+from collections.abc import Callable, Iterable, Mapping, Sequence
 from dataclasses import dataclass
 from typing import Any, NamedTuple
 
 import numpy as np
 
-from ..errors import Refused
-from .candidates import DEARER_ORDERS, DEARER_STOCK, PRICES, VARIANTS, variants_of
+from ..errors import Refused, argument
+from .candidates import DEARER_ORDERS, DEARER_STOCK, PRICES, VARIANTS, Candidates, variants_of
 from .hull import Floats, Whole, lower_hull, slopes
 
 # A budget that is not used up is filled with steps whose price is at most so many times that of the step too many.
@@ -73,20 +73,20 @@ class Items:
     cost: Floats
 
     @classmethod
-    def of(cls, answers: Sequence[tuple[str, Mapping[str, Any], float]]) -> Items:
-        """Takes the candidates of items, each with its name and price."""
-        parts = []
-        for place, (_, its, price) in enumerate(answers):
-            rows, setup, holding = np.array(its["rows"], float), its["setup"], its["holding"]
+    def of(cls, answers: Iterable[tuple[str, float, Candidates]]) -> Items:
+        """Takes the candidates of items, each with its name and price. They are not kept as they come."""
+        names, demand, parts = list[str](), list[float](), []
+        for place, (name, price, its) in enumerate(answers):
+            rows, setup, holding = np.array(its.rows, float), its.setup, its.holding
             variant, first = rows[:, 0].astype(int), rows[:, 1].astype(int)
-            extra = np.array(variants_of(setup, holding, its["demand"])) - (setup, holding)
+            extra = np.array(variants_of(setup, holding, its.demand)) - (setup, holding)
             end = np.where(np.append(variant[1:] != variant[:-1], True), len(PRICES), np.append(first[1:], 0))
             parts.append((np.full(len(rows), place), variant, first, end, rows[:, 2].astype(int),
                           rows[:, 3].astype(int), extra[variant, 0], extra[variant, 1] / price, price * rows[:, 4],
                           price * rows[:, 5], rows[:, 6], setup * rows[:, 6] + holding * rows[:, 4]))
-        demand = np.array([price * its["demand"] for _, its, price in answers])
-        return cls(tuple(name for name, _, _ in answers), demand,
-                   *(np.concatenate(its) for its in zip(*parts)))
+            names.append(name)
+            demand.append(price * its.demand)
+        return cls(tuple(names), np.array(demand), *(np.concatenate(its) for its in zip(*parts)))
 
     @property
     def asked(self) -> float:
@@ -241,6 +241,15 @@ def gap_of(items: Items, point: Point, dearer: Dearer = AS_IS) -> float:
     return max(0.0, point.cost / least - 1) if least > 0 else math.inf
 
 
+class OffCurve(Refused):
+    """A budget that no choice keeps: which one, why, and what to do."""
+
+    def __init__(self, budget: str, why: str, advice: str) -> None:
+        """Keeps the reason apart."""
+        super().__init__(f"{budget}: {why}", advice)
+        self.why = why
+
+
 @dataclass(frozen=True)
 class Budget:
     """What a choice is to keep: the value of the stock at most, or the share of demand by value met at once at least,
@@ -252,13 +261,13 @@ class Budget:
 
     def __post_init__(self) -> None:
         """Checks the numbers one by one."""
-        for name, number in (("--stock-value", self.value), ("--orders", self.orders)):
+        for name, number in (("stock_value", self.value), ("orders", self.orders)):
             if number is not None and not 0 < number < math.inf:
-                raise Refused(f"{name} {number:g} is not above 0")
+                raise Refused(f"{argument(name, f'{number:g}')} is not above 0")
         if self.fill is not None and not 0 < self.fill < 1:
-            raise Refused(f"--fill {self.fill:g} is not between 0 and 1; write 0.95 for 95 of 100 units of value")
+            raise Refused(f"{argument('fill', f'{self.fill:g}')} is not between 0 and 1", "write 0.95 for 95 of 100 units of value")
         if self.value is not None and self.fill is not None:
-            raise Refused("--stock-value and --fill: each alone names a point of the curve; leave one out")
+            raise Refused(f"{argument('stock_value')} and {argument('fill')}: each alone names a point of the curve", "leave one out")
 
     def choice(self, items: Items, dearer: Dearer) -> Choice | None:
         """Returns the choice that keeps the stock value or the share; None if none does."""
@@ -276,10 +285,10 @@ def check_most(ladder: Ladder, budget: Budget) -> None:
     items = ladder.items
     most, end = float(ladder.along(items.value).max()), 1 - float(ladder.along(items.unmet)[-1]) / items.asked
     if budget.value is not None and budget.value > most * (1 + NEAR):
-        raise Refused(f"--stock-value {budget.value:,.10g}: the most stock on the curve is worth {most:,.2f}; name "
-                      "less")
+        raise OffCurve(argument("stock_value", f"{budget.value:,.10g}"), f"the most stock on the curve is worth {most:,.2f}",
+                       "name less")
     if budget.fill is not None and budget.fill > end + NEAR:
-        raise Refused(f"--fill {budget.fill:g}: the curve ends with {end:.8f} of demand by value; name less")
+        raise OffCurve(argument("fill", f"{budget.fill:g}"), f"the curve ends with {end:.8f} of demand by value", "name less")
 
 
 def chosen_by(items: Items, budget: Budget) -> Choice:
@@ -295,10 +304,10 @@ def chosen_by(items: Items, budget: Budget) -> Choice:
     first = budget.choice(items, AS_IS)
     is_below = first is None or (budget.fill is not None and budget.fill < fill * (1 - NEAR))
     if is_below and budget.orders is None:
-        what, least = ("--fill", f"begins with {fill:.4f} of demand by value") if first else \
-            ("--stock-value", f"has stock worth {value:,.2f} at least")
-        raise Refused(f"{what} {budget.fill or budget.value:,.10g}: the curve {least}; name more, or allow more orders "
-                      "than it has there, by --orders")
+        what, least = ("fill", f"begins with {fill:.4f} of demand by value") if first else \
+            ("stock_value", f"has stock worth {value:,.2f} at least")
+        raise OffCurve(argument(what, f"{budget.fill or budget.value:,.10g}"), f"the curve {least}",
+                       f"name more, or allow more orders than it has there, by {argument('orders')}")
     if first is None or is_below:
         found = _less_stock(items, budget, first)
     else:
@@ -345,8 +354,8 @@ def _fewer_orders(items: Items, budget: Budget, first: Choice) -> Choice:
         found = choice_of(high)
         if found is not None:
             return _between(low, high, choice_of, found, is_high=True)
-    raise Refused(f"--orders {budget.orders:g}: with this stock or service there are {fewest:.4g} orders a period or "
-                  "more; name more")
+    raise OffCurve(argument("orders", f"{budget.orders:g}"), f"with this stock or service there are {fewest:.4g} orders a period or "
+                   "more", "name more")
 
 
 def _less_stock(items: Items, budget: Budget, first: Choice | None) -> Choice:
@@ -364,6 +373,6 @@ def _less_stock(items: Items, budget: Budget, first: Choice | None) -> Choice:
         last, found = amount, its
     if found is None:
         least = "stock of so little value" if budget.value is not None else "this service"
-        raise Refused(f"--orders {budget.orders:g}: {least} takes more orders, or is not to be had; name more orders "
-                      "or more stock")
+        raise OffCurve(argument("orders", f"{budget.orders:g}"), f"{least} takes more orders, or is not to be had",
+                       "name more orders or more stock")
     return found

@@ -2,29 +2,40 @@
 from __future__ import annotations
 
 import math
-from collections.abc import Iterator, Mapping, Sequence
+from collections.abc import Iterator, Mapping
 from dataclasses import dataclass
 from pathlib import Path
-from typing import TYPE_CHECKING, Any
+from typing import TYPE_CHECKING
 
-from ..errors import Refused
 from ..files import own_folder
+from ..plan.answer import CHOSEN, TODAY
+from ..plan.folder import planned_folder
+from ..records.catalogued import CATALOGUE
+from ..table import MONEY, Cell, DataTable, aligned, number, text, whole
+from ..words import advice, sentence
 from .candidates import PRICES
 from .confirming import Confirmed, confirmed
-from .exchange import NEAR, Budget, Choice, Ladder, Point, chosen_by, gap_of, judged, with_more_orders
+from .exchange import NEAR, Budget, Choice, Ladder, OffCurve, Point, chosen_by, gap_of, judged, with_more_orders
 from .gathering import Gathered, gather
-from ..plan.planned import read_planned
-from ..plan.planning import CHOSEN, TODAY
-from ..records.store import CATALOGUE
+from .kept import Point as KeptPoint
+from .kept import keep_curve
 
 if TYPE_CHECKING:
     import pandas as pd
 
 CURVE, POLICIES, LEFT_OUT = "curve.csv", "curve_policies.csv", "curve_left_out.csv"
-# The columns of curve.csv. A row of the curve has its price. `gap` is the share by which setup and holding are at most
-# above the best with this service.
-COLUMNS = ("point", "price", "value", "fill", "orders", "cost", "gap")
-POLICY_COLUMNS = ("item", "description", "s_today", "S_today", "s", "S", "value", "fill", "orders", "cost")
+FIGURES = (
+    number("value", "money", "the value of the mean stock", MONEY),
+    number("fill", "share", "of demand by value met at once", ".6f"), number("orders", "orders a period", "", ".6g"),
+    number("cost", "money a period", "setup and holding", MONEY))
+COLUMNS = (
+    text("point", "`today`, `chosen`, `same stock`, `same service`, `budget`, or `curve`"),
+    number("price", "money", "of a unit of value that is not met at once, on the curve", ".6g"), *FIGURES,
+    number("gap", "share", "by which setup and holding are at most above the best with this service", ".6f"))
+POLICY_COLUMNS = (
+    text("item", "the item"), text("description", "of the masters"), whole("s_today", "items", "today's s"),
+    whole("S_today", "items", "today's S"), whole("s", "items", "s of the point"), whole("S", "items", "its S"), *FIGURES)
+LEFT_OUT_COLUMNS = (text("item", "the item"), text("reason", "why it is not on the curve"), text("advice", "what to do"))
 ON_CURVE, SAME_STOCK, SAME_SERVICE, BUDGET = "curve", "same stock", "same service", "budget"
 # What each point is, for a reader.
 SAID = {TODAY: "today", CHOSEN: "chosen item by item", SAME_STOCK: "today's stock, best service",
@@ -50,12 +61,28 @@ class Drawn:
         """Returns the named points, by what they are for a reader."""
         return {self.said[name]: point for name, (point, _) in self.points.items()}
 
-    def rows(self) -> Iterator[tuple[Any, ...]]:
-        """Yields the rows of curve.csv, unrounded: named points first, then the curve by rising price."""
-        for name, (point, gap) in self.points.items():
-            yield name, None, *point, gap
-        for price, point in self.curve:
-            yield ON_CURVE, price, *point, 0.0
+    @property
+    def table(self) -> DataTable:
+        """Returns the points: named ones first, then the curve by rising price."""
+        rows: list[list[Cell]] = [[name, None, *point, gap] for name, (point, gap) in self.points.items()]
+        rows += [[ON_CURVE, price, *point, 0.0] for price, point in self.curve]
+        return DataTable(COLUMNS, rows, self.gathered.folder.decimals, "")
+
+    @property
+    def policies(self) -> DataTable:
+        """Returns the policy of each item, with its figures of a period."""
+        items = self.gathered.items
+        rows: Iterator[list[Cell]] = (
+            [items.names[place], *self.gathered.shown[place], int(items.point[row]), int(items.level[row]),
+             float(items.value[row]), 1 - float(items.unmet[row]) / float(items.demand[place]),
+             float(items.orders[row]), float(items.cost[row])] for place, row in enumerate(self.choice.rows.tolist()))
+        return DataTable(POLICY_COLUMNS, rows, self.gathered.folder.decimals, "")
+
+    @property
+    def left_out(self) -> DataTable:
+        """Returns the items that are not on the curve, with the reason and what to do."""
+        rows = ([name, sentence(remark), advice(remark)] for name, remark in self.gathered.left_out)
+        return DataTable(LEFT_OUT_COLUMNS, rows, missing="")
 
 
 def points_of(its: Gathered, budget: Budget) -> tuple[dict[str, Choice], dict[str, str]]:
@@ -65,8 +92,8 @@ def points_of(its: Gathered, budget: Budget) -> tuple[dict[str, Choice], dict[st
     for name, asked in ((SAME_STOCK, {"value": today.value}), (SAME_SERVICE, {"fill": today.fill})):
         try:
             found[name] = _as_today(its, asked)
-        except Refused as why:
-            missing[name] = str(why).partition(": ")[2].partition(";")[0]
+        except OffCurve as off:
+            missing[name] = off.why
     if budget == Budget(orders=budget.orders) and budget.orders is not None:
         budget = Budget(fill=today.fill, orders=budget.orders)
     if budget != Budget():
@@ -83,13 +110,13 @@ def _as_today(its: Gathered, asked: Mapping[str, float]) -> Choice:
     today = its.points[TODAY]
     try:
         choice = chosen_by(its.items, Budget(**asked))
-    except Refused:
+    except OffCurve:
         return with_more_orders(its.items, Budget(**asked, orders=today.orders))
     if choice.point.fill >= today.fill * (1 - NEAR) and choice.point.value <= today.value * (1 + NEAR):
         return choice
     try:
         return with_more_orders(its.items, Budget(**asked, orders=today.orders))
-    except Refused:
+    except OffCurve:
         return choice
 
 
@@ -106,17 +133,19 @@ def curve_points(its: Gathered) -> list[tuple[float, Point]]:
 def draw_curve(folder: Path, budget: Budget, *, jobs: int | None = None, address: str | None = None,
                program: str | Path | None = None, confirm: int = 0, shown: bool = False) -> Drawn:
     """Computes the curve of a planned folder, and writes its tables there. Raises Refused and ProgramError."""
-    planned = read_planned(folder)
-    with own_folder(folder, CATALOGUE, (CURVE, POLICIES, LEFT_OUT)) as own:
+    with planned_folder(folder) as planned, own_folder(folder, CATALOGUE, (CURVE, POLICIES, LEFT_OUT)) as own:
         its = gather(own, planned, jobs, address, shown)
-        drawn = _drawn(folder, its, budget, confirm, program)
-        own.write_rows(CURVE, COLUMNS, (spelt_row(COLUMNS, row, its.decimals) for row in drawn.rows()))
-        own.write_rows(POLICIES, POLICY_COLUMNS, policy_rows(drawn))
-        own.write_rows(LEFT_OUT, ("item", "reason", "advice"), its.left_out)
+        drawn = _drawn(its, budget, confirm, program)
+        for name, table in ((CURVE, drawn.table), (POLICIES, drawn.policies), (LEFT_OUT, drawn.left_out)):
+            with own.whole(name) as file:
+                file.writelines(table.lines)
+        named = [*((said, point) for said, point in drawn.named.items()), *(("", point) for _, point in drawn.curve)]
+        keep_curve(planned.store, (KeptPoint(name=name, value=point.value, fill=point.fill, orders=point.orders,
+                                             cost=point.cost) for name, point in named))
     return drawn
 
 
-def _drawn(folder: Path, its: Gathered, budget: Budget, confirm: int, program: str | Path | None) -> Drawn:
+def _drawn(its: Gathered, budget: Budget, confirm: int, program: str | Path | None) -> Drawn:
     """Returns the curve with its points, and perhaps what crnsim counts."""
     found, missing = points_of(its, budget)
     points = {name: (point, gap_of(its.items, point)) for name, point in its.points.items()}
@@ -124,7 +153,7 @@ def _drawn(folder: Path, its: Gathered, budget: Budget, confirm: int, program: s
     written = next((name for name in (BUDGET, SAME_SERVICE, SAME_STOCK) if name in found), ON_CURVE)
     # If neither of today's figures is on the curve, the policies are those of its beginning.
     choice = found[written] if found else judged(its.items, Ladder(its.items).with_price(float(PRICES[0])))
-    sample = confirmed(folder, its, found, confirm, program) if confirm else None
+    sample = confirmed(its, found, confirm, program) if confirm else None
     said = {name: SAID[name] + (how_of(found[name]) if name in found else "") for name in points}
     return Drawn(its, curve_points(its), points, said, missing, written, choice, sample)
 
@@ -132,30 +161,6 @@ def _drawn(folder: Path, its: Gathered, budget: Budget, confirm: int, program: s
 def how_of(choice: Choice) -> str:
     """Returns how a choice differs from the curve, for a reader."""
     return " (more orders)" if choice.dearer.stock else " (fewer orders)" if choice.dearer.orders else ""
-
-
-def spelt_row(names: Sequence[str], row: Sequence[Any], decimals: int) -> list[Any]:
-    """Returns the cells of a row: money in its smallest unit, shares with six decimals, other figures with six
-    digits."""
-    def cell(name: str, value: Any) -> Any:
-        """Returns a cell."""
-        if value is None or not isinstance(value, float):
-            return "" if value is None else value
-        money, share = name in ("value", "cost"), name in ("fill", "gap")
-        return f"{value:.{decimals}f}" if money else f"{value:.6f}" if share else f"{value:.6g}"
-    return [cell(name, value) for name, value in zip(names, row)]
-
-
-def policy_rows(drawn: Drawn) -> Iterator[list[Any]]:
-    """Yields the rows of curve_policies.csv: the policy of each item, with its figures of a period."""
-    its, items = drawn.gathered, drawn.gathered.items
-    for place, row in enumerate(drawn.choice.rows.tolist()):
-        shown = its.shown[place]
-        asked = float(items.demand[place])
-        cells = (items.names[place], shown["description"], *shown["today"], int(items.point[row]),
-                 int(items.level[row]), float(items.value[row]), 1 - float(items.unmet[row]) / asked,
-                 float(items.orders[row]), float(items.cost[row]))
-        yield spelt_row(POLICY_COLUMNS, cells, its.decimals)
 
 
 def gap_text(gap: float) -> str:
@@ -166,18 +171,15 @@ def gap_text(gap: float) -> str:
 def curve_text(drawn: Drawn, folder: Path) -> str:
     """Returns the curve for a reader: the named points as a table, and what they mean."""
     its, left = drawn.gathered, drawn.gathered.left_out
-    money = min(its.decimals, 2)
-    rows = [["", "stock value", "met at once", f"orders a {its.every}", f"setup and holding a {its.every}",
+    money, every = min(its.folder.decimals, 2), its.folder.every
+    rows = [["", "stock value", "met at once", f"orders a {every}", f"setup and holding a {every}",
              "above the best"]]
     for name, (point, gap) in drawn.points.items():
         rows.append([drawn.said[name], f"{point.value:,.{money}f}", f"{point.fill:.2%}", f"{point.orders:,.4g}",
                      f"{point.cost:,.{money}f}", gap_text(gap)])
-    widths = [max(map(len, column)) for column in zip(*rows)]
     lines = [f"{len(its.items.names):,} items are on the curve" + (
-        f"; {len(left):,} are left out, as {left[0][0]}: {left[0][1]} ({LEFT_OUT} names all)" if left else ""), ""]
-    lines += ["  ".join([row[0].ljust(widths[0]), *(cell.rjust(width) for cell, width in zip(row[1:], widths[1:]))])
-              for row in rows]
-    lines += ["", *(f"{SAID[name]}: there is no such point: {why}" for name, why in drawn.missing.items()), *NOTES]
+        f"; {len(left):,} are left out, as {left[0][0]}: {sentence(left[0][1])} ({LEFT_OUT} names all)" if left else ""),
+             "", aligned(rows), *(f"{SAID[name]}: there is no such point: {why}" for name, why in drawn.missing.items()), *NOTES]
     policies = SAID.get(drawn.written, "the least stock")
     lines.append(f'{CURVE} has the curve; {POLICIES} has the policies of "{policies}", in {folder}.')
     lines += ["", *drawn.confirmed.lines(drawn.said)] if drawn.confirmed else []
@@ -214,7 +216,6 @@ def exchange_curve(folder: str | Path, *, stock_value: float | None = None, fill
     Raises Refused for a folder without a plan and a budget that no policies keep, and ProgramError.
     Source: Silver, Pyke and Thomas, Inventory and Production Management in Supply Chains, 2017, exchange curves.
     """
-    import pandas as pd
     drawn = draw_curve(Path(folder), Budget(stock_value, fill, orders), jobs=jobs, address=cluster, program=program,
                        confirm=confirm, shown=progress)
-    return pd.DataFrame(drawn.rows(), columns=list(COLUMNS)).astype({"price": float})
+    return drawn.table.frame

@@ -5,45 +5,50 @@ Candidates are kept in a file of the folder, each with all that it depends on, a
 from __future__ import annotations
 
 import contextlib
+import itertools
+from collections.abc import Iterator
 from dataclasses import dataclass, field
-from fractions import Fraction
-from pathlib import Path
-from typing import Any
-
-import numpy as np
+from typing import NamedTuple
 
 from ..errors import Refused
 from ..files import Folder
-from .candidates import VERSION, candidates_batch
-from .exchange import Items, Point
-from ..plan.planned import Planned
-from ..plan.planning import CHOSEN, TODAY, Settings
-from ..records.store import ANSWERS, READ, Answers, Catalogued, told_of, with_advice
+from ..plan.answer import CHOSEN, TODAY, Answer
+from ..plan.folder import PlannedFolder
 from ..plan.work import Work, workers_of
+from ..records.item import Item
+from ..remarks import Remark
+from ..stored import Store, digest_of
+from ..words import advice, sentence
+from .candidates import VERSION, Candidates, candidates_batch
+from .exchange import Items, Point
 
 CANDIDATES = "curve.sqlite"
-NO_PRICE = ("it has no price above 0, so its stock has no value", "give it a price in the masters")
-NO_PLAN = ("it is not planned as its rows are now", "run crnplan catalogue again")
-UNPLANNED = "it could not be planned"
+# Codes of remarks on items that are not on the curve.
+NO_PRICE, NO_PLAN = "no price", "not planned"
+
+
+class Shown(NamedTuple):
+    """What is shown of an item: its description, and today's s and S."""
+
+    description: str
+    s: int
+    S: int
 
 
 @dataclass
 class Gathered:
     """The candidates of all items with a price and a plan, and what is known of them.
 
-    `points` has today's policies and those chosen item by item. `shown` and `today` have for each item what is only
-    shown of it, and today's s and S. `left_out` has the other items, each with a reason and advice. `new` counts the
-    items whose candidates were computed now.
+    `points` has today's policies and those chosen item by item, `shown` and `prices` have a place for each item.
+    `left_out` has the other items, each with a remark. `new` counts the items whose candidates were computed now.
     """
 
-    planned: Planned
+    folder: PlannedFolder
     items: Items
     points: dict[str, Point]
-    shown: list[dict[str, Any]]
-    prices: list[Fraction]
-    left_out: list[tuple[str, str, str]]
-    decimals: int
-    every: str
+    shown: list[Shown]
+    prices: list[float]
+    left_out: list[tuple[str, Remark]]
     new: int
 
 
@@ -54,14 +59,13 @@ class Sums:
     asked: float = 0.0
     of: dict[str, list[float]] = field(default_factory=lambda: {TODAY: [0.0] * 4, CHOSEN: [0.0] * 4})
 
-    def add(self, answer: dict[str, Any], its: dict[str, Any], price: float) -> None:
+    def add(self, answer: Answer, its: Candidates, price: float) -> None:
         """Adds an item: the answer to its plan, and its candidates with their costs."""
-        self.asked += price * its["demand"]
-        for policy, total in self.of.items():
-            theory = answer["theory"][policy]
-            figures = (price * theory["stock"], price * its["demand"] * (1 - theory["fill"]), theory["orders"],
-                       its["setup"] * theory["orders"] + its["holding"] * theory["stock"])
-            total[:] = [one + two for one, two in zip(total, figures)]
+        self.asked += price * its.demand
+        for policy, theory in ((TODAY, answer.today), (CHOSEN, answer.chosen)):
+            figures = (price * theory.stock, price * its.demand * (1 - theory.fill), theory.orders,
+                       its.setup * theory.orders + its.holding * theory.stock)
+            self.of[policy] = [one + two for one, two in zip(self.of[policy], figures)]
 
     @property
     def points(self) -> dict[str, Point]:
@@ -71,60 +75,61 @@ class Sums:
 
 
 class Gathering:
-    """The items of a folder that can be on the curve, and the candidates that are kept."""
+    """The items of a planned folder that can be on the curve, and the candidates that are kept."""
 
-    def __init__(self, planned: Planned, read: Catalogued, plans: Answers, kept: Answers) -> None:
+    def __init__(self, folder: PlannedFolder, kept: Store[Candidates]) -> None:
         """Looks at which items can be on the curve, and which candidates are left to be computed."""
-        self.planned, self.read, self.plans = planned, read, plans
-        self.prices: dict[str, Fraction] = {}
+        self.folder, self.kept = folder, kept
+        self.left_out: list[tuple[str, Remark]] = []
         self.digests: dict[str, str] = {}
-        self.left_out: list[tuple[str, str, str]] = []
-        current = plans.digests()
-        for name, facts in read.facts_of_items():
-            price = read.item(name)[1]["price"]
-            if current.get(name) != Settings.digest_of(planned.common, name, facts):
-                self.left_out.append((name, *NO_PLAN))
-            elif "fault" in (answer := plans.answer(name)):
-                reason, advice = with_advice(answer["fault"])
-                self.left_out.append((name, f"{UNPLANNED}: {reason}", advice))
-            elif not price or Fraction(price) <= 0:
-                self.left_out.append((name, *NO_PRICE))
+        current, common = folder.store.digests(), folder.planned.common
+        for (name, digest), item in zip(folder.read.digests(common), folder.read.items()):
+            answer = folder.store.answer(name) if current.get(name) == digest else Remark(NO_PLAN)
+            if isinstance(answer, Remark):
+                self.left_out.append((name, answer))
+            elif not item.price or item.price <= 0:
+                self.left_out.append((name, Remark(NO_PRICE)))
             else:
-                self.prices[name] = Fraction(price)
-                self.digests[name] = Settings.digest_of(f"{planned.common}\ncurve {VERSION} {price}", name, facts)
+                self.digests[name] = digest_of(digest, VERSION, item.price)
         self.work = Work(kept, self.digests)
 
-    def asked(self, name: str) -> tuple[str, str, float]:
-        """Returns what is asked of an item."""
-        return name, self.read.text(name), float(self.prices[name])
+    def candidates(self) -> Iterator[tuple[Item, Answer, Candidates]]:
+        """Yields the items on the curve with their answers and candidates. Others are left out."""
+        for name in self.digests:
+            item, answer, its = self.folder.read.item(name), self.folder.store.answer(name), self.kept.answer(name)
+            if isinstance(its, Remark):
+                self.left_out.append((name, its))
+            elif item is not None and isinstance(answer, Answer):
+                yield item, answer, its
 
-    def gathered(self, folder: Path) -> Gathered:
+    def gathered(self) -> Gathered:
         """Returns all of it. Raises Refused if no item can be on the curve."""
-        sums, found, shown, prices = Sums(), [], [], []
-        for name, price in self.prices.items():
-            its = self.work.answers.answer(name)
-            if "fault" in its:
-                reason, advice = with_advice(its["fault"])
-                self.left_out.append((name, reason, advice))
-                continue
-            sums.add(self.plans.answer(name), its, float(price))
-            # As lists, the rows of thousands of items take ten times as much memory.
-            found.append((name, its | {"rows": np.array(its["rows"], float)}, float(price)))
-            shown.append(self.read.item(name)[1])
-            prices.append(price)
-        if not found:
-            why = f"{len(self.left_out):,} items are left out; the first, {self.left_out[0][0]}: " \
-                f"{self.left_out[0][1]}; {self.left_out[0][2]}" if self.left_out else "no item is in the plan"
-            raise Refused(f"{folder}: no item can be on the curve: {why}")
-        return Gathered(self.planned, Items.of(found), sums.points, shown, prices, sorted(self.left_out),
-                        self.read.fact("decimals"), self.read.fact("every"), len(self.work.left))
+        sums, shown, prices = Sums(), list[Shown](), list[float]()
+
+        def added() -> Iterator[tuple[str, float, Candidates]]:
+            """Yields the candidates as they are added up."""
+            for item, answer, its in self.candidates():
+                price = float(item.price or 0)
+                sums.add(answer, its, price)
+                shown.append(Shown(item.description, *item.levels))
+                prices.append(price)
+                yield item.name, price, its
+        first = next(rest := added(), None)
+        if first is None:
+            why, what = "no item is in the plan", ""
+            if self.left_out:
+                name, remark = self.left_out[0]
+                why, what = f"{len(self.left_out):,} items are left out; the first, {name}: {sentence(remark)}", \
+                    advice(remark)
+            raise Refused(f"{self.folder.path}: no item can be on the curve: {why}", what)
+        items = Items.of(itertools.chain([first], rest))
+        return Gathered(self.folder, items, sums.points, shown, prices, sorted(self.left_out, key=lambda it: it[0]),
+                        len(self.work.left))
 
 
-def gather(folder: Folder, planned: Planned, jobs: int | None, address: str | None, shown: bool) -> Gathered:
+def gather(own: Folder, folder: PlannedFolder, jobs: int | None, address: str | None, shown: bool) -> Gathered:
     """Computes the candidates of a planned folder that are not kept yet, and returns all. Raises Refused."""
-    with (told_of(folder.path), contextlib.closing(Catalogued(folder.path / READ)) as read,
-          contextlib.closing(Answers(folder.store(ANSWERS))) as plans,
-          contextlib.closing(Answers(folder.store(CANDIDATES))) as kept):
-        its = Gathering(planned, read, plans, kept)
-        its.work.finish(candidates_batch, its.asked, planned, workers=workers_of(jobs, address), shown=shown)
-        return its.gathered(folder.path)
+    with contextlib.closing(Store(own.store(CANDIDATES), Candidates)) as kept:
+        its = Gathering(folder, kept)
+        its.work.finish(candidates_batch, folder.read.item, folder.planned, workers=workers_of(jobs, address), shown=shown)
+        return its.gathered()

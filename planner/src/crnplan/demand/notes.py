@@ -15,11 +15,17 @@ def notes_of(law: Law, name: str) -> list[str]:
     """Returns lines about a fitted law; none about one that has only what was seen, if no fit was asked for."""
     if "history" not in law.diagnostics:
         return []
-    lines = _lead_lines(law) if isinstance(law, LeadLaw) else _demand_lines(law)
     figures = {"seen": law.diagnostics["history"]} | ({} if law.family == "empirical" else {"law": law.diagnostics})
     if law.family == "borrowed" and (single := law.diagnostics["borrowed"].single):
         figures["law of the item alone"] = single.diagnostics
-    return [f"{name}: {line}" for line in (*lines, *(_figures(title, its) for title, its in figures.items()))]
+    return [f"{name}: {line}" for line in (*fit_lines(law), *(_figures(title, its) for title, its in figures.items()))]
+
+
+def fit_lines(law: Law) -> Iterator[str]:
+    """Returns lines about how a law was fitted, without its figures; none if no fit was asked for."""
+    if "history" not in law.diagnostics:
+        return iter(())
+    return _lead_lines(law) if isinstance(law, LeadLaw) else _demand_lines(law)
 
 
 def _figures(title: str, figures: Mapping[str, Any]) -> str:

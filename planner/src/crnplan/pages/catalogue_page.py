@@ -5,12 +5,16 @@ import math
 from collections import Counter
 from collections.abc import Mapping, Sequence
 from dataclasses import dataclass
-from decimal import Decimal
 from itertools import groupby
-from typing import Any
+from typing import TypedDict
 
-from .catalogue_figures import Place, Reason, Row, Totals
+from ..curve.kept import Point
+from ..plan.answer import CHEAPER, CHOSEN, DEARER, SAME, SERVICE, TODAY, UNDECIDED, Answer
+from ..plan.question import Settings
+from ..plan.totals import Totals
+from ..records.item import Item
 from .page import UNITS, Scale, number, rendered
+from .reasons import Reason
 
 MOST_ROWS = 5_000  # items in the table
 MOST_SAVINGS = 15
@@ -46,54 +50,93 @@ COLUMNS = (
     Column("s_today", "s today"), Column("S_today", "S today"),
     Column("s_chosen", "s chosen"), Column("S_chosen", "S chosen"), Column("s_alone", "s alone", is_optional=True),
     Column("S_alone", "S alone", is_optional=True), Column("cost_today", "cost today"),
-    Column("cost_chosen", "cost chosen"), Column("saving", "saving"), Column("saving_low", "saving from"),
-    Column("saving_high", "saving to"), Column("fill_today", "met at once today"),
-    Column("fill_chosen", "met at once chosen"), Column("value_today", "stock value today"),
-    Column("value_chosen", "stock value chosen"), Column("warnings", "warnings", 60, True))
+    Column("cost_chosen", "cost chosen"), Column("saving", "saving"), Column("by", "by", 8, True),
+    Column("run_saving", "saving by crnsim"), Column("run_low", "crnsim from"), Column("run_high", "crnsim to"),
+    Column("fill_today", "met at once today"), Column("fill_chosen", "met at once chosen"),
+    Column("value_today", "stock value today"), Column("value_chosen", "stock value chosen"),
+    Column("warnings", "warnings", 60, True))
 # The padding of a cell, and the width of a letter, in digits.
 PADDING, LETTER = 2, 1.25
-CHEAPER, DEARER, SERVICE = "cheaper", "dearer", "more service"
 VERDICT_STYLES = {CHEAPER: "better", DEARER: "worse"}
+# What each verdict means, for a reader.
+MEANING = {
+    CHEAPER: "The chosen policy costs less than today's.",
+    SERVICE: "Today's policy misses the wanted share of demand met at once. The chosen one keeps it and may cost more.",
+    UNDECIDED: "Theory is rounded here, and the runs cannot tell which policy costs less.",
+    SAME: "Today's policy is the best one already.",
+    DEARER: "The chosen policy costs more, though it is the best by theory. Look at these items."}
 KINDS = {"item": "Items left out", "row": "Rows rejected", "suspicious": "Suspicious rows, which count all the same"}
+NO_CURVE = "There is no curve yet. It is drawn by crnplan curve FOLDER, and then crnplan report FOLDER."
+OLD_CURVE = "The curve here is not that of this plan. Run crnplan curve FOLDER again, then crnplan report FOLDER."
+
+
+class Source(TypedDict):
+    """What became of the rows of a file."""
+
+    name: str
+    read: int
+    blank: int
+    used: int
+    rejected: int
+    with_item: int
+
+
+@dataclass(frozen=True)
+class Shown:
+    """A planned item in the table, with its cells as decisions.csv has them."""
+
+    item: Item
+    answer: Answer
+    cells: Mapping[str, str]
 
 
 @dataclass(frozen=True)
 class Contents:
-    """What the page of a catalogue says.
-
-    `run` says of how many runs costs are, at which `level` intervals hold. `sources` has the counts of rows of each
-    file by its kind, `named` how many items there are in them. `rows` are those of the table. `verdicts` says what each
-    verdict means, `said` what each point of the curve is. `curve` has the named points and the others, or nothing:
+    """What the page of a catalogue says: `sources` has the counts of rows of each file by its kind, `named` how many
+    items there are in them. `rows` are those of the table, by falling saving. `curve` has the points, or nothing:
     `no_curve` then says why. `pages` has the address of the page of each item that has one. `lost` says which counts do
-    not add up.
-    """
+    not add up."""
 
     every: str
     decimals: int
-    level: float
-    run: str
-    sources: Mapping[str, Mapping[str, Any]]
+    settings: Settings
+    sources: Mapping[str, Source]
     named: int
     totals: Totals
-    rows: Sequence[Row]
+    rows: Sequence[Shown]
     reasons: Sequence[Reason]
-    verdicts: Mapping[str, str]
-    said: Mapping[str, str]
-    curve: Sequence[Place]
+    curve: Sequence[Point]
     no_curve: str
     pages: Mapping[str, str]
     lost: Sequence[str]
 
-    def money(self, amount: Decimal | float) -> str:
+    @property
+    def run(self) -> str:
+        """Returns of how many runs the costs by crnsim are."""
+        settings = self.settings
+        return (f"{settings.replications} runs of {settings.periods:,} {self.every}s for each item, seed "
+                f"{settings.seed}")
+
+    def money(self, amount: float) -> str:
         """Returns a total of money."""
-        value = float(amount)
-        return number(value, 0 if abs(value) >= LARGE else min(self.decimals, 2))
+        return number(amount, 0 if abs(amount) >= LARGE else min(self.decimals, 2))
+
+    def amount(self, amount: float) -> str:
+        """Returns the money of an item, with all its decimals."""
+        return number(amount, self.decimals)
 
     @property
     def ends(self) -> tuple[float, float]:
-        """Returns the ends of the interval of all savings."""
-        mean, half = float(self.totals.sums["saving"]), self.totals.half_width(self.level)
+        """Returns the ends of the interval of all savings by the runs."""
+        mean, half = self.totals["run_saving"], self.totals.half_width(self.settings.level)
         return mean - half, mean + half
+
+    @property
+    def runs(self) -> str:
+        """Returns in words what the runs beside theory save."""
+        low, high = map(self.money, self.ends)
+        return (f"By crnsim's runs it is {self.money(self.totals['run_saving'])}, from {low} to {high} "
+                f"({100 * self.settings.level:g}% interval).")
 
 
 def percent(share: float | None, digits: int = 1) -> str:
@@ -103,50 +146,51 @@ def percent(share: float | None, digits: int = 1) -> str:
 
 def headline(its: Contents) -> str:
     """Returns in one sentence what the plan comes to."""
-    low, high = its.ends
-    saving, today = its.totals.sums["saving"], its.totals.sums["cost_today"]
-    if not its.totals.items:
+    totals = its.totals
+    saving, today = totals["saving"], totals["cost_today"]
+    if not totals.planned:
         return "No item is planned"
-    share = f", {percent(float(abs(saving) / today))} of today's cost" if today else ""
-    if low > 0:
-        return f"The chosen policies save {its.money(saving)} a {its.every}{share}"
-    if high < 0:
+    share = f", {percent(abs(saving) / today)} of today's cost" if today else ""
+    low, high = its.ends
+    if totals.by_run == totals.planned and low <= 0 <= high:
+        return "All in all, the runs cannot tell the chosen policies from today's by their cost"
+    if saving < 0:
         return f"The chosen policies cost {its.money(-saving)} a {its.every} more{share}"
-    return "All in all, the runs cannot tell the chosen policies from today's by their cost"
+    return f"The chosen policies save {its.money(saving)} a {its.every}{share}"
 
 
 def meaning(its: Contents) -> str:
     """Returns what the headline means."""
-    low, high = map(its.money, its.ends)
-    sums = its.totals.sums
-    return (f"In the long run the {its.totals.items:,} planned items cost {its.money(sums['cost_today'])} a "
-            f"{its.every} with today's policies, and {its.money(sums['cost_chosen'])} with the chosen ones. The "
-            f"difference is {its.money(sums['saving'])}, from {low} to {high} ({100 * its.level:g}% interval of the "
-            f"runs), if demand keeps to the laws that were fitted to its history.{service(its)}")
+    totals = its.totals
+    rounded = f", for {totals.by_run:,} of them by crnsim's runs, since theory is rounded there" * bool(totals.by_run)
+    return (f"In the long run the {totals.planned:,} planned items cost {its.money(totals['cost_today'])} a {its.every} "
+            f"with today's policies, and {its.money(totals['cost_chosen'])} with the chosen ones{rounded}. The "
+            f"difference is {its.money(totals['saving'])}, if demand keeps to the laws that were fitted to its history. "
+            f"{its.runs}{service(its)}")
 
 
 def service(its: Contents) -> str:
     """Returns a sentence on the items that get more service; none if there are no such items."""
-    count, saving = its.totals.verdicts[SERVICE], its.totals.savings[SERVICE]
+    count, saving = its.totals.verdicts[SERVICE], its.totals[f"saving {SERVICE}"]
     if not count:
         return ""
-    amount = its.money(abs(saving))
     return (f" Today's policies miss the wanted service of {count:,} items. Keeping it "
-            f"{'saves' if saving > 0 else 'costs'} {amount} a {its.every}, which is part of the difference.")
+            f"{'saves' if saving > 0 else 'costs'} {its.money(abs(saving))} a {its.every}, which is part of the "
+            "difference.")
 
 
 def cards(its: Contents) -> list[dict[str, str]]:
     """Returns the figures at the top: what each is, and what stands beside it."""
     low, high = map(its.money, its.ends)
-    totals, sums = its.totals, its.totals.sums
-    demand = its.sources["demand"]
-    return [{"value": its.money(sums["saving"]), "name": f"saved a {its.every}",
-             "beside": f"{low} to {high} ({100 * its.level:g}%)"},
-            {"value": its.money(sums["value_chosen"]), "name": "value of the mean stock",
-             "beside": f"{its.money(sums['value_today'])} today"},
-            {"value": percent(totals.fill("chosen")), "name": "of demand met at once, by value",
-             "beside": f"{percent(totals.fill('today'))} today"},
-            {"value": f"{totals.items:,}", "name": "items planned", "beside": f"{its.named - totals.items:,} left out"},
+    totals, demand = its.totals, its.sources["demand"]
+    return [{"value": its.money(totals["saving"]), "name": f"saved a {its.every}",
+             "beside": f"{its.money(totals['run_saving'])} by runs, {low} to {high}"},
+            {"value": its.money(totals["value_chosen"]), "name": "value of the mean stock",
+             "beside": f"{its.money(totals['value_today'])} today"},
+            {"value": percent(totals.fill(CHOSEN)), "name": "of demand met at once, by value",
+             "beside": f"{percent(totals.fill(TODAY))} today"},
+            {"value": f"{totals.planned:,}", "name": "items planned",
+             "beside": f"{its.named - totals.planned:,} left out"},
             {"value": f"{demand['rejected']:,}", "name": "rows of demand rejected",
              "beside": f"{demand['with_item']:,} more left out with their item"}]
 
@@ -168,51 +212,51 @@ def clipped(points: Sequence[tuple[float, float]], right: float, bottom: float) 
     return [(it, float(np.interp(it, values, shares))) for it in places]
 
 
-def exchange_plot(its: Contents) -> dict[str, Any]:
+def exchange_plot(its: Contents) -> dict[str, object]:
     """Returns the exchange curve as a line, and its named points."""
-    named = [it for it in its.curve if it.row["point"] in its.said]
-    unit, unit_name = unit_of(max(it.value for it in named))
-    right = ROOM * max(it.value for it in named) / unit
-    bottom = max(0.0, 100 * min(it.fill for it in named) - BELOW)
+    named = [it for it in its.curve if it["name"]]
+    unit, unit_name = unit_of(max(it["value"] for it in named))
+    right = ROOM * max(it["value"] for it in named) / unit
+    bottom = max(0.0, 100 * min(it["fill"] for it in named) - BELOW)
     across, up = Scale.of([right or 1.0]), Scale.between(bottom, 100.0)
-    line = clipped([(it.value / unit, 100 * it.fill) for it in its.curve if it.row["point"] not in its.said],
-                   across.high, bottom)
-    points = [{"name": its.said[it.row["point"]], "css": f"point-{place}", "form": FORMS[place],
-               "x": round(across.at(it.value / unit) / 10, 2), "y": round(100 - up.at(100 * it.fill) / 10, 2),
-               "value": its.money(it.value), "fill": percent(it.fill, 2), "orders": it.row["orders"],
-               "cost": its.money(float(it.row["cost"]))} for place, it in enumerate(named)]
+    line = clipped([(it["value"] / unit, 100 * it["fill"]) for it in its.curve if not it["name"]], across.high, bottom)
+    points = [{"name": it["name"], "css": f"point-{place}", "form": FORMS[place],
+               "x": round(across.at(it["value"] / unit) / 10, 2), "y": round(100 - up.at(100 * it["fill"]) / 10, 2),
+               "value": its.money(it["value"]), "fill": percent(it["fill"], 2), "orders": f"{it['orders']:,.4g}",
+               "cost": its.money(it["cost"])} for place, it in enumerate(named)]
     said = "; ".join(f"{it['name']}: {it['fill']} met at once with a stock of {it['value']}" for it in points)
     path = "L".join(f"{across.at(x):g} {UNITS - up.at(y):g}" for x, y in line)
     return {"path": f"M{path}" if line else "", "scale": up, "marks": across.marks, "points": points,
             "name": f"value of the mean stock{unit_name}", "description": f"{said}."}
 
 
-def savings(its: Contents) -> dict[str, Any]:
-    """Returns the items with the greatest savings as bars with their intervals."""
-    rows = [row for row in its.rows if Decimal(row["saving"]) > 0][:MOST_SAVINGS]
-    ends = [float(row["saving_high"] or row["saving"]) for row in rows]
-    scale = Scale.of([0.0, *ends, *(float(row["saving_low"] or 0) for row in rows)])
-    bars = [{"its": row, "end": scale.at(float(row["saving"])), "high": scale.at(end),
-             "low": scale.at(float(row["saving_low"] or row["saving"]))} for row, end in zip(rows, ends)]
-    together = sum((Decimal(row["saving"]) for row in rows), Decimal())
-    return {"rows": bars, "zero": scale.at(0), "together": its.money(together)}
+def savings(its: Contents) -> dict[str, object]:
+    """Returns the items with the greatest savings as bars, with the intervals of the runs."""
+    rows = [row for row in its.rows if row.answer.saving > 0][:MOST_SAVINGS]
+    runs = [row.answer.run.estimate for row in rows]
+    ends = [(row.answer.saving if run.low is None else run.low, row.answer.saving if run.high is None else run.high)
+            for row, run in zip(rows, runs)]
+    scale = Scale.of([0.0, *(row.answer.saving for row in rows), *(end for pair in ends for end in pair)])
+    bars = [{"cells": row.cells, "saving": its.amount(row.answer.saving), "end": scale.at(row.answer.saving),
+             "low": scale.at(low), "high": scale.at(high)} for row, (low, high) in zip(rows, ends)]
+    return {"rows": bars, "zero": scale.at(0), "together": its.money(math.fsum(row.answer.saving for row in rows))}
 
 
-def verdict_rows(its: Contents) -> list[dict[str, Any]]:
+def verdict_rows(its: Contents) -> list[dict[str, str]]:
     """Returns how many items have each verdict, what they save, and what it means."""
     totals = its.totals
-    return [{"name": name, "count": f"{totals.verdicts[name]:,}", "saving": its.money(totals.savings[name]),
-             "meaning": text, "css": VERDICT_STYLES.get(name, "")} for name, text in its.verdicts.items()
+    return [{"name": name, "count": f"{totals.verdicts[name]:,}", "saving": its.money(totals[f"saving {name}"]),
+             "meaning": text, "css": VERDICT_STYLES.get(name, "")} for name, text in MEANING.items()
             if totals.verdicts[name]]
 
 
-def left_out(its: Contents) -> list[dict[str, Any]]:
+def left_out(its: Contents) -> list[dict[str, object]]:
     """Returns for each kind of rejects.csv its reasons, and what they come to."""
-    found = []
+    found: list[dict[str, object]] = []
     for kind, group in groupby(its.reasons, lambda it: it.kind):
         reasons = list(group)
-        rows = [{"reason": it.pattern, "items": f"{len(it.items):,}",
-                 "rows": f"{it.rows if kind == 'item' else it.count:,}", "place": it.place, "first": it.first}
+        rows = [{"reason": it.pattern, "items": f"{len(it.items):,}", "column": it.column,
+                 "rows": f"{it.rows if kind == 'item' else it.count:,}", "first": it.example}
                 for it in reasons[:MOST_REASONS]]
         count, held = sum(it.count for it in reasons), sum(it.rows for it in reasons)
         rest = reasons[MOST_REASONS:]
@@ -221,17 +265,17 @@ def left_out(its: Contents) -> list[dict[str, Any]]:
     return found
 
 
-def columns_of(rows: Sequence[Row]) -> list[Column]:
+def columns_of(rows: Sequence[Shown]) -> list[Column]:
     """Returns the columns of the table that have a figure."""
-    return [it for it in COLUMNS if not it.is_optional or any(row[it.name] for row in rows)]
+    return [it for it in COLUMNS if not it.is_optional or any(row.cells[it.name] for row in rows)]
 
 
-def widths(columns: Sequence[Column], rows: Sequence[Row]) -> list[int]:
+def widths(columns: Sequence[Column], rows: Sequence[Shown]) -> list[int]:
     """Returns how many digits wide each column of the table is, with its padding: it has room for its texts up to a
     limit, and for each word of its heading with the sign of its order."""
     def width(its: Column) -> int:
         """Returns the width of a column."""
-        longest = min(its.most, max((len(row[its.name]) for row in rows), default=0))
+        longest = min(its.most, max((len(row.cells[its.name]) for row in rows), default=0))
         words = (len(word) + 2 for word in its.heading.split())
         return PADDING + max(math.ceil(longest * (LETTER if its.is_text else 1)), *words)
     return [width(it) for it in columns]
@@ -239,11 +283,11 @@ def widths(columns: Sequence[Column], rows: Sequence[Row]) -> list[int]:
 
 def catalogue_page(its: Contents) -> str:
     """Returns the page."""
-    columns, verdicts = columns_of(its.rows), Counter(row["verdict"] for row in its.rows)
+    columns, verdicts = columns_of(its.rows), Counter(row.answer.verdict for row in its.rows)
     return rendered("catalogue.html", {
         "its": its, "headline": headline(its), "meaning": meaning(its), "cards": cards(its),
         "plot": exchange_plot(its) if its.curve else None, "savings": savings(its), "verdicts": verdict_rows(its),
         "left_out": left_out(its), "columns": columns, "parts": widths(columns, its.rows),
         "styles": VERDICT_STYLES, "choices": sorted(verdicts.items()),
-        "warned": sum(row["warnings"] != "" for row in its.rows),
-        "not_shown": its.totals.items - len(its.rows), "priceless": its.totals.items - its.totals.priced})
+        "warned": sum(row.cells["warnings"] != "" for row in its.rows),
+        "not_shown": its.totals.planned - len(its.rows), "priceless": its.totals.planned - its.totals.priced})

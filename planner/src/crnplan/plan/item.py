@@ -1,89 +1,147 @@
-"""Goes the whole way for one item: from a history and settings to a checked decision, with every file kept."""
+"""Plans one item from a history and settings: the same facts, question and answer as in a catalogue, and then deeper."""
 from __future__ import annotations
 
+import dataclasses
 from collections.abc import Callable
 from dataclasses import dataclass
+from fractions import Fraction
+from functools import cached_property
 from pathlib import Path
+from typing import Any
 
 from ..crnsim.program import find_program
+from ..demand import Checks, checks_of, lines_of
+from ..errors import worded
 from ..files import own_folder
-from ..records.cells import whole_file
-from . import comparison, item_work as work
-from .settings import TABLES, read_settings
-from .steps import STATE, Folder, Step, run_steps
-from .item_work import Item, rows_of
+from ..records import History, LeadTimes, read_history, read_lead_times
+from ..records.item import Item
+from .answer import Answer
+from .depth import Coming, Depth
+from .settings import ItemSettings, as_setting, read_settings
+from .one import plan_one
+from .question import NONE, Question, Settings, question_of
+
+KIND = "item"  # of the folder
+RULES = ("delimiter", "encoding", "decimal", "item", "leave_out")
 
 
 @dataclass(frozen=True)
-class Plan:
-    """The plan of an item: its folder, the steps that were run, the summary, and whether the chosen policy holds."""
+class Facts:
+    """What is read of an item: its facts, its history at a path and its lead times, with what is to be said of these
+    files, and the settings."""
 
-    folder: Path
-    done: tuple[str, ...]
-    summary: str
-    holds: bool
+    item: Item
+    path: Path
+    history: History
+    leads: LeadTimes | None
+    settings: ItemSettings
 
+    @property
+    def period(self) -> str:
+        """Returns how a period is called."""
+        return str(self.settings["history"]["every"] or "period")
 
-def _make_summary(item: Item) -> dict[str, str]:
-    """Says what comes of all, as a text of one screen and as a page."""
-    from ..pages.summary import Figures, summary_text
-    from ..pages.summary_page import page_of
-    figures = Figures(item)
-    return {"summary.txt": summary_text(figures), "summary.html": page_of(figures).text}
+    @property
+    def notes(self) -> list[str]:
+        """Returns what is to be said of the files and of the history."""
+        return [worded(line.replace(str(path), path.name) if path else line, as_setting)
+                for path, lines in ((self.path, self.history.notes),
+                                    (self.settings.lead_path, self.leads.notes if self.leads else ()),
+                                    (None, lines_of(self.checks))) for line in lines]
 
-
-SEEN = ("demand.csv", "lead_times.csv")
-SUGGESTED = ("suggested.toml",)
-SHOWN = ("tables.toml", *SEEN, "laws.csv", "notes.txt", *SUGGESTED, "suggested.txt", "suggested.csv", "doubt.csv",
-         "decision.txt", "decision.csv", "check.txt", "check.csv", "trajectory.csv", "sensitivity.csv",
-         "sensitivity.txt")
-
-
-def _facts_of(*tables: str, files: tuple[str, ...] = ()) -> Callable[[Item], object]:
-    """Returns the function that says what a step depends on: tables of the settings, and files outside the folder."""
-    return lambda item: [item.history.name, item.settings.path.name, [item.settings[name] for name in tables],
-                         [item.digests[name] for name in files]]
-
-
-MADE = ("laws.txt", "scenario.toml", "doubt.txt", "report.csv", "long_run.csv", *SHOWN, "summary.txt", "summary.html")
-PROGRAM = ("program",)
+    @cached_property
+    def checks(self) -> Checks:
+        """Returns the checks of the history."""
+        return checks_of(self.history, season=self.settings["history"]["season"])
 
 
-def _run_facts(item: Item) -> object:
-    """Says what a run depends on, beside its scenario."""
-    return [item.settings.is_long_run, item.digests["program"]]
+@dataclass(frozen=True)
+class ItemPlan:
+    """An item that is planned alone. `coming` is how its policies compare over the coming periods, if the settings ask
+    for that, `summary` says on one screen what comes of it."""
+
+    facts: Facts
+    question: Question
+    answer: Answer
+    depth: Depth
+    coming: Coming | None
+    summary: str = ""
 
 
-def _promise_facts(item: Item) -> object:
-    """Says what the laws that a history allows depend on, beside the history, and what is promised by them."""
-    return [item.settings["history"]["box"], *(item.settings["run"][name] for name in ("laws", "confidence"))]
+def _history_of(path: Path, settings: ItemSettings) -> History:
+    """Returns the history that the settings describe."""
+    asked = settings["history"]
+    dates = {"every": asked["every"], "start": asked["from"], "end": asked["to"]} if asked["date"] else {}
+    as_given = {name: asked[name] for name in ("demand", "returns", "date", "net", "whole", *RULES)}
+    return read_history(path, date_formats=tuple(asked["date_formats"]), **dates, **as_given)
 
 
-STEPS: tuple[Step[Item], ...] = (
-    Step("tables", (), _facts_of("history", "lead", files=("history", "lead")), work.make_tables),
-    Step("scenario", ("tables.toml",), _facts_of("costs", "today", "run"), work.make_scenario),
-    Step("suggestions", ("scenario.toml", *SEEN), _promise_facts, work.make_suggestions),
-    Step("doubt", (*SUGGESTED, *SEEN), _promise_facts, work.make_doubt),
-    Step("run", SUGGESTED, _run_facts, comparison.make_report),
-    Step("decision", (*SUGGESTED, "report.csv", "long_run.csv"), _facts_of("run"), comparison.make_decision),
-    Step("check", SUGGESTED, _facts_of("run", "check", files=PROGRAM), comparison.make_check),
-    Step("trajectory", SUGGESTED, lambda item: [item.chosen, item.digests["program"]], work.make_trajectory),
-    Step("sensitivity", SUGGESTED, lambda item: item.chosen, work.make_sensitivity),
-    Step("summary", SHOWN, _facts_of(*TABLES), _make_summary))
+def _leads_of(settings: ItemSettings) -> LeadTimes | None:
+    """Returns the lead times of a file; None if the settings have them."""
+    asked, rules = settings["lead"], settings["history"]
+    if settings.lead_path is None:
+        return None
+    return read_lead_times(settings.lead_path, lead=asked["column"], every=rules["every"], ordered=asked["ordered"],
+                           received=asked["received"], date_formats=tuple(rules["date_formats"]),
+                           **{name: rules[name] for name in RULES})
+
+
+def _name_of(path: Path, settings: ItemSettings) -> str:
+    """Returns the name of an item, from which its key follows: that of the settings, else the text that its rows have,
+    else the name of the file without its ending."""
+    texts: dict[str, str] = settings["history"]["item"]
+    return str(settings["run"]["name"] or ", ".join(texts.values()) or path.stem)
+
+
+def read_item(history: str | Path, settings: str | Path) -> Facts:
+    """Reads the facts of an item. Raises RefusedFaults with all faults of the settings or of the history."""
+    path, read = Path(history), read_settings(settings)
+    demand, leads = _history_of(path, read), _leads_of(read)
+    costs, today, returns = read["costs"], read["today"], demand.returns
+    item = Item(_name_of(path, read), demand.counts, leads.counts if leads else tuple(read["lead"]["times"]),
+                (today["s"], today["S"]), costs["setup"], costs["holding"], costs["backlog"], read.fill, costs["unit"],
+                returns.counts if returns and any(returns.counts) else (), stock=Fraction(today["stock"]), first=demand.first,
+                rows=len(demand.counts))
+    return Facts(item, path, demand, leads, read)
+
+
+def settings_of(read: ItemSettings) -> Settings:
+    """Returns how an item is planned by its settings. The replications are those of the coming periods, if there is a
+    horizon."""
+    run: dict[str, Any] = {name: read["run"][name] for name in ("seed", "level") if read["run"][name] is not None}
+    if read["run"]["replications"] and not read["run"]["horizon"]:
+        run["replications"] = read["run"]["replications"]
+    return Settings(fit=read["history"]["fit"], lead_fit=read["lead"]["fit"], borrow=NONE,
+                    confidence=read["run"]["confidence"] if read.fill is not None else None, **run)
+
+
+def planned(facts: Facts, program: str | Path | None = None) -> ItemPlan:
+    """Returns the plan of an item, of which much is computed when it is asked for. Raises Refused, Disagreement and
+    ProgramError."""
+    path, run = str(find_program(program)), facts.settings["run"]
+    question = question_of(facts.item, settings_of(facts.settings))
+    answer = plan_one(question, path)
+    depth = Depth(question, answer, path, run["laws"], run["confidence"])
+    coming = depth.coming(run["horizon"], run["replications"] or COMING) if run["horizon"] else None
+    return ItemPlan(facts, question, answer, depth, coming)
+
+
+# Replications of the coming periods.
+COMING = 64
 
 
 def plan_item(history: str | Path, settings: str | Path, out: str | Path, *, program: str | Path | None = None,
-              told: Callable[[str], None] = lambda name: None) -> Plan:
-    """Plans an item into a folder, and returns the plan.
+              told: Callable[[str], None] = lambda name: None) -> ItemPlan:
+    """Plans an item, writes all of it into a folder, and returns the plan.
 
-    `history` is a CSV file, `settings` a TOML file. Steps whose inputs have not changed since they were run into this
-    folder are not run again. `told` is called with the name of each step before it runs. Raises RefusedFaults with all
-    faults of the settings or of the history, Refused for a folder that has other files, and ProgramError.
+    `history` is a CSV file, `settings` a TOML file. All of it is computed each time; nothing that is in the folder is
+    read. `told` is called with the name of each part before it is computed. Raises RefusedFaults with all faults of the
+    settings or of the history, Refused for a folder that has other files, Disagreement and ProgramError.
     """
-    read, path = read_settings(settings), find_program(program)
-    with whole_file(history) as file, own_folder(Path(out), "item", (STATE, *MADE)) as own:
-        item = Item(file, read, Folder(own), path)
-        done = run_steps(item.folder, STEPS, item, told)
-        holds = "better" not in {row["verdict"] for row in rows_of(item.text("check.csv"))}
-        return Plan(own.path, tuple(done), item.text("summary.txt"), holds)
-
+    from ..pages.exports import write_item
+    find_program(program)
+    facts = read_item(history, settings)
+    with own_folder(Path(out), KIND) as folder:
+        told("plan")
+        plan = planned(facts, program)
+        return dataclasses.replace(plan, summary=write_item(folder, plan, told))

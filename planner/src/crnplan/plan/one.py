@@ -7,12 +7,13 @@ an item does not depend on what else is planned, nor on how many processes work 
 from __future__ import annotations
 
 import dataclasses
-from collections.abc import Iterable, Iterator, Mapping
+from collections.abc import Callable, Iterable, Iterator, Mapping
+from typing import TypeVar
 
 from ..crnsim.report import Report, report_of
 from ..demand import DemandLaw
 from ..demand.borrowing import Prior
-from ..errors import Refused
+from ..errors import Refused, worded
 from ..formats import MOST_ITEMS, MOST_REPLICATIONS
 from ..records.item import Item
 from ..remarks import Remark
@@ -25,6 +26,7 @@ from .choice import Choice, NoPolicy, choice_of, levels_of
 from .estimate import Disagreement, Sample, check_agreement, interval, is_suspect, sample_of
 from .question import Levels, Question, Settings, question_of
 
+Found = TypeVar("Found")
 LEAST_DEMANDS = 10
 ROUGH_RATES = 0.001
 CLOSE = 1e-9  # Costs whose ratio differs from 1 by less are equal but for rounding.
@@ -147,13 +149,18 @@ def fault_of(why: Exception) -> Remark:
     if isinstance(why, NoPolicy):
         return Remark(NO_POLICY, {"fill": why.fill})
     if isinstance(why, Refused):
-        return Remark(REFUSED, {"what": why.what, "advice": why.advice})
+        return Remark(REFUSED, {"what": worded(why.what), "advice": worded(why.advice)})
     return Remark(FAILED, {"kind": type(why).__name__, "what": str(why)})
 
 
-def plan_item(item: Item, settings: Settings, prior: Prior, program: str) -> Answer | Remark:
-    """Returns the answer to an item, or why it can't be planned. Raises ProgramError, since then none can be."""
+def or_fault(answer: Callable[[], Found]) -> Found | Remark:
+    """Returns an answer, or why there is none. Raises ProgramError, since then no item has one."""
     try:
-        return plan_one(question_of(item, settings, prior), program)
+        return answer()
     except (Refused, Disagreement, ArithmeticError, ValueError, LookupError, MemoryError) as why:
         return fault_of(why)
+
+
+def plan_item(item: Item, settings: Settings, prior: Prior, program: str) -> Answer | Remark:
+    """Returns the answer to an item, or why it can't be planned. Raises ProgramError."""
+    return or_fault(lambda: plan_one(question_of(item, settings, prior), program))

@@ -11,13 +11,13 @@ from fractions import Fraction
 from .. import __version__
 from ..demand import DemandLaw, LeadLaw, fit_demand, fit_lead
 from ..demand.borrowing import Borrowed, Prior, law_of
-from ..demand.borrowing.prior import BORROW
 from ..demand.fitting import METHODS
 from ..demand.leads import LEAD_METHODS
-from ..errors import Refused
+from ..errors import Refused, argument
 from ..formats import MOST_PERIODS, MOST_REPLICATIONS, limits
 from ..money import rounded_costs
 from ..records.item import Item
+from ..records.masters import BORROW
 from ..scenario import Scenario
 from ..theory.lattice import lattice_of, shape_of, theory_on
 from ..theory.long_run import LongRun
@@ -49,22 +49,23 @@ class Settings:
 
     def __post_init__(self) -> None:
         """Checks the settings one by one."""
-        for name, word, words in (("fit", self.fit, METHODS), ("lead-fit", self.lead_fit, LEAD_METHODS),
+        for name, word, words in (("fit", self.fit, METHODS), ("lead_fit", self.lead_fit, LEAD_METHODS),
                                   ("borrow", self.borrow or NONE, BORROW)):
             if word not in words:
-                raise Refused(f"--{name} {word!r} is not one of {', '.join(words)}")
+                raise Refused(f"{argument(name, str(word))} is not one of {', '.join(words)}")
         if self.fit != "auto" and self.borrow not in (None, NONE):
-            raise Refused(f"--fit {self.fit} fits each item alone, and --borrow {self.borrow} learns from others; "
-                          "leave one out")
+            raise Refused(f"{argument('fit', self.fit)} fits each item alone, and {argument('borrow', str(self.borrow))} "
+                          "learns from others", "leave one out")
         if not 0 < self.level < 1:
-            raise Refused(f"--level {self.level:g} is not between 0 and 1; write 0.95 for 95 of 100 samples")
+            raise Refused(f"{argument('level', f'{self.level:g}')} is not between 0 and 1", "write 0.95 for 95 of 100 "
+                          "samples")
         if self.confidence is not None and not 0 < self.confidence < 1:
-            raise Refused(f"--confidence {self.confidence:g} is not between 0 and 1; write 0.8 for 80% of the laws "
-                          "that a history allows")
+            raise Refused(f"{argument('confidence', f'{self.confidence:g}')} is not between 0 and 1", "write 0.8 for 80% "
+                          "of the laws that a history allows")
         for name, value, least, most in (("periods", self.periods, 1, MOST_PERIODS),
                                          ("replications", self.replications, 2, MOST_REPLICATIONS)):
             if not least <= value <= most:
-                raise Refused(f"--{name} {value} is not from {least} to {most:,}")
+                raise Refused(f"{argument(name, str(value))} is not from {least} to {most:,}")
 
     def common(self, program: str, prior: Prior) -> str:
         """Returns what all answers depend on, with the digest of the program and what was learned, as a text."""

@@ -4,7 +4,6 @@ from __future__ import annotations
 import datetime
 from collections.abc import Callable, Container, Iterator, Mapping
 from dataclasses import dataclass
-from decimal import Decimal
 from difflib import get_close_matches
 from fractions import Fraction
 from pathlib import Path
@@ -17,15 +16,11 @@ from ..decide.doubt import TIMES
 from ..demand.fitting import METHODS
 from ..demand.leads import LEAD_METHODS
 from ..toml.values import kind_of, shown
-from ..crnsim.keys import MOST_KEYS
-from ..crnsim.long_run import KEYS
 from ..errors import Fault, Refused, RefusedFaults
-from ..money import scaled_costs
 from ..table import names_of
 
 NOWHERE = Place(0, 0)
 MOST_NAMED = 3  # of the texts that may stand at a key
-WORD = formats.WORD.fullmatch
 # A check: it returns what is wrong with a value and what to do, or the empty text.
 Check = Callable[[Any], str]
 Trouble = tuple[tuple[str, ...], str]
@@ -77,6 +72,11 @@ def money(value: Any) -> str:
     return "" if 0 <= value < float("inf") else f"{shown(value)} is no cost; write 0 or more"
 
 
+def amount(value: Any) -> str:
+    """Checks an amount of money above 0."""
+    return money(value) or ("" if value > 0 else f"{shown(value)} is free; write a cost above 0")
+
+
 def share(advice: str) -> Check:
     """Returns the check of a share between 0 and 1."""
     def check(value: Any) -> str:
@@ -112,21 +112,6 @@ def flag(value: Any) -> str:
     return "" if isinstance(value, bool) else _wrong(value, "write true or false, without quotes")
 
 
-def key(value: Any) -> str:
-    """Checks a key: a text, or four words."""
-    if not isinstance(value, list):
-        return text(value)
-    are_words = len(value) == formats.WORDS_OF_KEY and all(isinstance(it, str) and WORD(it) for it in value)
-    return "" if are_words else f"{shown(value)} is no key; write four texts of 16 digits of 0-9a-f, or any one text"
-
-
-def new_key(value: Any) -> str:
-    """Checks the key of a check: four words, or one that replaces the first word of the run's key."""
-    if isinstance(value, str) and not WORD(value):
-        return f"{shown(value)} is no word of a key; write 16 digits of 0-9a-f, or four such texts, or remove it"
-    return key(value)
-
-
 def choice(*values: str) -> Check:
     """Returns the check of one of some texts. If they are many, the first ones are named."""
     def check(value: Any) -> str:
@@ -157,23 +142,25 @@ TABLES: dict[str, dict[str, Rule]] = {
                 "every": Rule(choice("day", "week", "month")), "decimal": Rule(choice(".", ",")),
                 "delimiter": Rule(choice(",", ";", "tab")), "encoding": TEXT,
                 "date_formats": Rule(texts, default=[]), "net": NO, "whole": NO, "leave_out": NO,
-                "box": Rule(whole(1, formats.MOST_ITEMS), default=1), "item": Rule(cells, default={}),
+                "item": Rule(cells, default={}),
                 "from": Rule(date), "to": Rule(date), "fit": Rule(choice(*METHODS), default="auto"),
             "season": Rule(whole(2, formats.MOST_WEIGHT))},
     "lead": {"file": TEXT, "column": TEXT, "orders": TEXT, "ordered": Rule(text, default="ordered"),
              "received": Rule(text, default="received"),
              "times": Rule(whole_numbers(*formats.limits("lead", "values"))),
              "fit": Rule(choice(*LEAD_METHODS), default="auto")},
-    "costs": {"setup": MONEY, "holding": MONEY, "backlog": MONEY, "unit": Rule(money, default=0)},
+    "costs": {"setup": MONEY, "holding": Rule(amount, True), "backlog": Rule(amount), "unit": Rule(money, default=0)},
     "today": {"s": ITEMS, "S": ITEMS, "stock": ITEMS},
-    "run": {"horizon": Rule(horizon), "replications": Rule(REPLICATIONS), "key": Rule(key, default="crnplan"),
-            "level": Rule(share("0.95 for 95 of 100 samples"), default=0.95),
-            "laws": Rule(whole(*TIMES), default=100),
-            "confidence": Rule(share("0.8 for 80 of 100 laws"), default=0.8)},
-    "check": {"policy": Rule(text, default="best"), "key": Rule(new_key), "keys": Rule(whole(1, MOST_KEYS), default=1),
-              "replications": Rule(REPLICATIONS)}}
-# The replications of a run, and those of each key of its check: in the long run, and for a horizon.
-SIZES = {False: {"run": KEYS, "check": KEYS}, True: {"run": 64, "check": formats.MOST_REPLICATIONS}}
+    "run": {"name": TEXT, "seed": Rule(text, default="crnplan"), "horizon": Rule(horizon),
+            "replications": Rule(REPLICATIONS), "level": Rule(share("0.95 for 95 of 100 samples"), default=0.95),
+            "laws": Rule(whole(*TIMES), default=100), "fill": Rule(share("0.95 for 95% of demand met at once")),
+            "confidence": Rule(share("0.8 for 80 of 100 laws"))}}
+# Tables and keys of earlier versions, and what to do about them.
+GONE = {("check",): "an item is no longer checked by itself; run crnplan check on scenario.toml, and remove this table",
+        ("run", "key"): "random numbers now follow from the seed and the name of the item; write seed or name, or "
+        "remove this line",
+        ("history", "box"): "large numbers are counted in boxes by themselves; write costs, levels and stock of single "
+        "items, and remove this line"}
 HOMES = {name: table for table, rules in reversed(TABLES.items()) for name in rules}
 NEED_DATE = ("net", "whole", "from", "to")
 # The ways to give lead times: the key that chooses it, and the keys that it takes beside. A file needs its column.
@@ -181,7 +168,7 @@ LEADS = {"file": ("column",), "orders": ("ordered", "received"), "times": ()}
 
 
 @dataclass(frozen=True)
-class Settings:
+class ItemSettings:
     """The settings of an item: its tables, each with all keys. Keys that are not given have their default, or None."""
 
     path: Path
@@ -192,19 +179,10 @@ class Settings:
         return self.tables[table]
 
     @property
-    def is_long_run(self) -> bool:
-        """Returns whether policies are compared in the long run, as no horizon is given."""
-        return self["run"]["horizon"] is None
-
-    @property
-    def period(self) -> str:
-        """Returns how a period is called."""
-        return str(self["history"]["every"] or "period")
-
-    @property
-    def scaled(self) -> tuple[dict[str, int], Fraction]:
-        """Returns the costs as the program's whole numbers, and what one unit of money counts in them."""
-        return scaled_costs(self["costs"])
+    def fill(self) -> Fraction | None:
+        """Returns the share of demand that is wanted at once, as it is spelt; None if none is wanted."""
+        fill: Fraction | None = self["run"]["fill"]
+        return fill
 
     @property
     def lead_path(self) -> Path | None:
@@ -213,9 +191,15 @@ class Settings:
         return self.path.parent / name if name else None
 
 
-def _decimal(value: Any) -> Decimal:
-    """Returns an amount of money as it is spelt."""
-    return Decimal(str(getattr(value, "spelt", value)).replace("_", ""))
+def as_setting(name: str, value: str) -> str:
+    """Returns an argument of the library as the key of the settings."""
+    key = {"start": "from", "end": "to"}.get(name, name)
+    return (f"[{HOMES[key]}] {key}" if key in HOMES else key) + f" = {value}" * bool(value)
+
+
+def _exact(value: Any) -> Fraction | None:
+    """Returns a number as it is spelt; None if there is none."""
+    return None if value is None else Fraction(str(getattr(value, "spelt", value)).replace("_", ""))
 
 
 def _meant(name: str, known: Mapping[str, Any]) -> str:
@@ -225,6 +209,8 @@ def _meant(name: str, known: Mapping[str, Any]) -> str:
 
 def _unknown(table: str, name: str, known: Mapping[str, Any]) -> str:
     """Returns what is said of a key that should not be there."""
+    if (table, name) in GONE:
+        return GONE[table, name]
     if _meant(name, known):
         return f"there is no such key; did you mean {_meant(name, known)}?"
     if HOMES.get(name, table) != table:
@@ -235,7 +221,9 @@ def _unknown(table: str, name: str, known: Mapping[str, Any]) -> str:
 def _table_troubles(tree: Mapping[str, Any]) -> Iterator[Trouble]:
     """Yields what is wrong with the tables of the document, apart from their keys."""
     for name, value in tree.items():
-        if name not in TABLES:
+        if (name,) in GONE:
+            yield (name,), GONE[name,]
+        elif name not in TABLES:
             meant = _meant(name, TABLES)
             advice = f"the tables are {', '.join(f'[{it}]' for it in TABLES)}"
             if meant or name in HOMES:
@@ -289,14 +277,6 @@ def _lead_troubles(lead: Mapping[str, Any], folder: Path) -> Iterator[Trouble]:
         yield ("lead", ways[0]), f"there is no file {folder / lead[ways[0]]}; name one, from the folder of this file"
 
 
-def _cost_troubles(costs: Mapping[str, Any]) -> Iterator[Trouble]:
-    """Yields that the costs are out of the program's range if all are whole numbers."""
-    try:
-        scaled_costs({name: _decimal(value) for name, value in costs.items()})
-    except Refused as fault:
-        yield ("costs",), str(fault).removeprefix("costs: ")
-
-
 def _joint_troubles(tree: Mapping[str, Any], good: Container[str], folder: Path) -> Iterator[Trouble]:
     """Yields what is wrong with keys beside each other, in the tables whose keys have no fault by themselves."""
     tables = {name: tree.get(name, {}) for name in TABLES if name in good}
@@ -304,15 +284,11 @@ def _joint_troubles(tree: Mapping[str, Any], good: Container[str], folder: Path)
         yield from _history_troubles(tables["history"], tables.get("lead", {}))
     if "lead" in good:
         yield from _lead_troubles(tables["lead"], folder)
-    if "costs" in good:
-        yield from _cost_troubles(tables["costs"])
+    if "costs" in good and "run" in good and "backlog" not in tables["costs"] and "fill" not in tables["run"]:
+        yield ("costs",), "there is neither a backlog cost nor a wanted fill rate; write backlog, or [run] fill"
     if "today" in good and tables["today"]["s"] > tables["today"]["S"]:
         s, S = tables["today"]["s"], tables["today"]["S"]
         yield ("today", "s"), f"s = {s} is above S = {S}; interchange them, or raise S"
-    own, new = (tables.get(name, {}).get("key") for name in ("run", "check"))
-    if new is not None and new in (own, own[0] if isinstance(own, list) else None):
-        yield ("check", "key"), ("this is the key of the run, with the same random numbers again; write another one, "
-                                 "or remove it")
 
 
 def _faults(tree: Mapping[str, Any], path: Path, places: Mapping[Any, Place]) -> list[Fault]:
@@ -328,7 +304,7 @@ def _faults(tree: Mapping[str, Any], path: Path, places: Mapping[Any, Place]) ->
     return sorted(faults, key=lambda it: (it.line, it.column))
 
 
-def read_settings(path: str | Path) -> Settings:
+def read_settings(path: str | Path) -> ItemSettings:
     """Returns the settings of a file. Raises RefusedFaults with all that is wrong with it."""
     path = Path(path)
     data = read_bytes(path)
@@ -340,10 +316,9 @@ def read_settings(path: str | Path) -> Settings:
         raise RefusedFaults(faults)
     tables = {table: {name: tree.get(table, {}).get(name, rule.default) for name, rule in rules.items()}
               for table, rules in TABLES.items()}
-    for table, size in SIZES[tables["run"]["horizon"] is not None].items():
-        tables[table]["replications"] = tables[table]["replications"] or size
-    tables["costs"] = {name: _decimal(value) for name, value in tables["costs"].items()}
-    return Settings(path, tables)
+    tables["costs"] = {name: _exact(value) for name, value in tables["costs"].items()}
+    tables["run"]["fill"] = _exact(tables["run"]["fill"])
+    return ItemSettings(path, tables)
 
 
 def need_file(path: str | Path) -> bytes:

@@ -6,17 +6,16 @@ import os
 import sys
 from collections.abc import Callable, Iterator, Mapping
 from contextlib import AbstractContextManager
-from typing import Any
+from typing import Any, Generic, TypeVar
 
+from ..remarks import Remark
+from ..stored import Store
 from ..sweep.progress import progress as progress_of
-from .planned import Planned
-from ..records.store import Answers
+from .folder import Planned
 from .workers import Workers, answers_of, cluster, processes
 
 BATCH = 8
-# What is asked of an item, its name first.
-Asked = tuple[Any, ...]
-Function = Callable[..., list[tuple[str, str]]]
+Answer = TypeVar("Answer")
 
 
 def workers_of(jobs: int | None, address: str | None, program: str = "") -> AbstractContextManager[Workers]:
@@ -25,10 +24,15 @@ def workers_of(jobs: int | None, address: str | None, program: str = "") -> Abst
     return cluster(address, program) if address else processes(jobs or os.cpu_count() or 1)
 
 
-class Work:
+def named(names: list[str], function: Callable[..., list[Any]], *words: Any) -> tuple[list[str], list[Any]]:
+    """Returns names with what a function returns for them. Dask would call a tuple that begins with a function."""
+    return names, function(*words)
+
+
+class Work(Generic[Answer]):
     """Which items are to be answered, which answers are kept, and which items are left."""
 
-    def __init__(self, answers: Answers, digests: Mapping[str, str]) -> None:
+    def __init__(self, answers: Store[Answer], digests: Mapping[str, str]) -> None:
         """Takes for each item the digest of all that its answer depends on."""
         kept = answers.digests()
         self.answers, self.digests = answers, digests
@@ -39,26 +43,27 @@ class Work:
         """Returns how many items were answered before."""
         return len(self.digests) - len(self.left)
 
-    def batches(self, asked: Callable[[str], Asked]) -> Iterator[list[Asked]]:
-        """Yields what is asked of the items of each batch."""
+    def batches(self) -> Iterator[list[str]]:
+        """Yields the names of the items of each batch."""
         names = iter(self.left)
-        while batch := [asked(name) for name in itertools.islice(names, BATCH)]:
+        while batch := [*itertools.islice(names, BATCH)]:
             yield batch
 
-    def finish(self, function: Function, asked: Callable[[str], Asked], planned: Planned, *words: Any,
-               workers: AbstractContextManager[Workers], shown: bool) -> None:
-        """Answers the items that are left. Workers call the function with a batch, the settings, what was learned, and
-        further words. No worker is started if no item is left."""
+    def finish(self, function: Callable[..., list[Answer | Remark]], asked: Callable[[str], object], planned: Planned,
+               *words: Any, workers: AbstractContextManager[Workers], shown: bool) -> None:
+        """Answers the items that are left. Workers call the function with what is `asked` of the items of a batch, the
+        settings, what was learned, and further words. No worker is started if no item is left."""
         done, total = self.kept, len(self.digests)
         if done == total:
             return
         try:
             with workers as them, progress_of(total, done, shown, "items") as show:
                 prior = them.share(planned.prior)
-                batches = ((batch, planned.settings, prior, *words) for batch in self.batches(asked))
-                for answers in answers_of(them, function, batches):
-                    self.answers.keep([(name, self.digests[name], text) for name, text in answers])
-                    done += len(answers)
+                batches = ((names, function, [*map(asked, names)], planned.settings, prior, *words)
+                           for names in self.batches())
+                for names, answers in answers_of(them, named, batches):
+                    self.answers.keep([(name, self.digests[name], it) for name, it in zip(names, answers, strict=True)])
+                    done += len(names)
                     show(done)
         except KeyboardInterrupt:
             if shown:

@@ -22,7 +22,7 @@ from .staging import KEEP, LEAVE_OUT, Reader, Ways
 from .span import record_of
 from .sources import Source, open_source
 from .splitting import PART_BYTES, Split, split_sources
-from .store import CATALOGUE, Catalogued, Reject, Writer, told_of
+from .catalogued import CATALOGUE, Catalogued, Reject, Writer, told_of
 
 if TYPE_CHECKING:
     import pandas as pd
@@ -125,9 +125,9 @@ class Catalogue:
     def rejects(self) -> pd.DataFrame:
         """Returns what was left out or is suspicious: kind (row, item, suspicious), file, line, item, column, text,
         reason, advice, and rows (of demand that are left out)."""
-        import pandas as pd
+        from ..pages.reasons import rejects_of
         with self.opened() as its:
-            return pd.DataFrame(its.rejects(), columns=list(Reject._fields))
+            return rejects_of(its.rejects()).frame
 
 
 def missing_of(counts: Mapping[str, Any], answered: int) -> list[str]:

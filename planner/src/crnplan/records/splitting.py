@@ -22,7 +22,7 @@ from .faults import UNPRINTABLE, Unreadable, on_one_line
 from .columns import ROLES
 from .masters import AMOUNTS, MONEY
 from .sources import Source
-from .store import Reject, Writer, with_advice
+from .catalogued import Reject, Writer, said
 
 PART_BYTES, MOST_PARTS = 8_000_000, 200
 MOST_KEPT = 100_000  # texts whose reading is remembered
@@ -174,7 +174,7 @@ def _reject(source: Source, split: Split, writer: Writer, what: tuple[int, str, 
     line, role, text, message = what
     split.rejected[source.kind] += 1
     column = source.columns[role].name if role else ""
-    writer.reject(Reject("row", source.name, line, "", column, on_one_line(text), *with_advice(message),
+    writer.reject(Reject("row", source.name, line, "", column, on_one_line(text), said(message),
                          int(source.kind == "demand")))
 
 

@@ -2,6 +2,7 @@
 from __future__ import annotations
 
 import contextlib
+import dataclasses
 import gc
 import heapq
 from collections import Counter, defaultdict
@@ -10,7 +11,8 @@ from dataclasses import dataclass, field
 from pathlib import Path
 from typing import Any, NamedTuple
 
-from ..formats import MOST_DEMAND, MOST_ITEMS
+from ..formats import MOST_ITEMS
+from ..remarks import Remark
 from .amounts import AmountReader
 from .dates import DateReader, period_of
 from .faults import Unreadable, named_lines, on_one_line, shown
@@ -20,7 +22,8 @@ from .masters import AMOUNTS, Faulty, Master, Masters, checked_lead
 from .span import Record
 from .sources import Source
 from .splitting import MOST_KEPT, rows_of_part
-from .store import Reject, Writer, with_advice
+from .catalogued import Reject, Writer, said
+from .item import Item
 from .units import factor_of
 
 # An amount is far above all others of its item if it is TIMES_NEXT times the next largest; if it has fewer others than
@@ -97,13 +100,19 @@ class Part:
     twins: dict[tuple[str, str], str] = field(default_factory=dict)
 
 
-class Left(Exception):
-    """An item that is left out: the file and line that say why, column, text, and a message."""
+# Codes of remarks on an item, each with the names of its facts.
+EQUAL_MASTERS, LATE, BOXES = "equal masters", "late", "boxes"  # masters; period; items
+STOCK_BELOW, TWICE = "stock below 0", "rows twice"  # none; rows
+SAME_ROW = "same row"  # line
 
-    def __init__(self, kind: str, line: int, column: str, text: str, message: str) -> None:
+
+class Left(Exception):
+    """An item that is left out: the file and line that say why, column, text, and why."""
+
+    def __init__(self, kind: str, line: int, column: str, text: str, why: str | Remark) -> None:
         """Keeps all of it."""
-        super().__init__(message)
-        self.place = kind, line, column, text
+        super().__init__()
+        self.place, self.remark = (kind, line, column, text), said(why) if isinstance(why, str) else why
 
 
 @contextlib.contextmanager
@@ -190,12 +199,13 @@ class Reader:
         self.writer.reject(Reject("row", self.sources[row.kind].name, row.line, row.cells["item"],
                                   *self._said(row.kind, faults), int(row.kind == "demand")))
 
-    def _said(self, kind: str, faults: Sequence[tuple[str, str, str]]) -> tuple[str, str, str, str]:
-        """Returns columns, texts, reasons and advice of faults, each joined."""
-        split = [with_advice(message) for _, _, message in faults]
+    def _said(self, kind: str, faults: Sequence[tuple[str, str, str]]) -> tuple[str, str, Remark]:
+        """Returns columns and texts of faults, each joined, and what is said of them."""
+        split = [said(message).facts for _, _, message in faults]
         columns = ", ".join(self._column(kind, role) for role, _, _ in faults)
-        return (columns, ", ".join(on_one_line(text) for _, text, _ in faults), " and ".join(reason for reason, _ in split),
-                " and ".join(dict.fromkeys(advice for _, advice in split)))
+        what, advice = " and ".join(str(it["what"]) for it in split), dict.fromkeys(str(it["advice"]) for it in split)
+        return (columns, ", ".join(on_one_line(text) for _, text, _ in faults),
+                Remark("refused", {"what": what, "advice": " and ".join(advice)}))
 
     @without_collection()
     def read_part(self, path: Path) -> None:
@@ -251,13 +261,10 @@ class Reader:
         self.counts.twice += 1
         self.twice[name] += 1
         is_left_out = self.ways.twice == LEAVE_OUT
-        faults = [("item", name, f"the row is the same as that of line {first}; if it was exported twice, remove it, "
-                   "or say --twice leave-out")]
-        if is_left_out:
-            self._reject_row(row, faults)
-        else:
-            self.writer.reject(Reject("suspicious", self.sources["demand"].name, row.line, name,
-                                      *self._said("demand", faults), 0))
+        self.counts.rejected[row.kind] += is_left_out
+        self.writer.reject(Reject("row" if is_left_out else "suspicious", self.sources["demand"].name, row.line, name,
+                                  self._column("demand", "item"), on_one_line(name),
+                                  Remark(SAME_ROW, {"line": int(first)}), int(is_left_out)))
         return is_left_out
 
     def _lead(self, row: PartRow) -> int | None:
@@ -277,7 +284,7 @@ class Reader:
         self._reject_row(row, faults)
         return None
 
-    def _items(self, part: Part) -> Iterator[tuple[str, dict[str, Any], dict[str, Any]]]:
+    def _items(self, part: Part) -> Iterator[Item]:
         """Yields the items of a part that can be planned, and rejects the others."""
         for name in sorted(part.names | dict.fromkeys(part.moves)):
             moves, masters = part.moves.get(name, []), part.masters.get(name, [])
@@ -291,15 +298,15 @@ class Reader:
                 self.counts.left_out += 1
                 self.counts.with_item.update(count)
                 self.writer.reject(Reject("item", self.sources[kind].name, line, name, column, text,
-                                          *with_advice(str(why)), count["demand"]))
+                                          why.remark, count["demand"]))
                 continue
             self.counts.ready += 1
             self.counts.used.update(count)
             yield item
 
     def _item(self, name: str, moves: Sequence[Move], rows: Sequence[PartRow],
-              leads: Sequence[int]) -> tuple[str, dict[str, Any], dict[str, Any]]:
-        """Returns an item: its name, what its plan depends on, and what is only shown. Raises Left."""
+              leads: Sequence[int]) -> Item:
+        """Returns an item. Raises Left."""
         master = self._master(name, rows, leads, moves)
         self._check_far(moves)
         first = self.record.first_of(min(it.period for it in moves))
@@ -309,24 +316,16 @@ class Reader:
             asked[move.period - first] += move.quantity
             back[move.period - first] += move.back
         self._check_counts(asked, back)
-        box = max(1, -(-max(*asked, *back) // MOST_DEMAND))
-        notes = [*self._notes(master, rows, first, box), *([f"rows that stand twice: {self.twice[name]}"] * (
-            self.twice[name] > 0))]
         self.counts.late += first > self.record.periods[0]
         self.counts.decimals = max(self.counts.decimals, master.decimals)
-        amounts = {role: None if its is None else str(its) for role, its in (
-            ("setup", master.setup), ("holding", master.holding), ("backlog", master.backlog), ("fill", master.fill))}
-        levels = [round(it / box) for it in master.levels]
-        facts: dict[str, Any] = {"counts": asked, "back": back if any(back) else None, "box": box, **amounts,
-                                 "leads": [*master.leads], "levels": levels, "class": master.group,
-                                 "borrow": master.borrow}
-        if levels[1] > MOST_ITEMS:
+        item = Item(name, tuple(asked), tuple(master.leads), master.levels, master.setup, master.holding, master.backlog,
+                    master.fill, returns=tuple(back) if any(back) else (), group=master.group, borrow=master.borrow,
+                    stock=master.stock, price=master.price, description=master.description, first=first,
+                    line=master.line, rows=len(moves))
+        if round(item.levels[1] / item.box) > MOST_ITEMS:
             raise Left("items", master.line, self._column("items", "S"), str(master.levels[1]),
                        f"S is above {MOST_ITEMS:,}; correct it")
-        shown_only = {"description": master.description, "today": [*master.levels],
-                      "price": None if master.price is None else str(master.price), "first": first,
-                      "rows": len(moves), "line": master.line, "notes": notes}
-        return name, facts, shown_only
+        return dataclasses.replace(item, remarks=tuple(self._remarks(item, master, rows)))
 
     def _check_measures(self, measures: Mapping[str, str]) -> None:
         """Raises Left if the rows of an item are in several units of measure. Each has the line in which it is first."""
@@ -349,8 +348,8 @@ class Reader:
         try:
             master = self.masters.master(rows[0].line, rows[0].cells, leads)
         except Faulty as why:
-            columns, texts, reason, advice = self._said("items", why.faults)
-            raise Left("items", rows[0].line, columns, texts, f"{reason}; {advice}") from why
+            columns, texts, remark = self._said("items", why.faults)
+            raise Left("items", rows[0].line, columns, texts, remark) from why
         if not moves:
             raise Left("items", rows[0].line, self._column("items", "item"), name,
                        "there is no row of demand in the record; nothing can be said without one")
@@ -386,13 +385,15 @@ class Reader:
             raise left(str(sum(back)), f"as much comes back ({sum(back):,}) as is asked for ({sum(asked):,}), so "
                        "nothing is ever ordered; check both columns")
 
-    def _notes(self, master: Master, rows: Sequence[PartRow], first: int, box: int) -> Iterator[str]:
+    def _remarks(self, item: Item, master: Master, rows: Sequence[PartRow]) -> Iterator[Remark]:
         """Yields what is to be said of an item."""
         if len(rows) > 1:
-            yield f"{len(rows)} equal masters"
-        if first > self.record.periods[0]:
-            yield f"begins with its first movement, in {self.record.name(first)}"
-        if box > 1:
-            yield f"counted in boxes of {box}"
+            yield Remark(EQUAL_MASTERS, {"masters": len(rows)})
+        if item.first > self.record.periods[0]:
+            yield Remark(LATE, {"period": self.record.name(item.first)})
+        if item.box > 1:
+            yield Remark(BOXES, {"items": item.box})
         if master.stock is not None and master.stock < 0:
-            yield "its stock is below 0, which plays no part in the long run"
+            yield Remark(STOCK_BELOW)
+        if self.twice[item.name]:
+            yield Remark(TWICE, {"rows": self.twice[item.name]})

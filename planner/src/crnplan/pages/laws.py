@@ -1,18 +1,24 @@
 """Says by which laws of demand and of lead times an item is planned: in words, and as a table beside what was seen."""
 from __future__ import annotations
 
-from collections.abc import Iterator, Mapping
-from typing import TYPE_CHECKING, Any
+from collections.abc import Iterator
+from typing import TYPE_CHECKING
 
 from ..demand.fitting import QUANTILES, figures_of
 from ..demand.laws import DemandLaw, Law
+from ..plan.question import Question
+from ..table import Cell, number, text, whole
 
 if TYPE_CHECKING:
     from ..demand.borrowing import Borrowed
 
 BORROWED = "borrowed"  # the family of a law that is learned from other items, and the name of what is known of it
 ALONE = "the law of this item alone"
-COLUMNS = ("table", "law", "mean", "variance", *(f"{share:.1%}" for share in QUANTILES), "largest")
+LAW_COLUMNS = (
+    text("table", "demand, returns or lead"), text("law", "what was seen, or the law that was fitted to it"),
+    number("mean", "boxes or periods", "its mean", ".4f"), number("variance", "squared", "its variance", ".4f"),
+    *(whole(f"{share:.1%}", "boxes or periods", "what this share of periods does not exceed") for share in QUANTILES),
+    whole("largest", "boxes or periods", "its largest value"))
 
 
 def learned_words(its: Borrowed) -> str:
@@ -36,17 +42,20 @@ def law_words(law: Law, method: str) -> str:
     return f"the law fitted to this history ({f'{method}: ' * (method != law.family)}{named}{seen})"
 
 
-def rows_of_laws(laws: Mapping[str, Law], methods: Mapping[str, str]) -> Iterator[list[Any]]:
-    """Yields a table: for each law the figures of what was seen, and its own if it was fitted, whose row says in words
-    which one it is. Below a law that is learned from other items stands that of the item alone, if it is known."""
-    yield list(COLUMNS)
-    for name, law in laws.items():
+def law_rows(question: Question, single: DemandLaw | None) -> Iterator[list[Cell]]:
+    """Yields the rows of a table of laws: for each the figures of what was seen, and its own if it was fitted. Below a
+    law that is learned from other items stands that of the item alone, `single`, if there is one."""
+    laws: dict[str, tuple[Law | None, str]] = {
+        "demand": (question.demand, question.settings.fit), "returns": (question.returns, question.settings.fit),
+        "lead": (question.lead, question.settings.lead_fit)}
+    for name, (law, method) in laws.items():
+        if law is None:
+            continue
         its = law.diagnostics
         seen = its.get("history") or figures_of(law.values, law.weights) | {"variance": its["variance"]}
-        named = law_words(law, methods[name])
+        named = law_words(law, method)
         rows = {named: seen} if law.family == "empirical" else {"what was seen": seen, named: its}
-        if law.family == BORROWED and (single := its[BORROWED].single):
+        if name == "demand" and single is not None:
             rows[ALONE] = single.diagnostics
         for title, figures in rows.items():
-            variance = "-" if figures["variance"] is None else f"{figures['variance']:.4f}"
-            yield [name, title, f"{figures['mean']:.4f}", variance, *figures["quantiles"].values(), figures["most"]]
+            yield [name, title, figures["mean"], figures["variance"], *figures["quantiles"].values(), figures["most"]]

@@ -1,0 +1,175 @@
+"""Keeps what was read of a catalogue in a SQLite file of a folder.
+
+It is written anew each time, under a temporary name, which is then changed: it is there whole or not at all.
+"""
+from __future__ import annotations
+
+import contextlib
+import json
+import os
+import sqlite3
+from collections.abc import Iterable, Iterator, Mapping, Sequence
+from pathlib import Path
+from typing import Any, NamedTuple
+
+from ..errors import Refused
+from ..files import Folder
+from ..remarks import Remark
+from ..stored import KINDS as WRITTEN
+from ..stored import Columns, digest_of, quoted
+from .item import PLANNED, Item
+
+CATALOGUE = "catalogue"  # the kind of the folder
+READ = "catalogue.sqlite"
+# Rows that are sent to SQLite at a time.
+AT_ONCE = 2_000
+KINDS = ("row", "item", "suspicious")
+ITEM = Columns(Item)
+
+
+class Reject(NamedTuple):
+    """What is left out, or only named: a row, an item with its rows of demand, or a row that is suspicious.
+
+    `rows` is how many rows of demand are left out: none with a suspicious row. `remark` says why.
+    """
+
+    kind: str
+    file: str
+    line: int
+    item: str
+    column: str
+    text: str
+    remark: Remark
+    rows: int
+
+    @property
+    def cells(self) -> tuple[Any, ...]:
+        """Returns the cells in which it is kept."""
+        return (*self[:6], WRITTEN[Remark][0](self.remark), self.rows)
+
+    @classmethod
+    def of(cls, cells: Sequence[Any]) -> Reject:
+        """Returns what cells have."""
+        return cls._make([*cells[:6], WRITTEN[Remark][1](cells[6]), cells[7]])
+
+
+@contextlib.contextmanager
+def told_of(folder: Path) -> Iterator[None]:
+    """Turns errors of SQLite and of files into one message on the folder."""
+    try:
+        yield
+    except (sqlite3.OperationalError, OSError) as fault:
+        what = fault.strerror if isinstance(fault, OSError) and fault.strerror else str(fault)
+        raise Refused(f"{folder}: {what}; what was planned before is kept", "make room, or name a folder that can be "
+                      "written, and run again") from fault
+
+
+def said(message: str) -> Remark:
+    """Returns a message, with what to do behind a semicolon, as a remark."""
+    what, _, advice = message.partition("; ")
+    return Remark("refused", {"what": what, "advice": advice or "correct it"})
+
+
+class Catalogued:
+    """What was read of a catalogue: its items, what was left out, and facts by name. Items come in order of their
+    names."""
+
+    def __init__(self, path: Path) -> None:
+        """Opens a file that was written by `Writer`. Raises Refused if it is not there."""
+        if not path.is_file():
+            raise Refused(f"{path.parent}: no catalogue was read into this folder", "run crnplan catalogue first")
+        self.path = path
+        self.base = sqlite3.connect(f"file:{path}?mode=ro", uri=True)
+
+    def fact(self, name: str) -> Any:
+        """Returns a fact."""
+        (text,) = self.base.execute("SELECT value FROM facts WHERE name = ?", [name]).fetchone()
+        return json.loads(text)
+
+    def rejects(self, more: Iterable[Reject] = ()) -> Iterator[Reject]:
+        """Yields what was left out or named, with more of it: by file, line, item and column."""
+        base = sqlite3.connect("")
+        with contextlib.closing(base):
+            base.execute(f"CREATE TABLE rejects ({', '.join(Reject._fields)})")
+            slots = ", ".join("?" * len(Reject._fields))
+            for its in (self.base.execute("SELECT * FROM rejects"), (it.cells for it in more)):
+                base.executemany(f"INSERT INTO rejects VALUES ({slots})", its)
+            yield from map(Reject.of, base.execute(
+                "SELECT * FROM rejects ORDER BY file, line, item, kind, column, text, remark"))
+
+    def digests(self, common: str) -> Iterator[tuple[str, str]]:
+        """Yields the name of each item with the digest of what its plan depends on: its facts, and what is common to
+        all."""
+        for row in self.base.execute(f"SELECT {quoted(PLANNED)} FROM items ORDER BY name"):
+            yield row[0], digest_of(common, row)
+
+    def digest(self, name: str, common: str) -> str:
+        """Returns the digest of what the plan of an item depends on."""
+        return digest_of(common, self.base.execute(f"SELECT {quoted(PLANNED)} FROM items WHERE name = ?",
+                                                   [name]).fetchone())
+
+    def names(self) -> Iterator[str]:
+        """Yields the names of the items."""
+        for (name,) in self.base.execute("SELECT name FROM items ORDER BY name"):
+            yield name
+
+    def items(self) -> Iterator[Item]:
+        """Yields the items."""
+        yield from map(ITEM.value, self.base.execute("SELECT * FROM items ORDER BY name"))
+
+    def item(self, name: str) -> Item | None:
+        """Returns the item of a name; None if there is none."""
+        row = self.base.execute("SELECT * FROM items WHERE name = ?", [name]).fetchone()
+        return None if row is None else ITEM.value(row)
+
+    def close(self) -> None:
+        """Closes the file."""
+        self.base.close()
+
+
+class Writer:
+    """Writes what is read of a catalogue. The file stands under its name only when `finish` is called."""
+
+    def __init__(self, folder: Folder) -> None:
+        """Opens a new file."""
+        self.path, self.part = folder.store(READ), folder.room() / READ
+        self.base = sqlite3.connect(self.part)
+        self.waiting: list[Reject] = []
+
+    def begin(self) -> None:
+        """Makes the tables."""
+        self.base.executescript("PRAGMA journal_mode = OFF; PRAGMA synchronous = OFF;"
+                                f"CREATE TABLE items ({quoted(ITEM.names)}, PRIMARY KEY (name)) WITHOUT ROWID;"
+                                "CREATE TABLE facts (name TEXT PRIMARY KEY, value TEXT);"
+                                f"CREATE TABLE rejects ({', '.join(Reject._fields)});")
+
+    def reject(self, reject: Reject) -> None:
+        """Adds what is left out or named."""
+        self.waiting.append(reject)
+        if len(self.waiting) >= AT_ONCE:
+            self._send()
+
+    def _send(self) -> None:
+        """Sends what waits."""
+        slots = ", ".join("?" * len(Reject._fields))
+        self.base.executemany(f"INSERT INTO rejects VALUES ({slots})", [it.cells for it in self.waiting])
+        self.waiting.clear()
+
+    def add_items(self, items: Iterable[Item]) -> None:
+        """Adds items."""
+        slots = ", ".join("?" * len(ITEM.names))
+        self.base.executemany(f"INSERT INTO items VALUES ({slots})", map(ITEM.cells, items))
+
+    def finish(self, facts: Mapping[str, Any]) -> Path:
+        """Adds the facts, and gives the file its name."""
+        self._send()
+        self.base.executemany("INSERT INTO facts VALUES (?, ?)", [(name, json.dumps(it)) for name, it in facts.items()])
+        self.base.commit()
+        self.base.close()
+        os.replace(self.part, self.path)
+        return self.path
+
+    def drop(self) -> None:
+        """Removes a file that was not finished."""
+        self.base.close()
+        self.part.unlink(missing_ok=True)
