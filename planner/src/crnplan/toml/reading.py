@@ -12,13 +12,14 @@ from dataclasses import dataclass
 from pathlib import Path as FilePath
 from typing import Any
 
-from ..errors import Fault, Refused, ScenarioError
+from ..errors import Fault, Refused, RefusedFaults, ScenarioError
 from ..formats import MOST_BYTES, MOST_LEVELS, RULES
 from .causes import usual_cause
 from .faults import faults_of, place_text
 from .lines import Place, places_of
 from .newer import TooDeep, older_text
-from .values import SpeltFloat, shown
+from .rules import Judge, Key, Table
+from .values import Path, SpeltFloat, shown
 
 MARK = b"\xef\xbb\xbf"
 BYTE_ORDER_MARKS = (b"\xff\xfe", b"\xfe\xff")
@@ -200,4 +201,37 @@ def checked_tree(tree: Tree, any_number: bool = False) -> Tree:
     found = [Found(it.rule, NOWHERE, place_text(it.path, tree), it.reason) for it in faults]
     if found:
         raise error_of(found)
+    return tree
+
+
+def _at(path: Path, rules: Table) -> str:
+    """Returns a path in words, as [TABLE.TABLE] KEY."""
+    tables = list[str]()
+    rule: Key | Table | None = rules
+    for part in path:
+        rule = rule.keys.get(str(part), rule.other) if isinstance(rule, Table) else None
+        if not isinstance(rule, Table):
+            break
+        tables.append(str(part))
+    rest = [f"entry {part}" if isinstance(part, int) else part for part in path[len(tables):]]
+    if not path:
+        return "the document"
+    return " ".join([f"[{'.'.join(tables)}]", ", ".join(rest)]).strip() if tables else f"[{rest[0]}]"
+
+
+def read_tables(path: str | FilePath, rules: Table) -> Tree:
+    """Returns the tree of a file that has no fault by the rules of its tables.
+
+    Raises Refused if it can't be read, and RefusedFaults with all that is wrong with it, by line.
+    """
+    data = read_bytes(path)
+    tree, unread = read_document(data)
+    if unread:
+        raise RefusedFaults([Fault(f"this is no TOML document: {it.reason}", str(path), *it.place) for it in unread])
+    troubles = Judge(rules).faults(tree)
+    places = places_of(text_of_document(data), tree) if troubles else {}
+    faults = [Fault(f"{_at(it.path, rules)}: {it.what}; {it.advice}", str(path), *places.get(it.path, NOWHERE))
+              for it in troubles]
+    if faults:
+        raise RefusedFaults(sorted(faults, key=lambda fault: (fault.line, fault.column)))
     return tree

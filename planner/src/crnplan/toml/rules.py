@@ -92,7 +92,8 @@ class Judge:
             return f"it belongs to {self.homes[key]}: move this line there"
         close = meant(key, rules.keys) or next((one for one in (*self.homes, *self.tables)
                                                 if one.lower() == key.lower()), "")
-        return odd_advice(key) or (f"write {close}" if close else "remove it")
+        others = "" if self.says_both else f"; the keys here are {', '.join(rules.keys)}"
+        return odd_advice(key) or (f"write {close}" if close else f"remove it{others}")
 
     def _of_keys(self, path: Path, table: Mapping[str, Any], rules: Table) -> list[TreeFault]:
         """Returns the faults of keys that should not be there, and of those that are missing."""
