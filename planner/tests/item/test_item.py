@@ -2,6 +2,7 @@
 from __future__ import annotations
 
 import csv
+import html
 import os
 import re
 from collections.abc import Callable
@@ -12,10 +13,11 @@ import pytest
 
 from crnplan import Scenario
 from crnplan.decide.doubt import doubt
-from crnplan.demand import checks_of, fit_demand, fit_lead, lines_of
+from crnplan.demand import checks_of, fit_demand, fit_lead
 from crnplan.plan.question import Question
 from crnplan.plan.settings import read_settings
 from crnplan.theory.suggestions import suggestions_of
+from crnplan.words import sentence
 from planner.tests.conftest import Command
 from planner.tests.item.conftest import HERE, Plan
 from planner.tests.pages.page_reader import Page
@@ -159,15 +161,16 @@ def test_a_page_says_by_which_law(fit: str, room: Path, plan: Plan) -> None:
         assert words.get(fit, "the law fitted to this history (auto: ") in text
 
 
-def test_notes_on_the_history(room: Path, plan: Plan) -> None:
-    """What the checks of the history say stands in the notes."""
+def test_warnings_on_the_history(room: Path, plan: Plan) -> None:
+    """What the checks of the history find is warned of on the page and in the summary, and the notes have the rest."""
     rows = [f"{week},{3 + week // 4 + week % 3}" for week in range(60)]
     (room / "history.csv").write_text("week,demand\n" + "\n".join(rows))
-    plan()
-    notes = (room / "plan/notes.txt").read_text().replace("\n", " ").lower()
-    lines = lines_of(checks_of(counts_of(room)))
-    assert any("a trend" in line for line in lines)
-    assert all(line.lower().removesuffix(".") in notes for line in lines)
+    output, checks = plan().output, checks_of(counts_of(room))
+    page, notes = (room / "plan/summary.html").read_text(), (room / "plan/notes.txt").read_text()
+    assert checks.warnings and "\nWARNING: Demand has a trend" in output
+    for remark in (*checks.warnings, *checks.notes):
+        assert html.escape(sentence(remark)[1:], quote=False) in html.unescape(page)
+    assert all(sentence(remark)[1:] in notes.replace("\n", " ") for remark in checks.unknown)
 
 
 def test_theory_and_runs_that_disagree(room: Path, plan: Plan, monkeypatch: pytest.MonkeyPatch) -> None:

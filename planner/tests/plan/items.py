@@ -24,14 +24,14 @@ def item_of(place: int = 0, **changed: Any) -> Item:
     level = int(4 * counts.mean() + 3)
     facts: dict[str, Any] = {
         "name": f"I-{place:03}", "counts": tuple(counts.tolist()), "leads": (2,), "levels": (level, 2 * level + 5),
-        "setup": Fraction(20 + place % 7), "holding": Fraction(1, 2), "backlog": Fraction(9)}
+        "setup": Fraction(20 + place % 7), "holding": Fraction(11, 20), "backlog": Fraction(9)}
     return Item(**facts | changed)
 
 
 def several(count: int) -> Iterator[Item]:
     """Yields items of all kinds: several lead times, wanted fill rates, returns, packs."""
     kinds: tuple[dict[str, Any], ...] = (
-        {}, {"leads": (1, 3, 2)}, {"backlog": None, "fill": Fraction(19, 20)}, {"fill": Fraction(9, 10)})
+        {}, {"leads": (1, 3, 2)}, {"backlog": None, "fill": Fraction(19, 20), "levels": (1, 9)}, {"fill": Fraction(9, 10)})
     for place in range(count):
         item = item_of(place, **kinds[place % len(kinds)])
         if place % 5 == 4:

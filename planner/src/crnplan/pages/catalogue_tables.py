@@ -56,7 +56,7 @@ DECISION_COLUMNS = (
     whole("periods_with_demand", "periods", "of the history"), text("law", "the family of the law"),
     figure("law_share", "share", "of the family in the law; the rest is what was seen"),
     figure("log10_bayes", "log10", "of the Bayes factor for what was learned from others"),
-    text("warnings", "what must be said of the item"))
+    text("codes", "codes of all that must be said of the item"), text("warnings", "the same in words"))
 EXACT_COLUMNS = (
     text("item", "the item"),
     *(whole(f"{letter}_{it}", "boxes", "as run") for it in ("today", "chosen") for letter in "sS"),
@@ -79,13 +79,14 @@ def decision_row(item: Item, answer: Answer) -> list[Cell]:
     """Returns the row of an item in decisions.csv, unrounded."""
     today, chosen, alone, estimate = answer.today, answer.chosen, answer.alone, answer.run.estimate
     prices = [None if item.price is None else float(item.price) * it.stock for it in (today, chosen)]
-    remarks = "; ".join(map(sentence, (*item.remarks, *answer.remarks)))
+    remarks = *item.remarks, *answer.remarks
+    codes, words = "; ".join(it.code for it in remarks), "; ".join(map(sentence, remarks))
     return [item.name, item.description, item.group, answer.verdict, *policy_cells(today), *policy_cells(chosen),
             answer.cost_today, answer.cost_chosen, answer.saving, PLANNED_BY[answer.source], estimate.saving,
             estimate.low, estimate.high, None if item.fill is None else float(item.fill), today.fill, chosen.fill,
             today.stock, chosen.stock, *prices, today.orders, chosen.orders, answer.confidence_cost,
             *policy_cells(alone), *((alone.cost, alone.fill) if alone else (None, None)), answer.law.mean, answer.periods,
-            answer.demands, answer.law.family, answer.law.share, answer.law.log10_bayes, remarks]
+            answer.demands, answer.law.family, answer.law.share, answer.law.log10_bayes, codes, words]
 
 
 def exact_row(item: Item, answer: Answer) -> list[Cell]:

@@ -69,7 +69,7 @@ def plan_into(folder: Folder, settings: Settings, *, jobs: int | None = None, ad
     with (told_of(folder.path), contextlib.closing(Catalogued(folder.path / READ)) as read,
           contextlib.closing(Store(folder.store(ANSWERS), Answer)) as answers):
         learned = learned_of(answers, read, settings, again)
-        settings = dataclasses.replace(settings, borrow=learned.usual)
+        settings = dataclasses.replace(settings, borrow=learned.usual, every=read.fact("every"))
         planned = Planned(settings, learned.prior, settings.common(_program_digest(path), learned.prior))
         planned.keep(answers)
         work = Work(answers, dict(read.digests(planned.common)))

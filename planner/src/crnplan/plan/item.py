@@ -10,11 +10,12 @@ from pathlib import Path
 from typing import Any
 
 from ..crnsim.program import find_program
-from ..demand import Checks, checks_of, lines_of
+from ..demand import Checks, checks_of
 from ..errors import worded
 from ..files import own_folder
 from ..records import History, LeadTimes, read_history, read_lead_times
 from ..records.item import Item
+from ..words import advised
 from .answer import Answer
 from .depth import Coming, Depth
 from .settings import ItemSettings, as_setting, read_settings
@@ -43,11 +44,11 @@ class Facts:
 
     @property
     def notes(self) -> list[str]:
-        """Returns what is to be said of the files and of the history."""
+        """Returns what is to be said of the files, and what the checks of the history do not see."""
         return [worded(line.replace(str(path), path.name) if path else line, as_setting)
                 for path, lines in ((self.path, self.history.notes),
                                     (self.settings.lead_path, self.leads.notes if self.leads else ()),
-                                    (None, lines_of(self.checks))) for line in lines]
+                                    (None, map(advised, self.checks.unknown))) for line in lines]
 
     @cached_property
     def checks(self) -> Checks:
@@ -105,13 +106,15 @@ def read_item(history: str | Path, settings: str | Path) -> Facts:
     return Facts(item, path, demand, leads, read)
 
 
-def settings_of(read: ItemSettings) -> Settings:
+def settings_of(facts: Facts) -> Settings:
     """Returns how an item is planned by its settings. The replications are those of the coming periods, if there is a
     horizon."""
+    read = facts.settings
     run: dict[str, Any] = {name: read["run"][name] for name in ("seed", "level") if read["run"][name] is not None}
     if read["run"]["replications"] and not read["run"]["horizon"]:
         run["replications"] = read["run"]["replications"]
-    return Settings(fit=read["history"]["fit"], lead_fit=read["lead"]["fit"], borrow=NONE,
+    return Settings(fit=read["history"]["fit"], lead_fit=read["lead"]["fit"], borrow=NONE, every=facts.history.every,
+                    season=read["history"]["season"],
                     confidence=read["run"]["confidence"] if read.fill is not None else None, **run)
 
 
@@ -119,7 +122,7 @@ def planned(facts: Facts, program: str | Path | None = None) -> ItemPlan:
     """Returns the plan of an item, of which much is computed when it is asked for. Raises Refused, Disagreement and
     ProgramError."""
     path, run = str(find_program(program)), facts.settings["run"]
-    question = question_of(facts.item, settings_of(facts.settings))
+    question = question_of(facts.item, settings_of(facts))
     answer = plan_one(question, path)
     depth = Depth(question, answer, path, run["laws"], run["confidence"])
     coming = depth.coming(run["horizon"], run["replications"] or COMING) if run["horizon"] else None

@@ -13,6 +13,7 @@ from typing import TypeVar
 from ..crnsim.report import Report, report_of
 from ..demand import DemandLaw
 from ..demand.borrowing import Prior
+from ..demand.checks import remarks_of as checked
 from ..errors import Refused, worded
 from ..formats import MOST_ITEMS, MOST_REPLICATIONS
 from ..records.item import Item
@@ -95,8 +96,10 @@ def law_facts(law: DemandLaw, box: int) -> LawFacts:
 
 
 def remarks_of(question: Question, theory: LongRun, sample: Sample, choice: Choice) -> Iterator[Remark]:
-    """Yields what must be said of the figures of an item."""
-    demands, learned = sum(it > 0 for it in question.item.counts), question.learned
+    """Yields what must be said of the history of an item, and of its figures."""
+    item, settings = question.item, question.settings
+    yield from checked(item.counts, settings.every, item.first, settings.season)
+    demands, learned = sum(it > 0 for it in item.counts), question.learned
     if demands < LEAST_DEMANDS:
         yield Remark(FEW_DEMANDS, {"demands": demands, "learned": bool(learned and learned.few and not learned.alone)})
     if learned is not None and learned.alone:
@@ -104,11 +107,11 @@ def remarks_of(question: Question, theory: LongRun, sample: Sample, choice: Choi
     elif learned is not None and learned.unlike:
         yield Remark(UNLIKE)
     if not theory.exact:
-        yield Remark(STEPS, {"items": theory.step * question.item.box})
+        yield Remark(STEPS, {"items": theory.step * item.box})
     if question.rate_error > ROUGH_RATES:
         yield Remark(ROUNDED_COSTS, {"error": question.rate_error})
     if not choice.is_promised:
-        yield Remark(NO_PROMISE, {"confidence": question.settings.confidence})
+        yield Remark(NO_PROMISE, {"confidence": settings.confidence})
     if choice.levels != question.levels and sample.policies[-1].error is None:
         yield Remark(NO_INTERVAL, {"orders": min(it.orders for it in sample.policies)})
 

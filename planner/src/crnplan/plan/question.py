@@ -35,7 +35,8 @@ class Settings:
     """How items are planned. Raises Refused for what can't be meant.
 
     `borrow` says from whom an item learns its law if its master does not; with None the number of items decides that.
-    With a `confidence`, wanted fill rates are kept under that share of the laws that a history allows.
+    With a `confidence`, wanted fill rates are kept under that share of the laws that a history allows. A period is a
+    day, week or month (`every`), or has no dates; `season` is the number of periods of a season that is looked for.
     """
 
     seed: str = "crnplan"
@@ -46,6 +47,8 @@ class Settings:
     periods: int = MOST_PERIODS
     replications: int = 24
     lead_fit: str = "auto"
+    every: str | None = None
+    season: int | None = None
 
     def __post_init__(self) -> None:
         """Checks the settings one by one."""
