@@ -72,7 +72,7 @@ def measured_of(folder: Path) -> Iterator[Measured]:
     """Yields what each figure is, the figure and its unit."""
     with planned_folder(folder / PLAN) as plan:
         rows, items = plan.counts["files"]["demand"]["read"], sum(1 for _ in plan.read.names())
-        yield FIRST_PASS, 1e6 * split_seconds(plan.path, Made(folder / FILES).paths) / rows, "µs a row"
+        yield FIRST_PASS, 1e6 * split_seconds(Made(folder / FILES).paths) / rows, "µs a row"
         yield from bytes_of(plan, items)
         yield from rates_of(plan)
         start = time.process_time()

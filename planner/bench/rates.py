@@ -14,12 +14,13 @@ from crnplan.plan.answer import Answer
 from crnplan.plan.folder import Planned
 from crnplan.plan.work import BATCH, Work
 from crnplan.records.catalogue_reading import Words, open_sources
-from crnplan.records.catalogued import CATALOGUE, Catalogued, Writer
+from crnplan.records.catalogued import Catalogued
+from crnplan.records.columns import ROLES
 from crnplan.records.item import Item
-from crnplan.records.splitting import split_sources
+from crnplan.records.rows import read_rows
+from crnplan.records.sources import Given
 from crnplan.stored import Store
 from crnplan.plan.workers import Workers, cluster, processes
-from crnplan.files import own_folder
 
 SECONDS = 10
 WORKERS, LEAST_ITEMS = 4, 3_000
@@ -36,16 +37,12 @@ def transactions(folder: Path, answer: Answer) -> float:
     return count / (time.perf_counter() - start)
 
 
-def split_seconds(folder: Path, paths: dict[str, str | Path | None]) -> float:
-    """Returns the processor seconds of the first pass over the files of a catalogue."""
-    sources = open_sources(paths, Words())
-    with tempfile.TemporaryDirectory(dir=folder) as path, own_folder(Path(path), CATALOGUE) as own:
-        writer = Writer(own)
-        with contextlib.closing(writer.base):
-            writer.begin()
-            start = time.process_time()
-            split_sources(sources, own.room(), writer, (), None)
-            return time.process_time() - start
+def split_seconds(paths: dict[str, str | Path | None]) -> float:
+    """Returns the processor seconds in which the rows of a catalogue are read."""
+    sources = open_sources({kind: Given(path, str(path)) for kind, path in paths.items() if path is not None}, Words())
+    start = time.process_time()
+    read_rows(sources, ROLES, False, lambda source: lambda *what: None)
+    return time.process_time() - start
 
 
 def instant(batch: Sequence[Item], settings: Any, prior: Any, answer: Answer) -> list[Answer]:

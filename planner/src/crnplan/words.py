@@ -10,6 +10,7 @@ from dataclasses import dataclass
 
 from .formats import MOST_ITEMS
 from .law_words import CHECKS
+from .record_words import RECORDS
 from .remarks import Remark, Value
 
 Facts = Mapping[str, Value]
@@ -58,20 +59,12 @@ LEARNING: dict[str, Words] = {
                      + " in an earlier run" * bool(it["earlier"])),
     "masters say otherwise": Words("the masters say otherwise for {items:,} items (borrow)")}
 
-# Of an item of a catalogue (records/staging.py).
-RECORDS: dict[str, Words] = {
-    "same row": Words("the row is the same as that of line {line}",
-                      "if it was exported twice, remove it, or say --twice leave-out"),
-    "equal masters": Words("{masters} equal masters"), "late": Words("begins with its first movement, in {period}"),
-    "boxes": Words("counted in boxes of {items}"), "rows twice": Words("rows that stand twice: {rows}"),
-    "stock below 0": Words("its stock is below 0, which plays no part in the long run")}
-
 # Of an item that is not on the exchange curve (curve/gathering.py).
 CURVE: dict[str, Words] = {
     "no price": Words("it has no price above 0, so its stock has no value", "give it a price in the masters"),
     "not planned": Words("it is not planned as its rows are now", "run crnplan catalogue again")}
 
-WORDS = {**PLAN, **LEARNING, **RECORDS, **CURVE, **{code: Words(*said) for code, said in CHECKS.items()}}
+WORDS = {**PLAN, **LEARNING, **CURVE, **{code: Words(*said) for code, said in (*CHECKS.items(), *RECORDS.items())}}
 
 
 def _said(say: Say, facts: Facts) -> str:
@@ -89,6 +82,10 @@ class _Blank(str):
 
     def __format__(self, style: str) -> str:
         """Returns a mark, whatever the style."""
+        return "\u2026"
+
+    def __repr__(self) -> str:
+        """Returns a mark."""
         return "\u2026"
 
 

@@ -210,7 +210,7 @@ def test_the_command_says_what_it_found(folder: Path, crnplan: Command, program:
     again = crnplan(*words, "--check")
     assert again.output == told.output and "found by its name" not in again.errors
     told = crnplan(*words, "--check", "--column", "demand.quantity=Beleg")
-    assert told.status == 0 and " rows = 0 used + " in told.output
+    assert told.status == 1 and " rows = 0 used + " in told.output
 
 
 def test_learning_from_others(begun: Path, files: Path, crnplan: Command, program: Path) -> None:

@@ -1,8 +1,11 @@
 """Tests that a catalogue is read without loss: every planted fault is found, and a second program has the same sums."""
 from __future__ import annotations
 
+import copy
+import dataclasses
 import datetime
 import json
+import random
 from pathlib import Path
 from typing import Any
 
@@ -12,7 +15,8 @@ import pytest
 from crnplan.records.item import Item
 from crnplan.words import sentence
 from crnplan.records.catalogue_reading import Catalogue, read_catalogue
-from crnplan.records.staging import Reader, far_above
+from crnplan.records import rows
+from crnplan.records.items import Reader, far_above
 from crnplan.records.catalogue_reading import Words, read_alone
 from crnplan.errors import Refused, RefusedFaults
 from crnplan.files import MARKER
@@ -137,25 +141,37 @@ def test_what_was_found_is_stated(catalogue: Catalogue, files: Path) -> None:
     assert [*again.rejects.itertuples()] == [*catalogue.rejects.itertuples()]
 
 
-@pytest.mark.parametrize("part_bytes", [500, 20_000])
-def test_parts_change_nothing(files: Path, catalogue: Catalogue, part_bytes: int, tmp_path: Path) -> None:
-    """Reads the same from many parts as from one, and leaves no part behind."""
+def test_limits_change_nothing(files: Path, catalogue: Catalogue, tmp_path: Path, monkeypatch: pytest.MonkeyPatch) -> None:
+    """Reads the same if but a few cells are remembered, and leaves no file behind but its own."""
+    monkeypatch.setattr(rows, "MOST_KEPT", 3)
     paths = dict(zip(("demand", "items", "orders"), (files / it for it in FILES)))
-    again = Catalogue(read_alone(tmp_path, paths, Words(today=TODAY, part_bytes=part_bytes)))
+    again = Catalogue(read_alone(tmp_path, paths, Words(today=TODAY)))
     assert again.counts == catalogue.counts and items_of(again) == items_of(catalogue)
     assert [*again.rejects.itertuples()] == [*catalogue.rejects.itertuples()]
     assert {it.name for it in again.path.parent.iterdir()} == {again.path.name, MARKER}
+
+
+def test_order_of_rows_changes_nothing(planted: Made, catalogue: Catalogue, tmp_path: Path) -> None:
+    """Reads the same items from rows and masters in another order, but for the lines in which they stand."""
+    mixed = copy.deepcopy(planted)
+    total = mixed.demand.pop()
+    random.Random(2).shuffle(mixed.demand)
+    random.Random(3).shuffle(mixed.masters)
+    mixed.demand.append(total)
+    again = read_catalogue(*(mixed.write(tmp_path) / it for it in FILES), today=TODAY)
+    alike = [{name: dataclasses.replace(item, line=0) for name, item in items_of(its).items()} for its in (catalogue, again)]
+    assert alike[0] == alike[1] and again.counts == catalogue.counts
 
 
 def test_a_lost_row_is_said(files: Path, monkeypatch: pytest.MonkeyPatch) -> None:
     """Says how many rows and items are lost if some are, as if a part of the reader were wrong."""
     own = Reader._item
 
-    def without(self: Reader, name: str, moves: Any, *more: Any) -> Any:
+    def without(self: Reader, item: int, *more: Any) -> Any:
         """Loses a row of an item."""
-        if name == "A-002":
+        if self.names[item] == "A-002":
             self.counts.used["demand"] -= 1
-        return own(self, name, moves, *more)
+        return own(self, item, *more)
     monkeypatch.setattr(Reader, "_item", without)
     missing = read_catalogue(*(files / it for it in FILES), today=TODAY).missing
     assert len(missing) == 1 and missing[0].startswith("demand: ") and missing[0].endswith("+1 rows are lost")

@@ -2,12 +2,9 @@
 is lost."""
 from __future__ import annotations
 
-import contextlib
 import csv
 import datetime
-import json
 import os
-import sqlite3
 import sys
 import threading
 from collections.abc import Callable, Sequence
@@ -16,6 +13,10 @@ from pathlib import Path
 from typing import Any
 
 import pytest
+
+from crnplan.commands import catalogue_words
+from crnplan.records.catalogue_reading import Catalogue
+from crnplan.records.item import Item
 
 Answers = Callable[..., Any]
 WEEKS = 26
@@ -34,20 +35,37 @@ def demand_of(quantities: Sequence[str], heading: str = HEADING, more: str = "")
     return f"{heading}\n{''.join(rows)}"
 
 
-@pytest.fixture
-def check(crnplan: Answers, tmp_path: Path) -> Answers:
-    """Returns a function that reads a catalogue of item A, and returns the answer and the rows of rejects.csv."""
-    def run(demand: str | Path, *words: str, masters: str = f"{MASTERS}\nA,45,1,10,2,3,9\n") -> Any:
-        """Reads one."""
-        path = demand if isinstance(demand, Path) else tmp_path / "demand.csv"
+class Checked:
+    """Reads catalogues of item A by the command, and keeps the items of the last one."""
+
+    def __init__(self, crnplan: Answers, folder: Path, monkeypatch: pytest.MonkeyPatch) -> None:
+        """Takes the command, and listens to what it reads."""
+        self.crnplan, self.folder = crnplan, folder
+        self.items: dict[str, Item] = {}
+        own = catalogue_words.read_into
+
+        def heard(*given: Any) -> Path:
+            """Reads a catalogue, and keeps its items."""
+            path = own(*given)
+            with Catalogue(path).opened() as read:
+                self.items = {item.name: item for item in read.items()}
+            return path
+        monkeypatch.setattr(catalogue_words, "read_into", heard)
+
+    def __call__(self, demand: str | Path, *words: str | Path, masters: str = f"{MASTERS}\nA,45,1,10,2,3,9\n") -> Any:
+        """Returns the answer of the command, and the rows of its rejects."""
+        path, table = demand if isinstance(demand, Path) else self.folder / "demand.csv", self.folder / "rejects.csv"
         if isinstance(demand, str):
             path.write_bytes(demand.encode())
-        (tmp_path / "items.csv").write_bytes(masters.encode())
-        answer = crnplan("catalogue", path, tmp_path / "items.csv", "--out", tmp_path / "plan", "--check", *words)
-        table = tmp_path / "plan" / "rejects.csv"
-        rows = list(csv.DictReader(table.open(encoding="utf-8", newline=""))) if table.is_file() else []
-        return answer, rows
-    return run
+        (self.folder / "items.csv").write_bytes(masters.encode())
+        answer = self.crnplan("catalogue", path, self.folder / "items.csv", "--check", "--rejects", table, *words)
+        return answer, list(csv.DictReader(table.open(encoding="utf-8", newline=""))) if table.is_file() else []
+
+
+@pytest.fixture
+def check(crnplan: Answers, tmp_path: Path, monkeypatch: pytest.MonkeyPatch) -> Checked:
+    """Returns what reads catalogues of item A."""
+    return Checked(crnplan, tmp_path, monkeypatch)
 
 
 @pytest.fixture
@@ -62,18 +80,10 @@ def item(crnplan: Answers, tmp_path: Path) -> Answers:
     return run
 
 
-def read_items(folder: Path) -> dict[str, Any]:
-    """Returns the facts of the items that were read into the folder `plan`."""
-    base = sqlite3.connect(folder / "plan" / "catalogue.sqlite")
-    with contextlib.closing(base):
-        return {name: {**json.loads(shown), **json.loads(facts)}
-                for name, facts, shown in base.execute("SELECT item, facts, shown FROM items")}
-
-
 @pytest.mark.parametrize("texts, both", [
     (["1,000", "2,000"], "1000 or 1"), (["1.000", "2.000"], "1000 or 1"), (["1.234", "7"], "1234 or 1.234"),
     (["12,500", "3"], "12500 or 12.5")])
-def test_numbers_with_two_readings(texts: list[str], both: str, check: Answers, crnplan: Answers, item: Answers,
+def test_numbers_with_two_readings(texts: list[str], both: str, check: Checked, crnplan: Answers, item: Answers,
                                    tmp_path: Path) -> None:
     """A catalogue, a history and an item reject numbers that may have three decimals or thousands, with both
     readings."""
@@ -91,7 +101,7 @@ def test_numbers_with_two_readings(texts: list[str], both: str, check: Answers, 
     (["1,000", "2,0"], [1, 2], "the comma in 2,0"), (["1,000", "2.0"], [2, 1000], "the point in 2.0"),
     (["1.000", "1.000.000"], [1000, 1_000_000], "the comma in 1.000.000"),
     (["1,000", "1,000.0"], [1000], "the point in 1,000.0")])
-def test_what_decides_a_decimal_sign_is_said(texts: list[str], values: list[int], said: str, check: Answers,
+def test_what_decides_a_decimal_sign_is_said(texts: list[str], values: list[int], said: str, check: Checked,
                                              crnplan: Answers, tmp_path: Path) -> None:
     """Another number of the column decides what a number with two readings is, and it is said which."""
     answer, rejects = check(demand_of([f'"{it}"' for it in texts]), "--far", "keep")
@@ -102,7 +112,7 @@ def test_what_decides_a_decimal_sign_is_said(texts: list[str], values: list[int]
     assert f"values = {[value // box for value in values]}" in its.output
 
 
-def test_a_number_that_decides_may_be_none_itself(check: Answers, crnplan: Answers, tmp_path: Path) -> None:
+def test_a_number_that_decides_may_be_none_itself(check: Checked, crnplan: Answers, tmp_path: Path) -> None:
     """A number that is not whole decides the sign of the others, and is rejected."""
     _, rejects = check(demand_of(['"1,000"', '"12,5"']))
     assert {row["text"] for row in rejects if row["kind"] == "row"} == {"12,5"}
@@ -111,28 +121,28 @@ def test_a_number_that_decides_may_be_none_itself(check: Answers, crnplan: Answe
 
 
 @pytest.mark.parametrize("text", ["$45.00", "45 EUR", "EUR 45", "45,00 €", "zł45", "45", "045.000000", "US$ 45.0"])
-def test_money_with_its_currency(text: str, check: Answers, tmp_path: Path) -> None:
+def test_money_with_its_currency(text: str, check: Checked, tmp_path: Path) -> None:
     """An amount of money may have its currency. It is read as without."""
     _, rejects = check(demand_of(["2", "3"]), masters=f'{MASTERS}\nA,"{text}",1,10,2,3,9\n')
-    assert not rejects and read_items(tmp_path)["A"]["setup"] in (45, "45")
+    assert not rejects and check.items["A"].setup == 45
 
 
 @pytest.mark.parametrize("text, quantity", [("(3)", -3), ("3-", -3), ("\u22123", -3), ("1'000", 1000), ("1 000", 1000)])
-def test_quantities_as_people_write_them(text: str, quantity: int, check: Answers, tmp_path: Path) -> None:
+def test_quantities_as_people_write_them(text: str, quantity: int, check: Checked, tmp_path: Path) -> None:
     """Amounts below 0 may stand in parentheses or have the minus behind; thousands may have an apostrophe."""
     _, rejects = check(demand_of([text, "7000"]), "--net", *MONTHS)
-    counts = read_items(tmp_path)["A"]["counts"]
+    counts = check.items["A"].counts
     assert not rejects and sum(counts) == WEEKS // 2 * (7000 + quantity)
 
 
-def test_two_currencies_are_refused(check: Answers) -> None:
+def test_two_currencies_are_refused(check: Checked) -> None:
     """Amounts in two currencies, also of two columns, are rejected with both."""
     _, rejects = check(demand_of(["2", "3"]), masters=f"{MASTERS},price\nA,45 EUR,1,10,2,3,9,$3\n")
     assert [row["kind"] for row in rejects] == ["item"] and "'45 EUR' and '$3'" in rejects[0]["reason"]
 
 
 @pytest.mark.parametrize("decimal, value", [(".", "1000"), (",", "1")])
-def test_stated_sign_decides(decimal: str, value: str, check: Answers, crnplan: Answers, tmp_path: Path) -> None:
+def test_stated_sign_decides(decimal: str, value: str, check: Checked, crnplan: Answers, tmp_path: Path) -> None:
     """--decimal decides what 1,000 is."""
     _, rejects = check(demand_of(['"1,000"']), "--decimal", decimal)
     assert not rejects
@@ -162,12 +172,12 @@ WEEKS_OF_YEAR = Fraction(1461, 28)
     (f"{MASTERS},price,Preiseinheit", "A,45,1,10,2,3,9,250,1000", "price", Fraction(1, 4)),
     (LEADS.format("lead").replace("s,S", "s (packs of 12),S (dozen)"), "A,45,1,10,2,1,3", "levels", [12, 36]),
     ("item,setup,holding,Service level (%),lead,s,S", "A,45,1,95,2,3,9", "fill", Fraction(19, 20))])
-def test_units_of_masters(heading: str, cells: str, role: str, value: Any, check: Answers, tmp_path: Path) -> None:
+def test_units_of_masters(heading: str, cells: str, role: str, value: Any, check: Checked, tmp_path: Path) -> None:
     """Numbers are converted from the unit that their heading names, and that is said."""
     answer, rejects = check(demand_of(["2", "3"]), masters=f"{heading}\n{cells}\n")
     assert answer.status == 0 and not rejects
-    facts = read_items(tmp_path)["A"]
-    assert facts[role] == value if isinstance(value, list) else Fraction(facts[role]) == value
+    its = getattr(check.items["A"], role)
+    assert (list(its) if isinstance(value, list) else its) == value
     is_plain = "lead" in heading.split(",") and role == "leads" or "tygodnie" in heading or "Preiseinheit" in heading
     assert ("converted from" in answer.errors) != is_plain
 
@@ -180,31 +190,31 @@ def test_units_of_masters(heading: str, cells: str, role: str, value: Any, check
     (MASTERS, ("--every", "month"), "the column 'holding' names no unit, and may count months or weeks"),
     (MASTERS, ("--unit", "items.lead=fortnight"), "'fortnight' is none of its units: period, day, week, month, year"),
     (MASTERS, ("--unit", "items.cost=day"), "there is no such column")])
-def test_units_that_cannot_be_converted(heading: str, words: Sequence[str], said: str, check: Answers) -> None:
+def test_units_that_cannot_be_converted(heading: str, words: Sequence[str], said: str, check: Checked) -> None:
     """A unit that can't be converted is refused, with what to say."""
     cells = "A,45,1,10,2,3,9" + ",4" * (heading.count(",") - 6)
     answer, _ = check(demand_of(["2", "3"]), *words, masters=f"{heading}\n{cells}\n")
     assert answer.status == 2 and said in answer.errors
 
 
-def test_stated_units(check: Answers, tmp_path: Path) -> None:
+def test_stated_units(check: Checked, tmp_path: Path) -> None:
     """A stated unit is that of its column, whatever the period is, by --unit as by crnplan.toml."""
     words = ["--every", "month", "--least", "2", "--unit", "items.lead=week", "--unit", "items.holding=year", "--unit",
              "items.backlog=month", "--unit", "demand.quantity=12"]
     _, rejects = check(demand_of(["2"]), *words, masters=f"{MASTERS}\nA,45,12,10,9,3,9\n")
-    facts = read_items(tmp_path)["A"]
+    item = check.items["A"]
     # Nine weeks are 2.07 months: nearly always 2.
-    assert not rejects and facts["leads"] in ([2], [2] * 6 + [3], [2] * 13 + [3])
-    assert Fraction(facts["holding"]) == 1 and Fraction(facts["backlog"]) == 10 and sum(facts["counts"]) == 24 * WEEKS
+    assert not rejects and item.leads[:6] in ((2,), (2,) * 6)
+    assert (item.holding, item.backlog, sum(item.counts)) == (1, 10, 24 * WEEKS)
     settings = tmp_path / "mine.toml"
     settings.write_text('[catalogue]\nevery = "month"\nleast = 2\n[catalogue.units]\n"items.lead" = "week"\n"items.holding" '
                         '= "year"\n"items.backlog" = "month"\n"demand.quantity" = "12"\n', "utf-8")
     check(demand_of(["2"]), "--config", settings, masters=f"{MASTERS}\nA,45,12,10,9,3,9\n")
-    assert read_items(tmp_path)["A"] == facts
+    assert check.items["A"] == item
 
 
 @pytest.mark.parametrize("words, total", [((), None), (("--factor", "KAR=12"), 2 * 13 + 3 * 12 * 13)])
-def test_rows_in_two_units_of_measure(words: Sequence[str], total: int | None, check: Answers, tmp_path: Path) -> None:
+def test_rows_in_two_units_of_measure(words: Sequence[str], total: int | None, check: Checked, tmp_path: Path) -> None:
     """An item whose rows are in two units of measure is left out, unless it is said how many items one is."""
     rows = demand_of(["2,ST", "3,KAR"], f"{HEADING},ME")
     _, rejects = check(rows, *words)
@@ -212,7 +222,7 @@ def test_rows_in_two_units_of_measure(words: Sequence[str], total: int | None, c
         assert [row["kind"] for row in rejects] == ["item"] and "--factor KAR=12" in rejects[0]["advice"]
         assert "'ST' and 'KAR'" in rejects[0]["reason"]
     else:
-        assert not rejects and sum(read_items(tmp_path)["A"]["counts"]) == total
+        assert not rejects and sum(check.items["A"].counts) == total
 
 
 @pytest.mark.parametrize("demand, masters", [
@@ -230,16 +240,16 @@ def test_rows_in_two_units_of_measure(words: Sequence[str], total: int | None, c
     ("Kod towaru;Data sprzedaży;Ilość;Jednostka miary", "Kod towaru;Nazwa;Koszt zamówienia;Koszt utrzymania zapasu;Koszt braku;"
      "Czas dostawy (dni);Punkt zamawiania;Zapas maksymalny;Stan magazynowy;Cena;Jednostka ceny;Kategoria"),
     ("物料编码;出库日期;出库数量;单位", "物料编码;物料描述;订货成本;持有成本;缺货成本;提前期（天）;再订货点;最大库存;现有库存;单价;价格单位;类别")])
-def test_headings_of_exports(demand: str, masters: str, check: Answers, tmp_path: Path) -> None:
+def test_headings_of_exports(demand: str, masters: str, check: Checked, tmp_path: Path) -> None:
     """Headings of common exports are found, each as its role, without a word of the planner."""
     rows = "".join(f"A;{day};2;ST\n" for day in DAYS)
     answer, rejects = check(f"{demand}\n{rows}", masters=f"{masters}\nA;bolt;45;1;10;14;3;9;5;400;100;X\n")
     assert answer.status == 0 and not rejects and "not used" not in answer.errors
-    facts = read_items(tmp_path)["A"]
-    assert (facts["leads"], facts["levels"], facts["class"], facts["price"]) == ([2], [3, 9], "X", "4")
+    item = check.items["A"]
+    assert (item.leads, item.levels, item.group, item.price) == ((2,), (3, 9), "X", 4)
 
 
-def test_names_of_a_planner(check: Answers, tmp_path: Path) -> None:
+def test_names_of_a_planner(check: Checked, tmp_path: Path) -> None:
     """A planner adds usual names of columns in crnplan.toml."""
     settings = tmp_path / "mine.toml"
     settings.write_text('[catalogue.names]\n"demand.quantity" = ["Bew.Menge netto"]\n', "utf-8")
@@ -255,7 +265,7 @@ def piped(path: Path, data: bytes) -> threading.Thread:
     return thread
 
 
-def test_pipes_are_read_whole(check: Answers, tmp_path: Path) -> None:
+def test_pipes_are_read_whole(check: Checked, tmp_path: Path) -> None:
     """A file of demand that comes by a pipe is read whole, also beyond its first megabyte."""
     data = demand_of(["2"], f"{HEADING},note", f",{'x' * 60_000}")
     assert len(data) > 1_500_000
@@ -278,13 +288,13 @@ def test_item_reads_a_pipe_once(item: Answers, tmp_path: Path) -> None:
     ("part id,when,pieces,kind", ("--column", "demand.item=part id", "--column", "demand.date=when",
                                   "--column", "demand.quantity=pieces")),
     ("sku,when,pieces,kind", ("--column", "demand.date=when", "--column", "demand.quantity=pieces"))])
-def test_names_of_columns_as_data(heading: str, words: Sequence[str], check: Answers) -> None:
+def test_names_of_columns_as_data(heading: str, words: Sequence[str], check: Checked) -> None:
     """Cells that say `sales` in each row are not taken for a heading."""
     answer, rejects = check(demand_of(["2", "3"], heading, ",sales"), *words)
     assert answer.status == 0 and f"{WEEKS} rows = {WEEKS} used" in answer.output and not rejects
 
 
-def test_lone_carriage_return_in_a_cell(check: Answers, crnplan: Answers, tmp_path: Path) -> None:
+def test_lone_carriage_return_in_a_cell(check: Checked, crnplan: Answers, tmp_path: Path) -> None:
     """A carriage return in quotes is a part of its cell: no row is lost, and none is split."""
     text = demand_of(["2", "3"], f"{HEADING},note", ',"first\rsecond"')
     masters = f'{MASTERS},description\nA,45,0.5,5,2,3,9,"one\rtwo"\n'
@@ -300,9 +310,39 @@ def test_lone_carriage_return_in_a_cell(check: Answers, crnplan: Answers, tmp_pa
                                                                  "as 12"]
 
 
-def test_item_whose_name_has_a_line_break(check: Answers) -> None:
+def test_item_whose_name_has_a_line_break(check: Checked) -> None:
     """A name of an item with a line break is no name, and its row is counted as rejected."""
     answer, rejects = check(demand_of(["2", "3"]) + '"B\rC",2026-03-02,4\n')
     assert answer.status == 0 and f"{WEEKS + 1} rows = {WEEKS} used + 1 rejected" in answer.output
     assert [(row["line"], row["column"]) for row in rejects] == [(str(WEEKS + 2), "item")]
     assert "line break" in rejects[0]["reason"] and "\r" not in rejects[0]["text"]
+
+
+def test_reasons_are_counted_on_the_terminal(check: Checked) -> None:
+    """The ten most frequent reasons are named with how often, the others are counted."""
+    bad = [f"A,{DAYS[0]},{text}\n" for text in ["x"] * 5 + ["1.5"] * 3 + ["-1"] * 2]
+    answer, rejects = check(demand_of(["2", "3"]) + "".join(bad) + "B,2026-03-02,1\n")
+    lines = [line for line in answer.output.splitlines() if " left out, " in line]
+    assert [line.split(",")[0] for line in lines] == ["5 rows left out", "3 rows left out", "2 rows left out", "1 items left out"]
+    assert f"quantity: \u2026 is not a number (demand.csv:{WEEKS + 2}, item A: 'x' is not a number; write digits" in lines[0]
+    assert len(rejects) == 11 and answer.status == 0
+
+
+def test_only_the_most_frequent_reasons(check: Checked) -> None:
+    """Beyond ten reasons the others are counted together."""
+    masters = f"{MASTERS}\nA,45,1,10,2,3,9\n" + "".join(
+        f"{name},{','.join(cells)}\n" for name, cells in zip("BCDEFGHIJKLMN", (
+            ["45", "1", "10", "2", "3", "9"][:place] + [text] + ["45", "1", "10", "2", "3", "9"][place + 1:]
+            for place in range(6) for text in ("x", "-1"))))
+    answer, _ = check(demand_of(["2", "3"]), masters=masters)
+    assert answer.output.count("items left out, ") == 10 and " more for " in answer.output
+
+
+@pytest.mark.parametrize("quantities, status, said", [
+    (["x", "2"], 0, ""), (["x", "x", "2"], 1, "demand.csv: 18 of 26 rows were rejected, more than half; correct the files"),
+    (["x"], 1, "no item can be planned; correct the files, or say --anyway")])
+def test_status_if_little_is_left(quantities: list[str], status: int, said: str, check: Checked) -> None:
+    """The status says if nothing can be planned or most rows were rejected, unless that is allowed."""
+    answer, _ = check(demand_of(quantities))
+    assert answer.status == status and said in answer.errors
+    assert check(demand_of(quantities), "--anyway")[0].status == 0

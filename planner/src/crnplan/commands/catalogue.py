@@ -22,6 +22,8 @@ TAKEN = ("keep", "leave-out")
               help="Only read the files, and say what was found and left out. Nothing is written, whatever --out says.")
 @click.option("--rejects", metavar="FILE", type=click.Path(dir_okay=False, path_type=Path),
               help="With --check, write what was left out here.")
+@click.option("--anyway", is_flag=True,
+              help="End with status 0 even if no item can be planned, or more than half of a file's rows were rejected.")
 @click.option("--column", "columns", metavar="FILE.ROLE=NAME", multiple=True,
               help="A column, as demand.quantity=Menge. May be given several times.")
 @click.option("--unit", "units", metavar="FILE.ROLE=UNIT", multiple=True,
@@ -75,7 +77,8 @@ def command(**asked: Any) -> int:
     has. With --confidence, policies with a wanted fill rate are sought under 100 laws that the history allows, which
     takes a few times as long.
 
-    The exit status is 3 if the counts of rows or items do not add up.
+    The exit status is 1 if no item can be planned, or if more than half of a file's rows were rejected (--anyway allows
+    it), and 3 if the counts of rows or items do not add up.
     """
     from .catalogue_words import commanded
     return commanded(asked, lambda line: click.echo(line, nl=False), lambda line: click.echo(line, err=True, nl=False))

@@ -2,7 +2,7 @@
 from __future__ import annotations
 
 import tempfile
-from collections.abc import Callable, Mapping, Sequence
+from collections.abc import Callable, Iterator, Mapping, Sequence
 from pathlib import Path
 from typing import Any
 
@@ -10,16 +10,19 @@ from ..errors import Refused
 from ..files import Folder, faults_of, new_file, own_folder
 from ..pages.catalogue_summary import counted_rows
 from ..pages.exports import CATALOGUE_FILES, FOUND
-from ..pages.reasons import rejects_of
+from ..pages.reasons import reasons_of, rejects_of
 from ..plan.catalogue import Lost, plan_into
 from ..plan.config import read_config
 from ..plan.question import Settings
 from ..records.catalogue_reading import Catalogue, Words, kinds_of, read_into
 from ..records.catalogued import CATALOGUE
-from ..records.cells import Rules
 from ..records.columns import ROLES
-from ..records.staging import KEEP, LEAVE_OUT, Ways
+from ..records.items import KEEP, LEAVE_OUT, Ways
+from ..records.texts import Rules
 
+# So many reasons are named on the terminal.
+MOST_REASONS = 10
+KINDS = {"row": "rows left out", "item": "items left out", "suspicious": "named, and kept"}
 SETTINGS = ("seed", "fit", "borrow", "confidence", "level", "periods", "replications")
 RULES = ("delimiter", "encoding", "decimal", "date_formats")
 
@@ -59,6 +62,26 @@ def _by_kind(table: Mapping[str, Any]) -> dict[str, dict[str, Any]]:
     return tree
 
 
+def reason_lines(catalogue: Catalogue) -> Iterator[str]:
+    """Yields the most frequent reasons why rows and items were left out or named, each with how often and its first."""
+    with catalogue.opened() as read:
+        reasons = sorted(reasons_of(read.rejects()), key=lambda reason: -reason.count)
+    for reason in reasons[:MOST_REASONS]:
+        yield f"{reason.count:,} {KINDS[reason.kind]}, {reason.column}: {reason.pattern} ({reason.example})"
+    if len(reasons) > MOST_REASONS:
+        rest = sum(reason.count for reason in reasons[MOST_REASONS:])
+        yield f"{rest:,} more for {len(reasons) - MOST_REASONS:,} other reasons: see rejects.csv"
+
+
+def too_few(counts: Mapping[str, Any]) -> Iterator[str]:
+    """Yields why so little of a catalogue was read that its plan is hardly one."""
+    if not counts["items"]["ready"]:
+        yield "no item can be planned"
+    for rows in counts["files"].values():
+        if 2 * rows["rejected"] > rows["read"]:
+            yield f"{rows['name']}: {rows['rejected']:,} of {rows['read']:,} rows were rejected, more than half"
+
+
 def commanded(asked: Mapping[str, Any], say: Callable[[str], None], note: Callable[[str], None]) -> int:
     """Reads and plans a catalogue, and returns the exit status. `say` prints a result, `note` what is beside it."""
     config = read_config(asked["config"])
@@ -77,8 +100,7 @@ def _planned(folder: Folder, asked: Mapping[str, Any], config: Mapping[str, Any]
     folder.write(FOUND, catalogue.found)
     if not any(name in config for name in ("demand", "items")) and not asked["columns"]:
         note(f"{catalogue.found}\n")
-    for line in catalogue.fact("said"):
-        note(f"crnplan: {line}\n")
+    note("".join(f"# {line}\n" for line in catalogue.fact("said")))
     if asked["only_read"]:
         if asked["rejects"]:
             with catalogue.opened() as read, faults_of(asked["rejects"]), new_file(asked["rejects"]) as file:
@@ -91,6 +113,8 @@ def _planned(folder: Folder, asked: Mapping[str, Any], config: Mapping[str, Any]
         note(f"{folder.path}: {done.planned:,} items planned, {done.kept:,} kept from before\n")
         say(done.summary)
         missing = list(done.missing)
-    for line in missing:
-        note(f"crnplan: {line}\n")
-    return Lost.status if missing else 0
+    say("".join(f"{line}\n" for line in reason_lines(catalogue)))
+    note("".join(f"crnplan: {line}\n" for line in missing))
+    no = [] if asked["anyway"] else list(too_few(catalogue.counts))
+    note("".join(f"crnplan: {line}; correct the files, or say --anyway\n" for line in no))
+    return Lost.status if missing else int(bool(no))

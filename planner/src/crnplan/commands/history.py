@@ -10,7 +10,9 @@ from ..demand.families import FAMILIES
 from ..demand.fitting import METHODS
 from ..errors import Refused
 from ..records import History
-from ..records.cells import Rules, column_names
+from ..records.reading import column_names
+from ..records.sources import whole_table
+from ..records.texts import Rules
 from .reading import Attempts, demand_option, file_options, read_files, record_options, rejects_in, rules_of, stripped
 
 VERSION = "# A scenario with the table [returns] has version = 2.\n"
@@ -66,7 +68,8 @@ def command(**asked: Any) -> int:
     """
     rules = rules_of(asked)
     if asked["demand"] is None:
-        names = ", ".join(column_names(asked["file"], Rules(**rules))) or "none"
+        with whole_table(asked["file"], "history") as given:
+            names = ", ".join(column_names(given, Rules(**rules))) or "none"
         raise Refused(f"{asked['file']}: say --demand with the name of a column; the columns are: {names}")
     with rejects_in(asked["rejects"]) as attempts:
         laws = laws_of(asked, attempts)

@@ -7,11 +7,11 @@ from typing import Any
 from ..demand.fitting import METHODS
 from ..formats import MOST_PERIODS, MOST_REPLICATIONS, MOST_WEIGHT
 from ..records.amounts import DECIMALS
-from ..records.cells import DELIMITERS
 from ..records.columns import ROLES
 from ..records.dates import EVERY
+from ..records.items import KEEP, LEAVE_OUT
 from ..records.masters import BORROW
-from ..records.staging import KEEP, LEAVE_OUT
+from ..records.texts import DELIMITERS
 from ..records.units import unit_fault
 from ..toml.reading import read_tables
 from ..toml.rules import Key, Table

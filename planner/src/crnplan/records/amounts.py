@@ -6,19 +6,23 @@ A number that could mean two things is rejected, never guessed: 1,234 is read on
 """
 from __future__ import annotations
 
+import datetime
 import re
+from collections.abc import Iterable
 from fractions import Fraction
+from typing import Union
 
-from ..money import MOST_DECIMALS
+from ..money import MOST_DECIMALS, exact
 from .faults import Unreadable, shown
 
+# A cell of a file is a text; one of a sheet or a frame is what these store.
+Cell = Union[str, int, float, datetime.date, None]
 DECIMALS = (".", ",")
 # Between groups of three digits: blanks (also no-break, thin and narrow no-break), apostrophes, and the other sign.
 GROUPS = " \u00a0\u2009\u202f'\u2019"
 MINUS = "-\u2212"
 # A number is below 10 to this power, and a text of more letters is none.
 MOST_DIGITS, MOST_LETTERS = 15, 60
-NO_DEMAND = "write 0 where nothing was asked for"
 NAMES = {".": "the point", ",": "the comma"}
 # Signs and codes of money, before or behind an amount, and the code that a sign stands for.
 CODES = ("AED AUD BGN BRL CAD CHF CNY CZK DKK EUR GBP HKD HUF IDR ILS INR JPY KRW MXN MYR NOK NZD PHP PLN RON RUB SAR "
@@ -74,7 +78,8 @@ def split_money(text: str) -> tuple[str, str]:
 
 
 class AmountReader:
-    """Reads the amounts of a column. `sides` has the first text for each decimal sign that has one reading alone.
+    """Reads the amounts of a column: texts, or numbers as a sheet stores them. `sides` has the first text for each decimal
+    sign that has one reading alone.
 
     Amounts of money may have a currency. `currencies` has the first text of each, and is shared by all columns of money.
     """
@@ -87,17 +92,21 @@ class AmountReader:
         # The first text that may be two numbers.
         self.doubtful: str | None = None
 
-    def look(self, text: str) -> None:
-        """Looks at a text of the column for its decimal sign."""
-        bare, currency = (text, "") if self.currencies is None else split_money(text)
-        if currency and self.currencies is not None:
-            self.currencies.setdefault(currency, text)
-        if self.stated is None and ("," in text or "." in text):
-            numbers = readings(unwrapped(bare.rstrip("% ")))
-            if len(numbers) == 1:
-                self.sides.setdefault(next(iter(numbers)), text)
-            elif len({*numbers.values()}) > 1:
-                self.doubtful = self.doubtful or text
+    def look(self, cells: Iterable[Cell]) -> AmountReader:
+        """Looks at cells of the column for its decimal sign, and its currency. Returns itself."""
+        for text in cells:
+            if not isinstance(text, str) or text.isdecimal():
+                continue
+            bare, currency = (text, "") if self.currencies is None else split_money(text)
+            if currency and self.currencies is not None:
+                self.currencies.setdefault(currency, text)
+            if self.stated is None and ("," in text or "." in text):
+                numbers = readings(unwrapped(bare.rstrip("% ")))
+                if len(numbers) == 1:
+                    self.sides.setdefault(next(iter(numbers)), text)
+                elif len({*numbers.values()}) > 1:
+                    self.doubtful = self.doubtful or text
+        return self
 
     @property
     def sign(self) -> str | None:
@@ -112,71 +121,76 @@ class AmountReader:
             return None
         return f"{NAMES[self.sign]} in {shown(self.sides[self.sign])}"
 
-    def number(self, text: str) -> Fraction:
+    def number(self, cell: Cell, if_empty: str = "no amount") -> Fraction:
+        """Returns the number of a cell. `if_empty` is the code for an empty one. Raises Unreadable."""
+        if cell == "" or cell is None:
+            raise Unreadable(if_empty)
+        number = self._read(cell) if isinstance(cell, str) else exact(cell)
+        if number is None:
+            raise Unreadable("no number", text=shown(str(cell)))
+        if abs(number) >= 10**MOST_DIGITS:
+            raise Unreadable("digits", text=shown(str(cell)), digits=MOST_DIGITS)
+        return number
+
+    def _read(self, text: str) -> Fraction:
         """Returns the number of a text. Raises Unreadable."""
-        if not text:
-            raise Unreadable("the cell is empty; write a number, as 12.50")
         numbers = readings(unwrapped(text) if self.currencies is None else split_money(text)[0])
         if self.currencies and len(self.currencies) > 1:
-            both = " and ".join(repr(shown(it)) for it in self.currencies.values())
-            raise Unreadable(f"amounts of money are in several currencies, as {both}; convert them into one")
+            raise Unreadable("currencies", texts=" and ".join(repr(shown(it)) for it in self.currencies.values()))
         if self.stated is not None:
             numbers = {sign: number for sign, number in numbers.items() if sign == self.stated}
         elif len({*numbers.values()}) > 1:
-            both = " or ".join(spelt(number) for number in sorted(numbers.values(), key=abs, reverse=True))
+            large, small = (spelt(it) for it in sorted(numbers.values(), key=abs, reverse=True))
             numbers = {sign: number for sign, number in numbers.items() if sign == self.sign}
             if not numbers:
                 signs = " and ".join(repr(shown(it)) for it in self.sides.values())
-                why = f"the column has both signs, as {signs}" if signs else "no other number of the column decides it"
-                raise Unreadable(f"{shown(text)!r} may be {both}, and {why}; say --decimal . or --decimal ,")
+                raise Unreadable("two readings", text=shown(text), large=large, small=small, signs=signs)
         if not numbers:
             other = DECIMALS[self.stated == "."]
-            hint = f", or say --decimal {other} if the decimal sign is {other!r}" if self.stated and FORMS[
-                other].fullmatch(text) else ""
-            raise Unreadable(f"{shown(text)!r} is not a number; write digits, as 12{hint}")
-        number = next(iter(numbers.values()))
-        if abs(number) >= 10**MOST_DIGITS:
-            raise Unreadable(f"{shown(text)!r} has more than {MOST_DIGITS} digits; correct it")
-        return number
+            is_other = self.stated is not None and FORMS[other].fullmatch(text) is not None
+            raise Unreadable("no number", text=shown(text), other=other if is_other else None)
+        return next(iter(numbers.values()))
 
-    def whole(self, text: str, if_empty: str = NO_DEMAND) -> int:
-        """Returns the whole number of a text, which may be negative. Raises Unreadable."""
-        if not text:
-            raise Unreadable(f"the cell is empty; {if_empty}")
-        number = self.number(text)
+    def whole(self, cell: Cell, if_empty: str = "no quantity") -> int:
+        """Returns the whole number of a cell, which may be negative. Raises Unreadable."""
+        number = self.number(cell, if_empty)
         if number.denominator != 1:
-            raise Unreadable(f"{shown(text)!r} is not a whole number; count in a smaller unit, as grams for kilograms, "
-                             "and then in boxes of many (--box)")
+            raise Unreadable("not whole", text=shown(str(cell)))
         return int(number)
 
-    def amount(self, text: str) -> Fraction:
+    def amount(self, cell: Cell) -> Fraction:
         """Returns an amount of money that is not below 0. Raises Unreadable."""
-        number = self.number(text)
+        number = self.number(cell)
         if number < 0:
-            raise Unreadable(f"{shown(text)!r} is below 0; write 0 or more")
+            raise Unreadable("below 0", text=shown(str(cell)))
         if (number * 10**MOST_DECIMALS).denominator != 1:
-            raise Unreadable(f"{shown(text)!r} has more than {MOST_DECIMALS} decimals; round it")
+            raise Unreadable("decimals", text=shown(str(cell)), decimals=MOST_DECIMALS)
         return number
 
-    def positive(self, text: str) -> Fraction:
+    def positive(self, cell: Cell) -> Fraction:
         """Returns an amount of money above 0. Raises Unreadable."""
-        number = self.amount(text)
+        number = self.amount(cell)
         if number == 0:
-            raise Unreadable("it is 0, so that stock, or being short, costs nothing; write an amount above 0")
+            raise Unreadable("zero")
         return number
 
-    def share(self, text: str) -> Fraction:
-        """Returns a share between 0 and 1, which may be written in percent. Raises Unreadable."""
-        number = self.number(text.rstrip("% ")) / (100 if text.endswith("%") else 1)
+    def share(self, cell: Cell, in_percent: bool = False) -> Fraction:
+        """Returns a share between 0 and 1, which may be written in percent, or be in percent. Raises Unreadable."""
+        has_sign = isinstance(cell, str) and cell.endswith("%")
+        number = self.number(cell.rstrip("% ") if isinstance(cell, str) else cell)
+        if in_percent and not has_sign and 0 < number < 1:
+            raise Unreadable("small percent", text=shown(str(cell)), unit="--unit items.fill=share or --unit items.fill=percent")
+        if has_sign or in_percent:
+            number /= 100
         if not 0 < number < 1:
-            raise Unreadable(f"{shown(text)!r} is no share between 0 and 1; write it as 0.95 or 95%")
+            raise Unreadable("no share", text=shown(str(cell)))
         return number
 
-    def items(self, text: str) -> int:
+    def items(self, cell: Cell) -> int:
         """Returns a whole number of items. Raises Unreadable."""
-        number = self.number(text)
+        number = self.number(cell)
         if number < 0 or number.denominator != 1:
-            raise Unreadable(f"{shown(text)!r} is not a whole number from 0; correct it")
+            raise Unreadable("no whole items", text=shown(str(cell)))
         return int(number)
 
 

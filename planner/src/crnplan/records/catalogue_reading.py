@@ -3,32 +3,34 @@ from __future__ import annotations
 
 import contextlib
 import datetime
-import shutil
 import tempfile
-from collections.abc import Iterator, Mapping, Sequence
+from collections import Counter
+from collections.abc import Mapping, Sequence
 from dataclasses import asdict, dataclass, field
 from pathlib import Path
 from typing import TYPE_CHECKING, Any
 
 from ..errors import Fault, Refused, RefusedFaults
 from ..files import Folder, own_folder
-from .cells import Rules, whole_file
-from .dates import EVERY, DateReader
-from .faults import Unreadable
-from .columns import ROLES, Stated
-from .units import unit_fault
-from .stated import found_text
-from .staging import KEEP, LEAVE_OUT, Reader, Ways
-from .span import record_of
-from .sources import Source, open_source
-from .splitting import PART_BYTES, Split, split_sources
+from ..remarks import Remark, Value
+from .amounts import AmountReader
 from .catalogued import CATALOGUE, Catalogued, Reject, Writer, told_of
+from .columns import ROLES, Stated
+from .dates import EVERY, DateReader
+from .faults import Unreadable, on_one_line
+from .items import KEEP, LEAVE_OUT, Reader, Ways
+from .masters import AMOUNTS, MONEY
+from .rows import DATES, RejectRow, Rows, read_rows
+from .sources import Given, Source, Table, open_source, whole_table
+from .span import record_of
+from .stated import found_text
+from .texts import Rules
+from .units import unit_fault
 
 if TYPE_CHECKING:
     import pandas as pd
 
 Day = datetime.date
-PARTS = "parts"
 
 
 @dataclass(frozen=True)
@@ -45,7 +47,6 @@ class Words:
     end: Day | str | None = None
     ways: Ways = field(default_factory=Ways)
     today: Day = field(default_factory=datetime.date.today)
-    part_bytes: int = PART_BYTES
 
     def __post_init__(self) -> None:
         """Checks the words one by one."""
@@ -146,14 +147,14 @@ def missing_of(counts: Mapping[str, Any], answered: int) -> list[str]:
     return lines
 
 
-def read_catalogue(demand: str | Path, items: str | Path, orders: str | Path | None = None, *,
+def read_catalogue(demand: Table, items: Table, orders: Table | None = None, *,
                    every: str = "week", columns: Mapping[str, Mapping[str, str]] | None = None,
                    units: Mapping[str, Mapping[str, str]] | None = None,
                    names: Mapping[str, Mapping[str, Sequence[str]]] | None = None,
                    start: Day | str | None = None, end: Day | str | None = None, net: bool = False, twice: str = KEEP,
                    far: str = LEAVE_OUT, least: int = 13, factors: Mapping[str, int] | None = None,
                    today: Day | None = None, **rules: Any) -> Catalogue:
-    """Reads a catalogue from CSV files, of any size.
+    """Reads a catalogue from CSV files of any size, sheets of workbooks (FILE.xlsx!SHEET) or DataFrames.
 
     `demand` has a row for each movement (item, date, quantity, perhaps returned), `items` one for each item (item,
     setup, holding, backlog or fill, lead, s, S, perhaps description, stock, price and class), `orders` the dates of
@@ -173,20 +174,19 @@ def read_catalogue(demand: str | Path, items: str | Path, orders: str | Path | N
     return Catalogue(path, room)
 
 
-def read_alone(path: Path, paths: Mapping[str, str | Path | None], words: Words) -> Path:
+def read_alone(path: Path, paths: Mapping[str, Table | None], words: Words) -> Path:
     """Reads a catalogue into a folder that no other run uses, and returns the file of what was read."""
     with own_folder(path, CATALOGUE) as folder:
         return read_into(folder, paths, words)
 
 
-def open_sources(paths: Mapping[str, str | Path | None], words: Words) -> dict[str, Source]:
+def open_sources(paths: Mapping[str, Given], words: Words) -> dict[str, Source]:
     """Looks at the heads of the files. Raises RefusedFaults with all that is wrong with them."""
     sources: dict[str, Source] = {}
     faults: list[Fault] = []
     for kind, path in paths.items():
         try:
-            if path is not None:
-                sources[kind] = open_source(kind, path, words.rules, words.stated(kind), words.every)
+            sources[kind] = open_source(kind, path, words.rules, words.stated(kind), words.every)
         except RefusedFaults as refused:
             faults += refused.faults
     if faults:
@@ -194,44 +194,70 @@ def open_sources(paths: Mapping[str, str | Path | None], words: Words) -> dict[s
     return sources
 
 
-@contextlib.contextmanager
-def _writer(folder: Folder) -> Iterator[tuple[Writer, Path]]:
-    """Gives what writes a catalogue, and a folder for its parts, which is removed afterwards."""
-    parts = folder.room() / PARTS
+def readers_of(rows: Mapping[str, Rows], decimal: str | None) -> dict[str, AmountReader]:
+    """Returns how the amounts of each role are read, after a look at all of them."""
+    currencies: dict[str, str] = {}
+    readers = {}
+    for kind, roles in AMOUNTS.items():
+        for role in roles:
+            codes = rows[kind].columns.get(role) if kind in rows else None
+            readers[role] = AmountReader(decimal, currencies if role in MONEY else None).look(codes.distinct if codes else ())
+    return readers
+
+
+def days_of(rows: Rows, reader: DateReader) -> Counter[Day]:
+    """Returns how many rows of demand have each day."""
+    days = Counter[Day]()
+    for cell, count in rows.counts("date"):
+        with contextlib.suppress(Unreadable):
+            days[reader.read(cell)[0]] += count
+    return days
+
+
+def read_into(folder: Folder, tables: Mapping[str, Table | None], words: Words) -> Path:
+    """Reads a catalogue into a folder, and returns the file of what was read. Raises as `read_catalogue` does."""
     with told_of(folder.path), contextlib.ExitStack() as stack:
-        stack.callback(shutil.rmtree, parts, ignore_errors=True)
-        parts.mkdir()
+        files = {kind: stack.enter_context(whole_table(table, kind, folder.room())) for kind, table in tables.items()
+                 if table is not None}
+        sources = open_sources(files, words)
         writer = Writer(folder)
         stack.callback(writer.drop)
         writer.begin()
-        yield writer, parts
-
-
-def read_into(folder: Folder, paths: Mapping[str, str | Path | None], words: Words) -> Path:
-    """Reads a catalogue into a folder, and returns the file of what was read. Raises as `read_catalogue` does."""
-    start, end = words.ends
-    with _writer(folder) as (writer, parts), contextlib.ExitStack() as stack:
-        files = {kind: stack.enter_context(whole_file(path, parts)) for kind, path in paths.items() if path is not None}
-        sources = open_sources(files, words)
-        split = split_sources(sources, parts, writer, words.rules.date_formats, words.rules.decimal, words.part_bytes)
-        record = record_of(split.dates["demand"].days(), words.every, start, end, words.today)
-        dates = {kind: its.date_reader() for kind, its in split.dates.items()}
-        reader = Reader(sources, dates, split.amounts, record, words.ways, writer)
-        for part in split.parts:
-            reader.read_part(part)
-        facts = {"counts": counts_of(sources, split, reader), "every": words.every, "decimals": reader.counts.decimals,
-                 "periods": [record.periods.start, record.periods.stop], "found": found_text(sources, split, record),
-                 "said": [line for source in sources.values() for line in source.said(words.every)]}
-        path = writer.finish(facts)
+        path = writer.finish(_read(sources, words, writer))
     return path
 
 
-def counts_of(sources: Mapping[str, Source], split: Split, reader: Reader) -> dict[str, Any]:
-    """Returns the counts of rows by file, and of items. The first pass counts rows, the second what became of them."""
+def _read(sources: Mapping[str, Source], words: Words, writer: Writer) -> dict[str, Any]:
+    """Writes the items of tables and what is left out, and returns the facts of the catalogue."""
+    start, end = words.ends
+
+    def reject(source: Source) -> RejectRow:
+        """Returns what rejects a row of a table that has no item."""
+        def rejected(line: int, code: str, role: str, text: str, facts: Mapping[str, Value]) -> None:
+            """Rejects a row."""
+            column = source.columns[role].name if role else ""
+            writer.reject(Reject("row", source.name, line, "", column, on_one_line(text), Remark(code, facts),
+                                 int(source.kind == "demand")))
+        return rejected
+    patterns = words.rules.date_formats
+    rows = read_rows(sources, ROLES, bool(patterns), reject)
+    dates = {kind: DateReader([cell for role in DATES if role in its.columns for cell in its.columns[role].distinct], patterns)
+             for kind, its in rows.items()}
+    record = record_of(days_of(rows["demand"], dates["demand"]), words.every, start, end, words.today)
+    amounts = readers_of(rows, words.rules.decimal)
+    reader = Reader(rows, dates, amounts, record, words.ways, writer)
+    reader.read()
+    return {"counts": counts_of(rows, reader), "every": words.every, "decimals": reader.counts.decimals,
+            "periods": [record.periods.start, record.periods.stop], "found": found_text(rows, dates, amounts, record),
+            "said": [line for source in sources.values() for line in source.said(words.every)]}
+
+
+def counts_of(rows: Mapping[str, Rows], reader: Reader) -> dict[str, Any]:
+    """Returns the counts of rows by table, and of items: of rows as they were read, and of what became of them."""
     its = reader.counts
-    files = {kind: {"name": source.name, "read": split.rows[kind], "blank": split.blank[kind], "used": its.used[kind],
-                    "rejected": split.rejected[kind] + its.rejected[kind], "with_item": its.with_item[kind]}
-             for kind, source in sources.items()}
+    files = {kind: {"name": table.source.name, "read": len(table) + table.rejected, "blank": table.blank,
+                    "used": its.used[kind], "rejected": table.rejected + its.rejected[kind], "with_item": its.with_item[kind]}
+             for kind, table in rows.items()}
     items = {name: value for name, value in asdict(its).items() if isinstance(value, int) and name != "decimals"}
     return {"files": files, "items": items}
 

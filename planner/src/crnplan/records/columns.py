@@ -7,11 +7,10 @@ from __future__ import annotations
 import re
 import tomllib
 import unicodedata
-from collections.abc import Callable, Iterable, Iterator, Mapping, Sequence
+from collections.abc import Callable, Mapping, Sequence
 from dataclasses import dataclass, field
 from pathlib import Path
 
-from ..errors import Fault
 from .units import ROLE_UNITS, is_doubtful, unit_fault
 
 NAMES = tomllib.loads(Path(__file__).with_name("headings.toml").read_text("utf-8"))
@@ -163,13 +162,3 @@ class Finder:
                               f"{self.kind}.{role}={self.every} or --unit {self.kind}.{role}=week")
         own = {"item", "period", "order", self.every, *["share"] * (role == "fill")}
         self.found[role] = Column(heading, place, is_guess, "" if unit in own else unit)
-
-
-def columns_of(kind: str, heading: Sequence[str], stated: Stated, every: str) -> tuple[dict[str, Column], list[str]]:
-    """Returns the column of each role that a heading has, and what is wrong: see `Finder`."""
-    return Finder(kind, heading, stated, every).find()
-
-
-def column_faults(name: str, line: int, wrong: Iterable[str]) -> list[Fault]:
-    """Returns what is wrong with the columns of a file as faults of its heading."""
-    return [Fault(it, name, line) for it in wrong]

@@ -9,6 +9,7 @@ import re
 from collections.abc import Iterable, Sequence
 
 from ..errors import Refused
+from .amounts import Cell
 from .faults import Unreadable, shown
 
 EVERY = ("day", "week", "month")
@@ -22,7 +23,6 @@ SLASHED = re.compile(f"(?P<first>[0-9]{{1,2}})/(?P<second>[0-9]{{1,2}})/{YEAR}")
 TIME = re.compile(r"(?:T| +)(?:[01]?[0-9]|2[0-3]):[0-5][0-9](?::[0-5][0-9](?:[.,][0-9]+)?)?(?: ?[AaPp][Mm])?"
                   r"(?: ?(?:Z|[+-][0-9]{2}:?[0-9]{2}))?$")
 PROBES = (datetime.date(2026, 3, 31), datetime.date(1999, 12, 4))
-NO_DATE = "is no date as 2026-03-31, 31.03.2026 or 31/03/2026; write it so, or say --date-format with its pattern"
 
 
 def checked_format(pattern: str) -> str:
@@ -47,24 +47,27 @@ class DateReader:
     """Reads the dates of a file. All its dates together decide whether a date with slashes has the day or the month
     first."""
 
-    def __init__(self, texts: Iterable[str] = (), patterns: Sequence[str] = ()) -> None:
+    def __init__(self, texts: Iterable[Cell] = (), patterns: Sequence[str] = ()) -> None:
         """Looks at all dates of the file. Patterns of strptime, if there are any, stand in place of the usual forms."""
         self.patterns = patterns
         # The first date that has the day first, and the first that has the month first.
         self.sides: dict[bool, str] = {}
-        for text in (it for it in texts if "/" in it and not patterns):
+        for text in (it for it in texts if isinstance(it, str) and "/" in it and not patterns):
             found = SLASHED.fullmatch(TIME.sub("", text))
             if found and (int(found["first"]) > 12) != (int(found["second"]) > 12):
                 self.sides.setdefault(int(found["first"]) > 12, text)
 
-    def read(self, text: str) -> tuple[datetime.date, str]:
-        """Returns a date and its form, named by an example or by a pattern. Raises Unreadable."""
-        if not text:
-            raise Unreadable("the cell is empty; write the date, or leave the row out")
-        date, form = self._by_pattern(text) if self.patterns else self._by_form(text)
+    def read(self, cell: Cell) -> tuple[datetime.date, str]:
+        """Returns a date and its form, named by an example or by a pattern; one that a sheet stores is of the first.
+        Raises Unreadable."""
+        if cell == "" or cell is None:
+            raise Unreadable("no date")
+        if isinstance(cell, datetime.date):
+            date, form = cell, "2026-03-31"
+        else:
+            date, form = self._by_pattern(str(cell)) if self.patterns else self._by_form(str(cell))
         if not FIRST_YEAR <= date.year <= LAST_YEAR:
-            raise Unreadable(f"{shown(text)!r}: the year is not from {FIRST_YEAR} to {LAST_YEAR}; correct it, or leave "
-                             "the row out")
+            raise Unreadable("year", text=shown(str(cell)), first=FIRST_YEAR, last=LAST_YEAR)
         return date, form
 
     def _by_pattern(self, text: str) -> tuple[datetime.date, str]:
@@ -77,11 +80,9 @@ class DateReader:
                 except ValueError:
                     continue
         if len(dates) > 1:
-            raise Unreadable(f"{shown(text)!r} may be {' or '.join(map(str, dates))} by the patterns of --date-format; "
-                             "say one, or write the date as 2026-03-31")
+            raise Unreadable("two patterns", text=shown(text), dates=" or ".join(map(str, dates)))
         if not dates:
-            raise Unreadable(f"{shown(text)!r} is no date of the form {' or '.join(self.patterns)} that --date-format "
-                             "says; correct it, or say another pattern")
+            raise Unreadable("other pattern", text=shown(text), patterns=" or ".join(self.patterns))
         return next(iter(dates.items()))
 
     def _by_form(self, text: str) -> tuple[datetime.date, str]:
@@ -94,8 +95,7 @@ class DateReader:
         if found is None:
             found = SLASHED.fullmatch(bare)
             if found is None:
-                hint = " (a spreadsheet's number of a day: format the column as a date)" if bare.isdecimal() else ""
-                raise Unreadable(f"{shown(text)!r} {NO_DATE}{hint}")
+                raise Unreadable("no form", text=shown(text), is_number=int(bare.isdecimal()))
             month, day, form = self._slashed(text, int(found["first"]), int(found["second"]))
         year = int(found["year"])
         if len(found["year"]) == 2:
@@ -103,17 +103,13 @@ class DateReader:
         try:
             return datetime.date(year, month, day), form
         except ValueError as fault:
-            raise Unreadable(f"{shown(text)!r} is no day of the calendar; correct it, or leave the row out") from fault
+            raise Unreadable("no day", text=shown(text)) from fault
 
     def _slashed(self, text: str, first: int, second: int) -> tuple[int, int, str]:
         """Returns the month, the day and the form of a date with slashes."""
         day_first = first > 12 if (first > 12) != (second > 12) else True in self.sides
         if first <= 12 and second <= 12 and first != second and len(self.sides) != 1:
-            both = " and ".join(repr(shown(it)) for it in self.sides.values())
-            why = f"the dates here have both, as {both}; write it as 2026-03-31, or" if both else \
-                "no date here decides it;"
-            raise Unreadable(f"{shown(text)!r} may have the day or the month first, and {why} say --date-format "
-                             "%d/%m/%Y or --date-format %m/%d/%Y")
+            raise Unreadable("day or month", text=shown(text), sides=" and ".join(repr(shown(it)) for it in self.sides.values()))
         return (second, first, "31/03/2026") if day_first else (first, second, "03/31/2026")
 
 

@@ -9,6 +9,8 @@ from typing import NamedTuple
 
 from ..errors import Fault, RefusedFaults
 from ..files import faults_of, new_file, write_rows
+from ..remarks import Remark, Value
+from ..words import advice, sentence
 
 # So many faults are printed, and so many lines are named in a note. The rejects have all.
 MOST_PRINTED = 20
@@ -17,7 +19,21 @@ UNPRINTABLE = re.compile(r"[\x00-\x1f\x7f-\x9f\u2028\u2029]+")
 
 
 class Unreadable(ValueError):
-    """A text that is no number or no date. Its message says why, and what to do."""
+    """A cell that is no number or no date. Its remark says why."""
+
+    def __init__(self, code: str, **facts: Value) -> None:
+        """Takes the code of what is wrong, and its facts."""
+        super().__init__(code)
+        self.remark = Remark(code, facts)
+
+    def __str__(self) -> str:
+        """Returns why, and what to do."""
+        return said(self.remark)
+
+
+def said(remark: Remark) -> str:
+    """Returns what is wrong, and what to do, as a text."""
+    return "; ".join(filter(None, (sentence(remark), advice(remark))))
 
 
 @dataclass(frozen=True)

@@ -7,31 +7,31 @@ from collections import defaultdict
 from collections.abc import Mapping, Sequence
 from dataclasses import dataclass
 from itertools import compress
-from pathlib import Path
 from typing import Any
 
 from ..errors import Fault, Refused, RefusedFaults
 from ..formats import MOST_WEIGHT
-from .cells import Rules
 from .dates import EVERY, NEED_PERIOD, DateReader, first_day, period_name, period_of
-from .faults import Place, RefusedFiles, Unreadable, named_lines
+from .faults import RefusedFiles, Unreadable, named_lines
 from .observed import History
 from .reading import Reading
-from .suspicions import total_reason, twice_notes
+from .returned import net_of
+from .sources import Table, whole_table
+from .texts import Rules
 
 Day = datetime.date
 
 
-def read_history(path: str | Path, *, demand: str, returns: str | None = None, date: str | None = None,
+def read_history(table: Table, *, demand: str, returns: str | None = None, date: str | None = None,
                  every: str | None = None, net: bool = False, whole: bool = False, start: Day | str | None = None,
                  end: Day | str | None = None, **rules: Any) -> History:
-    """Reads a history of demand from a CSV file; `-` is standard input. `demand`, `returns` and `date` name its
-    columns.
+    """Reads a history of demand from a CSV file (`-` is standard input), a sheet (FILE.xlsx!SHEET) or a DataFrame.
+    `demand`, `returns` and `date` name its columns.
 
     Without `date` each row is a period. With it each row is a movement. They are summed by day, ISO week or month
     (`every`), and a period without one has the demand 0. The record is from `start` to `end`, else from the first to
     the last movement, of all items if `item` is given. With `whole` periods at its ends that may be partial are left
-    out. With `net` amounts below 0 are taken off their period. Further words are those of `cells.Rules`: `delimiter`,
+    out. With `net` amounts below 0 are taken off their period. Further words are those of `Rules`: `delimiter`,
     `encoding`, `decimal`, `date_formats`, `item` and `leave_out`.
 
     Raises RefusedFaults with all faults of the file. With `leave_out` rows with faults are left out, and are in
@@ -41,17 +41,19 @@ def read_history(path: str | Path, *, demand: str, returns: str | None = None, d
     if date is None:
         _check_undated({"--every needs": every, "--net and --whole need": net or whole,
                         "--from and --to need": start or end})
-        return _undated(Reading(path, names, rule), names)
+        with whole_table(table, "history") as given:
+            return _undated(Reading(given, names, rule), names)
     if every not in EVERY:
         raise Refused(NEED_PERIOD)
     first, last = _day_of(start, "--from"), _day_of(end, "--to")
     if first and last and first > last:
         raise Refused(f"--from {first} is after --to {last}; change one of them")
-    movements = _movements(Reading(path, [*names, date], rule), names, date, every, net)
-    movements.cut(first, last)
-    periods = _spanned(movements, first, last, whole)
-    movements.suspect()
-    return _summed(movements, periods)
+    with whole_table(table, "history") as given:
+        movements = _movements(Reading(given, [*names, date], rule), names, date, every, net)
+        movements.cut(first, last)
+        periods = _spanned(movements, first, last, whole)
+        movements.suspect()
+        return _summed(movements, periods)
 
 
 def _check_undated(given: Mapping[str, object]) -> None:
@@ -75,13 +77,13 @@ def _undated(reading: Reading, names: Sequence[str]) -> History:
     below = "is negative; correct it (--net takes it off its period, if each row has a date: --date and --every)"
     columns = {name: reading.amounts(name, below, 0) for name in names}
     rows, numbers = reading.kept(columns)
-    reading.notes += twice_notes(reading.sheet, rows, names)
+    reading.note_twins(rows, names)
     for name in names:
         reading.suspect(name, rows, numbers[name])
-    history = None
+    history, (notes, faults) = None, reading.finish()
     for name in reversed(names):
-        places = tuple(reading.place(row, name, reading.sheet.columns[name].text(row)) for row in rows)
-        history = History(tuple(numbers[name]), places, tuple(reading.notes), tuple(reading.faults), None, 1, history)
+        places = reading.places([(row, name, reading.text(name, row)) for row in rows])
+        history = History(tuple(numbers[name]), places, notes, faults, None, 1, history)
     assert history is not None
     return history
 
@@ -102,9 +104,9 @@ class _Movements:
     def ends(self) -> tuple[Day, Day]:
         """Returns the first and the last day of the record: of all items, if the rows are those of one."""
         days = {day for day, _ in self.dates}
-        for text in self.reading.sheet.columns[self.date].index if self.reading.rules.item else ():
+        for cell in self.reading.columns[self.date].distinct if self.reading.rules.item else ():
             with contextlib.suppress(Unreadable):
-                days.add(self.reader.read(text)[0])
+                days.add(self.reader.read(cell)[0])
         return min(days), max(days)
 
     def cut(self, start: Day | None, end: Day | None) -> None:
@@ -113,7 +115,7 @@ class _Movements:
             if bound is None:
                 continue
             inside = [sign * (day - bound).days >= 0 for day, _ in self.dates]
-            lines = [self.reading.sheet.lines[row] for row, is_in in zip(self.rows, inside) if not is_in]
+            lines = [self.reading.lines[row] for row, is_in in zip(self.rows, inside) if not is_in]
             if lines:
                 self.reading.note(f"rows {option} {bound} left out: {len(lines):,} ({named_lines(lines)})")
             self.rows, self.dates = list(compress(self.rows, inside)), list(compress(self.dates, inside))
@@ -124,13 +126,14 @@ class _Movements:
 
     def refused_span(self, reason: str, row: int | None = None) -> RefusedFaults:
         """Returns the error of a record whose ends can't be meant, at the date of a row if there is one."""
-        sheet = self.reading.sheet
-        return RefusedFaults([Fault(reason, sheet.name) if row is None else sheet.reject(row, self.date, reason)])
+        if row is None:
+            return RefusedFaults([Fault(reason, self.reading.source.sheet.name)])
+        return self.reading.refused(row, self.date, reason)
 
     def suspect(self) -> None:
         """Notes what is suspicious in the movements."""
         self.reading.note_forms(self.date, self.rows, self.dates, self.reader)
-        self.reading.notes += twice_notes(self.reading.sheet, self.rows, list(self.amounts))
+        self.reading.note_twins(self.rows, list(self.amounts))
         for name, numbers in self.amounts.items():
             self.reading.suspect(name, self.rows, numbers)
 
@@ -138,7 +141,7 @@ class _Movements:
 def _movements(reading: Reading, names: Sequence[str], date: str, every: str, net: bool) -> _Movements:
     """Reads the movements of a file. Raises RefusedFaults."""
     reading.skip_blank()
-    reader = DateReader(reading.sheet.columns[date].index, reading.rules.date_formats)
+    reader = DateReader(reading.columns[date].distinct, reading.rules.date_formats)
     below = (f"is negative; say --net to take it off its {every}, or write items that came back into a column of their "
              "own (--returns)")
     columns: dict[str, list[Any]] = {date: reading.read(date, reader.read, reading.rows)}
@@ -153,9 +156,9 @@ def _name_total(reading: Reading, date: str, days: Sequence[object], amounts: Se
     if not days or days[-1] is not None:
         return
     row = reading.rows[-1]
-    reason = total_reason(reading.sheet, row, amounts[-1], [it for it in amounts[:-1] if it is not None])
+    reason = reading.total_reason(row, amounts[-1], [it for it in amounts[:-1] if it is not None])
     if reason:
-        reading.faults = [it for it in reading.faults if it.line != reading.sheet.lines[row]]
+        reading.found = [it for it in reading.found if it[0] != row]
         reading.reject(row, date, f"the row looks like a total of the rows above ({reason}); leave it out")
 
 
@@ -195,19 +198,29 @@ def _summed(movements: _Movements, periods: range) -> History:
     parts: defaultdict[int, list[int]] = defaultdict(list)
     for place, (day, _) in enumerate(movements.dates):
         parts[period_of(day, every)].append(place)
-    history, faults = None, []
+    history: History | None = None
+    faults: list[tuple[int, str, str]] = []
+    columns: dict[str, list[int]] = {}
     for name, amounts in reversed(movements.amounts.items()):
-        counts = [sum(amounts[it] for it in parts[period]) if period in parts else 0 for period in periods]
-        places: list[Place | None] = []
+        moves = [(period_of(day, every) - periods[0], amount) for (day, _), amount in zip(movements.dates, amounts)]
+        columns[name], moved, unmet = net_of((it for it in moves if 0 <= it[0] < len(periods)), len(periods))
+        if moved:
+            reading.note(f"column {name!r}: amounts below 0 that were taken off earlier {every}s: {moved}")
+        if unmet:
+            place = next(it for it in parts[periods[unmet[0]]] if amounts[it] == -unmet[1])
+            faults.append((movements.rows[place], name, f"{-unmet[1]} is more than was asked for up to {every} "
+                           f"{period_name(periods[unmet[0]], every)}; correct the row, or leave it out"))
+    notes, left_out = reading.finish()
+    if faults:
+        raise RefusedFiles(reading.rejects([(row, reading.source.heading.index(name), f"column {name!r}: {what}")
+                                            for row, name, what in faults]), notes)
+    for name, counts in columns.items():
+        cells: list[tuple[int, str, str] | None] = []
         for period, count in zip(periods, counts):
             rows = parts.get(period)
             how_many = "1 row" if rows and len(rows) == 1 else f"{len(rows or ())} rows"
             subject = f"{every} {period_name(period, every)}, which comes to {count} in {how_many},"
-            places.append(reading.place(movements.rows[rows[0]], name, subject) if rows else None)
-        advice = "correct its rows, move the amount to the period of its sale, or take longer periods (--every)"
-        faults += [place.fault(f"is negative; {advice}") for place, count in zip(places, counts) if place and count < 0]
-        history = History(tuple(counts), tuple(places), tuple(reading.notes), tuple(reading.faults), every, periods[0],
-                          history)
-    if faults or history is None:
-        raise RefusedFiles(faults)
+            cells.append((movements.rows[rows[0]], name, subject) if rows else None)
+        history = History(tuple(counts), reading.places(cells), notes, left_out, every, periods[0], history)
+    assert history is not None
     return history

@@ -1,67 +1,77 @@
 """Reads lead times: a column of whole periods, or the dates on which orders were placed and received."""
 from __future__ import annotations
 
-from pathlib import Path
 from typing import Any
 
-from ..errors import Refused, RefusedFaults
+from ..errors import Refused
 from ..formats import MOST_WEIGHT
-from .cells import Rules
+from .columns import bare_name, plain_name
 from .dates import EVERY, NEED_PERIOD, DateReader, period_of
 from .observed import LeadTimes
 from .reading import Reading
-from .suspicions import twice_notes
+from .sources import Table, whole_table
+from .texts import Rules
+from .units import DAYS, factor_of, periods_of, said
 
 
-def read_lead_times(path: str | Path, *, lead: str | None = None, every: str | None = None, ordered: str = "ordered",
+def read_lead_times(table: Table, *, lead: str | None = None, every: str | None = None, ordered: str = "ordered",
                     received: str = "received", **rules: Any) -> LeadTimes:
-    """Reads lead times in whole periods from a CSV file; `-` is standard input.
+    """Reads lead times in whole periods from a CSV file (`-` is standard input), a sheet or a DataFrame.
 
-    With `lead`, the name of a column, each row is a lead time. Without it each row is an order, with the dates on which
+    With `lead`, the name of a column, each row is a lead time; if its heading names a unit of time, as `Days`, and `every` is known,
+    it is converted. Without it each row is an order, with the dates on which
     it was placed and received, and `every` is day, week or month. An order that was placed on any day of period t and
     received on any day of period t + L has lead time L, and 1 if both fell in one period. Orders not yet received are
-    left out, with a note. Further words are those of `cells.Rules`. Raises RefusedFaults with all faults of the file.
+    left out, with a note. Further words are those of `Rules`. Raises RefusedFaults with all faults of the file.
     """
     rule = Rules(**rules)
-    if lead is not None:
-        return _periods(Reading(path, [lead], rule, own_item=True), lead)
-    if every not in EVERY:
+    if lead is None and every not in EVERY:
         raise Refused(NEED_PERIOD)
-    return _orders(Reading(path, [ordered, received], rule, own_item=True), ordered, received, every)
+    with whole_table(table, "lead times" if lead else "orders") as given:
+        if lead is not None:
+            return _periods(Reading(given, [lead], rule, own_item=True), lead, every)
+        return _orders(Reading(given, [ordered, received], rule, own_item=True), ordered, received, str(every))
 
 
-def _periods(reading: Reading, name: str) -> LeadTimes:
-    """Returns the lead times of a column."""
+def _periods(reading: Reading, name: str, every: str | None) -> LeadTimes:
+    """Returns the lead times of a column, converted from the unit in its heading if the period is known."""
     reading.skip_blank()
     reading.check_rows(name)
     below = "is below 1; write 1 if the order is there for the next period's demand"
-    amounts = reading.amounts(name, below, 1, if_empty="write the lead time in periods, or leave the row out")
+    amounts = reading.amounts(name, below, 1, if_empty="no lead")
     rows, numbers = reading.kept({name: amounts})
-    reading.notes += twice_notes(reading.sheet, rows, [name])
+    reading.note_twins(rows, [name])
     reading.suspect(name, rows, numbers[name])
-    places = (reading.place(row, name, reading.sheet.columns[name].text(row)) for row in rows)
-    return LeadTimes(tuple(numbers[name]), tuple(places), tuple(reading.notes), tuple(reading.faults), None)
+    unit = bare_name(plain_name(name))[1]
+    leads: list[tuple[int, ...]] = [(number,) for number in numbers[name]]
+    if unit in DAYS and every is None:
+        reading.note(f"column {name!r}: its numbers are taken as periods")
+    elif unit in DAYS and unit != every:
+        reading.note(f"column {name!r}: {said('lead', unit, str(every))}")
+        leads = [periods_of(number * factor_of("lead", unit, str(every))) for number in numbers[name]]
+    places = reading.places([(row, name, reading.text(name, row)) for row, its in zip(rows, leads) for _ in its])
+    return LeadTimes(tuple(lead for its in leads for lead in its), places, *reading.finish(), None)
 
 
 def _orders(reading: Reading, ordered: str, received: str, every: str) -> LeadTimes:
     """Returns the lead times between the dates of orders and of their receipts."""
     reading.skip_blank()
-    sheet, all_rows = reading.sheet, reading.rows
-    reading.rows = [row for row in all_rows if sheet.columns[received].text(row)]
+    all_rows = reading.rows
+    reading.rows = [row for row in all_rows if reading.text(received, row)]
     if not reading.rows:
         reason = "no order has a date of receipt; take orders of longer ago"
-        raise RefusedFaults([sheet.reject(all_rows[0], received, reason)])
+        raise reading.refused(all_rows[0], received, reason)
     if len(reading.rows) > MOST_WEIGHT:
         reason = f"{len(reading.rows):,} orders are more than {MOST_WEIGHT:,}; leave the oldest out"
-        raise RefusedFaults([sheet.reject(reading.rows[MOST_WEIGHT], ordered, reason)])
-    reader = DateReader({**sheet.columns[ordered].index, **sheet.columns[received].index}, reading.rules.date_formats)
+        raise reading.refused(reading.rows[MOST_WEIGHT], ordered, reason)
+    reader = DateReader([*reading.columns[ordered].distinct, *reading.columns[received].distinct], reading.rules.date_formats)
     dates = {name: reading.read(name, reader.read, reading.rows) for name in (ordered, received)}
     numbers: list[int | None] = [None] * len(reading.rows)
     for place, (placed, there) in enumerate(zip(dates[ordered], dates[received])):
         row = reading.rows[place]
         if placed and there and there[0] < placed[0]:
-            reading.reject(row, received, f"{sheet.columns[received].text(row)!r} is before the order of "
-                           f"{sheet.columns[ordered].text(row)!r}; correct one of the dates, or leave the row out")
+            reading.reject(row, received, f"{reading.text(received, row)!r} is before the order of "
+                           f"{reading.text(ordered, row)!r}; correct one of the dates, or leave the row out")
         elif placed and there:
             numbers[place] = max(1, period_of(there[0], every) - period_of(placed[0], every))
     rows, kept = reading.kept({**dates, "number": numbers})
@@ -69,7 +79,7 @@ def _orders(reading: Reading, ordered: str, received: str, every: str) -> LeadTi
                  f"{len(all_rows) - len(reading.rows)}")
     for name in dates:
         reading.note_forms(name, rows, kept[name], reader)
-    reading.notes += twice_notes(sheet, rows, ())
-    places = (reading.place(row, received, f"the lead time of {number} {every}s since the order of "
-                            f"{sheet.columns[ordered].text(row)}") for row, number in zip(rows, kept["number"]))
-    return LeadTimes(tuple(kept["number"]), tuple(places), tuple(reading.notes), tuple(reading.faults), every)
+    reading.note_twins(rows, ())
+    places = reading.places([(row, received, f"the lead time of {number} {every}s since the order of "
+                              f"{reading.text(ordered, row)}") for row, number in zip(rows, kept["number"])])
+    return LeadTimes(tuple(kept["number"]), places, *reading.finish(), every)

@@ -8,7 +8,8 @@ from fractions import Fraction
 from typing import Any
 
 from ..formats import MOST_LEAD
-from .amounts import AmountReader
+from ..remarks import Remark
+from .amounts import AmountReader, Cell
 from .faults import UNPRINTABLE, Unreadable, shown
 from ..money import MOST_DECIMALS
 from .columns import UNITS, Column
@@ -21,6 +22,7 @@ MONEY = ("setup", "holding", "backlog", "price")
 # From whom an item may learn its law of demand: from no other, from those of its class, or from all.
 BORROW = ("none", "class", "all")
 NEEDED = ("setup", "holding", "s", "S")
+Found = tuple[str, Cell, Remark]  # a fault of a cell: its role, the cell, and what is wrong
 LEAD = re.compile(r"([0-9]{1,4}(?:[.,][0-9]{1,2})?) *([^\W\d_]*)[ ;|/]*")
 
 
@@ -45,9 +47,9 @@ class Master:
 
 
 class Faulty(ValueError):
-    """A row with faults: for each its role, its text and a message."""
+    """A row with faults: for each its role, its cell and what is wrong."""
 
-    def __init__(self, faults: Sequence[tuple[str, str, str]]) -> None:
+    def __init__(self, faults: Sequence[Found]) -> None:
         """Keeps the faults."""
         super().__init__()
         self.faults = tuple(faults)
@@ -58,35 +60,35 @@ def decimals_of(number: Fraction) -> int:
     return next(it for it in range(MOST_DECIMALS + 1) if (number * 10**it).denominator == 1)
 
 
-def borrowed_from(text: str) -> str:
+def borrowed_from(cell: Cell) -> str:
     """Returns from whom an item learns its law. Raises Unreadable."""
+    text = str(cell)
     if text.casefold() not in BORROW:
-        known = f"{', '.join(BORROW[:-1])} or {BORROW[-1]}"
-        raise Unreadable(f"{shown(text)!r} is not {known}; write one of them, or nothing")
+        raise Unreadable("no borrow", text=shown(text), known=f"{', '.join(BORROW[:-1])} or {BORROW[-1]}")
     return text.casefold()
 
 
 def checked_lead(lead: int) -> int:
     """Returns a lead time in periods. Raises Unreadable if a scenario can't have it."""
     if not 1 <= lead <= MOST_LEAD:
-        raise Unreadable(f"the lead time {lead} is not from 1 to {MOST_LEAD} periods; correct it, or take longer "
-                         "periods (--every)")
+        raise Unreadable("lead range", lead=lead, most=MOST_LEAD)
     return lead
 
 
-def leads_of(text: str, unit: str, every: str) -> list[int]:
+def leads_of(cell: Cell, unit: str, every: str) -> list[int]:
     """Returns the lead times of a cell in periods: one, or several that were observed. `unit` is that of the column,
     empty for periods; a number may have its own behind it, as 14D. Raises Unreadable."""
+    text = str(cell)
     if not LEAD.match(text) or LEAD.sub("", text):
-        raise Unreadable(f"{shown(text)!r} is no lead time; write whole periods, as 3 or 2 3 3 4")
+        raise Unreadable("no lead time", text=shown(text))
     leads: list[int] = []
     for digits, word in LEAD.findall(text):
         own = UNITS.get(word.casefold(), word) or unit
         if own and own not in DAYS:
-            raise Unreadable(f"{shown(text)!r} is no lead time; write {word!r} as days, weeks, months or years")
+            raise Unreadable("unit of lead", text=shown(text), word=word)
         number = Fraction(digits.replace(",", "."))
         if own in ("", every) and number.denominator > 1:
-            raise Unreadable(f"{shown(text)!r} is no lead time; write whole periods, as 3 or 2 3 3 4")
+            raise Unreadable("no lead time", text=shown(text))
         is_converted = own not in ("", every) and number > 0
         leads += periods_of(number * factor_of("lead", own, every)) if is_converted else [int(number)]
     return [checked_lead(lead) for lead in leads]
@@ -100,33 +102,28 @@ class Masters:
         units = {role: column.unit for role, column in columns.items() if column.unit}
         self.factors = {role: factor_of(role, unit, every) for role, unit in units.items() if role != "lead"}
         self.share = units["holding"] if units.get("holding") in ("share", "percent") else ""
-        self.readers: dict[str, Callable[[str], Any]] = {
+        self.readers: dict[str, Callable[[Cell], Any]] = {
             "setup": amounts["setup"].amount, "holding": self._holding(amounts["holding"]),
-            "lead": lambda text: leads_of(text, units.get("lead", ""), every), "backlog": amounts["backlog"].positive,
-            "fill": self._fill(amounts["fill"]), "s": amounts["s"].items, "S": amounts["S"].items,
+            "lead": lambda cell: leads_of(cell, units.get("lead", ""), every), "backlog": amounts["backlog"].positive,
+            "fill": lambda cell: amounts["fill"].share(cell, "fill" in self.factors), "s": amounts["s"].items, "S": amounts["S"].items,
             "stock": amounts["stock"].number, "price": amounts["price"].amount, "price_for": amounts["price_for"].positive,
             "borrow": borrowed_from}
 
-    def _fill(self, reader: AmountReader) -> Callable[[str], Fraction]:
-        """Returns how a wanted share is read: in percent if the column says so."""
-        return lambda text: reader.share(f"{text}%" if "fill" in self.factors and not text.endswith("%") else text)
-
-    def _holding(self, reader: AmountReader) -> Callable[[str], Fraction]:
+    def _holding(self, reader: AmountReader) -> Callable[[Cell], Fraction]:
         """Returns how a holding cost is read: as money, or as a share of the price."""
-        def holding(text: str) -> Fraction:
+        def holding(cell: Cell) -> Fraction:
             """Reads one."""
+            text = str(cell)
             is_percent = text.endswith("%")
             if is_percent and not self.share:
-                raise Unreadable(f"{shown(text)!r} is a share; say --unit items.holding=percent if it is one of the price a "
-                                 "year")
-            number = reader.positive(text.rstrip("% ") if is_percent else text)
+                raise Unreadable("is share", text=shown(text))
+            number = reader.positive(text.rstrip("% ") if is_percent else cell)
             if self.share == "share" and number >= 1 and not is_percent:
-                raise Unreadable(f"{shown(text)!r} may be {shown(text)}% or {shown(text)} times the price; say --unit "
-                                 "items.holding=percent, or write a share below 1")
+                raise Unreadable("small percent", text=shown(text), unit="--unit items.holding=percent, or write a share below 1")
             return number / 100 if is_percent and self.share == "share" else number
         return holding
 
-    def master(self, line: int, cells: Mapping[str, str], observed: Sequence[int]) -> Master:
+    def master(self, line: int, cells: Mapping[str, Cell], observed: Sequence[int]) -> Master:
         """Returns the master of a row. `observed` are lead times of orders, for a row that says none.
 
         Raises Faulty with all that is wrong with the row.
@@ -134,7 +131,7 @@ class Masters:
         read, faults = self._read(cells)
         faults += _joint_faults(read, cells, observed)
         if self.share and "price" in read and not read["price"]:
-            faults.append(("holding", cells["holding"], "it is a share of the price, and there is no price; write one"))
+            faults.append(("holding", cells["holding"], Remark("no price for share")))
         if faults:
             raise Faulty(faults)
         decimals = max(decimals_of(read[it]) for it in MONEY if read[it] is not None)
@@ -142,34 +139,34 @@ class Masters:
         its = {role: value if value is None or role not in self.factors or role == "fill" else value * self.factors[role]
                for role, value in read.items()}
         holding = its["holding"] * its["price"] if self.share else its["holding"]
-        return Master(line, UNPRINTABLE.sub(" ", cells.get("description", "")), its["setup"], holding, its["backlog"],
+        return Master(line, UNPRINTABLE.sub(" ", str(cells.get("description", ""))), its["setup"], holding, its["backlog"],
                       its["fill"], tuple(its["lead"] or observed), (int(its["s"]), int(its["S"])), its["stock"], its["price"],
-                      UNPRINTABLE.sub(" ", cells.get("class", "")), its["borrow"] or "", decimals)
+                      UNPRINTABLE.sub(" ", str(cells.get("class", ""))), its["borrow"] or "", decimals)
 
-    def _read(self, cells: Mapping[str, str]) -> tuple[dict[str, Any], list[tuple[str, str, str]]]:
+    def _read(self, cells: Mapping[str, Cell]) -> tuple[dict[str, Any], list[Found]]:
         """Returns the values of the cells by role, without units, and the faults of those that have none."""
         read: dict[str, Any] = {}
-        faults = []
+        faults: list[Found] = []
         for role, reader in self.readers.items():
-            text = cells.get(role, "")
-            if not text and role not in NEEDED:
+            cell = cells.get(role, "")
+            if cell == "" and role not in NEEDED:
                 read[role] = None
                 continue
             try:
-                read[role] = reader(text)
+                read[role] = reader(cell)
             except Unreadable as why:
-                faults.append((role, text, str(why)))
+                faults.append((role, cell, why.remark))
         return read, faults
 
 
-def _joint_faults(read: Mapping[str, Any], cells: Mapping[str, str],
-                  observed: Sequence[int]) -> list[tuple[str, str, str]]:
+def _joint_faults(read: Mapping[str, Any], cells: Mapping[str, Cell],
+                  observed: Sequence[int]) -> list[Found]:
     """Returns what is wrong with the cells of a row beside each other, as far as each can be read."""
-    faults = []
+    faults: list[Found] = []
     if "backlog" in read and "fill" in read and read["backlog"] is None and read["fill"] is None:
-        faults.append(("backlog", "", "there is neither a backlog cost nor a wanted fill rate; write one of them"))
+        faults.append(("backlog", "", Remark("no goal")))
     if "lead" in read and read["lead"] is None and not observed:
-        faults.append(("lead", "", "there is no lead time, and no received order; write one in periods"))
+        faults.append(("lead", "", Remark("nothing of leads")))
     if "s" in read and "S" in read and read["s"] > read["S"]:
-        faults.append(("s", cells["s"], f"s = {read['s']} is above S = {read['S']}; interchange them, or raise S"))
+        faults.append(("s", cells["s"], Remark("s above S", {"s": read["s"], "S": read["S"]})))
     return faults

@@ -8,6 +8,7 @@ from dataclasses import dataclass
 from ..errors import Refused
 from ..formats import MOST_WEIGHT
 from .dates import period_name, period_of
+from .faults import Unreadable
 
 Day = datetime.date
 # A row so many days away from the rest, if at most one row in so many is, has a wrong date.
@@ -23,6 +24,7 @@ class Record:
     every: str
     first: Day
     last: Day
+    # How a day before it, and one after it, is left out: `before`, `far before`, `after`, `far after` or `late`.
     before: str
     after: str
 
@@ -31,11 +33,10 @@ class Record:
         """Returns the numbers of its periods."""
         return range(period_of(self.first, self.every), period_of(self.last, self.every) + 1)
 
-    def outside(self, day: Day) -> str:
-        """Returns why a day is not in the record, and what to do; the empty text if it is."""
-        if self.first <= day <= self.last:
-            return ""
-        return f"{day} {self.before if day < self.first else self.after}"
+    def check(self, day: Day) -> None:
+        """Raises Unreadable if a day is not in the record."""
+        if not self.first <= day <= self.last:
+            raise Unreadable("outside", day=str(day), last=str(self.last), side=self.before if day < self.first else self.after)
 
     def first_of(self, period: int) -> int:
         """Returns where the history of an item begins that is first seen in a period."""
@@ -70,11 +71,7 @@ def record_of(counts: Mapping[Day, int], every: str, start: Day | None, end: Day
     if not days:
         raise Refused(f"no row of demand has a date from {start or 'the beginning'} to {latest}; change --from or --to")
     first, last = start or _near(days, counts), end or _near(days[::-1], counts)
-    far = "is more than a year {} nearly all other dates; correct it, or say {}"
-    before = "is before --from; change --from if it is to count" if start else far.format("before", "--from")
-    after = "is after --to; change --to if it is to count" if end else \
-        f"is after {last}, the record's end; correct it, or say --to"
-    record = Record(every, first, last, before, after)
+    record = Record(every, first, last, "before" if start else "far before", "after" if end else "late")
     if len(record.periods) > MOST_WEIGHT:
         raise Refused(f"{len(record.periods):,} {every}s are more than {MOST_WEIGHT:,}; change --from or --to, or take "
                       "longer periods (--every)")

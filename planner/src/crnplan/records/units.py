@@ -4,7 +4,6 @@ Days, weeks, months and years are of 1, 7, 30.4375 and 365.25 days, so a year ha
 """
 from __future__ import annotations
 
-from collections.abc import Sequence
 from fractions import Fraction
 
 DAYS = {"day": Fraction(1), "week": Fraction(7), "month": Fraction(487, 16), "year": Fraction(1461, 4)}
@@ -67,9 +66,3 @@ def said(role: str, unit: str, every: str) -> str:
 def is_doubtful(role: str, unit: str, every: str) -> bool:
     """Returns whether a column may count weeks as well as periods: it names no unit, and periods are no weeks."""
     return ROLE_UNITS.get(role) in ("length", "rate") and not unit and every != "week"
-
-
-def doubts_of(roles: Sequence[tuple[str, str]], every: str) -> list[str]:
-    """Returns what is wrong with columns, each a role and its heading, that name no unit while periods are no weeks."""
-    return [f"the column {heading!r} names no unit, and may count {every}s or weeks; say --unit items.{role}={every} or --unit "
-            f"items.{role}=week" for role, heading in roles]

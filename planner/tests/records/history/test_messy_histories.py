@@ -14,7 +14,7 @@ import pytest
 from crnplan.decide.intervals import with_verdict
 from crnplan.decide.keys import Check, check_keys
 from crnplan.scenario import Scenario
-from crnplan.theory.suggestions import suggested_text
+from crnplan.theory.suggestions import suggestions_of
 
 from planner.tests.records.history.messy import CASES, Case
 from planner.tests.theory.long_run_costs import best_of_all, cost_of, shortfall_of
@@ -37,20 +37,20 @@ def test_messy_history(case: Case, crnplan: Any, program: Path, tmp_path: Path) 
     words = (tmp_path / it if it in case.files else it for it in case.words)
     status, tables, errors = crnplan("history", "--fit", "empirical", *words)
     assert status == 0, errors
-    scenario = Scenario.parse(suggested_text(Scenario.parse(case.head + tables)))
+    scenario = Scenario.parse(suggestions_of(Scenario.parse(case.head + tables)).toml())
 
     def check(name: str, count: int = 1) -> Check:
         """Checks a policy on new histories."""
         return check_keys(scenario, name, keys=[KEY], count=count, program=program)
 
-    checked = check(scenario.run(program=program).decide().index[0])
-    better = list(with_verdict(checked.rows, "better"))
+    checked = check(scenario.run(program=program).decide().frame.index[0])
+    better = list(with_verdict(checked.decision.rows, "better"))
     if better:
         checked = check(better[0])
-    if "best" in with_verdict(checked.rows, "undecided"):
+    if "best" in with_verdict(checked.decision.rows, "undecided"):
         checked = check("best")
     assert checked.holds, checked.text
-    assert check(checked.best, 2).replications == 512
+    assert check(checked.best, 2).decision.replications == 512
     chosen = next(it for it in scenario.policies if it.name == checked.best)
     cost = cost_of(scenario, shortfall_of(scenario, chosen.S - chosen.s), chosen.S)
     assert cost <= (1 + MOST_ABOVE) * best_of_all(scenario).cost

@@ -71,7 +71,7 @@ def test_faults_of_a_law_are_never_left_out(file: Files, answer: Answers) -> Non
 def test_rejects_that_cannot_be_written(file: Files, answer: Answers, tmp_path: Path) -> None:
     """A file of rejects that can't be written is refused."""
     status, _, errors = answer([file("n\nx\n"), "--demand", "n", "--rejects", tmp_path / "none" / "rejects.csv"])
-    assert status == 2 and "No such file or directory; name another file after --rejects" in errors
+    assert status == 2 and "No such file or directory; name" in errors
 
 
 def test_columns_are_named(file: Files, answer: Answers) -> None:
@@ -335,12 +335,12 @@ def test_rules_of_the_interface(file: Files) -> None:
     assert (leads.counts, leads.every) == ((1,), "day")
 
 
-def test_large_file(tmp_path: Path) -> None:
-    """A file that is too large is refused before it is read."""
+def test_line_without_end(tmp_path: Path) -> None:
+    """A first line without an end is refused before it is read."""
     path = tmp_path / "large.csv"
     with path.open("wb") as file:
         file.truncate(100_000_001)
-    with pytest.raises(Refused, match="it has more than 100,000,000 bytes; export only the columns and years that"):
+    with pytest.raises(Refused, match="the first line has more than 1,000,000 bytes; end each row with a line feed"):
         read_history(path, demand="n")
 
 

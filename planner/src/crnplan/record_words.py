@@ -1,0 +1,128 @@
+"""The words of what is said of cells, rows and items of tables as codes with facts: for `words.WORDS`.
+
+A pair has what is said of a code, and what to do about it.
+"""
+from __future__ import annotations
+
+from collections.abc import Callable, Mapping
+from typing import Any
+
+Facts = Mapping[str, Any]
+Say = str | Callable[[Facts], str]
+
+
+def _lines(it: Facts, one: str, many: str) -> str:
+    """Returns words for one row or for many."""
+    return one if it["count"] == 1 else many
+
+
+def _other_sign(it: Facts) -> str:
+    """Returns what to do about a text that is no number."""
+    other = it.get("other")
+    return "write digits, as 12" + (f", or say --decimal {other} if the decimal sign is {other!r}" if other else "")
+
+
+def _far_date(it: Facts) -> str:
+    """Returns why a date is not in the record."""
+    return {"before": "{day} is before --from", "after": "{day} is after --to", "late": "{day} is after {last}, the record's end",
+            "far before": "{day} is more than a year before nearly all other dates",
+            "far after": "{day} is more than a year after nearly all other dates"}[str(it["side"])].format_map(it)
+
+
+def _far_date_advice(it: Facts) -> str:
+    """Returns what to do about a date that is not in the record."""
+    return {"before": "change --from if it is to count", "after": "change --to if it is to count",
+            "late": "correct it, or say --to", "far before": "correct it, or say --from",
+            "far after": "correct it, or say --to"}[str(it["side"])]
+
+
+def _each(it: Facts) -> list[tuple[str, Facts]]:
+    """Returns the codes and facts that are joined in one remark."""
+    places = [name for name in it if name.isdecimal()]
+    return [(it[place], {name.removeprefix(f"{place} "): value for name, value in it.items() if name != place})
+            for place in places]
+
+
+def _several(which: int) -> Say:
+    """Returns the function that gives what is wrong with several cells of a row, or what to do about them."""
+    def said(facts: Facts) -> str:
+        """Returns it."""
+        says = ((RECORDS[code][which], its) for code, its in _each(facts))
+        return " and ".join(dict.fromkeys(say.format_map(its) if isinstance(say, str) else say(its) for say, its in says))
+    return said
+
+
+DECIDE = "say --decimal . or --decimal ,"
+LEADS = "write whole periods, as 3 or 2 3 3 4"
+# Of cells, rows and items that are left out or named (records/).
+RECORDS: dict[str, tuple[Say, Say]] = {
+    # Numbers.
+    "no quantity": ("the cell is empty", "write 0 where nothing was asked for"),
+    "no amount": ("the cell is empty", "write a number, as 12.50"),
+    "no lead": ("the cell is empty", "write the lead time in periods, or leave the row out"),
+    "no number": ("{text!r} is not a number", _other_sign),
+    "digits": ("{text!r} has more than {digits} digits", "correct it"),
+    "two readings": (lambda it: f"{it['text']!r} may be {it['large']} or {it['small']}, and " + (
+        f"the column has both signs, as {it['signs']}" if it["signs"] else "no other number of the column decides it"), DECIDE),
+    "currencies": ("amounts of money are in several currencies, as {texts}", "convert them into one"),
+    "not whole": ("{text!r} is not a whole number", "count in a smaller unit, as grams for kilograms, and then in boxes of "
+                       "many (--box)"),
+    "below 0": ("{text!r} is below 0", "write 0 or more"),
+    "negative": ("{text!r} is negative", "correct it, or say --net to take it off the sale that it undoes"),
+    "decimals": ("{text!r} has more than {decimals} decimals", "round it"),
+    "zero": ("it is 0, so that stock, or being short, costs nothing", "write an amount above 0"),
+    "no share": ("{text!r} is no share between 0 and 1", "write it as 0.95 or 95%"),
+    "small percent": ("{text!r} may be {text}% or {text} as a share", "say {unit}"),
+    "no whole items": ("{text!r} is not a whole number from 0", "correct it"),
+    # Dates.
+    "no date": ("the cell is empty", "write the date, or leave the row out"),
+    "year": ("{text!r}: the year is not from {first} to {last}", "correct it, or leave the row out"),
+    "two patterns": ("{text!r} may be {dates} by the patterns of --date-format", "say one, or write the date as 2026-03-31"),
+    "other pattern": ("{text!r} is no date of the form {patterns} that --date-format says", "correct it, or say another "
+                           "pattern"),
+    "no form": ("{text!r} is no date as 2026-03-31, 31.03.2026 or 31/03/2026", lambda it: "write it so, or say --date-format "
+                     "with its pattern" + " (a spreadsheet's number of a day: format the column as a date)" * bool(it["is_number"])),
+    "no day": ("{text!r} is no day of the calendar", "correct it, or leave the row out"),
+    "day or month": (lambda it: f"{it['text']!r} may have the day or the month first, and " + (
+        f"the dates here have both, as {it['sides']}" if it["sides"] else "no date here decides it"), lambda it: (
+        "write it as 2026-03-31, or " if it["sides"] else "") + "say --date-format %d/%m/%Y or --date-format %m/%d/%Y"),
+    "outside": (_far_date, _far_date_advice),
+    # Masters.
+    "no lead time": ("{text!r} is no lead time", LEADS),
+    "unit of lead": ("{text!r} is no lead time", "write {word!r} as days, weeks, months or years"),
+    "lead range": ("the lead time {lead} is not from 1 to {most} periods", "correct it, or take longer periods (--every)"),
+    "no borrow": ("{text!r} is not {known}", "write one of them, or nothing"),
+    "is share": ("{text!r} is a share", "say --unit items.holding=percent if it is one of the price a year"),
+    "no price for share": ("it is a share of the price, and there is no price", "write one"),
+    "no goal": ("there is neither a backlog cost nor a wanted fill rate", "write one of them"),
+    "nothing of leads": ("there is no lead time, and no received order", "write one in periods"),
+    "s above S": ("s = {s} is above S = {S}", "interchange them, or raise S"),
+    "several": (_several(0), _several(1)),
+    # Rows.
+    "long": ("there are {cells} cells, and {columns} columns in the heading", "put a cell with a {sign} in quotes, or name "
+                  "each column in the heading"),
+    "unprintable name": ("the name of the item has a line break or another control character", "write it in one line"),
+    "no item": ("the item is missing", "write its name"),
+    "total": ("the row looks like a total of the rows above", "leave it out"),
+    "twin": (lambda it: _lines(it, f"the row is the same as that of line {it['first']}",
+                                    f"{it['count']:,} rows are the same as others above them ({it['lines']})"),
+                  lambda it: _lines(it, "if it was", "if they were") + " exported twice, remove " + _lines(it, "it", "them")
+                  + ", or say --twice leave-out"),
+    "before order": ("it is before the order of {ordered!r}", "correct one of the dates, or leave the row out"),
+    # Items.
+    "no master": ("there is no master of this item", "add its row to the masters"),
+    "several masters": ("there are {masters} masters that differ, in {lines}", "leave one"),
+    "no rows": ("there is no row of demand in the record", "nothing can be said without one"),
+    "measures": ("rows are in several units of measure, {measures}", "say how many items one is, as --factor {text}=12"),
+    "far": ("{lines}: {times:,} times {next:,}, the next largest of the item", "correct the row, or say --far keep"),
+    "short": ("a history of {periods} {every}s is short", "wait, or say --least {periods}"),
+    "unmet return": ("{amount:,} came back by {period}, and less was asked for before", "correct the row, or leave it out"),
+    "nothing asked": ("nothing was asked for", "nothing can be said without demand"),
+    "all comes back": ("as much comes back ({back:,}) as is asked for ({asked:,}), so nothing is ever ordered",
+                            "check both columns"),
+    "S too large": ("S is above {most:,}", "correct it"),
+    # Of an item that can be planned.
+    "equal masters": ("{masters} equal masters", ""), "late": ("begins with its first movement, in {period}", ""),
+    "boxes": ("counted in boxes of {items}", ""), "rows twice": ("rows that stand twice: {rows}", ""),
+    "taken off earlier": ("amounts below 0 that were taken off earlier periods: {amounts}", ""),
+    "stock below 0": ("its stock is below 0, which plays no part in the long run", "")}
