@@ -14,6 +14,7 @@ __version__ = "0.1.0"
 # The module that has each public name.
 _HOMES = {
     "CrnplanError": "errors",
+    "Failed": "errors",
     "Fault": "errors",
     "ProgramError": "errors",
     "Refused": "errors",
@@ -39,7 +40,7 @@ _HOMES = {
     "check_keys": "decide.keys",
     "doubt": "decide.doubt",
     "sensitivity": "decide.sensitivity",
-    "sweep": "sweep",
+    "sweep": "crnsim.sweep",
     "trajectories": "crnsim.trajectory",
     "plan_item": "plan.item",
     "Catalogue": "records.catalogue_reading",
@@ -65,11 +66,11 @@ if TYPE_CHECKING:
     from .crnsim.long_run import LongRunReport
     from .crnsim.report import Report
     from .crnsim.trajectory import trajectories
-    from .errors import CrnplanError, Fault, ProgramError, Refused, ScenarioError
+    from .errors import CrnplanError, Failed, Fault, ProgramError, Refused, ScenarioError
     from .records import History, read_history, read_lead_times
     from .plan.item import plan_item
     from .scenario import Costs, Policy, Scenario, Table
-    from .sweep import sweep
+    from .crnsim.sweep import sweep
 
 
 def __getattr__(name: str) -> Any:

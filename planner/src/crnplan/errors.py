@@ -7,7 +7,7 @@ from __future__ import annotations
 
 from collections.abc import Callable, Sequence
 from dataclasses import dataclass
-from typing import ClassVar
+from typing import Any, ClassVar
 
 # The signs around the name of an argument, and before its value. No text of a user has them: control characters of
 # theirs are shown as escapes.
@@ -31,11 +31,27 @@ def worded(message: str, spell: Callable[[str, str], str] = as_python) -> str:
     return "".join(parts)
 
 
+def remade(kind: type[CrnplanError], words: tuple[Any, ...], facts: dict[str, Any]) -> CrnplanError:
+    """Returns an error that was sent from another process."""
+    fault = kind.__new__(kind, *words)
+    fault.__dict__.update(facts)
+    return fault
+
+
 class CrnplanError(Exception):
     """Any error that the package raises on purpose. Its text is meant for the user; `message` names arguments by
     `argument`."""
 
     status: ClassVar[int] = 2
+
+    def __init__(self, what: str = "", advice: str = "") -> None:
+        """Keeps what is wrong and what to do apart. The text has both."""
+        self.what, self.advice = what, advice
+        super().__init__(f"{what}; {advice}" if advice else what)
+
+    def __reduce__(self) -> tuple[Any, ...]:
+        """Says how it is made again in another process, whatever its own `__init__` takes."""
+        return remade, (type(self), self.args, self.__dict__)
 
     @property
     def message(self) -> str:
@@ -50,14 +66,21 @@ class CrnplanError(Exception):
 class Refused(CrnplanError, ValueError):
     """An input, an option or an argument that cannot be used: what is wrong with it, and what to do."""
 
-    def __init__(self, what: str = "", advice: str = "") -> None:
-        """Keeps both apart. The text has both."""
-        self.what, self.advice = what, advice
-        super().__init__(f"{what}; {advice}" if advice else what)
+
+class Failed(CrnplanError):
+    """What no input is to blame for: the disk, memory, a store, a worker, a cluster, the program, or crnplan itself."""
+
+    status = 3
 
 
 class ProgramError(CrnplanError):
-    """The program crnsim was not found, or it ended with a fault."""
+    """The program crnsim was not found, or it has refused its input."""
+
+
+class ProgramFailed(ProgramError, Failed):
+    """The program crnsim was ended by force, or has failed for want of memory, threads or the disk."""
+
+    status = 3
 
 
 @dataclass(frozen=True)

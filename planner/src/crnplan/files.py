@@ -16,16 +16,21 @@ import os
 import re
 import secrets
 import shutil
+import sqlite3
 import stat
 import sys
 from collections.abc import Iterable, Iterator, Sequence
 from pathlib import Path
 from typing import IO
 
-from .errors import Refused
+from .errors import Failed, Refused
 
 MARKER = "crnplan-folder.txt"
 SIGNATURE = "crnplan folder, version 1: {kind}. Only the files named below are overwritten or removed by crnplan."
+KEPT = "what was done before is kept"
+# Errors of a name that can't be used. All others are of the disk.
+NO_SUCH_PLACE = {errno.EACCES, errno.EPERM, errno.EROFS, errno.EEXIST, errno.ENOTDIR, errno.EISDIR, errno.ENOENT,
+                 errno.ELOOP, errno.ENAMETOOLONG}
 # A folder for what is not finished, with a random name, so that it is nobody else's.
 UNFINISHED = re.compile(r"unfinished-[0-9a-f]{16}/")
 
@@ -76,12 +81,22 @@ def write_rows(file: IO[str], heading: Sequence[str], rows: Iterable[Sequence[ob
 
 @contextlib.contextmanager
 def faults_of(folder: Path) -> Iterator[None]:
-    """Turns errors of the file system into one message on a folder."""
+    """Turns errors of the file system and of SQLite into one message on a folder: Refused for a name that can't be
+    used, Failed for a disk that is full or broken, and for a store that is damaged."""
     try:
         yield
+    except BrokenPipeError:
+        raise
     except OSError as fault:
-        raise Refused(f"{fault.filename or folder}: {fault.strerror or fault}; name a folder that can be written, or "
-                      "make room, and run again") from fault
+        what = f"{fault.filename or folder}: {fault.strerror or fault}"
+        if fault.errno in NO_SUCH_PLACE:
+            raise Refused(what, "name a folder that can be written") from fault
+        raise Failed(what, f"{KEPT}; make room, and run again") from fault
+    except sqlite3.OperationalError as fault:
+        raise Failed(f"{folder}: {fault}", f"{KEPT}; make room, or name a folder that can be written, and run "
+                     "again") from fault
+    except sqlite3.DatabaseError as fault:
+        raise Failed(f"{folder}: a store in it is damaged ({fault})", "remove its .sqlite files, and run again") from fault
 
 
 class Folder:

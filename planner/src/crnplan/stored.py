@@ -12,7 +12,7 @@ from fractions import Fraction
 from pathlib import Path
 from typing import Any, Generic, TypeVar
 
-from .errors import CrnplanError
+from .errors import Failed
 from .remarks import Remark
 
 Cell = int | float | str | None
@@ -22,14 +22,12 @@ LARGEST = 2**63  # SQLite's whole numbers are below
 DIGITS = 32
 
 
-class Damaged(CrnplanError):
+class Damaged(Failed):
     """A file of ours that another program, or the disk, has changed."""
-
-    status = 3
 
     def __init__(self, path: Path, what: str) -> None:
         """Says what to do."""
-        super().__init__(f"{path}: {what}: the file is damaged; remove it, and run again")
+        super().__init__(f"{path}: {what}: the file is damaged", "remove it, and run again")
 
 
 def digest_of(*parts: object) -> str:

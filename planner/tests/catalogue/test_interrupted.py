@@ -28,7 +28,7 @@ from crnplan.files import MARKER
 from planner.tests.catalogue.conftest import FILES, SETTINGS, TABLES, WORDS, leave_few
 from planner.tests.catalogue.made import Made
 from planner.tests.conftest import Command
-from planner.tests.sweep.clusters import SECONDS, Cluster
+from planner.tests.jobs.clusters import SECONDS, Cluster
 
 # Two batches and a half. After so many runs of the program all others wait, so that a plan stops in its middle: one
 # batch at least is kept then, however the runs are spread.
@@ -220,8 +220,8 @@ def test_full_disk(folder: Path, whole: Path, crnplan: Command, holding: Path, s
     (folder / "go_on").touch()
     _, errors = process.communicate(timeout=60)
     lines = [it for it in errors.decode().splitlines() if it.startswith("crnplan:")]
-    assert process.returncode == 2 and len(lines) == 1 and b"Traceback" not in errors, errors
-    assert "plan: " in lines[0] and "what was planned before is kept; make room" in lines[0]
+    assert process.returncode == 3 and len(lines) == 1 and b"Traceback" not in errors, errors
+    assert "plan" in lines[0] and "what was done before is kept; make room" in lines[0]
     there = kept(folder)
     assert 0 < there == goes_on(folder, whole, crnplan, holding)[1] < FEW
 
@@ -231,7 +231,7 @@ def test_no_room_to_read(folder: Path, crnplan: Command, holding: Path, start: S
     process = start(before=lambda: resource.setrlimit(resource.RLIMIT_FSIZE, (9_000, 9_000)))
     _, errors = process.communicate(timeout=60)
     lines = [it for it in errors.decode().splitlines() if it.startswith("crnplan:")]
-    assert process.returncode == 2 and len(lines) == 1 and "make room" in lines[0], errors
+    assert process.returncode == 3 and len(lines) == 1 and "make room" in lines[0], errors
     assert [it.name for it in (folder / "plan").iterdir()] == [MARKER]
 
 
@@ -242,7 +242,7 @@ def test_a_worker_that_is_killed(folder: Path, whole: Path, crnplan: Command, ho
     os.kill(children(process)[0], signal.SIGKILL)
     (folder / "go_on").touch()
     _, errors = process.communicate(timeout=60)
-    assert process.returncode == 2 and b"a worker process has ended by force" in errors and b"Traceback" not in errors
+    assert process.returncode == 3 and b"a worker process has ended by force" in errors and b"Traceback" not in errors
     assert goes_on(folder, whole, crnplan, holding)[1] >= 1
 
 
@@ -255,9 +255,9 @@ def test_a_cluster_that_loses_a_worker(folder: Path, drawn: Path, holding: Path,
         shutil.copytree(drawn, folder / "plan", ignore=shutil.ignore_patterns(f"{CANDIDATES}*", *CURVE_TABLES))
     cluster = Cluster(folder)
     try:
-        cluster.open(hidden=False)
+        cluster.open()
         words = [*command, "--program", str(holding), "--cluster", cluster.address]
-        cluster.start("driver", "-m", "crnplan", *words, hidden=False)
+        cluster.start("driver", "-m", "crnplan", *words)
         cluster.wait_until("the first batch", lambda: kept(folder, file) >= 1, "driver")
         cluster.end("leaves")
         assert kept(folder, file) < FEW and children(cluster.processes["driver"]) == []

@@ -9,17 +9,21 @@ import difflib
 import importlib
 import os
 import sys
+import traceback
+from pathlib import Path
 from typing import Any
 
 import click
 
 from .. import __version__
-from ..errors import CrnplanError
+from ..errors import CrnplanError, Failed, Refused
+from ..files import faults_of
 
 # The threads of linear algebra gain nothing here. Beside other work they wait for one another, busily.
 for _threads in ("OMP_NUM_THREADS", "OPENBLAS_NUM_THREADS"):
     os.environ.setdefault(_threads, "1")
 
+INTERRUPTED = 130
 # The subcommands in the order in which a planner meets them, with one line for the list of `--help`.
 COMMANDS = {
     "item": "Plan one item: from a history and settings to a decision.",
@@ -82,28 +86,35 @@ def group() -> None:
 
 
 def main() -> None:
-    """Runs the command. Ends with status 0; 1 if the answer is no; 2 if an input or a word is refused; 130 if
-    interrupted."""
-    try:
-        result: Any = group.main(prog_name="crnplan", standalone_mode=False)
-        sys.exit(result if isinstance(result, int) else 0)
-    except click.UsageError as fault:
-        message = fault.format_message()
-        end = "" if message.endswith(("?", ".")) else "."
-        hint = f"{end} {fault.ctx.command_path} --help shows the words." if fault.ctx else ""
-        print(f"crnplan: {message}{hint}", file=sys.stderr)
-        sys.exit(2)
-    except click.ClickException as fault:
-        print(f"crnplan: {fault.format_message()}", file=sys.stderr)
-        sys.exit(2)
-    except CrnplanError as fault:
-        from .output import note
-        note(fault.message)
-        sys.exit(fault.status)
-    except (KeyboardInterrupt, click.Abort):
-        print("crnplan: interrupted", file=sys.stderr)
-        sys.exit(130)
-    except BrokenPipeError:
-        # The reader of standard output has gone. Nothing more is to be said, not even at the exit.
-        os.dup2(os.open(os.devnull, os.O_WRONLY), sys.stdout.fileno())
-        sys.exit(0)
+    """Runs the command. Ends with status 0; 1 if the answer is no; 2 if an input or a word is refused; 3 if no input is
+    to blame; 130 if interrupted."""
+    from .output import note, shown_safely
+    with shown_safely():
+        try:
+            with faults_of(Path("crnplan")):
+                result: Any = group.main(prog_name="crnplan", standalone_mode=False)
+                print(end="", flush=True)
+            status = result if isinstance(result, int) else 0
+        except click.UsageError as fault:
+            message = fault.format_message()
+            end = "" if message.endswith(("?", ".")) else "."
+            note(f"{message}{end} {fault.ctx.command_path} --help shows the words." if fault.ctx else message)
+            status = Refused.status
+        except click.ClickException as fault:
+            note(fault.format_message())
+            status = Refused.status
+        except CrnplanError as fault:
+            note(fault.message)
+            status = fault.status
+        except (KeyboardInterrupt, click.Abort):
+            note("interrupted")
+            status = INTERRUPTED
+        except MemoryError:
+            note("out of memory; close other programs, or use a machine with more")
+            status = Failed.status
+        except Exception as fault:
+            place = traceback.extract_tb(fault.__traceback__)[-1]
+            note(f"a fault of crnplan itself: {type(fault).__name__}: {fault} ({Path(place.filename).name}:{place.lineno});"
+                 " please report this line")
+            status = Failed.status
+    sys.exit(status)

@@ -3,9 +3,8 @@ from __future__ import annotations
 
 import click
 
+from ..crnsim.sweep import numbers_of, sweep
 from ..scenario import Scenario
-from ..sweep import sweep
-from ..sweep.grid import numbers_of
 from .output import form_options, show_report
 
 
@@ -28,7 +27,8 @@ def command(base: str, points: tuple[int, int, int], levels: tuple[int, int, int
     first.
 
     With --out each report is kept in FOLDER, and the same sweep begun again runs only what is not there. With --cluster
-    the scenarios go to the Dask scheduler at ADDRESS; its workers need the program at PATH and nothing else.
+    the scenarios go to the Dask scheduler at ADDRESS; its workers need the same crnplan, and the same
+    program at PATH.
 
     How many scenarios are done goes to standard error: on a terminal as a bar, in a log as some ten lines.
     """

@@ -11,12 +11,14 @@ from collections.abc import Iterable
 from concurrent.futures import ThreadPoolExecutor
 from pathlib import Path
 
-from ..errors import ProgramError, argument
-from ..formats import status_of
+from ..errors import ProgramError, ProgramFailed, argument
+from ..formats import STATUSES, status_of
 
 VARIABLE = "CRNSIM"
 # Runs at a time. A run itself uses several processors.
 JOBS = 4
+# Statuses with which no input is to blame.
+FAILURES = {STATUSES[line] for line in ("reading", "writing", "thread", "gate", "memory")}
 
 
 def _named(path: str | Path, how: str) -> Path:
@@ -59,6 +61,13 @@ def find_program(named: str | Path | None = None) -> Path:
     return program_and_reason(named)[0]
 
 
+def program_for(named: str | Path | None, cluster: str | None) -> str:
+    """Returns the program's path. The workers of a cluster may have a named one even if this machine has not."""
+    if cluster is None or named is None:
+        return str(find_program(named))
+    return os.path.abspath(named) if os.sep in str(named) else str(named)
+
+
 def run_program(program: Path, text: str, *words: str) -> str:
     """Runs the program with words on a text, and returns its standard output.
 
@@ -72,6 +81,8 @@ def run_program(program: Path, text: str, *words: str) -> str:
     if ran.returncode == 0:
         return ran.stdout.decode()
     line = "; ".join(ran.stderr.decode(errors="replace").splitlines()) or f"no output, status {ran.returncode}"
+    if ran.returncode < 0 or ran.returncode in FAILURES:
+        raise ProgramFailed(f"{program}: {line}", "look for memory and processes of this machine, and run again")
     raise ProgramError(f"{program}: {line}" + "; crnplan why says why" * (ran.returncode == status_of("scenario")))
 
 

@@ -15,7 +15,7 @@ import numpy as np
 from ..crnsim.report import Report
 from ..decide.intervals import own_variance, t_quantile
 from ..decide.long_run import FEWEST_ORDERS
-from ..errors import CrnplanError
+from ..errors import Failed
 from ..scenario import Scenario
 from ..theory.long_run import LongRun
 from ..theory.start_bias import start_bias
@@ -29,10 +29,8 @@ from ..remarks import Remark
 SUSPECT, CHANCE = 1e-4, 1e-9
 
 
-class Disagreement(CrnplanError):
+class Disagreement(Failed):
     """A run whose figure is further from exact theory than chance allows: one of both is wrong, a fault of ours."""
-
-    status = 3
 
     def __init__(self, fault: Remark) -> None:
         """Keeps what differs."""

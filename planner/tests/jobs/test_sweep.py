@@ -1,8 +1,10 @@
 """Tests of crnplan sweep: its table, what it refuses, and sweeps that are cut off and go on."""
 from __future__ import annotations
 
+import contextlib
 import os
 import signal
+import sqlite3
 import subprocess
 import sys
 import time
@@ -67,28 +69,44 @@ def test_any_number_of_runs_at_a_time_gives_the_same_bytes(base: Path, crnplan: 
     assert report.text == one.output and report.scenario.policies[0].name == "A"
 
 
-# A file of a sweep's folder, how much of it is left (0: it is removed) and what is put behind; how many runs the sweep
-# then takes.
-CUTS = [("00001.csv", 0, "", 1), ("00000.toml", 0, "", 1), ("00000.toml", 9, "", 1), ("00002.csv", -2, "", 1),
-        ("00002.csv", -1, "", 1), ("00001.csv", None, "A", 1), ("", 0, "", 0)]
+def kept(folder: Path) -> list[tuple[str, str]]:
+    """Returns the reports that a sweep has kept, by a look from outside."""
+    try:
+        with contextlib.closing(sqlite3.connect(f"file:{folder}/sweep.sqlite?mode=ro", uri=True)) as base:
+            return base.execute("SELECT item, report FROM answers ORDER BY item").fetchall()
+    except sqlite3.OperationalError:  # it is not there yet
+        return []
 
 
-@pytest.mark.parametrize(("cut", "left", "behind", "expected"), CUTS,
-                         ids=[f"{it[0] or 'nothing'} {it[1]} {it[2]}" for it in CUTS])
-def test_goes_on_where_it_was_cut_off(base: Path, room: Path, crnplan: Command, runs: Callable[[], int], cut: str,
-                                      left: int | None, behind: str, expected: int) -> None:
-    """Checks that a sweep runs only what is not kept whole, and prints the same table."""
+@pytest.mark.parametrize(("change", "expected"), [
+    ("", 0), ("DELETE FROM answers WHERE item = '00001'", 1), ("DELETE FROM answers", SCENARIOS),
+    ("UPDATE answers SET digest = 'other' WHERE item > '00000'", 2)])
+def test_goes_on_where_it_was_cut_off(base: Path, room: Path, crnplan: Command, runs: Callable[[], int], change: str,
+                                      expected: int) -> None:
+    """Checks that a sweep runs only what is not kept, and prints the same table."""
     whole = crnplan("sweep", base, *GRID)
     assert whole.status == 0 and runs() == SCENARIOS
     assert crnplan("sweep", base, *GRID, "--out", "kept").output == whole.output and runs() == SCENARIOS
-    kept = {path.name: path.read_bytes() for path in (room / "kept").glob("0*")}
-    if left == 0 and cut:
-        (room / "kept" / cut).unlink()
-    elif cut:
-        (room / "kept" / cut).write_bytes(kept[cut][:left] + behind.encode())
+    before = kept(room / "kept")
+    with contextlib.closing(sqlite3.connect(room / "kept/sweep.sqlite")) as changed_base, changed_base:
+        changed_base.executescript(change)
     again = crnplan("sweep", base, *GRID, "--out", "kept")
-    assert again.output == whole.output and runs() == expected
-    assert {path.name: path.read_bytes() for path in (room / "kept").glob("0*")} == kept
+    assert again.output == whole.output and runs() == expected and kept(room / "kept") == before
+
+
+@pytest.mark.parametrize("change", [
+    lambda path: path.write_bytes(path.read_bytes()[:4096] + 9 * b"damaged" + path.read_bytes()[4159:]),
+    lambda path: path.write_text("no database, but long enough to look like one, in some way" * 9),
+    lambda path: sqlite3.connect(path, isolation_level=None).execute(
+        "UPDATE answers SET report = replace(report, 'A,20,40,222,', 'A,20,40,223,')")])
+def test_a_damaged_store_is_named(base: Path, room: Path, crnplan: Command, change: Callable[[Path], object]) -> None:
+    """Checks that a store which was changed is named with what to remove, with status 3, and works without it."""
+    whole = crnplan("sweep", base, *GRID, "--out", "kept")
+    change(room / "kept/sweep.sqlite")
+    told = crnplan("sweep", base, *GRID, "--out", "kept")
+    assert told[:2] == (3, "") and "kept/sweep.sqlite: " in told.errors and "remove it" in told.errors, told
+    (room / "kept/sweep.sqlite").unlink()
+    assert crnplan("sweep", base, *GRID, "--out", "kept").output == whole.output
 
 
 def test_another_base_is_run_again(base: Path, crnplan: Command, runs: Callable[[], int]) -> None:
@@ -120,18 +138,20 @@ def test_a_base_with_a_fault_is_refused(base: Path, crnplan: Command) -> None:
     assert refused(crnplan("sweep", base, *GRID), "fault 6")
 
 
-def test_reports_of_two_bases_are_refused(base: Path, room: Path, crnplan: Command) -> None:
-    """Checks that a kept report whose base has another row than that of the other reports is refused."""
-    crnplan("sweep", base, *GRID, "--out", "kept")
-    other = room / "kept/00001.csv"
-    other.write_text(changed(other.read_text("utf-8"), "A,20,40,222,", "A,20,40,223,"), "utf-8")
-    assert refused(crnplan("sweep", base, *GRID, "--out", "kept"), "not the same row")
+def test_reports_of_two_bases_are_refused(base: Path, room: Path, program: Path, crnplan: Command) -> None:
+    """Checks that a program which gives the base another row in one report than in the others is refused."""
+    (room / "counting").write_text(f"""#!/bin/sh
+if [ -e "{room}/second" ]; then "{program}" | sed 's/^A,20,40,222,/A,20,40,223,/'; else "{program}"; fi
+touch "{room}/second"
+""", "utf-8")
+    assert refused(crnplan("sweep", base, *GRID), "not the same row")
 
 
 def test_a_failing_program_is_refused(base: Path, room: Path, program: Path, crnplan: Command) -> None:
     """Checks that a program that writes a report and fails is refused."""
     (room / "counting").write_text(COUNTING.format(room=room, program=program, how="") + "exit 5\n", "utf-8")
-    assert refused(crnplan("sweep", base, *GRID), "no report, status 5")
+    told = crnplan("sweep", base, *GRID)
+    assert told[:2] == (3, "") and "status 5" in told.errors
 
 
 @pytest.mark.parametrize(("words", "part"), [
@@ -141,7 +161,7 @@ def test_a_failing_program_is_refused(base: Path, room: Path, program: Path, crn
     (["--s", "20", "20", "1", "--S", "40", "40", "1"], "the grid has no pair with s <= S beside the base"),
     (["--s", "50", "60", "1", "--S", "40", "40", "1"], "the grid has no pair with s <= S beside the base"),
     (["--s", "1", "3", "1", "--S", "9", "9", "1", "--program", "./nobody"], "there is no program ./nobody"),
-    (["--s", "1", "3", "1", "--S", "9", "9", "1", "--out", "base.toml"], "base.toml: File exists")],
+    (["--s", "1", "3", "1", "--S", "9", "9", "1", "--out", "base.toml"], "base.toml: File exists; name a folder")],
     ids=["from above to", "too large", "no step", "the base alone", "no pair", "no program", "no folder"])
 def test_words_are_refused(base: Path, crnplan: Command, words: list[str], part: str) -> None:
     """Checks what is said of grids, programs and folders that cannot be used."""
@@ -189,16 +209,16 @@ def test_goes_on_after_an_interrupt(base: Path, room: Path, program: Path, crnpl
     with subprocess.Popen([sys.executable, "-m", "crnplan", *words], stdout=subprocess.PIPE,
                           stderr=subprocess.PIPE, text=True, start_new_session=True) as process:
         for _ in range(600):
-            if (room / "third").exists() and len(list((room / "kept").glob("*.toml"))) == 2:
+            if (room / "third").exists() and len(kept(room / "kept")) == 2:
                 break
             time.sleep(0.05)
         os.killpg(process.pid, signal.SIGINT)
         output, errors = process.communicate(timeout=60)
-    assert (process.returncode, output) == (130, "") and errors.endswith("crnplan: interrupted\n")
+    assert (process.returncode, output) == (130, "") and errors.endswith("crnplan: interrupted\n") and "are done and kept" in errors
     # The interrupt ends the third run too, so the next one may have begun before all are cancelled.
-    assert len(list((room / "kept").glob("*.toml"))) == 2 and runs() in (3, 4)
+    assert len(kept(room / "kept")) == 2 and runs() in (3, 4)
     (room / "go_on").touch()
     after = crnplan(*words)
-    parts = len(list((room / "kept").glob("*.toml")))
+    parts = len(kept(room / "kept"))
     assert after.status == 0 and runs() == parts - 2 > 1
     assert after.output == crnplan(*words[:-2]).output and runs() == parts

@@ -1,22 +1,23 @@
 """A Dask cluster of two workers on this machine, for the tests of crnplan with --cluster.
 
 Each process reads its name from its environment, which the program that it runs inherits. It leads a process group, so
-it ends together with what it has started. It listens on the loopback interface only. Unless it is asked for, the
-processes of the cluster find a package crnplan that cannot be imported: workers of a sweep need the program and nothing
-else.
+it ends together with what it has started. It listens on the loopback interface only.
 """
 from __future__ import annotations
 
 import contextlib
 import json
 import os
+import shutil
 import signal
 import subprocess
 import sys
 import time
-from collections.abc import Callable
+from collections.abc import Callable, Sequence
 from pathlib import Path
 from typing import TypeVar
+
+import crnplan as crn
 
 # What a cluster may take, from its first process to its last one. A process whose driver was ended by force ends by
 # itself soon after that.
@@ -24,8 +25,16 @@ SECONDS = 120
 LOOPBACK = "127.0.0.1"
 WORKERS = ("stays", "leaves")
 WAITING = "import distributed, sys; distributed.Client(sys.argv[1]).wait_for_workers(int(sys.argv[2]), 30)"
-NO_CRNPLAN = "raise ImportError('a worker has no crnplan')\n"
 Found = TypeVar("Found")
+
+
+def changed_package(room: Path, code: str) -> Path:
+    """Returns a folder with a copy of crnplan that has more code."""
+    folder = room / "changed"
+    shutil.copytree(Path(crn.__file__).parent, folder / "crnplan", ignore=shutil.ignore_patterns("__pycache__"))
+    with (folder / "crnplan/__init__.py").open("a", encoding="utf-8") as file:
+        file.write(f"# changed\n{code}")
+    return folder
 
 
 class Cluster:
@@ -38,14 +47,10 @@ class Cluster:
         self.latest = time.monotonic() + SECONDS
         self.environment = {name: value for name, value in os.environ.items() if not name.startswith("DASK_")}
         self.environment["DASK_CONFIG"] = str(room / "no_settings")
-        (room / "hidden").mkdir()
-        (room / "hidden/crnplan.py").write_text(NO_CRNPLAN, "utf-8")
 
-    def start(self, name: str, *words: str, hidden: bool = True, **others: str) -> None:
-        """Starts Python on these words, without crnplan unless `hidden` is false. `others` are variables of its own."""
+    def start(self, name: str, *words: str, **others: str) -> None:
+        """Starts Python on these words. `others` are variables of its own."""
         environment = {**self.environment, "CRNSIM_WORKER": name, **others}
-        if hidden:
-            environment["PYTHONPATH"] = str(self.room / "hidden")
         with (self.room / f"{name}.out").open("wb") as output, (self.room / f"{name}.errors").open("wb") as errors:
             self.processes[name] = subprocess.Popen([sys.executable, *words], cwd=self.room, env=environment,
                                                     stdin=subprocess.DEVNULL, stdout=output, stderr=errors,
@@ -111,17 +116,25 @@ class Cluster:
         except (OSError, ValueError):
             return ""
 
-    def open(self, hidden: bool = True, **of_leaving: str) -> None:
-        """Starts the scheduler and its workers, without crnplan unless `hidden` is false, and waits until they know each
-        other. The worker that leaves has some variables of its own."""
+    def open(self, workers: Sequence[str] = WORKERS, **of_leaving: str) -> None:
+        """Starts the scheduler and workers, and waits until they know each other. The worker that leaves has some
+        variables of its own."""
         here = ["--host", LOOPBACK, "--no-dashboard", "--dashboard-address", f"{LOOPBACK}:0"]
         self.start("scheduler", "-m", "distributed.cli.dask_scheduler", *here, "--port", "0", "--scheduler-file",
-                   "scheduler.json", "--idle-timeout", f"{SECONDS}s", hidden=hidden)
+                   "scheduler.json", "--idle-timeout", f"{SECONDS}s")
         self.address = self.wait_until("the scheduler's address", self.scheduler_address, "scheduler")
-        for name in WORKERS:
-            self.start(name, "-m", "distributed.cli.dask_worker", self.address, *here, "--no-nanny", "--nthreads", "1",
-                       "--memory-limit", "0", "--local-directory", str(self.room / f"of_{name}"), "--name", name,
-                       "--death-timeout", f"{SECONDS}s", "--lifetime", f"{2 * SECONDS}s", hidden=hidden,
-                       **(of_leaving if name == "leaves" else {}))
-        self.start("asker", "-c", WAITING, self.address, str(len(WORKERS)))
+        for name in workers:
+            self.join(name, **(of_leaving if name == "leaves" else {}))
+        self.wait_for(len(workers))
+
+    def join(self, name: str, **others: str) -> None:
+        """Starts a worker, with some variables of its own."""
+        self.start(name, "-m", "distributed.cli.dask_worker", self.address, "--host", LOOPBACK, "--no-dashboard",
+                   "--dashboard-address", f"{LOOPBACK}:0", "--no-nanny", "--nthreads", "1", "--memory-limit", "0",
+                   "--local-directory", str(self.room / f"of_{name}"), "--name", name, "--death-timeout",
+                   f"{SECONDS}s", "--lifetime", f"{2 * SECONDS}s", **others)
+
+    def wait_for(self, workers: int) -> None:
+        """Waits until the scheduler knows so many workers."""
+        self.start("asker", "-c", WAITING, self.address, str(workers))
         assert self.wait_for_end("asker") == 0, f"the workers did not come: {self.last_words('asker')}"

@@ -9,7 +9,7 @@ from pathlib import Path
 
 import pytest
 
-from crnplan.sweep.progress import lines, progress
+from crnplan.jobs import lines, progress
 from planner.tests.conftest import Command
 
 # Ten scenarios without the base: 150 pairs.
@@ -44,7 +44,7 @@ def test_a_log_of_many_scenarios_has_at_most_ten_lines(crnplan: Command) -> None
 def test_lines_begin_and_end(capsys: pytest.CaptureFixture[str], total: int) -> None:
     """Checks the first and the last line, and that there are at most ten, for each kept number of a few."""
     for kept in {0, total // 2, total}:
-        show = lines(total, kept)
+        show = lines(total, kept, "scenarios")
         for done in range(kept + 1, total + 1):
             show(done)
         shown = capsys.readouterr().err.splitlines()
@@ -65,6 +65,6 @@ def test_a_terminal_has_a_bar(room: Path) -> None:
 
 def test_the_function_is_silent(capsys: pytest.CaptureFixture[str]) -> None:
     """Checks that nothing is shown unless it is asked for."""
-    with progress(3, 0, shown=False) as show:
+    with progress(3, 0, False, "items") as show:
         show(3)
     assert capsys.readouterr() == ("", "")

@@ -1,4 +1,5 @@
-"""Tests of sweeps over a cluster: a worker ends, there is a fault, the scheduler ends, or is not there."""
+"""Tests of work on a cluster: workers that end, hang, or are not as this machine; a scheduler that ends or is not there.
+"""
 from __future__ import annotations
 
 import sys
@@ -8,9 +9,12 @@ from typing import NamedTuple
 
 import pytest
 
+import crnplan as crn
+from crnplan import jobs
 from planner.tests.conftest import Answer, Command
 from planner.tests.decide.answers import priced
-from planner.tests.sweep.clusters import LOOPBACK, SECONDS, WORKERS, Cluster
+from planner.tests.jobs.clusters import LOOPBACK, SECONDS, WORKERS, Cluster, changed_package
+from planner.tests.jobs.test_sweep import kept
 
 # A sweep of eight scenarios, for two workers.
 GRID = ["--s", "50", "61", "1", "--S", "70", "79", "1"]
@@ -27,6 +31,13 @@ status=$?
 echo "$CRNSIM_WORKER ends" >> "{room}/taken"
 exit $status
 """
+# Hangs in each run of a worker, or of all, but not for ever.
+HANGING = """#!/bin/sh
+echo "$CRNSIM_WORKER begins" >> "{room}/taken"
+case "{hangs}" in "$CRNSIM_WORKER"|both) sleep 60;; esac
+"{program}"
+echo "$CRNSIM_WORKER ends" >> "{room}/taken"
+"""
 
 
 class Taken(NamedTuple):
@@ -42,6 +53,7 @@ def cluster(room: Path, program: Path) -> Iterator[Cluster]:
     (room / "base.toml").write_text(priced(room / "examples/two_policies.toml", 3), "utf-8")
     (room / "holding").write_text(HOLDING.format(room=room, program=program), "utf-8")
     (room / "holding").chmod(0o755)
+    (room / "program").symlink_to(program)
     opened = Cluster(room)
     try:
         opened.open()
@@ -61,18 +73,13 @@ def taken(room: Path, worker: str) -> Taken:
 def start(cluster: Cluster, name: str, *words: str) -> None:
     """Starts a sweep over the cluster."""
     sweep = ["-m", "crnplan", "sweep", "base.toml", *GRID, "--cluster", cluster.address]
-    cluster.start(name, *sweep, *words, hidden=False)
+    cluster.start(name, *sweep, *words)
 
 
 def ended(cluster: Cluster, name: str) -> Answer:
     """Returns how a sweep over the cluster has ended."""
     status = cluster.wait_for_end(name)
     return Answer(status, *((cluster.room / f"{name}.{it}").read_text("utf-8") for it in ("out", "errors")))
-
-
-def kept_texts(folder: Path) -> dict[str, bytes]:
-    """Returns the files of a sweep's folder."""
-    return {path.name: path.read_bytes() for path in folder.glob("0*")}
 
 
 def test_a_worker_that_leaves_changes_nothing(cluster: Cluster, room: Path, crnplan: Command) -> None:
@@ -86,15 +93,15 @@ def test_a_worker_that_leaves_changes_nothing(cluster: Cluster, room: Path, crnp
     assert (told.status, told.output) == (0, here.output) == here[:2], told.errors[-1000:]
     stays, leaves = (taken(room, it) for it in WORKERS)
     assert leaves == (2, 1) and stays.begun == stays.ended >= SCENARIOS - 1
-    kept = kept_texts(room / "kept_by_cluster")
-    assert len(kept) == 2 * SCENARIOS and kept == kept_texts(room / "kept_here")
+    by_cluster = kept(room / "kept_by_cluster")
+    assert len(by_cluster) == SCENARIOS and by_cluster == kept(room / "kept_here")
 
 
 def test_a_fault_of_the_base(cluster: Cluster, room: Path) -> None:
     """Checks that a fault of the base is reported, and a failing program by its line."""
     start(cluster, "failing", "--program", "/bin/false")
     told = ended(cluster, "failing")
-    assert told[:2] == (2, "") and "no report, status 1" in told.errors
+    assert told[:2] == (2, "") and "no output, status 1" in told.errors
     text = (room / "base.toml").read_text("utf-8")
     (room / "base.toml").write_text(text.replace("initial = 60", "initial = -1"), "utf-8")
     start(cluster, "fault")
@@ -103,14 +110,50 @@ def test_a_fault_of_the_base(cluster: Cluster, room: Path) -> None:
 
 
 def test_a_scheduler_that_ends(cluster: Cluster, room: Path) -> None:
-    """Ends the scheduler in the middle of a sweep, and begins one whose scheduler is not there."""
-    for name in ("cut", "nobody"):
-        start(cluster, name, "--program", "./holding")
+    """Ends the scheduler in the middle of a sweep: what is done is kept and said, with status 3. Then begins one whose
+    scheduler is not there, with status 2."""
+    for name, status in (("cut", 3), ("nobody", 2)):
+        start(cluster, name, "--program", "./holding", "--out", "kept")
         if name == "cut":
-            cluster.wait_until("the second run", lambda: taken(room, "stays").begun == 2, name)
+            cluster.wait_until("two reports", lambda: len(kept(room / "kept")) == 2, name)
             cluster.end("scheduler")
         told = ended(cluster, name)
-        assert told[:2] == (2, "") and f"crnplan: --cluster {cluster.address}: " in told.errors
+        assert told[:2] == (status, "") and f"crnplan: --cluster {cluster.address}: " in told.errors, told
+        assert "2 of 8 scenarios are done and kept; run again to go on" in told.errors
+    assert len(kept(room / "kept")) == 2 and "Traceback" not in told.errors
+
+
+@pytest.mark.parametrize("hangs", ["leaves", "both"])
+def test_a_batch_that_hangs(cluster: Cluster, room: Path, monkeypatch: pytest.MonkeyPatch, hangs: str) -> None:
+    """Gives a batch that takes too long to another worker, where the result is the same. If it hangs on all of them, the
+    sweep ends and says so."""
+    here = crn.sweep(crn.Scenario.read(room / "base.toml"), range(50, 62), range(70, 80), program=room / "holding")
+    (room / "taken").unlink()
+    (room / "holding").write_text(HANGING.format(room=room, program=room / "program", hangs=hangs), "utf-8")
+    monkeypatch.setattr(jobs, "LIMIT_SECONDS", 1.0)
+
+    def swept() -> str:
+        """Returns the report of the sweep over the cluster."""
+        return crn.sweep(crn.Scenario.read(room / "base.toml"), range(50, 62), range(70, 80), program=room / "holding",
+                         cluster=cluster.address, out=room / "kept").text
+    if hangs == "both":
+        with pytest.raises(crn.Failed, match="has taken longer than 1 seconds on each of 3 workers"):
+            swept()
+    else:
+        assert swept() == here.text and taken(room, "leaves").ended < taken(room, "leaves").begun
+
+
+def test_a_stranger_that_comes_later(cluster: Cluster, room: Path) -> None:
+    """Refuses a worker with another crnplan that joins in the middle, and keeps what the others did."""
+    start(cluster, "sweep", "--program", "./holding", "--out", "kept")
+    cluster.wait_until("two reports", lambda: len(kept(room / "kept")) == 2, "sweep")
+    cluster.join("late", PYTHONPATH=str(changed_package(room, "")))
+    cluster.wait_for(3)
+    cluster.end("leaves")
+    (room / "go_on").touch()
+    told = ended(cluster, "sweep")
+    assert told[:2] == (2, "") and "the worker late (tcp://" in told.errors and "has another crnplan" in told.errors
+    assert len(kept(room / "kept")) >= 2
 
 
 def test_missing_distributed_is_refused(room: Path, crnplan: Command, monkeypatch: pytest.MonkeyPatch) -> None:

@@ -2,15 +2,13 @@
 from __future__ import annotations
 
 import os
-import shutil
 from collections.abc import Iterator
 from pathlib import Path
 
 import pytest
 
-import crnplan as crn
 from planner.tests.catalogue.conftest import WORDS, leave_few
-from planner.tests.sweep.clusters import SECONDS, Cluster
+from planner.tests.jobs.clusters import SECONDS, Cluster, changed_package
 
 FEW = 20
 # Runs the program on a scenario with another key, so on other demands.
@@ -45,14 +43,14 @@ def cluster(folder: Path, program: Path) -> Iterator[Cluster]:
 def planned(cluster: Cluster) -> tuple[int, str]:
     """Plans the catalogue on a cluster, and returns the status and what was said on standard error."""
     cluster.start("driver", "-m", "crnplan", "catalogue", *WORDS, "--out", "plan", "--program", "crnsim", "--cluster",
-                  cluster.address, hidden=False)
+                  cluster.address)
     return cluster.wait_for_end("driver"), (cluster.room / "driver.errors").read_text("utf-8")
 
 
 @pytest.mark.timeout(2 * SECONDS)
 def test_a_worker_with_another_crnsim(cluster: Cluster, folder: Path) -> None:
     """Refuses a worker whose crnsim is another one, and names it. The same crnsim everywhere is taken."""
-    cluster.open(hidden=False, PATH=f"{folder / 'other'}:{os.environ['PATH']}")
+    cluster.open(PATH=f"{folder / 'other'}:{os.environ['PATH']}")
     status, errors = planned(cluster)
     assert status == 2 and "leaves" in errors and "has another crnsim" in errors and "stays" not in errors, errors
     assert not (folder / "plan/decisions.csv").exists() and "Traceback" not in errors
@@ -63,11 +61,7 @@ def test_a_worker_with_another_crnsim(cluster: Cluster, folder: Path) -> None:
 @pytest.mark.timeout(2 * SECONDS)
 def test_a_worker_with_another_crnplan(cluster: Cluster, folder: Path) -> None:
     """Refuses a worker whose crnplan was changed, and names it."""
-    package = Path(crn.__file__).parent
-    shutil.copytree(package, folder / "changed/crnplan", ignore=shutil.ignore_patterns("__pycache__"))
-    with (folder / "changed/crnplan/__init__.py").open("a", encoding="utf-8") as file:
-        file.write(OTHER_PACKAGE)
-    cluster.open(hidden=False, PYTHONPATH=str(folder / "changed"))
+    cluster.open(PYTHONPATH=str(changed_package(folder, OTHER_PACKAGE)))
     status, errors = planned(cluster)
     assert status == 2 and "leaves" in errors and "has another crnplan" in errors and "stays" not in errors, errors
     assert not (folder / "plan/decisions.csv").exists() and "Traceback" not in errors

@@ -1,0 +1,119 @@
+"""Compares a grid of (s,S) policies with a base by many runs of crnsim, which are kept as they come."""
+from __future__ import annotations
+
+import contextlib
+from collections.abc import Iterable, Sequence
+from dataclasses import dataclass
+from pathlib import Path
+from typing import Any
+
+from .. import formats
+from ..errors import Refused
+from ..files import own_folder
+from ..jobs import Work, program_digest, workers_of
+from ..money import whole
+from ..remarks import Remark
+from ..scenario import Policy, Scenario
+from ..stored import Store, digest_of
+from ..toml.reading import checked_tree
+from ..toml.writing import plain_text
+from .program import program_for, run_program
+from .report import Report, Row, rows_of
+
+REPORTS = "sweep.sqlite"
+# Each scenario of a sweep has the base, which leaves room for one policy less.
+GRID_POLICIES = formats.POLICIES[1] - 1
+
+
+@dataclass(frozen=True)
+class Part:
+    """A scenario of a sweep: its policies, of which the first is the base, and its text."""
+
+    policies: tuple[Policy, ...]
+    text: str
+
+
+@dataclass(frozen=True)
+class Kept:
+    """What the program has written for a scenario."""
+
+    report: str
+
+
+def numbers_of(name: str, first: int, last: int, step: int) -> range:
+    """Returns the numbers from `first` to `last` of one side of the grid, in items. `name` is s or S."""
+    if not (0 <= first <= last <= formats.MOST_ITEMS and step >= 1):
+        raise Refused(f"--{name}: FROM and TO are 0 to {formats.MOST_ITEMS:,} and rise, and STEP is at least 1")
+    return range(first, last + 1, step)
+
+
+def grid_of(scenario: Scenario, points: Iterable[Any], levels: Iterable[Any]) -> list[Policy]:
+    """Returns the pairs of the grid with s <= S, without the base's own pair.
+
+    Raises Refused if there is none or if a name would come twice, and ScenarioError if a level is out of range.
+    """
+    base, rising = scenario.policies[0], [whole(level, "S") for level in levels]
+    grid = [Policy.of_levels(point, level) for point in (whole(it, "s") for it in points) for level in rising
+            if point <= level and (point, level) != (base.s, base.S)]
+    if not grid:
+        raise Refused("the grid has no pair with s <= S beside the base")
+    if base.name in {policy.name for policy in grid}:
+        raise Refused(f"the base is called {base.name}, as a pair of the grid; give it another name")
+    checked_tree(scenario.with_policies([base, *grid]).tree, any_number=True)
+    return grid
+
+
+def parts_of(scenario: Scenario, grid: Sequence[Policy]) -> list[Part]:
+    """Returns the scenarios of a sweep: each has the base and up to 15 pairs, and all else as the given one."""
+    parts = [(scenario.policies[0], *grid[first:first + GRID_POLICIES]) for first in range(0, len(grid), GRID_POLICIES)]
+    return [Part(part, plain_text(scenario.with_policies(part).tree)) for part in parts]
+
+
+def joined(reports: Sequence[Sequence[Row]]) -> tuple[Row, ...]:
+    """Returns the rows of all reports: the base, and then the grid by `diff_total`, the cheapest first.
+
+    Pairs of equal cost stay in the order of the grid. Raises Refused if two reports have not the same base.
+    """
+    base = reports[0][0]
+    if any(rows[0] != base for rows in reports):
+        raise Refused("the base has not the same row in all reports")
+    return base, *sorted((row for rows in reports for row in rows[1:]), key=lambda row: row.diff_total)
+
+
+def run_parts(parts: Sequence[Part], program: str) -> list[Kept | Remark]:
+    """Runs the program on scenarios, and returns the reports. Raises ProgramError."""
+    reports = [Kept(run_program(Path(program), part.text)) for part in parts]
+    for part, kept in zip(parts, reports):
+        rows_of(part.policies, kept.report, program)
+    return [*reports]
+
+
+def kept_rows(part: Part, kept: Kept | Remark) -> list[Row]:
+    """Returns the rows of a report that is kept."""
+    assert isinstance(kept, Kept)
+    return rows_of(part.policies, kept.report, "")
+
+
+def sweep(scenario: Scenario, s: Iterable[Any], S: Iterable[Any], *, jobs: int | None = None,
+          out: str | Path | None = None, cluster: str | None = None, program: str | Path | None = None,
+          progress: bool = False) -> Report:
+    """Compares all pairs of reorder points `s` and levels `S` (items) with the scenario's first policy, the base.
+
+    Pairs with s above S are left out. All policies meet the same demands, under the scenario's key. The report has the
+    base first, and then the grid by `diff_total`, the cheapest first: the same bytes whatever the number of runs at a
+    time, `jobs` (by default one for each core). With `out`, a folder, each report is kept, and the same sweep begun
+    again runs only what is not there. With `cluster`, the address of a Dask scheduler, its workers run the program at
+    its path. `progress` shows on standard error how many scenarios are done. Raises Refused, ScenarioError if a level
+    is out of range, ProgramError if a run fails, and Failed.
+    """
+    path = program_for(program, cluster)
+    parts = {f"{number:05}": part for number, part in enumerate(parts_of(scenario, grid_of(scenario, s, S)))}
+    digest = program_digest(path, cluster)
+    with contextlib.nullcontext() if out is None else own_folder(Path(out), "sweep") as folder:
+        place = folder.store(REPORTS) if folder else Path(":memory:")
+        with contextlib.closing(Store(place, Kept)) as reports:
+            work = Work(reports, {name: digest_of(part.text, digest) for name, part in parts.items()})
+            work.finish(run_parts, parts.__getitem__, path, workers=workers_of(jobs, cluster, path),
+                        shown=progress, unit="scenarios", batch=1)
+            rows = joined([kept_rows(part, reports.answer(name)) for name, part in parts.items()])
+    return Report(rows, scenario.with_policies(Policy(row.policy, row.s, row.S) for row in rows))

@@ -1,0 +1,335 @@
+"""Runs batches of work in this process, in others, or on the workers of a Dask cluster, and keeps each answer as it comes.
+
+A batch that takes too long is given to another worker as well; what comes first counts. A function gives the same answer
+wherever it runs: workers of a cluster say which crnplan and which crnsim they have, and others than here are refused.
+"""
+from __future__ import annotations
+
+import contextlib
+import importlib
+import itertools
+import multiprocessing
+import os
+import shutil
+import signal
+import sys
+import threading
+import time
+from collections.abc import Callable, Iterable, Iterator, Mapping, Sequence
+from concurrent import futures
+from concurrent.futures.process import BrokenProcessPool
+from pathlib import Path
+from typing import Any, Generic, TypeVar
+
+from .errors import Failed, Refused, argument
+from .files import KEPT, digest_of, package_digest
+from .remarks import Remark
+from .stored import Store
+
+BATCH = 8
+# Batches that are under way for each worker. With one, so much at most is lost if all ends by force.
+AHEAD = 1
+# A batch of items takes seconds. After so many it is given to a further worker, and after so many workers all ends.
+LIMIT_SECONDS, MOST_TRIES = 900.0, 3
+WATCH_SECONDS = 0.5
+CONNECT_SECONDS, WORKER_SECONDS = 10, 30
+MOST_LINES = 10
+NO_DISTRIBUTED = f"{argument('cluster')} needs distributed, which is missing here"
+INSTALL = "install it (on Debian: apt-get install python3-distributed)"
+Answer = TypeVar("Answer")
+
+
+class Workers:
+    """What runs functions. This one runs each at once, in this process."""
+
+    most = 1
+
+    def share(self, word: Any) -> Any:
+        """Returns a word as it is sent to functions, if many of them take it."""
+        return word
+
+    def submit(self, function: Callable[..., Any], words: Sequence[Any], late: Sequence[Any] = ()) -> Any:
+        """Begins to run a function, not where it is late, and returns the future."""
+        future: futures.Future[Any] = futures.Future()
+        future.set_result(function(*words))
+        return future
+
+    def wait(self, running: Sequence[Any], seconds: float) -> None:
+        """Waits until one of the futures is done, or for so long."""
+        futures.wait(running, seconds, futures.FIRST_COMPLETED)
+
+    def result(self, future: Any) -> Any:
+        """Returns the result of a future that is done. Raises what the function has raised."""
+        return future.result()
+
+    def answers(self, function: Callable[..., Any], batches: Iterable[Sequence[Any]]) -> Iterator[Any]:
+        """Yields what a function returns for each batch of words, as it comes. Raises Failed if one takes too long."""
+        rest, running = iter(batches), list[_Batch]()
+        while True:
+            for words in itertools.islice(rest, self.most - len(running)):
+                running.append(_Batch(self, function, words))
+            if not running:
+                return
+            seconds = max(0.0, min(batch.due for batch in running) - time.monotonic())
+            self.wait([future for batch in running for future in batch.futures], seconds)
+            for batch in [*running]:
+                done = next((future for future in batch.futures if future.done()), None)
+                if done is not None:
+                    running.remove(batch)
+                    yield self.result(done)
+                elif batch.due <= time.monotonic():
+                    batch.give()
+
+
+class _Batch:
+    """A batch that is under way: its futures, one for each worker that it was given to, and when it is due."""
+
+    def __init__(self, workers: Workers, function: Callable[..., Any], words: Sequence[Any]) -> None:
+        """Gives it to a worker."""
+        self.workers, self.function, self.words = workers, function, words
+        self.futures: list[Any] = []
+        self.give()
+
+    def give(self) -> None:
+        """Gives it to a further worker. Raises Failed if it was given to enough of them."""
+        if len(self.futures) == MOST_TRIES:
+            raise Failed(f"a batch has taken longer than {LIMIT_SECONDS:g} seconds on each of {MOST_TRIES} workers",
+                         f"{KEPT}; look at these workers, and run again")
+        self.futures.append(self.workers.submit(self.function, self.words, self.futures))
+        self.due = time.monotonic() + LIMIT_SECONDS
+
+
+def _begin_worker(parent: int) -> None:
+    """Prepares a worker process. It ends with its parent, and leaves an interruption to it: a handler that does nothing
+    is not handed on to the programs that it runs."""
+    signal.signal(signal.SIGINT, lambda number, frame: None)
+
+    def watch() -> None:
+        """Looks whether the parent is there."""
+        while os.getppid() == parent:
+            time.sleep(WATCH_SECONDS)
+        os._exit(1)
+    threading.Thread(target=watch, daemon=True).start()
+
+
+class Processes(Workers):
+    """Processes of this machine."""
+
+    def __init__(self, jobs: int) -> None:
+        """Starts so many when they are needed."""
+        self.most, self.is_late = AHEAD * jobs, False
+        self.pool = futures.ProcessPoolExecutor(jobs, initializer=_begin_worker, initargs=(os.getpid(),))
+
+    def submit(self, function: Callable[..., Any], words: Sequence[Any], late: Sequence[Any] = ()) -> Any:
+        """Begins to run a function in a process that is free."""
+        self.is_late |= bool(late)
+        return self.pool.submit(function, *words)
+
+
+@contextlib.contextmanager
+def processes(jobs: int) -> Iterator[Workers]:
+    """Gives so many processes. With one, all runs in this one."""
+    if jobs == 1:
+        yield Workers()
+        return
+    before = set(multiprocessing.active_children())
+    workers = Processes(jobs)
+    try:
+        yield workers
+        workers.pool.shutdown(wait=not workers.is_late)
+    except BrokenProcessPool as fault:
+        raise Failed("a worker process has ended by force (was there enough memory?)",
+                     f"{KEPT}; run again, with fewer {argument('jobs')} if memory is short") from fault
+    finally:
+        # If all is well they have ended. Otherwise nobody waits for what they do.
+        for worker in set(multiprocessing.active_children()) - before:
+            worker.kill()
+        workers.pool.shutdown(wait=False, cancel_futures=True)
+
+
+def identity(program: str) -> dict[str, str]:
+    """Returns the digests of what makes figures here: of crnplan, and of a program, empty if it is not there."""
+    path = shutil.which(program) if program else None
+    return {"crnplan": package_digest(), "crnsim": digest_of(Path(path).read_bytes()) if path else ""}
+
+
+class Stranger:
+    """A worker of a cluster that would give other figures."""
+
+    def __init__(self, worker: str, own: Mapping[str, str], its: object) -> None:
+        """Takes the name of the worker, what is here, and its `identity`, or why it has none."""
+        what = [f"has another {name}" if its[name] else f"has no {name}" for name in own if own[name] != its[name]] \
+            if isinstance(its, Mapping) else [f"can't say which crnplan it has ({its})"]
+        self.is_one, self.text = bool(what), f"the worker {worker} {' and '.join(what)}"
+
+
+def _run_as_here(function: Callable[..., Any], own: Mapping[str, str], program: str, *words: Any) -> Any:
+    """Runs a function on a worker of a cluster, or returns the Stranger that the worker is."""
+    worker: Any = importlib.import_module("distributed").get_worker()
+    stranger = Stranger(f"{worker.name} ({worker.address})", own, identity(program))
+    return stranger if stranger.is_one else function(*words)
+
+
+class Cluster(Workers):
+    """The workers of a Dask scheduler that have the crnplan and the program of this machine. Some may end, and others
+    may come."""
+
+    def __init__(self, client: Any, program: str) -> None:
+        """Asks all workers that are there what they have. Raises Refused if one has something else."""
+        self.client, self.program, self.own = client, program, identity(program)
+        client.wait_for_workers(1, WORKER_SECONDS)
+        answers = client.run(identity, program, on_error="return")
+        if not self.own["crnsim"]:
+            self.own["crnsim"] = next((its["crnsim"] for its in answers.values() if isinstance(its, dict)), "")
+        names = {address: its["id"] for address, its in client.scheduler_info()["workers"].items()}
+        for address, its in answers.items():
+            self._check(Stranger(f"{names.get(address)} ({address})", self.own, its))
+        self.most = max(1, AHEAD * sum(client.ncores().values()))
+
+    def _check(self, stranger: Stranger) -> None:
+        """Raises Refused if a worker is not as this machine."""
+        if stranger.is_one:
+            raise Refused(f"{stranger.text}, and would give other figures",
+                          f"{KEPT}; give all workers the crnplan and the crnsim of this machine")
+
+    def share(self, word: Any) -> Any:
+        """Sends a word to all workers."""
+        return self.client.scatter(word, broadcast=True)
+
+    def submit(self, function: Callable[..., Any], words: Sequence[Any], late: Sequence[Any] = ()) -> Any:
+        """Begins to run a function on a worker, not on those where it is late, if there are others."""
+        keys = {future.key for future in late}
+        busy = {address for address, running in self.client.processing().items() if keys & {*running}} if late else set()
+        others = [address for address in self.client.scheduler_info()["workers"] if address not in busy] if late else []
+        return self.client.submit(_run_as_here, function, self.own, self.program, *words, pure=False, retries=2,
+                                  workers=others or None)
+
+    def wait(self, running: Sequence[Any], seconds: float) -> None:
+        """Waits until one of the futures is done, or for so long."""
+        distributed: Any = importlib.import_module("distributed")
+        with contextlib.suppress(distributed.TimeoutError):
+            distributed.wait(running, seconds, "FIRST_COMPLETED")
+
+    def result(self, future: Any) -> Any:
+        """Returns the result of a future that is done. Raises Refused if the worker is not as this machine."""
+        result = future.result()
+        if isinstance(result, Stranger):
+            self._check(result)
+        return result
+
+
+@contextlib.contextmanager
+def cluster(address: str, program: str = "") -> Iterator[Workers]:
+    """Gives the workers of a Dask scheduler. `program` is what they run; they need it at the same path.
+
+    Raises Refused if the scheduler can't be reached, and for workers with another crnplan or program; Failed if it is
+    lost.
+    """
+    place = argument("cluster", address)
+    try:
+        distributed: Any = importlib.import_module("distributed")
+    except ImportError as fault:
+        raise Refused(NO_DISTRIBUTED, INSTALL) from fault
+    try:
+        client = distributed.Client(address, timeout=CONNECT_SECONDS)
+    except (OSError, ValueError) as fault:
+        raise Refused(f"{place}: {fault}") from fault
+    try:
+        yield Cluster(client, program)
+    except Refused as fault:
+        raise Refused(f"{place}: {fault.what}", fault.advice) from fault
+    except (OSError, futures.CancelledError, ImportError, distributed.scheduler.KilledWorker) as fault:
+        is_cancelled = isinstance(fault, futures.CancelledError)
+        what = "a batch was cancelled (has the scheduler ended?)" if is_cancelled else str(fault)
+        raise Failed(f"{place}: {what}", f"{KEPT}; run again when the cluster works") from fault
+    finally:
+        with contextlib.suppress(Exception):
+            client.close(timeout=0.5)
+
+
+def workers_of(jobs: int | None, address: str | None,
+               program: str = "") -> contextlib.AbstractContextManager[Workers]:
+    """Returns the workers of a Dask scheduler, or so many processes, by default one for each processor. `program` is
+    what workers of a scheduler run, which must be the same everywhere."""
+    return cluster(address, program) if address else processes(jobs or os.cpu_count() or 1)
+
+
+def program_digest(program: str, address: str | None) -> str:
+    """Returns the digest of a program, which may be on the workers of a cluster alone; empty if it is nowhere."""
+    digest = identity(program)["crnsim"]
+    if address and not digest:
+        with cluster(address, program) as workers:
+            assert isinstance(workers, Cluster)
+            digest = workers.own["crnsim"]
+    return digest
+
+
+def named(function: Callable[..., list[Any]], names: list[str], asked: list[Any],
+          words: Sequence[Any]) -> tuple[list[str], list[Any]]:
+    """Returns names with what a function returns for what is asked of them."""
+    return names, function(asked, *words)
+
+
+class Work(Generic[Answer]):
+    """Which names are to be answered, which answers are kept, and which names are left."""
+
+    def __init__(self, answers: Store[Answer], digests: Mapping[str, str]) -> None:
+        """Takes for each name the digest of all that its answer depends on."""
+        kept = answers.digests()
+        self.answers, self.digests = answers, digests
+        self.left = [name for name, digest in digests.items() if kept.get(name) != digest]
+
+    @property
+    def kept(self) -> int:
+        """Returns how many names were answered before."""
+        return len(self.digests) - len(self.left)
+
+    def finish(self, function: Callable[..., list[Answer | Remark]], asked: Callable[[str], object], *words: Any,
+               workers: contextlib.AbstractContextManager[Workers], shown: bool, unit: str = "items",
+               batch: int = BATCH) -> None:
+        """Answers the names that are left. Workers call the function with what is `asked` of the names of a batch, and
+        with further words. No worker is started if no name is left."""
+        done, total, names = self.kept, len(self.digests), iter(self.left)
+        if done == total:
+            return
+        batches = iter(lambda: [*itertools.islice(names, batch)], [])
+        try:
+            with workers as them, progress(total, done, shown, unit) as show:
+                shared = them.share(words)
+                for some, answers in them.answers(named, ((function, some, [*map(asked, some)], shared)
+                                                          for some in batches)):
+                    self.answers.keep([(name, self.digests[name], it) for name, it in zip(some, answers, strict=True)])
+                    done += len(some)
+                    show(done)
+        except BaseException:
+            if shown:
+                print(f"{done:,} of {total:,} {unit} are done and kept; run again to go on", file=sys.stderr)
+            raise
+
+
+def lines(total: int, kept: int, unit: str) -> Callable[[int], None]:
+    """Returns what writes a line whenever a further ninth of them is done, the first one at once."""
+    part = -1
+
+    def show(done: int) -> None:
+        """Writes how many are done, if a line is due."""
+        nonlocal part
+        if (reached := done * (MOST_LINES - 1) // total) > part:
+            print(f"{done} of {total} {unit} ({kept} kept)", file=sys.stderr, flush=True)
+            part = reached
+    show(kept)
+    return show
+
+
+@contextlib.contextmanager
+def progress(total: int, kept: int, shown: bool, unit: str) -> Iterator[Callable[[int], None]]:
+    """Gives a function to call with the number of units that are done, which says so on standard error: as a bar on a
+    terminal, as a few lines in a log. `kept` are there from before."""
+    if not shown:
+        yield lambda done: None
+    elif not sys.stderr.isatty():
+        yield lines(total, kept, unit)
+    else:
+        from tqdm import tqdm
+        with tqdm(file=sys.__stderr__, total=total, initial=kept, unit=f" {unit}", desc=f"{kept} kept", dynamic_ncols=True) as bar:
+            yield lambda done: bar.update(done - bar.n) and None
