@@ -17,7 +17,7 @@ import click
 
 from .. import __version__
 from ..errors import CrnplanError, Failed, Refused
-from ..files import faults_of
+from .streams import shown_safely
 
 # The threads of linear algebra gain nothing here. Beside other work they wait for one another, busily.
 for _threads in ("OMP_NUM_THREADS", "OPENBLAS_NUM_THREADS"):
@@ -88,33 +88,41 @@ def group() -> None:
 def main() -> None:
     """Runs the command. Ends with status 0; 1 if the answer is no; 2 if an input or a word is refused; 3 if no input is
     to blame; 130 if interrupted."""
-    from .output import note, shown_safely
     with shown_safely():
         try:
-            with faults_of(Path("crnplan")):
-                result: Any = group.main(prog_name="crnplan", standalone_mode=False)
-                print(end="", flush=True)
+            result: Any = group.main(prog_name="crnplan", standalone_mode=False)
+            print(end="", flush=True)
             status = result if isinstance(result, int) else 0
-        except click.UsageError as fault:
-            message = fault.format_message()
-            end = "" if message.endswith(("?", ".")) else "."
-            note(f"{message}{end} {fault.ctx.command_path} --help shows the words." if fault.ctx else message)
-            status = Refused.status
-        except click.ClickException as fault:
-            note(fault.format_message())
-            status = Refused.status
-        except CrnplanError as fault:
-            note(fault.message)
-            status = fault.status
-        except (KeyboardInterrupt, click.Abort):
-            note("interrupted")
-            status = INTERRUPTED
-        except MemoryError:
-            note("out of memory; close other programs, or use a machine with more")
-            status = Failed.status
-        except Exception as fault:
-            place = traceback.extract_tb(fault.__traceback__)[-1]
-            note(f"a fault of crnplan itself: {type(fault).__name__}: {fault} ({Path(place.filename).name}:{place.lineno});"
-                 " please report this line")
-            status = Failed.status
+        except (Exception, KeyboardInterrupt) as fault:
+            status = _told(fault)
     sys.exit(status)
+
+
+def _told(fault: BaseException) -> int:
+    """Says what was raised in a line, and returns the exit status."""
+    from ..files import faults_of
+    from .output import note
+    try:
+        with faults_of(Path("crnplan")):
+            raise fault
+    except click.UsageError as its:
+        message = its.format_message()
+        end = "" if message.endswith(("?", ".")) else "."
+        note(f"{message}{end} {its.ctx.command_path} --help shows the words." if its.ctx else message)
+        return Refused.status
+    except click.ClickException as its:
+        note(its.format_message())
+        return Refused.status
+    except CrnplanError as its:
+        note(its.message)
+        return its.status
+    except (KeyboardInterrupt, click.Abort):
+        note("interrupted")
+        return INTERRUPTED
+    except MemoryError:
+        note("out of memory; close other programs, or use a machine with more")
+    except Exception as its:
+        place = traceback.extract_tb(its.__traceback__)[-1]
+        note(f"a fault of crnplan itself: {type(its).__name__}: {its} ({Path(place.filename).name}:{place.lineno}); "
+             "please report this line")
+    return Failed.status
