@@ -22,7 +22,7 @@ from crnplan.records.catalogue_reading import Words, read_alone
 from crnplan.records.catalogued import CATALOGUE, Catalogued
 from crnplan.records.item import Item
 from crnplan.stored import Store
-from crnplan.plan.workers import answers_of, processes
+from crnplan.jobs import processes
 from crnplan.demand.borrowing import Prior
 from crnplan.files import own_folder
 from crnplan.scenario import Table
@@ -110,7 +110,7 @@ def compare(folder: Path, items: int, jobs: int) -> list[Compared]:
     with (own_folder(plan, CATALOGUE) as own, contextlib.closing(Catalogued(path)) as read,
           contextlib.closing(Store(own.store(ANSWERS), Answer)) as answers, processes(jobs) as workers):
         prior = learned_of(answers, read, SETTINGS, False).prior
-        return [it for its in answers_of(workers, compared_batch, batches_of(read, prior)) for it in its]
+        return [it for its in workers.answers(compared_batch, batches_of(read, prior)) for it in its]
 
 
 def figures_of(name: str, its: pd.DataFrame) -> dict[str, Any]:

@@ -12,7 +12,6 @@ from typing import Any
 
 from crnplan.plan.answer import Answer
 from crnplan.plan.folder import Planned
-from crnplan.plan.work import BATCH, Work
 from crnplan.records.catalogue_reading import Words, open_sources
 from crnplan.records.catalogued import Catalogued
 from crnplan.records.columns import ROLES
@@ -20,7 +19,7 @@ from crnplan.records.item import Item
 from crnplan.records.rows import read_rows
 from crnplan.records.sources import Given
 from crnplan.stored import Store
-from crnplan.plan.workers import Workers, cluster, processes
+from crnplan.jobs import BATCH, Work, Workers, cluster, processes
 
 SECONDS = 10
 WORKERS, LEAST_ITEMS = 4, 3_000
@@ -67,10 +66,9 @@ def loop_rate(folder: Path, read: Catalogued, planned: Planned, answer: Answer,
              for name in items}
     with (tempfile.TemporaryDirectory(dir=folder) as path,
           contextlib.closing(Store(Path(path) / "answers", Answer)) as answers, given as workers):
-        started = [workers.executor.submit(instant, [], None, None, answer) for _ in range(BATCH * WORKERS)]
-        assert all(it.result() == [] for it in started)
+        assert not any(workers.answers(instant, ([[], None, None, answer] for _ in range(BATCH * WORKERS))))
         work, start = Work(answers, names), time.perf_counter()
-        work.finish(instant, lambda name: read.item(name.rpartition(" ")[0]), planned, answer,
+        work.finish(instant, lambda name: read.item(name.rpartition(" ")[0]), planned.settings, planned.prior, answer,
                     workers=contextlib.nullcontext(workers), shown=False)
         return len(names) / (time.perf_counter() - start)
 

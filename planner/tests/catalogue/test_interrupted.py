@@ -23,7 +23,7 @@ from crnplan.curve.exchange_curve import CURVE, LEFT_OUT, POLICIES, draw_curve
 from crnplan.curve.exchange import Budget
 from crnplan.curve.gathering import CANDIDATES
 from crnplan.plan.folder import ANSWERS
-from crnplan.plan.work import BATCH
+from crnplan.jobs import BATCH
 from crnplan.files import MARKER
 from planner.tests.catalogue.conftest import FILES, SETTINGS, TABLES, WORDS, leave_few
 from planner.tests.catalogue.made import Made

@@ -12,9 +12,9 @@ from typing import NamedTuple
 
 from ..errors import Refused
 from ..files import Folder
+from ..jobs import Work, workers_of
 from ..plan.answer import CHOSEN, TODAY, Answer
 from ..plan.folder import PlannedFolder
-from ..plan.work import Work, workers_of
 from ..records.item import Item
 from ..remarks import Remark
 from ..stored import Store, digest_of
@@ -131,5 +131,6 @@ def gather(own: Folder, folder: PlannedFolder, jobs: int | None, address: str | 
     """Computes the candidates of a planned folder that are not kept yet, and returns all. Raises Refused."""
     with contextlib.closing(Store(own.store(CANDIDATES), Candidates)) as kept:
         its = Gathering(folder, kept)
-        its.work.finish(candidates_batch, folder.read.item, folder.planned, workers=workers_of(jobs, address), shown=shown)
+        its.work.finish(candidates_batch, folder.read.item, folder.planned.settings, folder.planned.prior,
+                        workers=workers_of(jobs, address), shown=shown)
         return its.gathered()

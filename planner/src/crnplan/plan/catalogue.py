@@ -11,30 +11,28 @@ from pathlib import Path
 from typing import TYPE_CHECKING, Any
 
 from ..demand.borrowing import Prior
-from ..errors import CrnplanError
-from ..files import Folder, digest_of, own_folder
+from ..crnsim.program import program_for
+from ..errors import Failed
+from ..files import Folder, faults_of, own_folder
+from ..jobs import Work, program_digest, workers_of
 from ..records.catalogue_reading import Catalogue, missing_of
-from ..records.catalogued import CATALOGUE, READ, Catalogued, told_of
+from ..records.catalogued import CATALOGUE, READ, Catalogued
 from ..records.item import Item
 from ..remarks import Remark
 from ..stored import Store
-from ..sweep import program_for
 from .answer import Answer
 from .folder import ANSWERS, Planned, PlannedFolder, planned_folder
 from .learning import learned_of
 from .one import plan_item
 from .question import Settings
 from .totals import Totals
-from .work import Work, workers_of
 
 if TYPE_CHECKING:
     import pandas as pd
 
 
-class Lost(CrnplanError):
+class Lost(Failed):
     """Rows or items whose counts do not add up. This is a fault of crnplan."""
-
-    status = 3
 
 
 @dataclass(frozen=True)
@@ -55,26 +53,20 @@ def plan_batch(batch: Sequence[Item], settings: Settings, prior: Prior, program:
     return [plan_item(item, settings, prior, program) for item in batch]
 
 
-def _program_digest(program: str) -> str:
-    """Returns the digest of the program; its path if it is only on the workers of a cluster."""
-    path = Path(program)
-    return digest_of(path.read_bytes()) if path.is_file() else program
-
-
 def plan_into(folder: Folder, settings: Settings, *, jobs: int | None = None, address: str | None = None,
               program: str | Path | None = None, again: bool = False, shown: bool = False) -> Done:
     """Plans the catalogue that was read into a folder, and writes its tables and pages: see `plan`."""
     from ..pages.exports import write_catalogue, write_rejects
     path = program_for(program, address)
-    with (told_of(folder.path), contextlib.closing(Catalogued(folder.path / READ)) as read,
+    with (faults_of(folder.path), contextlib.closing(Catalogued(folder.path / READ)) as read,
           contextlib.closing(Store(folder.store(ANSWERS), Answer)) as answers):
         learned = learned_of(answers, read, settings, again)
         settings = dataclasses.replace(settings, borrow=learned.usual, every=read.fact("every"))
-        planned = Planned(settings, learned.prior, settings.common(_program_digest(path), learned.prior))
+        planned = Planned(settings, learned.prior, settings.common(program_digest(path, address), learned.prior))
         planned.keep(answers)
         work = Work(answers, dict(read.digests(planned.common)))
         write_rejects(folder, read)
-        work.finish(plan_batch, read.item, planned, path, workers=workers_of(jobs, address, path), shown=shown)
+        work.finish(plan_batch, read.item, settings, learned.prior, path, workers=workers_of(jobs, address, path), shown=shown)
         its = PlannedFolder(folder.path, read, answers, planned)
         totals = Totals.of(its.answers())
         done = Done(len(work.left), work.kept, totals, learned.remarks,

@@ -11,10 +11,10 @@ from pathlib import Path
 from typing import TYPE_CHECKING, Any
 
 from ..errors import Fault, Refused, RefusedFaults
-from ..files import Folder, own_folder
+from ..files import Folder, faults_of, own_folder
 from ..remarks import Remark, Value
 from .amounts import AmountReader
-from .catalogued import CATALOGUE, Catalogued, Reject, Writer, told_of
+from .catalogued import CATALOGUE, Catalogued, Reject, Writer
 from .columns import ROLES, Stated
 from .dates import EVERY, DateReader
 from .faults import Unreadable, on_one_line
@@ -216,7 +216,7 @@ def days_of(rows: Rows, reader: DateReader) -> Counter[Day]:
 
 def read_into(folder: Folder, tables: Mapping[str, Table | None], words: Words) -> Path:
     """Reads a catalogue into a folder, and returns the file of what was read. Raises as `read_catalogue` does."""
-    with told_of(folder.path), contextlib.ExitStack() as stack:
+    with faults_of(folder.path), contextlib.ExitStack() as stack:
         files = {kind: stack.enter_context(whole_table(table, kind, folder.room())) for kind, table in tables.items()
                  if table is not None}
         sources = open_sources(files, words)

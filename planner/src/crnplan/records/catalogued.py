@@ -53,17 +53,6 @@ class Reject(NamedTuple):
         return cls._make([*cells[:6], WRITTEN[Remark][1](cells[6]), cells[7]])
 
 
-@contextlib.contextmanager
-def told_of(folder: Path) -> Iterator[None]:
-    """Turns errors of SQLite and of files into one message on the folder."""
-    try:
-        yield
-    except (sqlite3.OperationalError, OSError) as fault:
-        what = fault.strerror if isinstance(fault, OSError) and fault.strerror else str(fault)
-        raise Refused(f"{folder}: {what}; what was planned before is kept", "make room, or name a folder that can be "
-                      "written, and run again") from fault
-
-
 def said(message: str) -> Remark:
     """Returns a message, with what to do behind a semicolon, as a remark."""
     what, _, advice = message.partition("; ")
