@@ -274,7 +274,7 @@ def test_a_cluster_whose_scheduler_ends(folder: Path, whole: Path, crnplan: Comm
     """Ends the scheduler in the middle: a status and one line, no table of a part of the items, and the plan goes on."""
     cluster = Cluster(folder)
     try:
-        cluster.open(hidden=False)
+        cluster.open()
         cluster.start("driver", "-m", "crnplan", *PLAN[0], "--program", str(holding), "--cluster", cluster.address,
                       hidden=False)
         cluster.wait_until("the first batch", lambda: kept(folder) >= 1, "driver")
