@@ -275,8 +275,7 @@ def test_a_cluster_whose_scheduler_ends(folder: Path, whole: Path, crnplan: Comm
     cluster = Cluster(folder)
     try:
         cluster.open()
-        cluster.start("driver", "-m", "crnplan", *PLAN[0], "--program", str(holding), "--cluster", cluster.address,
-                      hidden=False)
+        cluster.start("driver", "-m", "crnplan", *PLAN[0], "--program", str(holding), "--cluster", cluster.address)
         cluster.wait_until("the first batch", lambda: kept(folder) >= 1, "driver")
         cluster.end("scheduler")
         (folder / "go_on").touch()
