@@ -13,6 +13,7 @@ import fcntl
 import os
 import tempfile
 from collections.abc import Callable, Iterable, Iterator
+from functools import partial
 from pathlib import Path
 from typing import Any
 
@@ -28,6 +29,8 @@ PROGRAM = TOP / "crates" / "crnsim" / "out" / "crnsim"
 # The property of a test that stands for so many cases.
 CASES = "cases"
 LOCK = "serial_lock"
+# The property of a run that has which lines are run, by test.
+MEASURED = "measured_lines"
 # A worker of a parallel run has at most so many tests waiting, and gets more if half of them are done.
 MOST_WAITING = 6
 # A failure names so many of its cases, and says how many more there are.
@@ -41,15 +44,24 @@ def pytest_addoption(parser: pytest.Parser) -> None:
     group = parser.getgroup("crnsim")
     default = PROGRAM.relative_to(TOP)
     group.addoption("--program", metavar="PATH", type=Path, help=f"test this program (default: {default})")
+    group.addoption("--lines", metavar="FOLDER", type=Path, help="keep in FOLDER which lines of crnplan are run")
+    group.addoption("--by-test", action="store_true", help="with --lines, keep which test runs a line")
     group.addoption("--free", action="store_true", help="draw new random examples on each run, not the same ones")
 
 
 def pytest_configure(config: pytest.Config) -> None:
-    """Chooses the profile of hypothesis, and makes the file whose lock the tests of a parallel run take."""
+    """Chooses the profile of hypothesis, makes the file whose lock the tests of a parallel run take, and measures which
+    lines are run."""
     shared: dict[str, Any] = {"deadline": None, "database": None, "suppress_health_check": [HealthCheck.too_slow]}
     settings.register_profile("gate", derandomize=True, **shared)
     settings.register_profile("free", print_blob=True, **shared)
     settings.load_profile("free" if config.getoption("--free") else "gate")
+    if config.getoption("--lines"):
+        from planner.lines import keep, measure
+        measured = measure(config.getoption("--lines"))
+        config.add_cleanup(partial(keep, measured))
+        if config.getoption("--by-test"):
+            setattr(config, MEASURED, measured)
     named = config.getoption("--program")
     if named and not os.access(named, os.X_OK):
         raise pytest.UsageError(f"--program {named}: there is no such program")
@@ -103,6 +115,8 @@ def is_serial(item: pytest.Item) -> bool:
 @pytest.hookimpl(hookwrapper=True, tryfirst=True)
 def pytest_runtest_protocol(item: pytest.Item) -> Iterator[None]:
     """Runs a test, in a worker under a lock that all share but those that run alone. Waiting is not timed."""
+    if hasattr(item.config, MEASURED):
+        getattr(item.config, MEASURED).switch_context(item.nodeid)
     path = getattr(item.config, "workerinput", {}).get(LOCK)
     with open(path, encoding="ascii") if path else contextlib.nullcontext() as file:
         if file:

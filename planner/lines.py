@@ -1,0 +1,113 @@
+"""Lists the lines of crnplan that no test runs, and that planner/lines.toml gives no reason for.
+
+    .venv/bin/python -m pytest planner/tests -n 4 --lines FOLDER
+    .venv/bin/python -m planner.lines FOLDER
+
+With `--lines` each process of the tests, and each Python that they start, keeps in FOLDER which lines of crnplan it has
+run. A process that is killed keeps nothing. The status is 1 if a line was not run and has no reason, or if a reason
+stands for a line that was run or is not there.
+"""
+from __future__ import annotations
+
+import os
+import sys
+import tomllib
+from collections import Counter, defaultdict
+from collections.abc import Iterator, Mapping
+from pathlib import Path
+
+import click
+import coverage
+
+TOP = Path(__file__).parents[1]
+SOURCE, REASONS = TOP / "planner/src/crnplan", Path(__file__).with_name("lines.toml")
+# What is read by mypy alone, or never ends with a value.
+LEFT_OUT = (r"if TYPE_CHECKING:", r"^\s*\.\.\.$", r"@overload")
+SETTINGS = """[run]
+data_file = {folder}/data
+parallel = true
+source = {source}
+disable_warnings = no-data-collected,module-not-imported,module-not-measured,already-imported
+"""
+# Python runs this file as it starts, if its folder is in PYTHONPATH.
+STARTING = "import coverage\ncoverage.process_startup()\n"
+
+
+def measure(folder: Path) -> coverage.Coverage:
+    """Measures which lines this process runs from now on, and those that it starts. `keep` ends that."""
+    folder = folder.resolve()
+    folder.mkdir(parents=True, exist_ok=True)
+    (folder / "settings.ini").write_text(SETTINGS.format(folder=folder, source=SOURCE), "utf-8")
+    (folder / "sitecustomize.py").write_text(STARTING, "utf-8")
+    os.environ["COVERAGE_PROCESS_START"] = str(folder / "settings.ini")
+    os.environ["PYTHONPATH"] = os.pathsep.join(filter(None, [str(folder), os.environ.get("PYTHONPATH", "")]))
+    measured = coverage.Coverage(config_file=str(folder / "settings.ini"))
+    measured.start()
+    return measured
+
+
+def keep(measured: coverage.Coverage) -> None:
+    """Keeps which lines were run."""
+    measured.stop()
+    measured.save()
+
+
+def missing(folder: Path) -> dict[str, dict[int, str]]:
+    """Returns the lines that no process has run, by file and number."""
+    read = coverage.Coverage(config_file=str(folder.resolve() / "settings.ini"))
+    for pattern in LEFT_OUT:
+        read.exclude(pattern)
+    read.combine([str(folder)], keep=True)
+    found: dict[str, dict[int, str]] = {}
+    for path in sorted(SOURCE.rglob("*.py")):
+        lines = path.read_text("utf-8").splitlines()
+        numbers = read.analysis2(str(path))[3]
+        found[str(path.relative_to(SOURCE))] = {number: lines[number - 1].strip() for number in numbers}
+    return found
+
+
+def tests_of(folder: Path) -> dict[tuple[str, int], list[str]]:
+    """Returns the tests that run each line, by file and number, those first that run fewest lines.
+
+    The tests were run with `--by-test`. Lines that run as a module is loaded are left out.
+    """
+    read = coverage.Coverage(config_file=str(folder.resolve() / "settings.ini"))
+    read.combine([str(folder)], keep=True)
+    data, found, sizes = read.get_data(), dict[tuple[str, int], list[str]](), Counter[str]()
+    for path in data.measured_files():
+        for line, names in data.contexts_by_lineno(path).items():
+            tests = [it for it in names if it]
+            sizes.update(tests)
+            if tests:
+                found[str(Path(path).relative_to(SOURCE)), line] = tests
+    return {place: sorted(tests, key=lambda it: (sizes[it], it)) for place, tests in found.items()}
+
+
+def verdicts(found: Mapping[str, Mapping[int, str]], reasons: Mapping[str, Mapping[str, str]]) -> Iterator[str]:
+    """Yields what is wrong: lines that are not run and have no reason, and reasons for other lines."""
+    named: defaultdict[str, set[str]] = defaultdict(set)
+    for file, lines in found.items():
+        for number, text in lines.items():
+            named[file].add(text)
+            if text not in reasons.get(file, {}):
+                yield f"{file}:{number}: no test runs `{text}`"
+    for file, texts in reasons.items():
+        for text in texts:
+            if text not in named[file]:
+                yield f"{REASONS.name}: {file}: `{text}` is run, or is not there; remove its reason"
+
+
+@click.command()
+@click.argument("folder", type=click.Path(exists=True, path_type=Path))
+def main(folder: Path) -> None:
+    """List the lines of crnplan that no test has run, from the FOLDER of `pytest --lines`."""
+    found = missing(folder)
+    wrong = [*verdicts(found, tomllib.loads(REASONS.read_text("utf-8")))]
+    click.echo("".join(f"{it}\n" for it in wrong), nl=False)
+    count = sum(map(len, found.values()))
+    click.echo(f"{count} lines of crnplan are not run by any test; {len(wrong)} faults")
+    sys.exit(bool(wrong))
+
+
+if __name__ == "__main__":
+    main()

@@ -1,0 +1,74 @@
+"""Tests the tools that say which lines no test runs and which planted bugs no test sees."""
+from __future__ import annotations
+
+import subprocess
+import sys
+from pathlib import Path
+
+import pytest
+
+from planner.lines import SOURCE, missing, verdicts
+from planner.mutants import KILLED, NO_TEST, SURVIVED, Mutant, chosen, line_of, mutants_of, outcome_of
+
+TEXT = '''"""Says -1 and 2."""
+LIMIT: int = -3
+
+def least(given: list[int], most: int = 5) -> int:
+    """Returns 1 < 2."""
+    if not given or len(given) <= most:
+        raise ValueError(f"{most + 1} at least")
+    total = 0
+    total += max(given[0], 2.5)
+    print(sorted(given), total)
+    return total and given[0]
+'''
+# Each line with its mutants, by hand.
+CHANGES = {
+    2: {"3", "4"}, 4: {"6"}, 6: {"given", "not given and len(given) <= most", "len(given) < most"}, 7: {"pass"},
+    8: {"1"}, 9: {"pass", "given[0]", "1", "3.5"}, 10: {"pass", "given", "print(total, sorted(given))"},
+    11: {"total or given[0]", "1"}}
+KEYS = "planner/tests/crnsim/test_keys.py"
+
+
+def test_mutants_of_a_file() -> None:
+    """Changes each comparison, sign, constant, call and statement once, and no type, text or docstring."""
+    found = mutants_of("a.py", TEXT)
+    expected = {line: {it if it == "pass" else f"({it})" for it in its} for line, its in CHANGES.items()}
+    assert {line: {it.new for it in found if it.line == line} for line in CHANGES} == expected
+    assert {it.line for it in found} == {*CHANGES}
+    compared, = (it for it in found if "<" in it.new and it.line == 6 and "not" not in it.new)
+    assert TEXT.encode()[compared.start:compared.end] == b"len(given) <= most"
+
+
+def test_mutants_by_seed() -> None:
+    """The same seed gives the same mutants, of lines that are asked for."""
+    lines = [("crnsim/keys.py", line) for line in range(20, 54)]
+    found = chosen(3, 5, lines)
+    assert found == chosen(3, 5, lines) != chosen(3, 6, lines) and {(it.file, it.line) for it in found} <= {*lines}
+
+
+def test_outcomes(program: Path) -> None:
+    """A bug is seen by a test that meets it, a change that is none is not, and without tests nothing is."""
+    text = (SOURCE / "crnsim/keys.py").read_bytes()
+    start = text.index(b"return ")
+    bug = Mutant("crnsim/keys.py", 1 + text[:start].count(b"\n"), start, start + len(b"return"), "assert not")
+    same = bug._replace(new="return")
+    assert [outcome_of(bug, [KEYS], program), outcome_of(same, [KEYS], program), outcome_of(bug, [], program)] == [
+        KILLED, SURVIVED, NO_TEST]
+    assert line_of(bug, KILLED) == f"killed: crnsim/keys.py:{bug.line}: return -> assert not"
+
+
+def test_lines_that_are_not_run(tmp_path: Path) -> None:
+    """A module that is loaded runs its definitions, and no body of a function."""
+    script = ("import sys; from pathlib import Path; from planner.lines import keep, measure\n"
+              "measured = measure(Path(sys.argv[1])); import crnplan.money; keep(measured)\n")
+    subprocess.run([sys.executable, "-c", script, str(tmp_path)], check=True, cwd=SOURCE.parents[2])
+    texts = {*missing(tmp_path)["money.py"].values()}
+    assert "return Fraction(str(value))" in texts and not any(it.startswith(("def ", "import ")) for it in texts)
+
+
+@pytest.mark.parametrize(("reasons", "count"), [
+    ({}, 2), ({"a.py": {"x = 1": "why"}}, 0), ({"a.py": {"y = 1": "why"}}, 3), ({"b.py": {"x = 1": "why"}}, 3)])
+def test_reasons(reasons: dict[str, dict[str, str]], count: int) -> None:
+    """Each line that is not run has a reason, and no other line has one."""
+    assert len([*verdicts({"a.py": {3: "x = 1", 9: "x = 1"}, "b.py": {}}, reasons)]) == count
