@@ -14,6 +14,7 @@ from hypothesis import given
 from hypothesis import strategies as st
 
 from crnplan.table import MONEY, Cell, DataTable, aligned, exact, names_of, number, page_of, text, whole
+from planner.tests.tables_page import PAGE, TABLES, page
 
 TEXTS = st.text("ab .9", max_size=5)
 COLUMNS = (text("name", "its name"), whole("count", "items", "how many"), number("cost", "money", "cost", MONEY, ".1f"),
@@ -97,3 +98,15 @@ def test_cells_end_at_the_same_place(rows: list[list[str]]) -> None:
 def test_names_as_one_text(names: list[str], most: int, words: str) -> None:
     """The first names are listed, the others counted."""
     assert names_of(names, most) == words
+
+
+def test_the_page_of_tables_is_that_of_the_declared_columns() -> None:
+    """docs/TABLES.md has each column with its unit and meaning. `python -m planner.tests.tables_page` writes it."""
+    assert PAGE.read_text("utf-8") == page()
+
+
+def test_each_column_says_what_it_has() -> None:
+    """A number has a unit, each column a meaning, and no name stands twice in a table."""
+    for name, (_, columns) in TABLES.items():
+        assert all(it.meaning and (it.unit or it.kind == "text") for it in columns), name
+        assert len({it.name for it in columns}) == len(columns), name

@@ -10,8 +10,9 @@ import pytest
 from tests.documents.markdown import FENCE, PAGES, anchors_of, text_of
 from tests.runs import TOP
 
-# What people read to use and to change the program. DEFINITIONS.md is generated.
-READ = [it for it in PAGES if it.startswith("docs/") and it != "docs/DEFINITIONS.md"] + ["README.md", "CONTRIBUTING.md"]
+GENERATED = ("docs/DEFINITIONS.md", "docs/TABLES.md")
+# What people read to use and to change the program.
+READ = [*(it for it in PAGES if it.startswith("docs/") and it not in GENERATED), "README.md", "CONTRIBUTING.md"]
 
 
 def links_of(page: str) -> list[str]:

@@ -26,7 +26,7 @@ if TYPE_CHECKING:
 CURVE, POLICIES, LEFT_OUT = "curve.csv", "curve_policies.csv", "curve_left_out.csv"
 FIGURES = (
     number("value", "money", "the value of the mean stock", MONEY),
-    number("fill", "share", "of demand by value met at once", ".6f"), number("orders", "orders a period", "", ".6g"),
+    number("fill", "share", "of demand by value met at once", ".6f"), number("orders", "orders a period", "mean number", ".6g"),
     number("cost", "money a period", "setup and holding", MONEY))
 COLUMNS = (
     text("point", "`today`, `chosen`, `same stock`, `same service`, `budget`, or `curve`"),

@@ -1,0 +1,53 @@
+"""Writes docs/TABLES.md from the declared columns: `python -m planner.tests.tables_page` at the top of the repository."""
+from __future__ import annotations
+
+from collections.abc import Mapping, Sequence
+from pathlib import Path
+
+from crnplan.crnsim import long_run as exact_long_run
+from crnplan.crnsim import report, trajectory
+from crnplan.curve import exchange_curve
+from crnplan.decide import doubt, long_run, moves, sensitivity, verdicts
+from crnplan.pages import catalogue_tables, item_tables, laws, reasons
+from crnplan.table import Column, page_of
+from crnplan.theory import suggestions
+
+PAGE = Path(__file__).parents[2] / "docs/TABLES.md"
+HEAD = """# The tables of crnplan
+
+Each table is declared once, in Python; this page follows from that. A file has a heading and a row for each item, policy or period, in
+UTF-8 with commas. A text that a spreadsheet would run as a formula stands behind an apostrophe. Data frames and JSON have the same
+columns, unrounded. Money is that of the masters or settings, in files with as many decimals as its smallest unit has. `-` or an empty
+cell stands for no figure.
+"""
+TABLES: Mapping[str, tuple[str, Sequence[Column]]] = {
+    "decisions.csv": ("A planned catalogue: a row for each item, by name.", catalogue_tables.DECISION_COLUMNS),
+    "exact.csv": ("The run of each item, exactly: fractions stand as `3/4`.", catalogue_tables.EXACT_COLUMNS),
+    "rejects.csv": ("What was left out of a catalogue, or only named.", reasons.REJECT_COLUMNS),
+    "curve.csv": ("The exchange curve: named points, then the curve by rising price.", exchange_curve.COLUMNS),
+    "curve_policies.csv": ("The policies of one point of the curve.", exchange_curve.POLICY_COLUMNS),
+    "curve_left_out.csv": ("Items that are not on the curve.", exchange_curve.LEFT_OUT_COLUMNS),
+    "policies.csv": ("The policies of an item that is planned alone, the cheapest first.", item_tables.POLICY_COLUMNS),
+    "coming.csv": ("The same over the coming periods, with `[run] horizon`.", item_tables.COMING_COLUMNS),
+    "doubt.csv, crnplan doubt": ("Policies under the laws that a history allows. A column stands if there is a figure.",
+                                 doubt.COLUMNS),
+    "sensitivity.csv": ("How the best policy of an item moves.", moves.COLUMNS),
+    "trajectory.csv, crnplan trajectory": ("Policies period by period.", trajectory.COLUMNS),
+    "laws.csv": ("The laws of an item.", laws.LAW_COLUMNS),
+    "crnplan suggest": ("Suggested policies.", [*suggestions.COLUMNS, suggestions.REASONS]),
+    "crnplan run": ("A report of crnsim, exactly.", report.COLUMNS),
+    "crnplan decide, crnplan check": ("Policies beside the base, over the coming periods.", verdicts.COLUMNS),
+    "crnplan run --long-run": ("Policies beside the base, in the long run.", long_run.COLUMNS),
+    "Scenario.long_run": ("Exact figures of the long run, in Python.", exact_long_run.COLUMNS),
+    "crnplan sensitivity": ("What a policy costs too much, here in the cases `base` and `demand_up`.",
+                            sensitivity.columns_of(["base", "demand_up"]))}
+
+
+def page() -> str:
+    """Returns the page."""
+    parts = (f"\n## {name}\n\n{words}\n\n{page_of(columns)}" for name, (words, columns) in TABLES.items())
+    return HEAD + "".join(parts)
+
+
+if __name__ == "__main__":
+    PAGE.write_text(page(), "utf-8")
