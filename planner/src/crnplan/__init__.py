@@ -42,10 +42,13 @@ _HOMES = {
     "sensitivity": "decide.sensitivity",
     "sweep": "crnsim.sweep",
     "trajectories": "crnsim.trajectory",
-    "plan_item": "plan.item",
+    "Plan": "api",
+    "PlannedItem": "api",
+    "plan_item": "api",
     "Catalogue": "records.catalogue_reading",
     "read_catalogue": "records.catalogue_reading",
-    "plan": "plan.catalogue",
+    "plan": "api",
+    "open_plan": "api",
     "exchange_curve": "curve.exchange_curve",
     "report": "pages.exports",
 }
@@ -55,7 +58,7 @@ __all__ = ["__version__", *_HOMES]
 if TYPE_CHECKING:
     from .records.catalogue_reading import Catalogue, read_catalogue
     from .curve.exchange_curve import exchange_curve
-    from .plan.catalogue import plan
+    from .api import Plan, PlannedItem, open_plan, plan, plan_item
     from .pages.exports import report
     from .decide.doubt import doubt
     from .decide.keys import check_keys
@@ -68,7 +71,6 @@ if TYPE_CHECKING:
     from .crnsim.trajectory import trajectories
     from .errors import CrnplanError, Failed, Fault, ProgramError, Refused, ScenarioError
     from .records import History, read_history, read_lead_times
-    from .plan.item import plan_item
     from .scenario import Costs, Policy, Scenario, Table
     from .crnsim.sweep import sweep
 

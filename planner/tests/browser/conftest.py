@@ -11,7 +11,7 @@ import pytest
 
 from crnplan.pages.exports import report
 from crnplan.pages.item_files import file_of
-from crnplan.plan.catalogue import plan
+from crnplan import plan
 from crnplan.plan.item import plan_item
 from crnplan.records.catalogue_reading import read_catalogue
 from planner.tests.browser.browser import Browser
@@ -87,6 +87,6 @@ def planned(folder: Path, program: Path) -> Path:
     masters = [(name, "of a shelf", 45, 0.6, *wanted[name], 2, 6, 20, 9, 30) for name in PLANNED]
     write_table(folder / "demand.csv", [("item", "date", "quantity"), *demand])
     write_table(folder / "items.csv", [MASTERS, *masters])
-    plan(read_catalogue(folder / "demand.csv", folder / "items.csv"), folder / "plan", jobs=1, program=program,
+    plan(read_catalogue(folder / "demand.csv", folder / "items.csv"), out=folder / "plan", jobs=1, program=program,
          **SETTINGS)
     return folder / "plan"

@@ -9,7 +9,7 @@ from typing import Any
 import pytest
 
 from crnplan.records.catalogue_reading import Catalogue, read_catalogue
-from crnplan.plan.catalogue import plan
+from crnplan import plan
 from planner.tests.catalogue.made import NO_PLAN, TODAY, Made, made
 
 FILES = ("Bewegungen.csv", "Artikel.csv", "Bestellungen.csv")
@@ -42,7 +42,7 @@ def catalogue(files: Path) -> Catalogue:
 def planned(catalogue: Catalogue, tmp_path_factory: pytest.TempPathFactory, program: Path) -> Path:
     """Returns a folder with the plan of the made catalogue, by one process, which nobody changes."""
     path = tmp_path_factory.mktemp("planned") / "plan"
-    plan(catalogue, path, jobs=1, program=program, **SETTINGS)
+    plan(catalogue, out=out=path, jobs=1, program=program, **SETTINGS)
     return path
 
 

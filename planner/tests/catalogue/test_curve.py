@@ -41,7 +41,7 @@ def twenty(planted: Made, tmp_path_factory: pytest.TempPathFactory, program: Pat
     for row in rows:
         row[column] = {NO_PRICE[0]: "", NO_PRICE[1]: "0"}.get(row[0], row[column])
     path.write_text("\r\n".join([";".join(row) for row in rows] + [""]), "utf-8")
-    crn.plan(crn.read_catalogue(*(files / it for it in FILES), today=TODAY), files / "plan", jobs=1, program=program,
+    crn.plan(crn.read_catalogue(*(files / it for it in FILES), today=TODAY), out=files / "plan", jobs=1, program=program,
              **SETTINGS)
     crn.exchange_curve(files / "plan", jobs=1)
     return files / "plan"
@@ -96,7 +96,7 @@ def test_named_points_are_as_good_as_many_small_orders(plan: Path, times: float)
 
 def test_curve_rises(plan: Path) -> None:
     """Has more service and more cost with each price, less for each further unit of cost, and no gap."""
-    curve = crn.exchange_curve(plan, jobs=1).query("point == 'curve'")
+    curve = crn.exchange_curve(plan, jobs=1).frame.query("point == 'curve'")
     assert len(curve) > 25 and (curve.gap == 0).all()
     assert (np.diff(curve.price) > 0).all() and (np.diff(curve.cost) > 0).all() and (np.diff(curve.fill) > 0).all()
     gains = np.diff(curve.fill) / np.diff(curve.cost)

@@ -17,7 +17,7 @@ from pathlib import Path
 import pytest
 
 from crnplan.curve.exchange_curve import exchange_curve
-from crnplan.plan.catalogue import plan
+from crnplan import plan
 from crnplan.records.catalogue_reading import read_catalogue
 from crnplan.curve.exchange_curve import CURVE, LEFT_OUT, POLICIES, draw_curve
 from crnplan.curve.exchange import Budget
@@ -57,7 +57,7 @@ def whole(planted: Made, tmp_path_factory: pytest.TempPathFactory, program: Path
     """Returns the plan of the few items, which was never interrupted."""
     files = planted.write(tmp_path_factory.mktemp("few"))
     leave_few(files, FEW)
-    plan(read_catalogue(*(files / it for it in FILES)), files / "plan", jobs=1, program=program, **SETTINGS)
+    plan(read_catalogue(*(files / it for it in FILES)), out=files / "plan", jobs=1, program=program, **SETTINGS)
     return files / "plan"
 
 

@@ -11,7 +11,7 @@ from pathlib import Path
 import pytest
 
 import crnplan
-from crnplan.plan.catalogue import plan
+from crnplan import plan
 from crnplan.records.catalogue_reading import read_catalogue
 from crnplan.pages.exports import report
 from crnplan.pages.item_files import file_of
@@ -148,7 +148,7 @@ def test_texts_are_escaped(files: Path, tmp_path: Path, program: Path) -> None:
     heading, *rows = masters.read_text("utf-8").splitlines()
     masters.write_text("\n".join([heading, *(it for it in rows if "<script>" in it), ""]), "utf-8")
     read = read_catalogue(*(tmp_path / it for it in FILES), today=TODAY)
-    plan(read, tmp_path / "plan", jobs=1, program=program, **SETTINGS)
+    plan(read, out=tmp_path / "plan", jobs=1, program=program, **SETTINGS)
     path = item_page(tmp_path / "plan", name, program)
     text = path.read_text("utf-8")
     assert path.parent == tmp_path / "plan/items" and not Page(text).open
@@ -200,7 +200,7 @@ def learned(tmp_path_factory: pytest.TempPathFactory, program: Path) -> Path:
     masters = (place / FILES[1]).read_text("utf-8").splitlines()
     (place / FILES[1]).write_text("\n".join(it for it in masters if not "A-000" <= it < "A-015"), "utf-8")
     read = read_catalogue(*(place / it for it in FILES), today=TODAY)
-    plan(read, place / "plan", jobs=1, program=program, borrow="all", periods=16, replications=2, confidence=0.8)
+    plan(read, out=place / "plan", jobs=1, program=program, borrow="all", periods=16, replications=2, confidence=0.8)
     return place / "plan"
 
 

@@ -143,7 +143,7 @@ def test_summary_adds_up(planned: Path, planted: Made) -> None:
 
 def test_processes_change_nothing(planned: Path, catalogue: crn.Catalogue, tmp_path: Path, program: Path) -> None:
     """Writes the same bytes with three processes as with one."""
-    frame = crn.plan(catalogue, tmp_path / "plan", jobs=3, program=program, **SETTINGS)
+    frame = crn.plan(catalogue, out=tmp_path / "plan", jobs=3, program=program, **SETTINGS).decisions
     assert {it: (tmp_path / "plan" / it).read_bytes() for it in TABLES} == {
         it: (planned / it).read_bytes() for it in TABLES}
     assert list(frame.item) == list(rows_of(planned / "decisions.csv")) and frame.saving.dtype == float

@@ -395,7 +395,7 @@ def test_page_of_a_plan(tmp_path: Path, program: Path, crnplan: Command) -> None
     """A plan writes its page at its end. The totals are those of summary.txt. Pages of items are written if asked."""
     made().write(tmp_path)
     leave_few(tmp_path, 6)
-    crn.plan(crn.read_catalogue(*(tmp_path / it for it in FILES), today=TODAY), tmp_path / "plan", jobs=1,
+    crn.plan(crn.read_catalogue(*(tmp_path / it for it in FILES), today=TODAY), out=tmp_path / "plan", jobs=1,
              program=program, **SETTINGS)
     page, summary = Page(tmp_path / "plan/report.html"), (tmp_path / "plan/summary.txt").read_text("utf-8")
     saving, run, low, high = re.search(r"saved: (\S+) a week; .* (\S+), \S+ interval (\S+) to (\S+)", summary).groups()

@@ -36,11 +36,11 @@ def command(folder: Path, value: float | None, fill: float | None, orders: float
 
     All of it is by theory. --confirm has crnsim count the stock of a sample of items at each named point.
     """
-    from ..curve.exchange_curve import CURVE, curve_text, draw_curve
+    from ..curve.exchange_curve import draw_curve
     from ..curve.exchange import Budget
     drawn = draw_curve(folder, Budget(value, fill, orders), jobs=jobs, address=cluster, program=program,
                        confirm=confirm, shown=True)
     if plot:
         from ..pages.curve_pictures import exchange_picture
         save(exchange_picture(drawn.curve, drawn.named), plot)
-    click.echo((folder / CURVE).read_text("utf-8") if is_csv else curve_text(drawn, folder), nl=False)
+    click.echo(drawn.table.csv if is_csv else drawn.text, nl=False)

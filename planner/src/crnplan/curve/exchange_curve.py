@@ -11,7 +11,7 @@ from ..files import own_folder
 from ..plan.answer import CHOSEN, TODAY
 from ..plan.folder import planned_folder
 from ..records.catalogued import CATALOGUE
-from ..table import MONEY, Cell, DataTable, aligned, number, text, whole
+from ..table import Cell, DataTable, MONEY, Result, aligned, number, text, whole
 from ..words import advice, sentence
 from .candidates import PRICES
 from .confirming import Confirmed, confirmed
@@ -43,7 +43,7 @@ SAID = {TODAY: "today", CHOSEN: "chosen item by item", SAME_STOCK: "today's stoc
 
 
 @dataclass(frozen=True)
-class Drawn:
+class Drawn(Result):
     """The curve: its points by price, the points that have a name with their gaps, what each is for a reader, and why
     others are missing. `written` is the choice whose policies are written."""
 
@@ -69,7 +69,22 @@ class Drawn:
         return DataTable(COLUMNS, rows, self.gathered.folder.decimals, "")
 
     @property
-    def policies(self) -> DataTable:
+    def text(self) -> str:
+        """Returns the named points as a table, and what they mean."""
+        return curve_text(self)
+
+    @property
+    def notes(self) -> str:
+        """Returns what the figures mean."""
+        return "\n".join(NOTES)
+
+    @property
+    def policies(self) -> pd.DataFrame:
+        """Returns the policy of each item, with its figures of a period."""
+        return self.policy_table.frame
+
+    @property
+    def policy_table(self) -> DataTable:
         """Returns the policy of each item, with its figures of a period."""
         items = self.gathered.items
         rows: Iterator[list[Cell]] = (
@@ -136,7 +151,7 @@ def draw_curve(folder: Path, budget: Budget, *, jobs: int | None = None, address
     with planned_folder(folder) as planned, own_folder(folder, CATALOGUE, (CURVE, POLICIES, LEFT_OUT)) as own:
         its = gather(own, planned, jobs, address, shown)
         drawn = _drawn(its, budget, confirm, program)
-        for name, table in ((CURVE, drawn.table), (POLICIES, drawn.policies), (LEFT_OUT, drawn.left_out)):
+        for name, table in ((CURVE, drawn.table), (POLICIES, drawn.policy_table), (LEFT_OUT, drawn.left_out)):
             with own.whole(name) as file:
                 file.writelines(table.lines)
         named = [*((said, point) for said, point in drawn.named.items()), *(("", point) for _, point in drawn.curve)]
@@ -168,7 +183,7 @@ def gap_text(gap: float) -> str:
     return f"{math.ceil(gap * 10_000 - 1e-6) / 100:.2f}%" if gap < math.inf else "not known"
 
 
-def curve_text(drawn: Drawn, folder: Path) -> str:
+def curve_text(drawn: Drawn) -> str:
     """Returns the curve for a reader: the named points as a table, and what they mean."""
     its, left = drawn.gathered, drawn.gathered.left_out
     money, every = min(its.folder.decimals, 2), its.folder.every
@@ -181,7 +196,7 @@ def curve_text(drawn: Drawn, folder: Path) -> str:
         f"; {len(left):,} are left out, as {left[0][0]}: {sentence(left[0][1])} ({LEFT_OUT} names all)" if left else ""),
              "", aligned(rows), *(f"{SAID[name]}: there is no such point: {why}" for name, why in drawn.missing.items()), *NOTES]
     policies = SAID.get(drawn.written, "the least stock")
-    lines.append(f'{CURVE} has the curve; {POLICIES} has the policies of "{policies}", in {folder}.')
+    lines.append(f'{CURVE} has the curve; {POLICIES} has the policies of "{policies}", in {its.folder.path}.')
     lines += ["", *drawn.confirmed.lines(drawn.said)] if drawn.confirmed else []
     return "\n".join(lines) + "\n"
 
@@ -197,8 +212,9 @@ NOTES = (
 
 def exchange_curve(folder: str | Path, *, stock_value: float | None = None, fill: float | None = None,
                    orders: float | None = None, jobs: int | None = None, cluster: str | None = None,
-                   program: str | Path | None = None, confirm: int = 0, progress: bool = False) -> pd.DataFrame:
-    """Returns the exchange curve of a planned folder: how much service a stock of some value can give.
+                   program: str | Path | None = None, confirm: int = 0, progress: bool = False) -> Drawn:
+    """Returns the exchange curve of a planned folder: how much service a stock of some value can give. `frame` has its
+    points, `policies` the policy of each item.
 
     Columns (of a period in the long run, by theory): point, price, value (of the mean stock, in money), fill (the share
     of demand by value that is met at once), orders, cost (setup and holding, in money), and gap (the share by which the
@@ -216,6 +232,5 @@ def exchange_curve(folder: str | Path, *, stock_value: float | None = None, fill
     Raises Refused for a folder without a plan and a budget that no policies keep, and ProgramError.
     Source: Silver, Pyke and Thomas, Inventory and Production Management in Supply Chains, 2017, exchange curves.
     """
-    drawn = draw_curve(Path(folder), Budget(stock_value, fill, orders), jobs=jobs, address=cluster, program=program,
-                       confirm=confirm, shown=progress)
-    return drawn.table.frame
+    return draw_curve(Path(folder), Budget(stock_value, fill, orders), jobs=jobs, address=cluster, program=program,
+                      confirm=confirm, shown=progress)

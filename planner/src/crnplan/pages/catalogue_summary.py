@@ -54,7 +54,7 @@ def catalogue_summary(its: PlannedFolder, done: Done) -> str:
         lines.append(f"fill rates kept under {settings.confidence:.0%} of the laws that the histories allow: "
                      f"{totals.promised:,} items, which cost {money(totals['confidence_cost'])} a {every} more than "
                      "without, by theory")
-    lines += ["", f"Laws: {'; '.join(map(sentence, done.learned))}.", *NOTES]
+    lines += ["", *([f"Laws: {'; '.join(map(sentence, done.learned))}."] if done.learned else []), *NOTES]
     if totals.without_interval:
         lines.append(f"{totals.without_interval:,} items have no interval, since one of their policies hardly orders; "
                      "their savings by crnsim are in the sum, but not in its interval.")

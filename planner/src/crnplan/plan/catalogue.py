@@ -3,32 +3,26 @@ from __future__ import annotations
 
 import contextlib
 import dataclasses
-import os
-import shutil
 from collections.abc import Sequence
 from dataclasses import dataclass
 from pathlib import Path
-from typing import TYPE_CHECKING, Any
 
-from ..demand.borrowing import Prior
 from ..crnsim.program import program_for
+from ..demand.borrowing import Prior
 from ..errors import Failed
-from ..files import Folder, faults_of, own_folder
+from ..files import Folder, faults_of
 from ..jobs import Work, program_digest, workers_of
-from ..records.catalogue_reading import Catalogue, missing_of
-from ..records.catalogued import CATALOGUE, READ, Catalogued
+from ..records.catalogue_reading import missing_of
+from ..records.catalogued import READ, Catalogued
 from ..records.item import Item
 from ..remarks import Remark
 from ..stored import Store
 from .answer import Answer
-from .folder import ANSWERS, Planned, PlannedFolder, planned_folder
+from .folder import ANSWERS, Planned, PlannedFolder
 from .learning import learned_of
 from .one import plan_item
 from .question import Settings
 from .totals import Totals
-
-if TYPE_CHECKING:
-    import pandas as pd
 
 
 class Lost(Failed):
@@ -72,41 +66,3 @@ def plan_into(folder: Folder, settings: Settings, *, jobs: int | None = None, ad
         done = Done(len(work.left), work.kept, totals, learned.remarks,
                     tuple(missing_of(its.counts, totals.planned + totals.faults)))
         return dataclasses.replace(done, summary=write_catalogue(folder, its, done))
-
-
-def plan(catalogue: Catalogue, folder: str | Path, *, jobs: int | None = None, cluster: str | None = None,
-         program: str | Path | None = None, again: bool = False, progress: bool = False,
-         **settings: Any) -> pd.DataFrame:
-    """Plans all items of a catalogue into a folder, and returns the decisions: a row for each planned item.
-
-    Columns (of a period in the long run; money as in the masters): item, description, class, verdict, s and S, cost and
-    saving (by theory, or by crnsim where theory is rounded: the column `by`), the saving by crnsim's run with its paired
-    interval, fill (the share of demand met at once), mean stock and its value, orders, and warnings. `decisions.csv`,
-    `exact.csv`, `rejects.csv` and `summary.txt` in the folder have all of it, and `report.html` shows it: see `report`.
-    The folder keeps each answer, with all that it depends on: begun again, only what is not there or has changed is
-    planned.
-
-    `jobs` processes work (by default one for each processor), or the workers of a Dask scheduler, whose address is
-    `cluster`; the bytes are the same. `settings` are those of `Settings`:
-
-    - `borrow`: items learn laws of demand from all others, from those of their class, or not at all (all, class, none;
-      by default all if there are 100). The column borrow of the masters says so item by item. It is learned once in a
-      folder, and then `again` only if asked.
-    - `confidence`: wanted fill rates are kept under that share of the laws that a history allows.
-    - `seed`, `fit`, `level`, `periods` and `replications`.
-
-    Raises Refused, ProgramError, and Lost if the counts do not add up.
-    """
-    from ..pages.catalogue_tables import decisions_of
-    from ..pages.exports import CATALOGUE_FILES
-    chosen = Settings(**settings)
-    with own_folder(Path(folder), CATALOGUE, CATALOGUE_FILES) as own:
-        path = own.store(READ)
-        if catalogue.path.resolve() != path.resolve():
-            shutil.copyfile(catalogue.path, own.room() / READ)
-            os.replace(own.room() / READ, path)
-        done = plan_into(own, chosen, jobs=jobs, address=cluster, program=program, again=again, shown=progress)
-    if done.missing:
-        raise Lost("; ".join(done.missing))
-    with planned_folder(Path(folder)) as its:
-        return decisions_of(its).frame

@@ -1,0 +1,286 @@
+"""What a notebook asks: plans of a catalogue and of one item as values. Nothing is written unless a folder is named."""
+from __future__ import annotations
+
+import datetime
+import shutil
+import tempfile
+from collections.abc import Iterable, Mapping, Sequence
+from dataclasses import dataclass, field
+from functools import cached_property
+from pathlib import Path
+from typing import TYPE_CHECKING
+
+from .crnsim.program import find_program
+from .errors import Refused, argument
+from .files import Folder, own_folder
+from .pages.catalogue_summary import catalogue_summary
+from .pages.exports import CATALOGUE_FILES, report, write_item
+from .pages.item_page import ItemPage
+from .pages.item_summary import item_summary
+from .pages.item_tables import doubt_of, moves_of, policies_of
+from .pages.item_words import ItemWords, decimals_of
+from .pages.reasons import rejects_of
+from .plan.catalogue import Done, Lost, plan_into
+from .plan.depth import Depth
+from .plan.folder import planned_folder
+from .plan.item import KIND, planned, read_item
+from .plan.question import Settings
+from .plan.totals import Totals
+from .records.catalogue_reading import Catalogue, Words, read_into
+from .records.catalogued import CATALOGUE, READ
+from .records.cells import Rules
+from .records.staging import KEEP, LEAVE_OUT, Ways
+from .remarks import Remark
+from .table import DataTable, Result
+
+if TYPE_CHECKING:
+    import pandas as pd
+    from matplotlib.figure import Figure
+
+    from .curve.exchange_curve import Drawn
+
+Roles = Mapping[str, Mapping[str, str]]
+
+
+@dataclass(frozen=True)
+class Figures(Result):
+    """A table of an item's plan, with what is said of it."""
+
+    cells: DataTable = field(repr=False)
+    said: str = field(default="", repr=False)
+
+    @property
+    def table(self) -> DataTable:
+        """Returns the table."""
+        return self.cells
+
+    @property
+    def notes(self) -> str:
+        """Returns what is said of it."""
+        return self.said
+
+
+@dataclass(frozen=True)
+class PlannedItem(Result):
+    """The plan of one item. `frame` has its policies, the cheapest first; `text` is a summary of one screen."""
+
+    words: ItemWords = field(repr=False)
+
+    @property
+    def table(self) -> DataTable:
+        """Returns the policies of the item, the cheapest first."""
+        return policies_of(self.words)
+
+    @cached_property
+    def text(self) -> str:
+        """Returns the summary, of at most 24 lines."""
+        return item_summary(self.words)
+
+    @property
+    def notes(self) -> str:
+        """Returns what was decided, in sentences."""
+        return "\n".join([self.words.headline, *self.words.said, *self.words.warnings, ""])
+
+    def compare(self) -> Figures:
+        """Returns all policies of the item: cost by theory and by crnsim, service, stock, orders, and the difference
+        from today's with its interval."""
+        return Figures(policies_of(self.words), "\n".join(self.words.said))
+
+    def doubt(self) -> Figures:
+        """Returns what each policy costs and meets under the laws that the item's history allows."""
+        return Figures(doubt_of(self.words), self.words.promise)
+
+    def moves(self) -> Figures:
+        """Returns how the best policy moves if a cost, the demand or the lead time differs, and what the chosen one
+        costs then."""
+        return Figures(moves_of(self.words), self.words.moves.notes)
+
+    def plot(self) -> Figure:
+        """Returns a picture of stock, position and orders of today's and the chosen policy in one run."""
+        from .pages.trajectory_pictures import trajectories_picture
+        found = self.words.periods
+        policies = [it for it in self.words.depth.policies if it.name in found]
+        start = next(iter(found.values()))[0]
+        initial = start.position + start.net_demand - start.ordered
+        return trajectories_picture(policies, [found[it.name] for it in policies], initial)
+
+    @property
+    def page(self) -> str:
+        """Returns the page of the item as HTML, which asks for no other file."""
+        return ItemPage(self.words).text
+
+
+@dataclass(frozen=True)
+class Plan(Result):
+    """The plan of a catalogue. `frame` and `decisions` have a row for each item, unrounded; `text` says what it comes
+    to. What was planned is in a folder that goes with the plan, or stays where `out` said."""
+
+    path: Path
+    learned: tuple[Remark, ...] = field(default=(), repr=False)
+    program: str | Path | None = field(default=None, repr=False)
+    room: tempfile.TemporaryDirectory[str] | None = field(default=None, repr=False, compare=False)
+
+    @cached_property
+    def table(self) -> DataTable:
+        """Returns the decisions, by item."""
+        from .pages.catalogue_tables import decisions_of
+        with planned_folder(self.path) as folder:
+            table = decisions_of(folder)
+            return DataTable(table.columns, [*table.rows], table.decimals, table.missing)
+
+    @property
+    def decisions(self) -> pd.DataFrame:
+        """Returns a typed row for each planned item: today's and the chosen policy, costs and saving of a period in
+        money, by theory or by crnsim (`by`), the run beside with its interval, service, stock, orders and warnings.
+        docs/TABLES.md has all columns."""
+        return self.frame
+
+    @cached_property
+    def rejects(self) -> pd.DataFrame:
+        """Returns what was left out or is suspicious: kind, file, line, item, column, text, reason, advice, rows."""
+        from .pages.catalogue_tables import faults_of
+        with planned_folder(self.path) as folder:
+            return rejects_of(folder.read.rejects(faults_of(folder))).frame
+
+    @cached_property
+    def totals(self) -> Totals:
+        """Returns the sums over all items, as `totals["saving"]`, and counts of items."""
+        with planned_folder(self.path) as folder:
+            return Totals.of(folder.answers())
+
+    @cached_property
+    def text(self) -> str:
+        """Returns what became of all rows and items, and the totals."""
+        with planned_folder(self.path) as folder:
+            return catalogue_summary(folder, Done(0, 0, self.totals, self.learned, ()))
+
+    @property
+    def notes(self) -> str:
+        """Returns the same below a table."""
+        return self.text
+
+    def item(self, name: str) -> PlannedItem:
+        """Returns the plan of an item, with what else can be asked of it. Raises Refused if it is not there, or left
+        out, and says why."""
+        with planned_folder(self.path) as folder:
+            item, answer = folder.item(name)
+            depth = Depth(folder.question(item), answer, str(find_program(self.program)))
+            return PlannedItem(ItemWords(depth, folder.every, folder.decimals))
+
+    def curve(self, *, stock_value: float | None = None, fill: float | None = None, orders: float | None = None,
+              confirm: int = 0, jobs: int | None = None, cluster: str | None = None) -> Drawn:
+        """Returns how much service the whole stock can give for its value: see `exchange_curve`. `policies` has the
+        policy of each item for the budget."""
+        from .curve.exchange import Budget
+        from .curve.exchange_curve import draw_curve
+        return draw_curve(self.path, Budget(stock_value, fill, orders), jobs=jobs, address=cluster,
+                          program=self.program, confirm=confirm)
+
+    def report(self, items: Iterable[str] = ()) -> Path:
+        """Writes report.html, and pages of `items`, into the folder of the plan, and returns the path."""
+        return report(self.path, items, program=self.program)
+
+
+def plan(sales: str | Path | pd.DataFrame | Catalogue, masters: str | Path | pd.DataFrame | None = None,
+         orders: str | Path | pd.DataFrame | None = None, *, out: str | Path | None = None, every: str = "week",
+         columns: Roles | None = None, units: Roles | None = None, start: datetime.date | str | None = None,
+         end: datetime.date | str | None = None, today: datetime.date | None = None, net: bool = False,
+         twice: str = KEEP, far: str = LEAVE_OUT, least: int = 13, factors: Mapping[str, int] | None = None,
+         delimiter: str | None = None, encoding: str | None = None, decimal: str | None = None,
+         date_formats: Sequence[str] = (), fit: str = "auto", borrow: str | None = None,
+         confidence: float | None = None, level: float = 0.95, seed: str | int = "crnplan", periods: int = 1024,
+         replications: int = 24, jobs: int | None = None, cluster: str | None = None,
+         program: str | Path | None = None, learn_again: bool = False, progress: bool = False) -> Plan:
+    """Plans all items of a catalogue, and returns the plan. Nothing is written unless `out` names a folder.
+
+        plan = crn.plan(sales, masters)
+        plan.decisions                         # a row for each item
+        plan.item("K-119").doubt().frame       # how sure its choice is
+
+    **What goes in.** Tables are data frames, or paths of CSV files. `sales` has a row for each movement: item, date,
+    quantity, and perhaps returned. `masters` has a row for each item: item, setup (money an order), holding and backlog
+    (money an item and period) or fill (the wanted share of demand met at once), lead (periods), today's s and S (items),
+    and perhaps description, stock, price, class and borrow. `orders` has dates of orders: item, ordered, received. Or
+    `sales` is a Catalogue that `read_catalogue` has read, and the other tables and words of reading are left out.
+
+    **How it is read.** A period is `every` day, week (ISO) or month. Columns are found by their names, or named as
+    {"demand": {"quantity": "Menge"}} in `columns`; `units` states what they count, as {"items": {"lead": "day"}}. The
+    record is that of all rows, or from `start` to `end`; rows after `today` are rejected. With `net`, quantities below 0
+    are taken off their period. Rows that stand `twice`, and items with amounts `far` above all others, are kept or left
+    out ("keep", "leave-out"). An item needs a history of `least` periods. `factors` says how many items one of a unit of
+    measure is. Files have a `delimiter`, `encoding`, `decimal` sign and `date_formats`, which are found if they can be.
+    Nothing is lost: each row and item that is left out is in `rejects`, with its place, the reason and advice.
+
+    **How it is planned.** `fit` is how laws of demand are fitted (auto, predictive, empirical, or a family). Items
+    `borrow` laws from one another (all, class, none; by default all if there are 100). `confidence` keeps a wanted fill
+    rate under this share of the laws that a history allows. Intervals hold at `level`. Each item is run by crnsim under
+    `replications` of `periods` periods, with random numbers that follow from the `seed` (a text or a whole number) and
+    its name alone. `jobs` processes work, by default one for each processor, or those of a Dask `cluster`; the result is
+    the same. `program` is the path of crnsim, if it is not found by itself.
+
+    With `out`, the folder keeps tables, pages and all answers: planned again, only what has changed is planned, and
+    items learn from one another as before, unless `learn_again`. `progress` is shown on standard error.
+
+    Raises Refused (a ValueError) for what can't be read or meant, ProgramError, and Lost if counts do not add up.
+    """
+    settings = Settings(str(seed), fit, borrow, confidence, level, periods, replications)
+    rules = Rules(delimiter, encoding, decimal, tuple(date_formats))
+    words = Words(every, columns or {}, units or {}, {}, rules, start, end, Ways(net, twice, far, least, factors or {}),
+                  today or datetime.date.today())
+    if not isinstance(sales, Catalogue) and masters is None:
+        raise Refused(f"{argument('masters')} is missing", "give a table with a row for each item")
+    room = tempfile.TemporaryDirectory(prefix="crnplan-") if out is None else None
+    path = Path(room.name if room else out or "")
+    with own_folder(path, CATALOGUE, CATALOGUE_FILES) as folder:
+        if isinstance(sales, Catalogue):
+            copy_read(sales, folder)
+        else:
+            read_into(folder, files_of(folder, {"demand": sales, "items": masters, "orders": orders}), words)
+        done = plan_into(folder, settings, jobs=jobs, address=cluster, program=program, again=learn_again,
+                         shown=progress)
+    if done.missing:
+        raise Lost("; ".join(done.missing))
+    return Plan(path, done.learned, program, room)
+
+
+def copy_read(catalogue: Catalogue, folder: Folder) -> None:
+    """Copies what was read into a folder, if it was read elsewhere."""
+    if catalogue.path.resolve() != folder.store(READ).resolve():
+        part = folder.room() / READ
+        shutil.copyfile(catalogue.path, part)
+        part.replace(folder.path / READ)
+
+
+def files_of(folder: Folder, sources: Mapping[str, str | Path | pd.DataFrame | None]) -> dict[str, str | Path | None]:
+    """Returns the paths of tables. A data frame is written as CSV for the time of the run; NaN is an empty cell."""
+    paths: dict[str, str | Path | None] = {}
+    for name, source in sources.items():
+        if source is None or isinstance(source, str | Path):
+            paths[name] = source
+        else:
+            paths[name] = folder.room() / f"{name}.csv"
+            source.to_csv(folder.room() / f"{name}.csv", index=False, encoding="utf-8")
+    return paths
+
+
+def open_plan(folder: str | Path, *, program: str | Path | None = None) -> Plan:
+    """Returns the plan that is in a folder of `plan` or of `crnplan catalogue`. Raises Refused if there is none, or if
+    it is not as the rows that were read last."""
+    with planned_folder(Path(folder)) as planned_before:
+        planned_before.check()
+    return Plan(Path(folder), (), program)
+
+
+def plan_item(history: str | Path, settings: str | Path, *, out: str | Path | None = None,
+              program: str | Path | None = None) -> PlannedItem:
+    """Plans one item from a history and settings, as `crnplan item` does, and returns the plan.
+
+    `history` is a CSV file, `settings` a TOML file. With `out`, all tables and the page are written into that folder.
+    Raises RefusedFaults with all faults of the settings or of the history, Refused and ProgramError.
+    """
+    facts = read_item(history, settings)
+    found = planned(facts, program)
+    if out is not None:
+        with own_folder(Path(out), KIND) as folder:
+            write_item(folder, found, lambda name: None)
+    return PlannedItem(ItemWords(found.depth, facts.period, decimals_of(facts.item), found.coming, facts.notes))
