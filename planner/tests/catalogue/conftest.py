@@ -42,7 +42,7 @@ def catalogue(files: Path) -> Catalogue:
 def planned(catalogue: Catalogue, tmp_path_factory: pytest.TempPathFactory, program: Path) -> Path:
     """Returns a folder with the plan of the made catalogue, by one process, which nobody changes."""
     path = tmp_path_factory.mktemp("planned") / "plan"
-    plan(catalogue, out=out=path, jobs=1, program=program, **SETTINGS)
+    plan(catalogue, out=path, jobs=1, program=program, **SETTINGS)
     return path
 
 
