@@ -28,8 +28,8 @@ from .plan.question import Settings
 from .plan.totals import Totals
 from .records.catalogue_reading import Catalogue, Words, read_into
 from .records.catalogued import CATALOGUE, READ
-from .records.cells import Rules
-from .records.staging import KEEP, LEAVE_OUT, Ways
+from .records.items import KEEP, LEAVE_OUT, Ways
+from .records.texts import Rules
 from .remarks import Remark
 from .table import DataTable, Result
 
@@ -197,7 +197,7 @@ def plan(sales: str | Path | pd.DataFrame | Catalogue, masters: str | Path | pd.
         plan.decisions                         # a row for each item
         plan.item("K-119").doubt().frame       # how sure its choice is
 
-    **What goes in.** Tables are data frames, or paths of CSV files. `sales` has a row for each movement: item, date,
+    **What goes in.** Tables are data frames, CSV files, or sheets of workbooks (FILE.xlsx!SHEET). `sales` has a row for each movement: item, date,
     quantity, and perhaps returned. `masters` has a row for each item: item, setup (money an order), holding and backlog
     (money an item and period) or fill (the wanted share of demand met at once), lead (periods), today's s and S (items),
     and perhaps description, stock, price, class and borrow. `orders` has dates of orders: item, ordered, received. Or
@@ -235,7 +235,7 @@ def plan(sales: str | Path | pd.DataFrame | Catalogue, masters: str | Path | pd.
         if isinstance(sales, Catalogue):
             copy_read(sales, folder)
         else:
-            read_into(folder, files_of(folder, {"demand": sales, "items": masters, "orders": orders}), words)
+            read_into(folder, {"demand": sales, "items": masters, "orders": orders}, words)
         done = plan_into(folder, settings, jobs=jobs, address=cluster, program=program, again=learn_again,
                          shown=progress)
     if done.missing:
@@ -249,18 +249,6 @@ def copy_read(catalogue: Catalogue, folder: Folder) -> None:
         part = folder.room() / READ
         shutil.copyfile(catalogue.path, part)
         part.replace(folder.path / READ)
-
-
-def files_of(folder: Folder, sources: Mapping[str, str | Path | pd.DataFrame | None]) -> dict[str, str | Path | None]:
-    """Returns the paths of tables. A data frame is written as CSV for the time of the run; NaN is an empty cell."""
-    paths: dict[str, str | Path | None] = {}
-    for name, source in sources.items():
-        if source is None or isinstance(source, str | Path):
-            paths[name] = source
-        else:
-            paths[name] = folder.room() / f"{name}.csv"
-            source.to_csv(folder.room() / f"{name}.csv", index=False, encoding="utf-8")
-    return paths
 
 
 def open_plan(folder: str | Path, *, program: str | Path | None = None) -> Plan:
