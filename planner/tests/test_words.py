@@ -20,7 +20,6 @@ ALLOWED = {
     ("commands/__init__.py", "message.endswith(('?', '.'))"): "click's message",
     ("errors.py", "message.split(MARK)"): "marks about the arguments of a message, which a user never sees",
     ("formats.py", "re.sub(' [0-9]+$', '', fault)"): "the number of a fault of the program, in a table of formats.toml",
-    ("records/catalogued.py", "message.partition('; ')"): "what is wrong and what to do stand in two columns",
     ("toml/causes.py", "message.startswith(start)"): "a message of tomllib",
     ("toml/causes.py", "message.startswith('Cannot declare')"): "a message of tomllib",
     ("toml/reading.py", "str(fault).rpartition(' (at ')"): "a message of tomllib"}

@@ -53,12 +53,6 @@ class Reject(NamedTuple):
         return cls._make([*cells[:6], WRITTEN[Remark][1](cells[6]), cells[7]])
 
 
-def said(message: str) -> Remark:
-    """Returns a message, with what to do behind a semicolon, as a remark."""
-    what, _, advice = message.partition("; ")
-    return Remark("refused", {"what": what, "advice": advice or "correct it"})
-
-
 class Catalogued:
     """What was read of a catalogue: its items, what was left out, and facts by name. Items come in order of their
     names."""
