@@ -16,7 +16,7 @@ from collections.abc import Iterable, Sequence
 
 from ..errors import Refused
 from ..scenario import Scenario, Table
-from .lattice import NoTheory, Shape, has_room, late_work, shape_of, theory_on
+from .lattice import NoTheory, Shape, finest, has_room, late_work, shape_of, theory_on
 from .long_run import NO_POLICY, Candidate, LongRun, exactness_of
 
 CONFIDENCE = 0.8
@@ -49,19 +49,20 @@ class FillLevels:
         pairs, self.shares = zip(laws, leads or [scenario.lead] * len(laws)), [*shares]
         scenarios = [dataclasses.replace(scenario, demand=law, lead=lead) for law, lead in pairs]
         shapes = [*map(shape_or_none, scenarios)]
-        self.step = theory.step
-        while not self._is_quick([it for it in shapes if it], gap * theory.step):
-            self.step += theory.step
+        known = [shape for shape in shapes if shape]
+        self.step = finest(theory.step, math.inf, lambda step: self._excess(known, gap * theory.step, step),
+                           lambda excess: 1) or theory.step
         self.exact = theory.exact and self.step == theory.step
         self.theories = [theory_on(its, shape, self.step, self.exact) if shape and has_room(shape, self.step) else None
                          for its, shape in zip(scenarios, shapes)]
         self.known: dict[tuple[int, int], list[int]] = {}
 
-    def _is_quick(self, shapes: Sequence[Shape], gap: int) -> bool:
-        """Returns whether levels of laws are found in time on the lattice, for a gap in items."""
-        levels = [it.level / self.step / MOST_LEVELS for it in shapes if it.leads == 1]
-        passes = [late_work(it, self.step, gap / self.step) / MOST_WORK for it in shapes if it.leads > 1]
-        return sum(levels + passes) <= len(shapes)
+    @staticmethod
+    def _excess(shapes: Sequence[Shape], gap: int, step: int) -> float:
+        """Returns by how many times it takes too long to find levels of laws on a lattice, for a gap in items."""
+        levels = [shape.level / step / MOST_LEVELS for shape in shapes if shape.leads == 1]
+        passes = [late_work(shape, step, gap / step) / MOST_WORK for shape in shapes if shape.leads > 1]
+        return sum(levels + passes) / max(len(shapes), 1)
 
     def items(self, gap: int) -> int:
         """Returns S - s of a gap."""

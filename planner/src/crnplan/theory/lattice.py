@@ -7,6 +7,7 @@ coarse then shows how much that matters.
 from __future__ import annotations
 
 import math
+from collections.abc import Callable
 from dataclasses import dataclass
 
 import numpy as np
@@ -30,6 +31,7 @@ MOST_PRODUCTS = 300_000_000  # of cells of gaps and of demands, for a walk alone
 MOST_TRANSFORM = 1 << 20  # cells of a transform
 CELLS_OF_SHAPE = 400  # in which a scenario's shape is looked at
 LEAST_CELLS = 8  # of the largest net demand or order
+GROWTH = 1.1  # of a step that is too fine
 COARSER = 1.2  # by how much a step may grow if more values then lie on the lattice
 
 
@@ -149,22 +151,37 @@ def blur(scenario: Scenario, step: int) -> float:
     return total
 
 
+def finest(base: int, largest: float, excess: Callable[[int], float],
+           growth: Callable[[float], float] = lambda excess: GROWTH) -> int | None:
+    """Returns the finest step, a multiple of the base, of a lattice whose tables are small enough; None if it had fewer
+    than `LEAST_CELLS` in the largest number.
+
+    `excess` says how many times too large the tables of a step are: at most 1 if they are small enough. `growth` says
+    by how much the next step is coarser.
+    """
+    times = 1
+    while (size := excess(base * times)) > 1:
+        times = max(times + 1, int(times * growth(size)))
+        if base * times * LEAST_CELLS > largest:
+            return None
+    return base * times
+
+
 def lattice_of(scenario: Scenario, shape: Shape, widest: int, most_gaps: int = MOST_GAPS) -> tuple[int, bool]:
     """Returns the step of the lattice, and whether it is exact. With one lead time it has at most so many gaps.
 
     If it is not exact, some coarser steps are looked at too: the one that adds the least variance is taken.
     """
     base = math.gcd(*values_of(scenario))
-    times = 1
-    while not is_small(shape, base * times, widest, most_gaps):
-        times = max(times + 1, int(times * 1.1))
-        if base * times * LEAST_CELLS > max(shape.high, shape.order):
-            raise NoTheory("the numbers of this scenario are too far apart for the theory's tables: what comes back is "
-                           "nearly what is asked for, or one order lasts for far too long; compare policies of your "
-                           "own by runs")
-    if times == 1:
+    least = finest(base, max(shape.high, shape.order),
+                   lambda step: 1 if is_small(shape, step, widest, most_gaps) else math.inf)
+    if least is None:
+        raise NoTheory("the numbers of this scenario are too far apart for the theory's tables: what comes back is "
+                       "nearly what is asked for, or one order lasts for far too long; compare policies of your own by "
+                       "runs")
+    if least == base:
         return base, True
-    steps = (base * it for it in range(times, int(COARSER * times) + 1))
+    steps = range(least, int(COARSER * least) + 1, base)
     return min(steps, key=lambda step: blur(scenario, step)), False
 
 
@@ -184,10 +201,10 @@ def walk_of(scenario: Scenario, gap: int) -> Walk | None:
         return None
     high = max(max(it.values) for it in tables)
     height = height_of(scenario, high)
-    base = step = math.gcd(*(value for it in tables for value in it.values))
-    while gap / step * min(high, gap) / step > MOST_PRODUCTS or 4 * height / step > MOST_TRANSFORM:
-        step *= 2
-    return Walk(scenario, step, step == base) if step == base or step * LEAST_CELLS <= max(high, gap) else None
+    base = math.gcd(*(value for it in tables for value in it.values))
+    step = finest(base, max(high, gap), lambda step: max(gap / step * min(high, gap) / step / MOST_PRODUCTS,
+                                                         4 * height / step / MOST_TRANSFORM), lambda excess: 2)
+    return None if step is None else Walk(scenario, step, step == base)
 
 
 def theories_of(scenario: Scenario, widest: int | None = None) -> tuple[LongRun, LongRun | None]:

@@ -13,7 +13,7 @@ import numpy as np
 
 from ..chances import Floats
 from ..scenario import Policy, Scenario, Table
-from .lattice import LEAST_CELLS, NoTheory, Shape, shape_of, theory_on, values_of
+from .lattice import NoTheory, Shape, finest, shape_of, theory_on, values_of
 from .lattice_law import room_for
 from .long_run import LongRun
 from .walk import Walk
@@ -66,14 +66,15 @@ def run_of(scenario: Scenario, widest: int) -> tuple[LongRun, int]:
     at, in cells. Raises NoTheory if there is none."""
     shape = shape_of(scenario)
     widest, base = max(widest, math.ceil(2 * shape.order)), math.gcd(*values_of(scenario))
-    step = base
-    while step == base or step * LEAST_CELLS <= max(shape.high, shape.order):
-        most = -(-widest // step) + 1
-        room = room_of(Walk(scenario, step, step == base), shape, most)
-        if room <= room_allowed(shape):
-            return theory_on(scenario, shape, step, step == base), most
-        step = base * max(step // base + 1, int(0.8 * step / base * room / room_allowed(shape)))
-    raise NoTheory("the numbers of this scenario are too far apart for the theory's tables; compare policies by runs")
+
+    def excess(step: int) -> float:
+        """Returns how many times too large the laws on a lattice are."""
+        return room_of(Walk(scenario, step, step == base), shape, -(-widest // step) + 1) / room_allowed(shape)
+    step = finest(base, max(shape.high, shape.order), excess, lambda size: 0.8 * size)
+    if step is None:
+        raise NoTheory("the numbers of this scenario are too far apart for the theory's tables; compare policies by "
+                       "runs")
+    return theory_on(scenario, shape, step, step == base), -(-widest // step) + 1
 
 
 def least_cost(theory: LongRun, most: int) -> float:
