@@ -25,7 +25,7 @@ from crnplan.stored import Store
 from crnplan.jobs import processes
 from crnplan.demand.borrowing import Prior
 from crnplan.files import own_folder
-from crnplan.scenario import Table
+from crnplan.law import Law
 from planner.bench.made import make
 from planner.bench.zheng_federgruen import Floats, Search
 
@@ -55,7 +55,7 @@ def timed(function: Callable[[], Result]) -> tuple[float, Result]:
     return 1000 * (time.process_time() - start), result
 
 
-def chances_of(table: Table) -> Floats:
+def chances_of(table: Law) -> Floats:
     """Returns the chances of 0, 1, 2 and so on."""
     chances = np.zeros(max(table.values) + 1)
     chances[list(table.values)] = table.weights

@@ -52,7 +52,7 @@ def records(frame: Any) -> list[Figures]:
 def law_figures(law: Any) -> Figures:
     """Returns a fitted law: its family, values and weights."""
     return {"family": law.family, "values": [*law.values], "weights": [*law.weights],
-            "share": law.diagnostics.get("share")}
+            "share": law.diagnostics.share if law.diagnostics.families else None}
 
 
 def fitted(counts: Any, leads: Any) -> Figures:

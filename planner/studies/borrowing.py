@@ -33,11 +33,11 @@ import pandas as pd
 from tqdm import tqdm
 
 from crnplan.chances import Floats, in_items
-from crnplan.demand import DemandLaw, fit_demand
+from crnplan.demand import FittedLaw, fit_demand
 from crnplan.demand.borrowing import Borrowed, Prior, law_of, learn
 from crnplan.demand.families import predictive_of
-from crnplan.demand.fitting import weights_of
 from crnplan.demand.sample import Sample
+from crnplan.law import Law
 from planner.studies.laws import COVERS, Choice, LongRuns
 from planner.studies.made_catalogues import DESIGNED, UNSEEN, catalogue, drawn, hurdle, negative_binomial
 from planner.studies.page import markdown
@@ -94,7 +94,7 @@ class Truth:
                 return choices
             gaps, levels = 2 * gaps, 2 * levels
 
-    def regret(self, law: DemandLaw) -> float:
+    def regret(self, law: FittedLaw) -> float:
         """Returns the mean regret of the policies that are best under a law, in percent."""
         chances = np.zeros(law.values[-1] + 1)
         chances[[*law.values]] = law.weights
@@ -107,24 +107,24 @@ class Truth:
         return 100 * float(np.mean([cost / it.cost - 1 for cost, it in zip(costs, self.best)]))
 
 
-def predictive_law(single: DemandLaw, history: list[int]) -> DemandLaw:
+def predictive_law(single: FittedLaw, history: list[int]) -> FittedLaw:
     """Returns the law of `fit_demand(method="predictive")`, from that of `auto`, which looks at the same families."""
     if single.family == "empirical":
         return single
     sample = Sample.of(history)
     law = in_items(predictive_of(single.family, sample.in_packs(sample.pack)), sample.pack)
-    return DemandLaw(*weights_of(law), single.family)
+    return FittedLaw.made(Law.of_chances(law), single.family, single.diagnostics)
 
 
 def judged(law: Floats, history: list[int], prior: Prior, by_class: Prior | None, item_class: str) -> Judgement:
     """Returns the regrets of all methods for an item."""
-    truth, borrowed = Truth(law), LatticeLaw.of(prior, history)
-    known: Borrowed = borrowed.diagnostics["borrowed"]
+    truth, borrowed = Truth(law), law_of(prior, history)
+    known: Borrowed = borrowed.diagnostics.borrowed
     single = known.single or borrowed
     laws = {"empirical": fit_demand(history, method="empirical"), "predictive": predictive_law(single, history),
             "auto": single, "borrowed": borrowed}
     if by_class:
-        laws["class"] = LatticeLaw.of(by_class, history, item_class, beside=False)
+        laws["class"] = law_of(by_class, history, item_class, beside=False)
     return Judgement({name: truth.regret(it) for name, it in laws.items()}, known.demands,
                      1 / (1 - float(law[0])) > MOST_INTERVAL, truth.best[1].cost, known)
 

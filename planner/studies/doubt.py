@@ -33,7 +33,7 @@ import pandas as pd
 from crnplan.chances import Floats
 from crnplan.demand import fit_demand
 from crnplan.demand.posterior import allowed_laws
-from crnplan.scenario import Table
+from crnplan.law import Law
 from crnplan.theory.lattice_law import room_for
 from planner.studies.laws import COVERS, GROUPS, LAWS, LEADS, PERIODS, SETTINGS, Choice, LongRuns, Truth
 from planner.studies.page import markdown
@@ -127,7 +127,7 @@ def sums_of(chances: Floats, numbers: Iterable[int]) -> dict[int, Floats]:
     return {number: sums[number] for number in numbers}
 
 
-def chances_of(table: Table) -> Floats:
+def chances_of(table: Law) -> Floats:
     """Returns the chances of 0, 1, 2 and so on."""
     chances = np.zeros(table.values[-1] + 1)
     chances[[*table.values]] = np.array(table.weights) / sum(table.weights)

@@ -25,7 +25,8 @@ import pandas as pd
 
 from crnplan.demand import fit_demand
 from crnplan.demand.posterior import allowed_laws
-from crnplan.scenario import Costs, Policy, Scenario, Table
+from crnplan.law import Law
+from crnplan.scenario import Costs, Policy, Scenario
 from crnplan.theory.confidence import FillLevels, Promises
 from crnplan.theory.lattice import theories_of
 from crnplan.chances import Floats
@@ -46,18 +47,18 @@ HOLDING, BACKLOG = 1_000, 9_000
 WHOLE = 10**12  # what the weights of a true law add up to, about
 
 
-def table_of(chances: Floats) -> Table:
+def table_of(chances: Floats) -> Law:
     """Returns the table of a true law."""
-    return Table.of({value: round(WHOLE * chance) for value, chance in enumerate(chances / chances.sum())})
+    return Law.of({value: round(WHOLE * chance) for value, chance in enumerate(chances / chances.sum())})
 
 
-def scenario_of(demand: Table, leads: Sequence[int], setup: float) -> Scenario:
+def scenario_of(demand: Law, leads: Sequence[int], setup: float) -> Scenario:
     """Returns a scenario, as far as theory looks at it. Its lead times have equal weights."""
     return Scenario(1, ("0" * 16,) * 4, 1, 1, 0, 1, Costs(round(setup), 0, HOLDING, BACKLOG), demand,
-                    Table((*leads,), (1,) * len(leads)), (Policy("today", 0, 1),))
+                    Law((*leads,), (1,) * len(leads)), (Policy("today", 0, 1),))
 
 
-def scenarios_of(demand: Table, mean: float) -> list[Scenario]:
+def scenarios_of(demand: Law, mean: float) -> list[Scenario]:
     """Returns the scenario of each setting. An order costs what is best for its cover of a mean demand."""
     return [scenario_of(demand, (lead,), HOLDING * mean * cover**2 / 2) for lead, cover in SETTINGS]
 

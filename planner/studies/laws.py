@@ -29,7 +29,7 @@ import pandas as pd
 from scipy import stats
 
 from crnplan.chances import Floats
-from crnplan.demand import DemandLaw, fit_demand
+from crnplan.demand import FittedLaw, fit_demand
 from crnplan.theory.wiener_hopf import renewal_sequence
 from crnplan.theory.lattice_law import LatticeLaw, power_of
 from planner.studies.page import markdown
@@ -217,7 +217,7 @@ class Truth:
             if np.count_nonzero(drawn) >= 2:
                 return [int(it) for it in drawn]
 
-    def regrets(self, law: DemandLaw) -> Iterator[tuple[float, float]]:
+    def regrets(self, law: FittedLaw) -> Iterator[tuple[float, float]]:
         """Returns regret and promise of each setting."""
         chances = np.zeros(law.values[-1] + 1)
         chances[[*law.values]] = law.weights

@@ -24,7 +24,7 @@ import numpy as np
 import pandas as pd
 
 from crnplan.demand import fit_lead
-from crnplan.demand.fitting import weights_of
+from crnplan.law import Law
 from crnplan.scenario import Scenario
 from crnplan.theory.lattice import theories_of
 from crnplan.theory.long_run import LongRun
@@ -42,8 +42,8 @@ STORED = Path(__file__).with_name("laws_leads.csv")
 
 def theory_of(demand: str, leads: Mapping[int, int]) -> LongRun:
     """Returns the theory of a demand with a law of lead times, for orders of the larger cover."""
-    values, weights = weights_of(DESIGNED[demand])
-    scenario = Scenario.of(dict(zip(values, weights)), dict(leads), setup=order_of(demand, max(COVERS)), holding=1,
+    law = Law.of_chances(DESIGNED[demand])
+    scenario = Scenario.of(law, dict(leads), setup=order_of(demand, max(COVERS)), holding=1,
                            backlog=BACKLOGS[0], today=(1, 2))
     return theories_of(scenario)[0]
 

@@ -14,7 +14,7 @@ from dataclasses import dataclass
 import numpy as np
 
 from crnplan.formats import MOST_DEMAND, MOST_LEAD
-from crnplan.scenario import Table
+from crnplan.law import Law
 
 WEEKS = 156
 KINDS = ["fast", "smooth", "intermittent", "lumpy", "very_fast"]
@@ -27,9 +27,9 @@ class Item:
     """An item: laws by week, whole costs, today's levels, and the share of demand to meet at once, if that is asked."""
 
     number: int
-    demand: Table
-    returns: Table | None
-    lead: Table
+    demand: Law
+    returns: Law | None
+    lead: Law
     setup: int
     holding: int
     backlog: int
@@ -73,9 +73,9 @@ def lead_times(rng: np.random.Generator, lead: int, by_orders: bool, several: bo
     return [max(1, lead + int(it)) for it in rng.integers(-1, 3, 6)] if several else [lead]
 
 
-def counted(numbers: list[int], box: int = 1) -> Table:
+def counted(numbers: list[int], box: int = 1) -> Law:
     """Returns the law of observed numbers, in boxes."""
-    return Table.of(Counter(round(it / box) for it in numbers))
+    return Law.of(Counter(round(it / box) for it in numbers))
 
 
 def item_of(rng: np.random.Generator, number: int) -> Item | None:

@@ -21,7 +21,7 @@ import click
 import pandas as pd
 
 from crnplan.demand import fit_demand
-from crnplan.scenario import Table
+from crnplan.law import Law
 from crnplan.theory.lattice import theories_of
 from crnplan.theory.long_run import Candidate, LongRun, search
 from crnplan.theory.suggestions import FILLS
@@ -48,7 +48,7 @@ def all_gaps(theory: LongRun, policy_of: Callable[[int], Candidate], known: floa
     return min(policy_of(gap).cost for gap in range(theory.widest(known, 0) + 1))
 
 
-def excesses(demand: Table, leads: Sequence[int], setup: float) -> Iterator[tuple[str, float]]:
+def excesses(demand: Law, leads: Sequence[int], setup: float) -> Iterator[tuple[str, float]]:
     """Yields what is sought, and how much dearer a search finds it."""
     scenario = scenario_of(demand, leads, setup)
     theory, _ = theories_of(scenario)

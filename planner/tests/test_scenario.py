@@ -21,7 +21,9 @@ from hypothesis import strategies as st
 from crnplan import formats
 from crnplan.toml.faults import faults_of
 from crnplan.errors import ProgramError, Refused, ScenarioError
-from crnplan.scenario import Costs, Policy, Scenario, Table, policies_of, read_policies
+from crnplan.demand import fit_demand
+from crnplan.law import Law
+from crnplan.scenario import Costs, Policy, Scenario, policies_of, read_policies
 from planner.tests.conftest import Command
 
 TOP = Path(__file__).parents[2]
@@ -87,15 +89,9 @@ def test_files_that_are_not_read(tmp_path: Path) -> None:
         Scenario.read(path)
 
 
-@dataclasses.dataclass
-class Law:
-    """A law that has a table."""
-
-    table: Table
-
-
 LAWS: dict[str, Any] = {
-    "table": Table((1, 2, 5), (1, 2, 1)), "law": Law(Table((1, 2, 5), (1, 2, 1))), "mapping": {5: 1, 2: 2, 1: 1, 9: 0},
+    "law": Law((1, 2, 5), (1, 2, 1)), "fitted": fit_demand([1, 2, 2, 5], method="empirical"),
+    "mapping": {5: 1, 2: 2, 1: 1, 9: 0},
     "list": [5, 2, 1, 2], "array": np.array([5, 2, 1, 2], dtype=np.uint8), "floats": pd.Series([5.0, 2.0, 1.0, 2.0]),
     "series": pd.Series([5, 2, 1, 2], index=list("abcd")),
     "numpy-mapping": {np.int64(5): np.int32(1), 2: 2.0, 1: Fraction(1)},
@@ -106,7 +102,7 @@ LAWS: dict[str, Any] = {
 def test_laws(name: str) -> None:
     """Makes a table of each kind of law; its numbers are Python's."""
     table = made(demand=LAWS[name]).demand
-    assert table == Table((1, 2, 5), (1, 2, 1)) and table.mean == Fraction(10, 4)
+    assert table == Law((1, 2, 5), (1, 2, 1)) and table.mean == Fraction(10, 4)
     assert {type(it) for it in (*table.values, *table.weights)} == {int}
 
 

@@ -22,7 +22,7 @@ _HOMES = {
     "Costs": "scenario",
     "Policy": "scenario",
     "Scenario": "scenario",
-    "Table": "scenario",
+    "Law": "law",
     "LongRunReport": "crnsim.long_run",
     "Report": "crnsim.report",
     "find_program": "crnsim.program",
@@ -31,8 +31,7 @@ _HOMES = {
     "read_lead_times": "records",
     "Checks": "demand",
     "check_history": "demand",
-    "DemandLaw": "demand",
-    "LeadLaw": "demand",
+    "FittedLaw": "demand",
     "fit_demand": "demand",
     "fit_lead": "demand",
     "Prior": "demand.borrowing",
@@ -63,7 +62,7 @@ if TYPE_CHECKING:
     from .decide.doubt import doubt
     from .decide.keys import check_keys
     from .decide.sensitivity import sensitivity
-    from .demand import Checks, DemandLaw, LeadLaw, check_history, fit_demand, fit_lead
+    from .demand import Checks, FittedLaw, check_history, fit_demand, fit_lead
     from .demand.borrowing import Prior, learn
     from .crnsim.program import find_program
     from .crnsim.long_run import LongRunReport
@@ -71,7 +70,8 @@ if TYPE_CHECKING:
     from .crnsim.trajectory import trajectories
     from .errors import CrnplanError, Failed, Fault, ProgramError, Refused, ScenarioError
     from .records import History, read_history, read_lead_times
-    from .scenario import Costs, Policy, Scenario, Table
+    from .law import Law
+    from .scenario import Costs, Policy, Scenario
     from .crnsim.sweep import sweep
 
 

@@ -133,3 +133,77 @@ CHECKS: dict[str, tuple[Say, Say]] = {
                                       "number of periods (52 if they are weeks, 12 if months)", ""),
     "season untested": (lambda it: f"{'weekdays are' if it['season'] == 'weekday' else 'a season is'} tested from "
                         f"{it['periods']} {it['unit']}s on", "")}
+
+# How a law was fitted (demand/fit_remarks.py).
+ALONE = {"nothing borrowed": "nothing is borrowed", "demand in boxes": "demand is counted in boxes of {box}",
+         "packs of few others": "all demands are packs of {pack}, as those of few others",
+         "large sizes": "the mean size of a demand is above {most:g}",
+         "large sizes in packs": "the mean size of a demand is above {most:g} packs",
+         "unlike histories": "drawn histories do not look like the real one"}
+
+
+def _plural(count: int, noun: str) -> str:
+    """Returns a count with its noun."""
+    return f"{count} {noun}{'s' * (count != 1)}"
+
+
+def _seen(facts: Facts) -> str:
+    """Returns which part of a law is from what was seen."""
+    return f", mixed with {facts['seen']:.0%} of what was seen" if facts["seen"] > 0 else ""
+
+
+def _learned(facts: Facts) -> str:
+    """Returns from whom an item has learned its law."""
+    source = "the whole catalogue" if facts["prior"] == "all" else f"class {facts['prior']}"
+    return f"learned from {source}, with {_plural(facts['demands'], 'demand')} seen{_seen(facts)}"
+
+
+def _likelier(facts: Facts) -> str:
+    """Returns what the Bayes factor for the catalogue says."""
+    unlike = ": unlike the catalogue; look at it" * facts["unlike"]
+    return f"the history is 10^{facts['log10_bayes']:.1f} times as likely under what was learned as without it{unlike}"
+
+
+def _families(facts: Facts) -> str:
+    """Returns the families of a law with their weights."""
+    named = (f"{name} {weight:.0%}" for name, weight in facts.items() if name not in ("seen", "cap", "most"))
+    return f"{', '.join(named)}{_seen(facts)}; at most {facts['cap']}, as {facts['most']} is the largest demand seen"
+
+
+def _guard(facts: Facts) -> str:
+    """Returns how the drawn histories of a law look."""
+    return (f"guard: a history of {facts['family']} varies as much with chance {facts['as_much']:.2f}, as little with "
+            f"{facts['as_little']:.2f}, is as far off with {facts['as_far']:.2f}, has no larger demand with "
+            f"{facts['as_low']:.2f}, as large a one with {facts['as_high']:.2f}" + ": rejected" * (not facts["passes"]))
+
+
+def _figures(facts: Facts) -> str:
+    """Returns the figures of a law."""
+    variance = "-" if facts["variance"] is None else f"{facts['variance']:.4g}"
+    quantiles = ", ".join(f"{name} {value}" for name, value in facts.items() if name.endswith("%"))
+    return (f"{facts['title']}: mean {facts['mean']:.4g}, variance {variance}, quantiles {quantiles}, largest "
+            f"{facts['most']}")
+
+
+def _few_leads(facts: Facts) -> str:
+    """Returns what a short record of lead times costs."""
+    costs = (f"{facts[f'least_{count}']:g} to {facts[f'most_{count}']:g}% after {count}" for count in (5, 10, 20))
+    return f"by a study, a policy chosen after few lead times costs more than the best: {', '.join(costs)}"
+
+
+FITS: dict[str, tuple[Say, Say]] = {
+    **{code: (f"its law is learned from no others: {reason}", "") for code, reason in ALONE.items()},
+    "alone": (lambda it: f"{ALONE[it['reason']].format_map(it)}, so the law is that of the item alone", ""),
+    "learned law": (_learned, ""),
+    "law of the catalogue": ("with so few demands the law is all but that of the catalogue; look at it", ""),
+    "likelier by the catalogue": (_likelier, ""), "guard": (_guard, ""), "families": (_families, ""),
+    "packs are fitted": ("all demands are packs of {pack}, so packs are fitted", ""),
+    "no family": ("no family gives back this history, so it stays as it is", ""), "family": ("{family}", ""),
+    "bulks": (lambda it: f"for the family bulk, the {_plural(it['count'], 'demand')} of at least {it['least']} are bulks",
+              ""),
+    "BIC": (lambda it: "BIC above the least: " + ", ".join(f"{name} {value:.1f}" for name, value in it.items()), ""),
+    "figures of a law": (_figures, ""),
+    "blurred lead times": ("of each of the {observed} lead times seen, {side:.1%} count one period earlier, and as much "
+                           "one later", ""),
+    "few lead times": (_few_leads, "")}
+LAWS = {**CHECKS, **FITS}

@@ -21,6 +21,7 @@ from .toml import reading
 from .toml.values import shown
 from .toml.writing import toml_text
 from .errors import Refused
+from .law import Law
 from .money import scaled_costs, whole
 from .table import Result
 
@@ -62,35 +63,6 @@ class Costs:
 
 
 @dataclass(frozen=True)
-class Table:
-    """A law of chances: values, and as many positive whole weights."""
-
-    values: tuple[int, ...]
-    weights: tuple[int, ...]
-
-    @property
-    def mean(self) -> Fraction:
-        """Returns the exact mean."""
-        return Fraction(sum(a * b for a, b in zip(self.values, self.weights)), sum(self.weights))
-
-    @classmethod
-    def of(cls, weights: Mapping[int, int]) -> Table:
-        """Makes a table from a mapping of values to weights. Weights of 0 are left out."""
-        kept = sorted(it for it in weights if weights[it])
-        return cls(tuple(int(it) for it in kept), tuple(int(weights[it]) for it in kept))
-
-    @classmethod
-    def of_tree(cls, tree: Tree) -> Table:
-        """Makes a table from a tree with the keys `values` and `weights`, as they stand there."""
-        return cls(tuple(tree["values"]), tuple(tree["weights"]))
-
-    @property
-    def tree(self) -> Tree:
-        """Returns the tree that tomllib would read."""
-        return {"values": list(self.values), "weights": list(self.weights)}
-
-
-@dataclass(frozen=True)
 class Scenario:
     """A scenario. `returns` is None if there are none; then `version` may be 1."""
 
@@ -101,10 +73,10 @@ class Scenario:
     initial: int
     ring: int
     costs: Costs
-    demand: Table
-    lead: Table
+    demand: Law
+    lead: Law
     policies: tuple[Policy, ...]
-    returns: Table | None = None
+    returns: Law | None = None
     # The text that it was read from, for its comments. Two scenarios with the same numbers are equal.
     source: str | None = field(default=None, compare=False, repr=False)
     # What one unit of the money that it was made from counts in `costs`: a power of ten.
@@ -114,9 +86,9 @@ class Scenario:
     def of_tree(cls, tree: Tree, source: str | None = None) -> Scenario:
         """Makes a scenario from a tree as tomllib gives it, which is known to have no fault."""
         plain = {name: tree[name] for name in ("version", "periods", "replications", "initial", "ring")}
-        return cls(**plain, key=tuple(tree["key"]), costs=Costs(**tree["costs"]), demand=Table.of_tree(tree["demand"]),
-                   lead=Table.of_tree(tree["lead"]), policies=tuple(Policy(**it) for it in tree["policy"]),
-                   returns=Table.of_tree(tree["returns"]) if "returns" in tree else None, source=source)
+        return cls(**plain, key=tuple(tree["key"]), costs=Costs(**tree["costs"]), demand=Law.of_tree(tree["demand"]),
+                   lead=Law.of_tree(tree["lead"]), policies=tuple(Policy(**it) for it in tree["policy"]),
+                   returns=Law.of_tree(tree["returns"]) if "returns" in tree else None, source=source)
 
     @property
     def tree(self) -> Tree:
@@ -150,7 +122,7 @@ class Scenario:
            key: str | Sequence[str] = "crnsim") -> Scenario:
         """Makes a scenario from laws, tables, mappings or observed whole numbers.
 
-        `demand`, `lead` and `returns` are each a law with a `table`, a `Table`, a mapping of values to weights, or
+        `demand`, `lead` and `returns` are each a `Law`, a mapping of values to weights, or
         observed whole numbers: items in a period, periods until an order arrives. Costs are amounts of money, as 12.5,
         "12.50" or a Decimal; `scale` of the result says what one unit of money counts in its `costs`. `today` is the
         pair (s, S), the policy of that name. `initial` is in items, by default halfway between s and S. `key` has four
@@ -247,18 +219,17 @@ def key_words(key: str | Sequence[str]) -> list[str]:
     return [digits[place:place + length] for place in range(0, formats.WORDS_OF_KEY * length, length)]
 
 
-def _table(law: Any, name: str) -> Table:
+def _table(law: Any, name: str) -> Law:
     """Returns the table of a law, of a mapping of values to weights, or of observed whole numbers."""
-    law = getattr(law, "table", law)
-    if isinstance(law, Table):
-        return law
+    if isinstance(law, Law):
+        return law.table
     if not isinstance(law, Mapping):
         # An array or a Series, as Python's numbers; or any iterable.
         numbers = law.tolist() if hasattr(law, "tolist") else law
         if not isinstance(numbers, Iterable):
             raise Refused(f"{name}: {type(law).__name__} is not a law; fit one, or give observed whole numbers")
         law = Counter(whole(it, f"{name}: entry {place}") for place, it in enumerate(numbers, 1))
-    return Table.of({whole(it, f"{name}: value"): whole(law[it], f"{name}: weight of {it}") for it in law})
+    return Law.of({whole(it, f"{name}: value"): whole(law[it], f"{name}: weight of {it}") for it in law})
 
 
 def _levels(pair: Any, name: str) -> tuple[int, int]:

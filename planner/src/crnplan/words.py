@@ -9,7 +9,7 @@ from collections.abc import Callable, Mapping
 from dataclasses import dataclass
 
 from .formats import MOST_ITEMS
-from .law_words import CHECKS
+from .law_words import LAWS
 from .record_words import RECORDS
 from .remarks import Remark, Value
 
@@ -35,7 +35,6 @@ def counted(count: Value, noun: str) -> str:
 PLAN: dict[str, Words] = {
     "few demands": Words(lambda it: f"demand in {counted(it['demands'], 'period')} alone, so its law is " + (
         "nearly that of the catalogue" if it["learned"] else "hardly known")),
-    "learns nothing": Words("its law is learned from no others: {reason}"),
     "unlike the catalogue": Words("unlike the catalogue from which laws are learned: see borrow = none"),
     "steps": Words("theory counts in steps of {items:,} items"),
     "rounded costs": Words("costs are rounded by up to {error:.1%}"),
@@ -64,7 +63,7 @@ CURVE: dict[str, Words] = {
     "no price": Words("it has no price above 0, so its stock has no value", "give it a price in the masters"),
     "not planned": Words("it is not planned as its rows are now", "run crnplan catalogue again")}
 
-WORDS = {**PLAN, **LEARNING, **CURVE, **{code: Words(*said) for code, said in (*CHECKS.items(), *RECORDS.items())}}
+WORDS = {**PLAN, **LEARNING, **CURVE, **{code: Words(*said) for code, said in (*LAWS.items(), *RECORDS.items())}}
 
 
 def _said(say: Say, facts: Facts) -> str:

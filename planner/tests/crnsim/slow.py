@@ -4,7 +4,8 @@ from __future__ import annotations
 from collections.abc import Iterable, Sequence
 from dataclasses import dataclass, field
 
-from crnplan.scenario import Policy, Scenario, Table
+from crnplan.law import Law
+from crnplan.scenario import Policy, Scenario
 from tests.program import oracle
 
 Draw = tuple[int, int, int]  # demand, lead time, returns
@@ -38,9 +39,9 @@ class History:
         return found
 
 
-def spread(law: Table | None) -> list[int]:
+def spread(law: Law | None) -> list[int]:
     """Returns each value as often as its weight says."""
-    law = law or Table((0,), (1,))
+    law = law or Law((0,), (1,))
     return [value for value, weight in zip(law.values, law.weights) for _ in range(weight)]
 
 

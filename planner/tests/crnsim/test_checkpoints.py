@@ -12,14 +12,15 @@ import pytest
 from crnplan.crnsim.checkpoints import State, checkpoint_text, read_checkpoint, replication_costs, resume_all
 from crnplan.crnsim.report import read_rows
 from crnplan.errors import Refused
-from crnplan.scenario import Costs, Policy, Scenario, Table
+from crnplan.law import Law
+from crnplan.scenario import Costs, Policy, Scenario
 from planner.tests.crnsim.slow import History, draws_of, simulate
 from tests.program import oracle
 
 ZERO = "0000000000000000"
-BACK = Table((0, 1, 3), (5, 2, 1))
+BACK = Law((0, 1, 3), (5, 2, 1))
 PLAIN = Scenario(1, (ZERO, ZERO, ZERO, "0123456789abcdef"), 22, 3, 20, 8, Costs(7, 2, 1, 4),
-                 Table((0, 2, 5), (1, 2, 3)), Table((1, 4), (3, 1)), (Policy("A", 8, 20), Policy("B", 12, 15)))
+                 Law((0, 2, 5), (1, 2, 3)), Law((1, 4), (3, 1)), (Policy("A", 8, 20), Policy("B", 12, 15)))
 SCENARIOS = {"without returns": PLAIN, "with returns": replace(PLAIN, version=2, returns=BACK)}
 
 

@@ -15,20 +15,21 @@ from crnplan.crnsim import long_run
 from crnplan.crnsim.long_run import COUNT_ORDERS, OWN_PERIODS, OWN_STREAMS, START_STREAM, keys_of, long_run_of, settled
 from crnplan.crnsim.words import drawn, places_of, stream_words, words_of_keys
 from crnplan.errors import Refused
-from crnplan.scenario import Costs, Policy, Scenario, Table
+from crnplan.law import Law
+from crnplan.scenario import Costs, Policy, Scenario
 from planner.tests.crnsim.slow import History, draws_of, key_words, simulate, spread
 from planner.tests.theory.chain import by_chain
 from tests.program import oracle
 
 KEY = ("0123456789abcdef", "fedcba9876543210", "00000000ffffffff", "ffffffff00000000")
-PLAIN = Scenario(1, KEY, 5, 3, 20, 8, Costs(50, 3, 1, 9), Table((0, 1, 4), (5, 3, 1)), Table((1, 3, 6), (2, 2, 1)),
+PLAIN = Scenario(1, KEY, 5, 3, 20, 8, Costs(50, 3, 1, 9), Law((0, 1, 4), (5, 3, 1)), Law((1, 3, 6), (2, 2, 1)),
                  (Policy("today", 6, 14), Policy("more", 9, 20), Policy("each", 8, 8)))
 SCENARIOS = {"several lead times": PLAIN,
-             "returns": replace(PLAIN, version=2, returns=Table((0, 1), (9, 1))),
-             "one lead time": replace(PLAIN, lead=Table((2, 5), (1, 0))),
-             "few orders": replace(PLAIN, demand=Table((0, 1), (400, 1)),
+             "returns": replace(PLAIN, version=2, returns=Law((0, 1), (9, 1))),
+             "one lead time": replace(PLAIN, lead=Law((2, 5), (1, 0))),
+             "few orders": replace(PLAIN, demand=Law((0, 1), (400, 1)),
                                    policies=(Policy("a", 1, 9), Policy("b", 0, 5))),
-             "stock far below 0": replace(PLAIN, demand=Table((0, 9_000), (1, 1)), lead=Table((30, 32), (1, 1)))}
+             "stock far below 0": replace(PLAIN, demand=Law((0, 9_000), (1, 1)), lead=Law((30, 32), (1, 1)))}
 
 
 @pytest.fixture(params=SCENARIOS)
@@ -68,9 +69,9 @@ def test_places(count: int) -> None:
     assert places_of(np.array(words, np.uint64), count).tolist() == [word * count >> 64 for word in words]
 
 
-@pytest.mark.parametrize("law", [Table((0, 3, 9), (1, 0, 5)), Table((2, 4, 6), (0, 3, 0)), Table((5,), (65_536,)),
-                                 Table(tuple(range(0, 2000, 3)), tuple(it % 7 for it in range(667)))], ids=str)
-def test_draws(law: Table) -> None:
+@pytest.mark.parametrize("law", [Law((0, 3, 9), (1, 0, 5)), Law((2, 4, 6), (0, 3, 0)), Law((5,), (65_536,)),
+                                 Law(tuple(range(0, 2000, 3)), tuple(it % 7 for it in range(667)))], ids=str)
+def test_draws(law: Law) -> None:
     words = numbers(2000)
     assert drawn(np.array(words, np.uint64), law).tolist() == [oracle.pick(spread(law), word) for word in words]
 
@@ -115,13 +116,13 @@ def test_most_runs_count_1020_periods(scenario: Scenario, program: Path) -> None
     assert long_run_of(scenario, 2, program).periods == (1024 - 4 * 8 if far else 1020)
 
 
-CHAINS = [PLAIN, replace(PLAIN, lead=Table((2,), (1,))), replace(SCENARIOS["returns"], lead=Table((1, 2), (1, 1)))]
+CHAINS = [PLAIN, replace(PLAIN, lead=Law((2,), (1,))), replace(SCENARIOS["returns"], lead=Law((1, 2), (1, 1)))]
 
 
 @pytest.mark.parametrize("scenario", CHAINS, ids=["several lead times", "one lead time", "returns"])
 def test_mean_costs_are_those_of_a_chain(scenario: Scenario, program: Path) -> None:
     """The mean of each cost, and of each difference, lies within 4 standard errors of a Markov chain's."""
-    scenario = replace(scenario, lead=Table((1, 3), (2, 1))) if scenario is PLAIN else scenario
+    scenario = replace(scenario, lead=Law((1, 3), (2, 1))) if scenario is PLAIN else scenario
     exact = [by_chain(scenario.with_policies([it]))[0] for it in scenario.policies]
     found = long_run_of(scenario, 48, program)
     costs = np.array(found.costs) / found.periods
@@ -169,8 +170,8 @@ def test_orders_are_counted_by_setup_alone() -> None:
 @pytest.mark.parametrize("scenario, keys, message", [
     (PLAIN, 1, "keys=1: the long run takes 2 to 256 keys"), (PLAIN, 257, "keys=257"),
     (replace(PLAIN, version=2, returns=PLAIN.demand), 2, "no long run: on average as much comes back"),
-    (replace(PLAIN, demand=Table((0,), (1,))), 2, "no long run"),
-    (replace(PLAIN, version=2, demand=Table((0, 10_000), (1, 1)), returns=Table((0, 9_999), (1, 1)),
+    (replace(PLAIN, demand=Law((0,), (1,))), 2, "no long run"),
+    (replace(PLAIN, version=2, demand=Law((0, 10_000), (1, 1)), returns=Law((0, 9_999), (1, 1)),
              policies=(Policy("top", 999_000, 1_000_000),)), 2, "rises above 1,0[0-9]0,000 items")],
     ids=["one key", "many keys", "as much comes back", "no demand", "too much stock"])
 def test_refusals(scenario: Scenario, keys: int, message: str, program: Path) -> None:

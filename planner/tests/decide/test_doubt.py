@@ -14,13 +14,14 @@ from crnplan.decide.doubt import Doubt, Spreads, doubt
 from crnplan.decide.intervals import t_quantile
 from crnplan.demand.posterior import AllowedLaws, allowed_laws, allowed_leads
 from crnplan.errors import Refused, ScenarioError
-from crnplan.scenario import Policy, Scenario, Table
+from crnplan.law import Law
+from crnplan.scenario import Policy, Scenario
 from crnplan.theory.many_laws import LawFigures
 from crnplan.theory.suggestions import figures_of
 
 HISTORY = [0, 3, 1, 9, 0, 0, 2, 5, 14, 1, 0, 4, 2, 2, 7, 0, 1, 3, 21, 0, 6, 1]
 LEADS = [2, 3, 2, 4]
-LAW = Table((0, 3), (1, 1))
+LAW = Law((0, 3), (1, 1))
 
 
 @pytest.fixture

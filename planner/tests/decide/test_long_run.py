@@ -20,7 +20,8 @@ from crnplan.decide.sensitivity import sensitivity
 from crnplan.crnsim.long_run import LongRunReport
 from crnplan.crnsim.report import Row
 from crnplan.errors import Refused
-from crnplan.scenario import Costs, Policy, Scenario, Table
+from crnplan.law import Law
+from crnplan.scenario import Costs, Policy, Scenario
 from crnplan.theory.lattice import NoTheory
 from planner.tests.conftest import Command
 from planner.tests.theory.chain import by_chain
@@ -31,8 +32,8 @@ KEY = ("0123456789abcdef", "fedcba9876543210", "00000000ffffffff", "ffffffff0000
 PART = replace(scenario_of(([0, 1, 3], [5, 3, 1]), ([1, 3], [2, 1])), key=KEY, costs=Costs(40, 3, 2, 9), periods=40,
                replications=64, initial=25,
                policies=(Policy("today", 4, 11), Policy("more", 6, 14), Policy("less", 2, 6)))
-SLOW = replace(PART, demand=Table((0, 1), (60_000, 1)), policies=(Policy("today", 1, 9), Policy("more", 2, 12)))
-EVEN = replace(PART, demand=Table((1,), (1,)), lead=Table((1,), (1,)),
+SLOW = replace(PART, demand=Law((0, 1), (60_000, 1)), policies=(Policy("today", 1, 9), Policy("more", 2, 12)))
+EVEN = replace(PART, demand=Law((1,), (1,)), lead=Law((1,), (1,)),
                policies=(Policy("today", 1, 5), Policy("equal", 1, 5)))
 
 
@@ -185,7 +186,7 @@ def test_no_interval_without_spread(program: Path) -> None:
     (21, ""), (25, ", but the bias of the start is rounded to steps of 5 items")], ids=["on it", "beside it"])
 def test_a_start_beside_the_packs_is_said(initial: int, said: str, program: Path) -> None:
     """Both policies order up to a whole number of packs above 21."""
-    asked = replace(PART, demand=Table((0, 5, 10), (5, 3, 1)), initial=initial,
+    asked = replace(PART, demand=Law((0, 5, 10), (5, 3, 1)), initial=initial,
                     policies=(Policy("today", 4, 11), Policy("more", 9, 26)))
     assert corrected_decision(asked.run(program=program).rows, asked).theory == "exact but for rounding" + said
 
@@ -290,7 +291,7 @@ def test_sensitivity_in_the_long_run(crnplan: Command, room: Path, program: Path
     even = replace(PART, costs=Costs(40, 3, 2, 8))
     found = sensitivity(even, long_run=True, program=program)
     costs = {it.name: it.costs for it in found.cases}
-    cases = {"base": even, "lead_plus_1": replace(even, lead=Table((2, 4), (2, 1))),
+    cases = {"base": even, "lead_plus_1": replace(even, lead=Law((2, 4), (2, 1))),
              "backlog_half": replace(even, costs=Costs(40, 3, 2, 4)),
              "backlog_double": replace(even, costs=Costs(40, 3, 2, 16))}
     for name, scenario in cases.items():

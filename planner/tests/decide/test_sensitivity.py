@@ -13,7 +13,7 @@ from hypothesis import strategies as st
 
 import crnplan as crn
 from crnplan.decide.sensitivity import changed_demand
-from crnplan.scenario import Table
+from crnplan.law import Law
 from planner.tests.conftest import Command
 from planner.tests.decide.answers import changed
 
@@ -118,13 +118,13 @@ def test_json_has_the_figures_of_the_table(owing: str, crnplan: Command, shown: 
     (11, {1: 9, 2: 17, 3: 18, 4: 12, 5: 4}), (9, {0: 1, 1: 13, 2: 22, 3: 18, 4: 6})], ids=["up", "down"])
 def test_changes_demand_as_by_hand(tenths: int, weights: dict[int, int]) -> None:
     """Compares a changed demand with one by hand."""
-    assert changed_demand(Table((1, 2, 3, 4), (1, 2, 2, 1)), tenths) == Table.of(weights)
+    assert changed_demand(Law((1, 2, 3, 4), (1, 2, 2, 1)), tenths) == Law.of(weights)
 
 
 @given(st.dictionaries(st.integers(0, 9000), st.integers(1, 900), min_size=1, max_size=7), st.sampled_from([9, 11]))
 def test_changed_demand_has_the_changed_mean(weights: dict[int, int], tenths: int) -> None:
     """Checks the mean, which is exact if the weights are small, and that each demand moves by less than one."""
-    demand = Table.of(weights)
+    demand = Law.of(weights)
     after = changed_demand(demand, tenths)
     assert after.mean == Fraction(sum(it * weights[it] for it in weights), sum(weights.values())) * tenths / 10
     assert {it for value in weights for it in (tenths * value // 10, -(-tenths * value // 10))} == set(after.values)
@@ -134,7 +134,7 @@ def test_changed_demand_has_the_changed_mean(weights: dict[int, int], tenths: in
     lambda its: sum(its.values()) <= 65_536), st.sampled_from([9, 11]))
 def test_changed_weights_stay_in_range(weights: dict[int, int], tenths: int) -> None:
     """Checks that large weights come to 65,536 at most, and that rounding moves the mean by less than 0.05%."""
-    after = changed_demand(Table.of(weights), tenths)
+    after = changed_demand(Law.of(weights), tenths)
     wanted = Fraction(sum(it * weights[it] for it in weights), sum(weights.values())) * tenths / 10
     assert sum(after.weights) <= 65_536 and min(after.weights) >= 1
     assert abs(after.mean - wanted) <= Fraction(14 * 9901, 65_536)
@@ -142,8 +142,8 @@ def test_changed_weights_stay_in_range(weights: dict[int, int], tenths: int) -> 
 
 def test_large_weights_keep_their_sum() -> None:
     """Checks weights that are scaled down and rounded, and that those with a common divisor stay exact."""
-    assert sum(changed_demand(Table((1, 2, 3), (1, 40_000, 25_535)), 11).weights) == 65_536
-    assert changed_demand(Table((10, 20), (20_000, 10_000)), 11) == Table((11, 22), (2, 1))
+    assert sum(changed_demand(Law((1, 2, 3), (1, 40_000, 25_535)), 11).weights) == 65_536
+    assert changed_demand(Law((10, 20), (20_000, 10_000)), 11) == Law((11, 22), (2, 1))
 
 
 @pytest.mark.parametrize(("old", "new", "note"), NOTES, ids=[note for *_, note in NOTES])

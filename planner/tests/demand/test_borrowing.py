@@ -6,6 +6,7 @@ import json
 import math
 import pickle
 from collections.abc import Sequence
+from dataclasses import replace
 from pathlib import Path
 
 import numpy as np
@@ -16,7 +17,7 @@ from scipy import special, stats
 
 import crnplan as crn
 from crnplan.chances import Floats
-from crnplan.demand import DemandLaw, fit_demand, notes_of
+from crnplan.demand import FittedLaw, fit_demand, notes_of
 from crnplan.demand.borrowing import Borrowed, Prior, borrowed_laws, em, grid, law_of, learn, learning
 from crnplan.demand.borrowing.likelihoods import Cells, chunks_of, marginal
 from crnplan.demand.borrowing.posterior import Posterior
@@ -26,6 +27,7 @@ from crnplan.demand.posterior import allowed_laws
 from crnplan.demand.sample import Sample
 from crnplan.errors import Refused, RefusedFaults
 from crnplan.records.observed import Observed
+from crnplan.words import sentence
 from planner.tests.demand.made import RARE, TRUE_MEAN, TRUE_SHARE, TRUE_SIZE, history, logarithms
 
 
@@ -42,18 +44,24 @@ def mixed() -> dict[str, list[int]]:
     return {f"item {seed}": history(seed, 40 + seed % 2, *law) for seed, law in zip(range(130), laws)}
 
 
-def chances_of(law: DemandLaw) -> Floats:
+def chances_of(law: FittedLaw) -> Floats:
     """Returns the chances of 0, 1, 2 and so on."""
     chances = np.zeros(law.values[-1] + 1)
     chances[[*law.values]] = law.weights
     return chances / 65_536
 
 
-def borrowed(law: DemandLaw) -> Borrowed:
+def borrowed(law: FittedLaw) -> Borrowed:
     """Returns what is known of a law."""
-    found = law.diagnostics["borrowed"]
+    found = law.diagnostics.borrowed
     assert isinstance(found, Borrowed)
     return found
+
+
+def reason(law: FittedLaw) -> str:
+    """Returns in words why the law of an item alone is taken; empty if it is not."""
+    alone = borrowed(law).alone
+    return sentence(alone).removeprefix("its law is learned from no others: ") if alone else ""
 
 
 def test_learned_prior(mixed: dict[str, list[int]]) -> None:
@@ -243,12 +251,12 @@ def test_outside_the_grid(mixed: dict[str, list[int]]) -> None:
     assert prior.whole and (prior.items, prior.outside, prior.whole.items) == (132, 2, 130)
     assert prior.whole.units.tolist() == learn(mixed).whole.units.tolist()  # type: ignore[union-attr]
     law = law_of(prior, large["large"])
-    assert borrowed(law).alone == "the mean size of a demand is above 101" and borrowed(law).log10_bayes is None
+    assert reason(law) == "the mean size of a demand is above 101" and borrowed(law).log10_bayes is None
     assert law == fit_demand(large["large"], method="auto")
     assert law_of(prior, [0, 101, 0, 101]).family == "borrowed"
     boxes = law_of(prior, large["larger"], box=10)
     assert boxes == fit_demand(large["larger"], method="auto", box=10)
-    assert borrowed(boxes).alone == "demand is counted in boxes of 10"
+    assert reason(boxes) == "demand is counted in boxes of 10"
     with pytest.raises(RefusedFaults, match="is above 10,000; count in larger boxes: --box 2 or more"):
         law_of(prior, large["larger"])
 
@@ -261,14 +269,14 @@ def test_law_of_the_item_alone(numbers: list[int], alone: str, known: Prior) -> 
     history."""
     law, expected = law_of(known, numbers), fit_demand(numbers, method="auto")
     found = borrowed(law)
-    assert law == expected and (found.alone, found.share, found.single) == (alone, 0, expected)
-    assert {**law.diagnostics, "borrowed": None} == {**expected.diagnostics, "borrowed": None}
+    assert law == expected and (reason(law), found.share, found.single) == (alone, 0, expected)
+    assert replace(law.diagnostics, borrowed=None) == replace(expected.diagnostics, borrowed=None)
     assert borrowed_laws(known, numbers, times=3) == allowed_laws(numbers, times=3)
     assert f"demand: {alone}, so the law is that of the item alone" in notes_of(law, "demand")
     if found.guard:
         assert min(found.guard) <= 0.05
     nothing = law_of(learn([], borrow="none"), RARE)
-    assert nothing == fit_demand(RARE, method="auto") and borrowed(nothing).alone == "nothing is borrowed"
+    assert nothing == fit_demand(RARE, method="auto") and reason(nothing) == "nothing is borrowed"
 
 
 def test_entry_point(known: Prior) -> None:
@@ -326,8 +334,8 @@ def test_law_is_mixed_with_the_history(known: Prior) -> None:
     width = law.values[-1] + 1
     assert np.cumsum(chances_of(law)) == pytest.approx(np.cumsum(expected)[:width], abs=1 / 65_536)
     assert sum(law.weights) == 65_536
-    assert law.diagnostics["mean"] == pytest.approx(chances_of(law) @ np.arange(width))
-    assert law.diagnostics["history"]["mean"] == pytest.approx(np.mean(MIXED))
+    assert law.figures.mean == pytest.approx(chances_of(law) @ np.arange(width))
+    assert law.diagnostics.history.mean == pytest.approx(np.mean(MIXED))
     assert f"mixed with {1 - share:.0%} of what was seen" in notes_of(law, "demand")[0]
 
 
@@ -356,9 +364,9 @@ def test_items_in_packs(packed: dict[str, list[int]]) -> None:
     expected = em.estimated(chunks_of(pulled), prior.whole.chances, 30 * prior.whole.chances)
     assert np.allclose(prior.packs.chances, expected, rtol=1e-5, atol=1e-9)
     few = learn({name: its for name, its in packed.items() if name not in ("packs 1", "packs 2")})
-    assert few.packs is None and "as those of few others" in borrowed(law_of(few, packed["packs 4"])).alone
+    assert few.packs is None and "as those of few others" in reason(law_of(few, packed["packs 4"]))
     large = law_of(prior, [1200, 0, 0, 1010, 0, 1030, 0, 0, 0])
-    assert borrowed(large).alone == "the mean size of a demand is above 101 packs"
+    assert reason(large) == "the mean size of a demand is above 101 packs"
 
 
 @pytest.mark.parametrize(("numbers", "few"), [([0] * 26, True), ([0] * 25 + [3], True), (RARE, False)])

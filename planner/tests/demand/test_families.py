@@ -34,7 +34,7 @@ def test_adding_a_family(monkeypatch: pytest.MonkeyPatch) -> None:
     """
     numbers = [int(number) for number in np.random.default_rng(3).geometric(0.3, 60) - 1]
     before = fit_demand(numbers)
-    assert "geometric" not in before.diagnostics["families"]
+    assert "geometric" not in before.diagnostics.families
     monkeypatch.setitem(FAMILIES, "geometric", ("numbers.Geometric",))
     law = fit_demand(numbers, method="geometric")
     assert law.family == "geometric"

@@ -15,9 +15,10 @@ from scipy import stats
 from crnplan.chances import mixture
 from crnplan.demand import fit_demand, fit_lead, notes_of
 from crnplan.demand.families import FAMILIES, fits_of, predictive_of
-from crnplan.demand.fitting import METHODS, cap_of, share_of, weights_of
+from crnplan.demand.fitting import METHODS, cap_of, share_of
 from crnplan.demand.sample import Sample
 from crnplan.errors import Refused
+from crnplan.law import Law
 from planner.tests.conftest import Command
 
 RANDOM = np.random.default_rng(2)
@@ -36,7 +37,8 @@ def mean_of(values: Sequence[int], weights: Sequence[int]) -> float:
 @given(chances=st.lists(st.floats(0, 1), min_size=1, max_size=300).filter(sum))
 def test_weights(chances: list[float]) -> None:
     """Weights add up to 65,536, and no share of the tail is off by more than half a unit."""
-    values, weights = weights_of(np.array(chances))
+    law = Law.of_chances(np.array(chances))
+    values, weights = law.values, law.weights
     assert sum(weights) == 65_536 and min(weights) > 0 and list(values) == sorted(set(values))
     for least in range(len(chances)):
         share = sum(weight for value, weight in zip(values, weights) if value >= least)
@@ -50,7 +52,7 @@ def test_weights_within_range() -> None:
     """Demands above 10,000 count as 10,000."""
     law = np.zeros(10_400)
     law[[3, 10_000, 10_399]] = 0.5, 0.25, 0.25
-    assert weights_of(law) == ((3, 10_000), (32_768, 32_768))
+    assert Law.of_chances(law) == Law((3, 10_000), (32_768, 32_768))
 
 
 def test_bulks() -> None:
@@ -58,12 +60,12 @@ def test_bulks() -> None:
     for pack in (1, 5):
         law = fit_demand([pack * it for it in PROJECTS], method="auto")
         bulks = [pack * it for it in PROJECTS if it >= 25]
-        assert law.family == "bulk" and law.diagnostics["bulks"] == (len(bulks), min(bulks))
+        assert law.family == "bulk" and law.diagnostics.bulks == (len(bulks), min(bulks))
         text = f"demand: for the family bulk, the {len(bulks)} demands of at least {min(bulks)} are bulks"
         assert text in notes_of(law, "demand")
-        assert law.diagnostics["mean"] == pytest.approx(pack * np.mean(PROJECTS), rel=0.1)
+        assert law.figures.mean == pytest.approx(pack * np.mean(PROJECTS), rel=0.1)
     assert fit_demand(PROJECTS, method="predictive").family == "bulk"
-    assert "bulks" not in fit_demand(TWO_SIZES, method="auto").diagnostics
+    assert fit_demand(TWO_SIZES, method="auto").diagnostics.bulks is None
 
 
 @pytest.mark.parametrize("numbers", [POISSON, ERRATIC, RARE], ids=["poisson", "erratic", "rare"])
@@ -78,40 +80,41 @@ def test_named_family(family: str, numbers: list[int]) -> None:
     law = fit_demand(numbers, method=family)
     base = predictive_of(family, Sample.of(numbers))
     assert law.family == family
-    assert law.diagnostics["mean"] == pytest.approx(mean_of(law.values, law.weights))
-    assert abs(law.diagnostics["mean"] - base @ np.arange(len(base))) <= len(base) * 0.5001 / 65_536
-    assert {*law.diagnostics["bic"]} == {*allowed}
+    assert law.figures.mean == pytest.approx(mean_of(law.values, law.weights))
+    assert abs(law.figures.mean - base @ np.arange(len(base))) <= len(base) * 0.5001 / 65_536
+    assert {*law.diagnostics.bic} == {*allowed}
 
 
 def test_the_guard_decides() -> None:
     """The family with the least BIC is taken if its histories look like this one; else the history stays."""
     law = fit_demand(ERRATIC, method="predictive")
-    least = min(law.diagnostics["bic"], key=law.diagnostics["bic"].__getitem__)
-    assert law.family == least and law.diagnostics["guard"][least].passes
+    least = min(law.diagnostics.bic, key=law.diagnostics.bic.__getitem__)
+    assert law.family == least and law.diagnostics.guard[least].passes
     seen = fit_demand(TWO_SIZES, method="empirical")
     for method in ("predictive", "auto"):
         law = fit_demand(TWO_SIZES, method=method)
         assert (law.family, law.values, law.weights) == ("empirical", seen.values, seen.weights)
-        assert law.diagnostics["guard"] and not any(it.passes for it in law.diagnostics["guard"].values())
+        assert law.diagnostics.guard and not any(it.passes for it in law.diagnostics.guard.values())
     assert fit_demand(POISSON, method="predictive").family == "poisson"
 
 
 def test_families_far_behind_are_not_taken() -> None:
     """A family that is more than 10 units of BIC behind the least is not looked at."""
     law = fit_demand(PROJECTS, method="auto")
-    bic = law.diagnostics["bic"]
-    assert {*law.diagnostics["guard"]} == {it for it in bic if bic[it] <= min(bic.values()) + 10} != {*bic}
+    bic = law.diagnostics.bic
+    assert {*law.diagnostics.guard} == {it for it in bic if bic[it] <= min(bic.values()) + 10} != {*bic}
 
 
 @pytest.mark.parametrize("numbers", [POISSON, ERRATIC, RARE], ids=["poisson", "erratic", "rare"])
 def test_auto(numbers: list[int]) -> None:
     """The law is the mixture of the passing families by BIC, cut at the cap, and of the history if that is likelier."""
     law = fit_demand(numbers, method="auto")
-    bic, cap, share = (law.diagnostics[it] for it in ("bic", "cap", "share"))
-    passing = [name for name, it in law.diagnostics["guard"].items() if it.passes]
+    its = law.diagnostics
+    bic, cap, share = its.bic, its.cap, its.share
+    passing = [name for name, it in law.diagnostics.guard.items() if it.passes]
     likely = np.exp([(bic[law.family] - bic[name]) / 2 for name in passing])
-    assert [*law.diagnostics["families"]] == passing and law.family == passing[0]
-    assert [*law.diagnostics["families"].values()] == pytest.approx(likely / likely.sum())
+    assert [*law.diagnostics.families] == passing and law.family == passing[0]
+    assert [*law.diagnostics.families.values()] == pytest.approx(likely / likely.sum())
     base = np.zeros(10_001)
     for name, weight in zip(passing, likely / likely.sum()):
         part = predictive_of(name, Sample.of(numbers))
@@ -167,12 +170,12 @@ def test_packs() -> None:
     """If all demands are packs, and not by luck, so are those of the law."""
     packs = RANDOM.poisson(0.7, 60)
     law = fit_demand((6 * packs).tolist(), method="auto")
-    assert law.diagnostics["pack"] == 6 and {it % 6 for it in law.values} == {0}
+    assert law.diagnostics.pack == 6 and {it % 6 for it in law.values} == {0}
     inner = fit_demand(packs.tolist(), method="auto")
     assert law.values == tuple(6 * it for it in inner.values) and law.weights == inner.weights
     for numbers, pack in (([6, 12, 0, 6, 18], 6), ([6, 12, 0, 6], 1), ([2, 4] * 4, 2), ([2, 4, 2, 4, 2, 4, 2], 1),
                           ([40, 80], 1), ([40, 80, 40], 40), ([6, 12, 6, 18, 9], 1), ([3] * 5, 1), ([3] * 6, 3)):
-        assert fit_demand(numbers, method="auto").diagnostics["pack"] == pack
+        assert fit_demand(numbers, method="auto").diagnostics.pack == pack
 
 
 @pytest.mark.parametrize("numbers", [[5], [0, 0, 4], [0, 0], [7] * 30, [0, 1] * 20], ids=str)
@@ -180,7 +183,7 @@ def test_packs() -> None:
 def test_histories_that_say_little(numbers: list[int], method: str) -> None:
     """With less than two demands, and if none of the families looks like it, the history stays."""
     law = fit_demand(numbers, method=method)
-    assert law == fit_demand(numbers, method="empirical") and law.diagnostics["observed"] == len(numbers)
+    assert law == fit_demand(numbers, method="empirical") and law.diagnostics.seen.size == len(numbers)
 
 
 @settings(max_examples=25, deadline=None)
@@ -199,11 +202,11 @@ def test_diagnostics() -> None:
     law = fit_demand(ERRATIC, method="auto")
     drawn = np.repeat(law.values, law.weights)
     expected = {share: int(np.quantile(drawn, share, method="inverted_cdf")) for share in (0.95, 0.99, 0.999)}
-    assert law.diagnostics["quantiles"] == expected
-    assert law.diagnostics["variance"] == pytest.approx(np.var(drawn))
-    history = law.diagnostics["history"]
-    assert history["quantiles"] == {it: int(np.quantile(ERRATIC, it, method="inverted_cdf")) for it in expected}
-    assert (history["mean"], history["variance"]) == pytest.approx((np.mean(ERRATIC), np.var(ERRATIC, ddof=1)))
+    assert law.figures.quantiles == expected
+    assert law.figures.variance == pytest.approx(np.var(drawn))
+    history = law.diagnostics.history
+    assert history.quantiles == {it: int(np.quantile(ERRATIC, it, method="inverted_cdf")) for it in expected}
+    assert (history.mean, history.variance) == pytest.approx((np.mean(ERRATIC), np.var(ERRATIC, ddof=1)))
 
 
 def test_notes() -> None:
@@ -217,7 +220,7 @@ def test_notes() -> None:
     law = fit_demand(TWO_SIZES, method="auto")
     text = "\n".join(notes_of(law, "returns"))
     assert "returns: no family gives back this history, so it stays as it is" in text
-    assert text.count(": rejected") == text.count("returns: guard: a history of ") == len(law.diagnostics["guard"]) > 0
+    assert text.count(": rejected") == text.count("returns: guard: a history of ") == len(law.diagnostics.guard) > 0
     assert "returns: seen: mean " in text and "returns: law: " not in text
     notes = notes_of(fit_demand([6 * it for it in POISSON], method="poisson"), "demand")
     assert notes[:2] == ["demand: all demands are packs of 6, so packs are fitted", "demand: poisson"]

@@ -12,10 +12,10 @@ import pytest
 from hypothesis import given
 from hypothesis import strategies as st
 
-from crnplan.demand import DemandLaw, fit_demand, fit_lead
+from crnplan.demand import fit_demand, fit_lead
 from crnplan.errors import Refused, RefusedFaults
 from crnplan.records import read_history, read_lead_times
-from crnplan.scenario import Table
+from crnplan.law import Law
 
 
 @given(numbers=st.lists(st.integers(0, 120_000), min_size=1), box=st.integers(12, 1000))
@@ -24,15 +24,16 @@ def test_empirical_law(numbers: list[int], box: int) -> None:
     law = fit_demand(numbers, method="empirical", box=box)
     expected = Counter(number // box + (number % box > 0) for number in numbers)
     assert dict(zip(law.values, law.weights)) == expected and list(law.values) == sorted(expected)
-    assert (law.box, law.family, law.table) == (box, "empirical", Table(law.values, law.weights))
+    assert (law.box, law.family, law.table) == (box, "empirical", Law(law.values, law.weights))
 
 
 def test_diagnostics() -> None:
     """The empirical law knows how many numbers there were, their mean and their variance."""
     law = fit_demand([0, 0, 2, 6], method="empirical")
-    assert dict(law.diagnostics) == {"observed": 4, "mean": 2.0, "variance": 8.0}
-    assert fit_demand([3], method="empirical").diagnostics["variance"] is None
-    assert law == DemandLaw((0, 2, 6), (2, 1, 1))
+    seen = law.diagnostics.history
+    assert (law.diagnostics.seen.size, seen.mean, seen.variance, seen.most) == (4, 2.0, 8.0, 6)
+    assert fit_demand([3], method="empirical").diagnostics.history.variance is None
+    assert law.table == Law((0, 2, 6), (2, 1, 1)) and law.figures.variance == 6
     assert law.toml("demand") == "[demand]\nvalues = [0, 2, 6]\nweights = [2, 1, 1]\n"
 
 

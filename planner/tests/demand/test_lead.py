@@ -24,9 +24,9 @@ def test_blurred_law(numbers: list[int]) -> None:
     assert 1 <= law.values[0] and law.values[-1] <= 32
     assert {*law.values} <= {lead + side for lead in numbers for side in (-1, 0, 1)}
     if 1 < min(numbers) and max(numbers) < 32:
-        assert law.diagnostics["mean"] == pytest.approx(np.mean(numbers), abs=32 / 65_536)
-        added = law.diagnostics["variance"] - np.var(numbers)  # that of the kernel
-        assert added == pytest.approx(2 * law.diagnostics["side"], abs=0.02)
+        assert law.figures.mean == pytest.approx(np.mean(numbers), abs=32 / 65_536)
+        added = law.figures.variance - np.var(numbers)  # that of the kernel
+        assert added == pytest.approx(2 * law.diagnostics.side, abs=0.02)
 
 
 @given(numbers=st.lists(st.integers(1, 32), min_size=1).filter(lambda it: len(it) == 1 or len(it) >= 20))
@@ -75,6 +75,6 @@ def test_notes() -> None:
     assert notes_of(fit_lead([2, 3], method="empirical"), "lead") == []
     law = fit_lead([2, 3, 2, 4], method="auto")
     assert "lead: by a study, a policy chosen after few" in notes_of(fit_lead([3], method="auto"), "lead")[0]
-    side = f"{law.diagnostics['side']:.1%}"
+    side = f"{law.diagnostics.side:.1%}"
     assert notes_of(law, "lead")[0] == (
         f"lead: of each of the 4 lead times seen, {side} count one period earlier, and as much one later")

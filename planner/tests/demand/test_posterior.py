@@ -17,7 +17,7 @@ from crnplan.demand.families.numbers import greatest_mean
 from crnplan.demand.posterior import allowed_laws, allowed_leads, demand_laws, members_of, round_history, stratified
 from crnplan.demand.sample import Sample
 from crnplan.errors import Refused
-from crnplan.scenario import Table
+from crnplan.law import Law
 
 ERRATIC = [0, 3, 1, 9, 0, 0, 2, 5, 14, 1, 0, 4, 2, 2, 7, 0, 1, 3, 21, 0, 6, 1]
 SMOOTH = [9, 11, 7, 10, 14, 8, 12, 6, 10, 9, 13, 11, 10, 8, 9, 12]
@@ -33,7 +33,7 @@ def uniform(times: int, seed: int = 1) -> Floats:
     return np.random.default_rng(seed).random((UNIFORMS, times))
 
 
-def shares(table: Table, size: int) -> Floats:
+def shares(table: Law, size: int) -> Floats:
     """Returns the chances of 0, 1, 2 and so on."""
     chances = np.zeros(size)
     chances[[*table.values]] = table.weights
@@ -219,8 +219,8 @@ def test_any_history(numbers: list[int], seed: int) -> None:
 
 def test_law_without_demand() -> None:
     """It gets the least weight of the largest demand seen."""
-    assert posterior.table_of(np.array([1.0, 1e-9]), 7) == Table((0, 7), (65_535, 1))
-    assert posterior.table_of(np.array([1.0]), 0) == Table((0,), (65_536,))
+    assert posterior.law_of_chances(np.array([1.0, 1e-9]), 7) == Law((0, 7), (65_535, 1))
+    assert posterior.law_of_chances(np.array([1.0]), 0) == Law((0,), (65_536,))
 
 
 def test_strata() -> None:
@@ -246,7 +246,7 @@ def test_allowed_leads(numbers: list[int]) -> None:
 
 def test_single_lead_time() -> None:
     """It stays as it is."""
-    assert {*allowed_leads([3], times=4).laws} == {Table((3,), (65_536,))}
+    assert {*allowed_leads([3], times=4).laws} == {Law((3,), (65_536,))}
 
 
 def test_refused() -> None:

@@ -5,7 +5,9 @@ from __future__ import annotations
 import numpy as np
 import pytest
 
-from crnplan.demand import DemandLaw, LeadLaw, fit_demand
+from crnplan.demand import FittedLaw, fit_demand
+from crnplan.demand.fitted import Diagnostics
+from crnplan.law import Law
 from crnplan.pages.laws import LAW_COLUMNS, law_rows, law_words
 from crnplan.plan.question import Settings, question_of
 from planner.tests.plan.items import item_of
@@ -15,24 +17,24 @@ ERRATIC = RANDOM.negative_binomial(1.5, 1 / 3, 104).tolist()
 TWO_SIZES = [7, 13, 7, 7, 13, 13, 7, 13] * 13  # no family has such a law
 
 
-def law(family: str, **diagnostics: object) -> DemandLaw:
-    """Returns a law of a family."""
-    return DemandLaw((0, 1), (1, 1), family, diagnostics)
+def law(family: str, method: str, **more: object) -> FittedLaw:
+    """Returns a law of a family that was fitted by a method."""
+    return FittedLaw.made(Law((0, 1), (1, 1)), family, Diagnostics(Law((0, 1), (1, 1)), method, **more))
 
 
-@pytest.mark.parametrize("its, method, words", [
-    (law("empirical"), "empirical", "this history"),
-    (law("empirical"), "auto", "this history (auto: no family gives it back)"),
-    (LeadLaw((2,), (1,)), "auto", "this history"),
-    (LeadLaw((1, 2), (1, 9), "blurred"), "auto", "the law fitted to this history (auto: blurred)"),
-    (law("poisson"), "poisson", "the law fitted to this history (poisson)"),
-    (law("poisson"), "predictive", "the law fitted to this history (predictive: poisson)"),
-    (law("poisson", families={"poisson": 1.0}, share=1), "auto", "the law fitted to this history (auto: poisson)"),
-    (law("poisson", families={"poisson": 0.62, "hurdle-poisson": 0.31, "hurdle-geometric": 0.07}, share=0.75), "auto",
+@pytest.mark.parametrize("its, words", [
+    (law("empirical", "empirical"), "this history"),
+    (law("empirical", "auto"), "this history (auto: no family gives it back)"),
+    (law("empirical", "auto", side=0.0), "this history"),
+    (law("blurred", "auto", side=0.1), "the law fitted to this history (auto: blurred)"),
+    (law("poisson", "poisson"), "the law fitted to this history (poisson)"),
+    (law("poisson", "predictive"), "the law fitted to this history (predictive: poisson)"),
+    (law("poisson", "auto", families={"poisson": 1.0}), "the law fitted to this history (auto: poisson)"),
+    (law("poisson", "auto", families={"poisson": 0.62, "hurdle-poisson": 0.31, "hurdle-geometric": 0.07}, share=0.75),
      "the law fitted to this history (auto: poisson 62% and 2 more; 25% from what was seen)")])
-def test_words(its: DemandLaw | LeadLaw, method: str, words: str) -> None:
+def test_words(its: FittedLaw, words: str) -> None:
     """A law is named by how it was fitted, or by the history."""
-    assert law_words(its, method) == words
+    assert law_words(its) == words
 
 
 @pytest.mark.parametrize("numbers", [ERRATIC, TWO_SIZES], ids=["erratic", "two sizes"])
@@ -46,7 +48,7 @@ def test_figures(numbers: list[int], method: str) -> None:
     its = fit_demand(numbers, method=method)
     names, samples = ["this history"], [numbers]
     if its.family != "empirical":
-        names, samples = ["what was seen", law_words(its, method)], [numbers, np.repeat(its.values, its.weights)]
+        names, samples = ["what was seen", law_words(its)], [numbers, np.repeat(its.values, its.weights)]
     elif method != "empirical":
         names = [f"this history ({method}: no family gives it back)"]
     assert [row[:2] for row in rows] == [*(["demand", name] for name in names), ["lead", "this history"]]

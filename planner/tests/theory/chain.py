@@ -9,7 +9,8 @@ from typing import NamedTuple
 import numpy as np
 import scipy.sparse
 
-from crnplan.scenario import Scenario, Table
+from crnplan.law import Law
+from crnplan.scenario import Scenario
 
 State = tuple[int, ...]  # the stock, and what arrives in the next periods
 ROUNDS = 20_000
@@ -28,9 +29,9 @@ class Counted(NamedTuple):
     position: float
 
 
-def chances_of(law: Table | None) -> list[tuple[int, float]]:
+def chances_of(law: Law | None) -> list[tuple[int, float]]:
     """Returns each value with its chance."""
-    law = law or Table((0,), (1,))
+    law = law or Law((0,), (1,))
     return [(value, weight / sum(law.weights)) for value, weight in zip(law.values, law.weights) if weight]
 
 

@@ -13,7 +13,8 @@ from typing import NamedTuple
 
 import numpy as np
 
-from crnplan.scenario import Scenario, Table
+from crnplan.law import Law
+from crnplan.scenario import Scenario
 
 LEAST_CHANCE = 1e-12
 
@@ -36,7 +37,7 @@ class Best(NamedTuple):
     level: int
 
 
-def chances_of(table: Table) -> np.ndarray:
+def chances_of(table: Law) -> np.ndarray:
     """Returns the chance of each number from 0 to the greatest of a table."""
     chances = np.zeros(max(table.values) + 1)
     chances[list(table.values)] = table.weights
@@ -45,7 +46,7 @@ def chances_of(table: Table) -> np.ndarray:
 
 def net_demand(scenario: Scenario) -> tuple[int, np.ndarray]:
     """Returns the least net demand of a period, and the chance of each from there on."""
-    back = chances_of(scenario.returns or Table((0,), (1,)))
+    back = chances_of(scenario.returns or Law((0,), (1,)))
     return 1 - len(back), np.convolve(chances_of(scenario.demand), back[::-1])
 
 
@@ -109,7 +110,7 @@ def shortfall_of(scenario: Scenario, gap: int) -> Shortfall:
     chances = np.zeros(sum(law.shape) - 1)
     for depth, row in enumerate(law):
         chances[depth:depth + len(row)] += row
-    back = chances_of(scenario.returns or Table((0,), (1,)))
+    back = chances_of(scenario.returns or Law((0,), (1,)))
     return Shortfall(least - above, np.convolve(chances, net), orders, np.convolve(chances, back[::-1]))
 
 

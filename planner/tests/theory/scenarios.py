@@ -3,16 +3,17 @@ from __future__ import annotations
 
 from collections.abc import Sequence
 
-from crnplan.scenario import Costs, Policy, Scenario, Table
+from crnplan.law import Law
+from crnplan.scenario import Costs, Policy, Scenario
 
 # Values and their weights.
 Pair = tuple[Sequence[int], Sequence[int]]
 COSTS = Costs(7, 2, 1, 4)
 
 
-def table(pair: Pair) -> Table:
+def table(pair: Pair) -> Law:
     """Returns a table of values and weights."""
-    return Table(tuple(pair[0]), tuple(pair[1]))
+    return Law(tuple(pair[0]), tuple(pair[1]))
 
 
 def scenario_of(demand: Pair, lead: Pair = ((1,), (1,)), back: Pair | None = None, costs: Costs = COSTS,

@@ -10,7 +10,8 @@ from hypothesis import given, settings
 from hypothesis import strategies as st
 
 from crnplan.errors import Refused
-from crnplan.scenario import Costs, Scenario, Table
+from crnplan.law import Law
+from crnplan.scenario import Costs, Scenario
 from crnplan.theory import confidence
 from crnplan.theory.suggestions import FILLS, Suggestions, suggestions_of
 
@@ -22,10 +23,10 @@ LEVELS = np.arange(130)
 ENOUGH = 1e-9
 
 
-def laws_near(pair: Pair, count: int, seed: int) -> list[Table]:
+def laws_near(pair: Pair, count: int, seed: int) -> list[Law]:
     """Returns laws whose weights lie around those of a law."""
     weights = np.random.default_rng(seed).gamma(np.array(pair[1]), size=(count, len(pair[1])))
-    return [Table(tuple(pair[0]), tuple(1 + int(1000 * it) for it in row)) for row in weights]
+    return [Law(tuple(pair[0]), tuple(1 + int(1000 * it) for it in row)) for row in weights]
 
 
 def promised(found: Suggestions) -> dict[str, tuple[int, int]]:
@@ -34,7 +35,7 @@ def promised(found: Suggestions) -> dict[str, tuple[int, int]]:
             if any(f"at least {100 * share:g}% under" in it for it in row.reasons)}
 
 
-def fills_under(scenario: Scenario, laws: list[Table], leads: list[Table], gap: int) -> np.ndarray:
+def fills_under(scenario: Scenario, laws: list[Law], leads: list[Law], gap: int) -> np.ndarray:
     """Returns the fill rates of a gap, with a row for each law and a column for each level."""
     pairs = zip(laws, leads or [scenario.lead] * len(laws))
     scenarios = [replace(scenario, demand=law, lead=lead) for law, lead in pairs]

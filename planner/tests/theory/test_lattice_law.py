@@ -6,14 +6,14 @@ import pytest
 from hypothesis import given
 from hypothesis import strategies as st
 
-from crnplan.scenario import Table
+from crnplan.law import Law
 from crnplan.theory.lattice_law import (MOST_PRODUCTS, NOTHING, LatticeLaw, Surplus, convolved, power_of, room_for,
                                         sum_of)
 
 chances = st.lists(st.integers(1, 1000), min_size=1, max_size=12)
 laws = st.builds(lambda low, weights: LatticeLaw(low, np.array(weights) / sum(weights)), st.integers(-20, 20), chances)
 tables = st.dictionaries(st.integers(0, 10_000), st.integers(0, 65_536), min_size=1, max_size=9).filter(
-    lambda weights: any(weights.values())).map(Table.of)
+    lambda weights: any(weights.values())).map(Law.of)
 
 
 def as_dict(law: LatticeLaw) -> dict[int, float]:
@@ -63,7 +63,7 @@ def test_a_power_equals_repeated_sums(law: LatticeLaw, count: int) -> None:
 
 
 @given(tables, st.integers(1, 700))
-def test_a_lattice_keeps_mean_and_sum(table: Table, step: int) -> None:
+def test_a_lattice_keeps_mean_and_sum(table: Law, step: int) -> None:
     law = LatticeLaw.of(table, step)
     assert law.mean * step == pytest.approx(float(table.mean), rel=1e-9, abs=1e-9)
     assert law.chances.sum() == pytest.approx(1)

@@ -5,7 +5,7 @@ from typing import Any
 
 import click
 
-from ..demand import Law, checks_of, fit_demand, fit_lead, lines_of, notes_of
+from ..demand import FittedLaw, checks_of, fit_demand, fit_lead, lines_of, notes_of
 from ..demand.families import FAMILIES
 from ..demand.fitting import METHODS
 from ..errors import Refused
@@ -18,7 +18,7 @@ from .reading import Attempts, demand_option, file_options, read_files, record_o
 VERSION = "# A scenario with the table [returns] has version = 2.\n"
 
 
-def laws_of(asked: dict[str, Any], attempts: Attempts) -> dict[str, Law]:
+def laws_of(asked: dict[str, Any], attempts: Attempts) -> dict[str, FittedLaw]:
     """Returns the laws of all tables that are asked for. Faults of all files are raised together."""
     files: tuple[Any, Any] = read_files(attempts, asked)
     history, lead = files

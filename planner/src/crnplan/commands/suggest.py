@@ -9,7 +9,8 @@ from click.core import ParameterSource
 
 from ..toml.lines import places_of
 from ..errors import Fault, RefusedFaults
-from ..scenario import Scenario, Table
+from ..law import Law
+from ..scenario import Scenario
 from .output import form_options, show
 from .reading import Attempts, demand_option, file_options, read_files, record_options, rejects_in, rules_of
 
@@ -29,7 +30,7 @@ def check_history(asked: dict[str, Any]) -> None:
         raise click.UsageError(f"{words[0]} is that of --history: give the history of demand too", context)
 
 
-def allowed(asked: dict[str, Any], attempts: Attempts) -> tuple[tuple[Table, ...], tuple[Table, ...]]:
+def allowed(asked: dict[str, Any], attempts: Attempts) -> tuple[tuple[Law, ...], tuple[Law, ...]]:
     """Reads the history and the lead times, and returns the laws of demand and of lead times that they allow."""
     from ..demand.posterior import allowed_laws, allowed_leads
     history, leads = read_files(attempts, asked | {"demand": asked["demand"] or "demand"})

@@ -26,7 +26,8 @@ from .. import formats
 from ..toml.reading import checked_tree
 from ..toml.writing import plain_text
 from ..errors import ProgramError, Refused, argument
-from ..scenario import Costs, Scenario, Table, key_words
+from ..law import Law
+from ..scenario import Costs, Scenario, key_words
 from ..table import DataTable, Result, exact
 from .checkpoints import MOST_STOCK, PERIODS_OF_BLOCK, State, checkpoint_text, resume_all
 from .keys import Key
@@ -124,7 +125,7 @@ def starts_of(scenario: Scenario, keys: Words) -> Whole:
 
 def draws_of(scenario: Scenario, keys: Words) -> list[Whole]:
     """Returns demands, lead times and returns of our own periods: a row for each key."""
-    laws = [scenario.demand, scenario.lead, scenario.returns or Table((0,), (1,))]
+    laws = [scenario.demand, scenario.lead, scenario.returns or Law((0,), (1,))]
     blocks = OWN_PERIODS // PERIODS_OF_BLOCK
     return [drawn(stream_words(keys, blocks, stream), law) for stream, law in zip(OWN_STREAMS, laws)]
 

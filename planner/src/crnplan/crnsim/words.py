@@ -13,7 +13,7 @@ from collections.abc import Sequence
 import numpy as np
 import numpy.typing as npt
 
-from ..scenario import Table
+from ..law import Law
 
 Words = npt.NDArray[np.uint64]
 Whole = npt.NDArray[np.int64]
@@ -62,7 +62,7 @@ def places_of(words: Words, count: int) -> Whole:
     return (((words >> HALF) * most + ((words & LOW_HALF) * most >> HALF)) >> HALF).astype(np.int64)
 
 
-def drawn(words: Words, table: Table) -> Whole:
+def drawn(words: Words, table: Law) -> Whole:
     """Returns what each word draws from a table, as the program does: a place in the list that has each value as often
     as its weight says."""
     ends = np.cumsum(table.weights)

@@ -23,7 +23,8 @@ from ..toml.reading import checked_tree
 from ..crnsim.report import report_of
 from ..errors import Refused, argument
 from ..records.observed import Observed
-from ..scenario import Policy, Scenario, Table, policies_of
+from ..law import Law
+from ..scenario import Policy, Scenario, policies_of
 from ..table import Cell, DataTable, Json, Result, number
 from .intervals import own_variance
 from .verdicts import POLICY, horizon_of
@@ -226,13 +227,13 @@ def candidates_of(scenario: Scenario, policies: Any) -> tuple[Policy, ...]:
     return asked
 
 
-def laws_with_leads(demand: AllowedLaws, lead: AllowedLaws | None, scenario: Scenario) -> list[tuple[Table, Table]]:
+def laws_with_leads(demand: AllowedLaws, lead: AllowedLaws | None, scenario: Scenario) -> list[tuple[Law, Law]]:
     """Returns pairs of laws of demand and of lead times."""
-    leads: Sequence[Table] = lead.laws if lead else [scenario.lead] * len(demand.laws)
+    leads: Sequence[Law] = lead.laws if lead else [scenario.lead] * len(demand.laws)
     return [*zip(demand.laws, leads)]
 
 
-def spreads_of(scenario: Scenario, laws: Iterable[tuple[Table, Table]], program: str | Path | None) -> Spreads:
+def spreads_of(scenario: Scenario, laws: Iterable[tuple[Law, Law]], program: str | Path | None) -> Spreads:
     """Runs crnsim on a scenario with each law of demand and of lead times, all with the scenario's key."""
     import numpy as np
     costs, variances = [], []

@@ -20,7 +20,8 @@ from pathlib import Path
 from .. import formats
 from ..crnsim.counts import all_totals, counting
 from ..crnsim.program import find_program
-from ..scenario import Policy, Scenario, Table
+from ..law import Law
+from ..scenario import Policy, Scenario
 from ..table import Cell, Column, DataTable, Json, Result, aligned, number, text
 from .verdicts import POLICY, horizon_of
 
@@ -126,7 +127,7 @@ def cell(regret: Regret) -> str:
     return f"{float(money):.3f}" + ("" if percent is None else f" ({float(percent):.2f}%)")
 
 
-def scaled_down(weights: Mapping[int, int]) -> Table:
+def scaled_down(weights: Mapping[int, int]) -> Law:
     """Returns the table of weights that come to 65,536 at most.
 
     They are divided by their common divisor, or else scaled to 65,536 and rounded so that their sum stays right.
@@ -135,14 +136,14 @@ def scaled_down(weights: Mapping[int, int]) -> Table:
     weights = {value: weight // common for value, weight in weights.items()}
     total = sum(weights.values())
     if total <= formats.MOST_WEIGHT:
-        return Table.of(weights)
+        return Law.of(weights)
     shares = {value: divmod(weight * formats.MOST_WEIGHT, total) for value, weight in weights.items()}
     rest = formats.MOST_WEIGHT - sum(whole for whole, _ in shares.values())
     rounded_up = set(sorted(shares, key=lambda value: -shares[value][1])[:rest])
-    return Table.of({value: whole + (value in rounded_up) for value, (whole, _) in shares.items()})
+    return Law.of({value: whole + (value in rounded_up) for value, (whole, _) in shares.items()})
 
 
-def changed_demand(demand: Table, tenths: int) -> Table:
+def changed_demand(demand: Law, tenths: int) -> Law:
     """Returns the demands of which each is multiplied by so many tenths.
 
     If that is not whole, it becomes the whole numbers below and above, with the weight shared so that the mean is
@@ -172,7 +173,7 @@ def demand_cases(scenario: Scenario, notes: list[str]) -> Iterator[tuple[str, Sc
 
 def lead_cases(scenario: Scenario, notes: list[str]) -> Iterator[tuple[str, Scenario]]:
     """Yields the case with longer lead times. A note says if it is left out."""
-    lead = Table.of({value + 1: weight for value, weight in zip(scenario.lead.values, scenario.lead.weights)})
+    lead = Law.of({value + 1: weight for value, weight in zip(scenario.lead.values, scenario.lead.weights)})
     if lead.values[-1] > formats.MOST_LEAD:
         notes.append(f"lead time plus 1 is left out: a lead time would be {lead.values[-1]}, which is over "
                      f"{formats.MOST_LEAD}")

@@ -7,14 +7,15 @@ from __future__ import annotations
 
 import math
 from collections.abc import Iterable, Mapping, Sequence
-from dataclasses import dataclass, field
+from dataclasses import dataclass, field, replace
 from typing import TYPE_CHECKING, Any
 
 from ..errors import Refused
-from ..formats import MOST_DEMAND, MOST_WEIGHT
+from ..formats import MOST_DEMAND
+from ..law import Law
 from ..records.observed import Observed
 from .families import FAMILIES, fits_of, predictive_of
-from .laws import DemandLaw, check, empirical, numbers_of
+from .fitted import EMPIRICAL, Diagnostics, FittedLaw, check, numbers_of
 
 if TYPE_CHECKING:
     from .borrowing import Prior
@@ -23,10 +24,9 @@ if TYPE_CHECKING:
     from .guard import Shares
     from .sample import Sample
 
-CHOOSING = ("auto", "predictive", "empirical")
+CHOOSING = ("auto", "predictive", EMPIRICAL)
 METHODS = (*CHOOSING, *FAMILIES)
 
-QUANTILES = (0.95, 0.99, 0.999)
 DEMANDS_OF_CAP = 300
 LEAST_TIMES, MOST_TIMES = 2.0, 3.0  # the cap of `auto`, in largest demands seen
 WORSE = 10.0  # in BIC: families further behind the best are not looked at
@@ -99,44 +99,8 @@ def cap_of(sample: Sample) -> int:
     return math.ceil(min(max(times, LEAST_TIMES), MOST_TIMES) * sample.most)
 
 
-def weights_of(chances: Floats) -> tuple[tuple[int, ...], tuple[int, ...]]:
-    """Returns values with whole weights that add up to 65,536.
-
-    The chances to be at least a value are rounded to units of 1 / 65,536, and a weight is the difference of two of
-    them. So no weight is below 0, and the share of no tail is off by more than half a unit. What is above the greatest
-    value of a scenario counts there.
-    """
-    import numpy as np
-    law = np.append(chances[:MOST_DEMAND], chances[MOST_DEMAND:].sum())
-    at_least = np.append(np.cumsum(law[::-1])[::-1] / law.sum(), 0.0)
-    weights = -np.diff(np.rint(MOST_WEIGHT * at_least)).astype(int)
-    values = np.flatnonzero(weights)
-    return tuple(values.tolist()), tuple(weights[values].tolist())
-
-
-def figures_of(values: Sequence[int], weights: Sequence[int]) -> dict[str, Any]:
-    """Returns mean, variance, quantiles and the largest value of a law."""
-    import numpy as np
-    shares = np.array(weights) / sum(weights)
-    mean = float(shares @ values)
-    below = np.cumsum(weights)
-    places = [int(np.searchsorted(below, np.ceil(it * below[-1] - 1e-6))) for it in QUANTILES]
-    return {"mean": mean, "variance": float(shares @ (np.array(values) - mean)**2), "most": values[-1],
-            "quantiles": {share: values[place] for share, place in zip(QUANTILES, places)}}
-
-
-def fields_of(values: Sequence[int], weights: Sequence[int], family: str, numbers: Sequence[int],
-              **more: Any) -> dict[str, Any]:
-    """Returns the fields of a law with its diagnostics: its figures, and those of the history with
-    its unbiased variance."""
-    seen = empirical(numbers)
-    history = figures_of(seen["values"], seen["weights"]) | {"variance": seen["diagnostics"]["variance"]}
-    return {"values": values, "weights": weights, "family": family,
-            "diagnostics": {"observed": len(numbers), **figures_of(values, weights), "history": history, **more}}
-
-
-def _family_law(numbers: Sequence[int], method: str) -> dict[str, Any]:
-    """Returns the fields of a law of families: of a named one, or of those that the guard lets pass."""
+def _family_law(numbers: Sequence[int], method: str, box: int) -> FittedLaw:
+    """Returns a law of families: of a named one, or of those that the guard lets pass."""
     from ..chances import in_items, mixture
     from .families.bulk import divided
     from .sample import Sample
@@ -147,33 +111,32 @@ def _family_law(numbers: Sequence[int], method: str) -> dict[str, Any]:
     if method in FAMILIES and method not in fits:
         raise Refused(f"the history does not allow the family {method}; it allows {', '.join(fits) or 'none'}")
     chosen = guarded(packs, fits) if fits else Chosen({})
-    found: dict[str, Any] = {"bic": chosen.bic, "guard": chosen.guard, "pack": pack}
+    seen = Law.of_numbers(numbers)
+    found = Diagnostics(seen, method, pack, chosen.bic, chosen.guard)
     names = [method] if method in FAMILIES else chosen.passing
     if not names:
-        seen = empirical(numbers)
-        return fields_of(seen["values"], seen["weights"], "empirical", numbers, **found)
+        return FittedLaw.made(seen, EMPIRICAL, found, box)
     if method != "auto":
-        law = in_items(predictive_of(names[0], packs), pack)
-        return fields_of(*weights_of(law), names[0], numbers, **found)
-    if "bulk" in names and (parts := divided(packs)):
-        found["bulks"] = parts[1].size, pack * int(parts[1].values[0])
+        return FittedLaw.made(Law.of_chances(in_items(predictive_of(names[0], packs), pack)), names[0], found, box)
+    parts = divided(packs) if "bulk" in names else None
     laws = ((weight, in_items(predictive_of(name, packs), pack)) for name, weight in chosen.weights.items())
-    law, more = auto_law(sample, mixture(laws))
-    found |= more | {"families": chosen.weights}
-    return fields_of(*weights_of(law), names[0], numbers, **found)
+    law, cap, share = auto_law(sample, mixture(laws))
+    found = replace(found, families=chosen.weights, cap=cap, share=share,
+                    bulks=parts and (parts[1].size, pack * int(parts[1].values[0])))
+    return FittedLaw.made(Law.of_chances(law), names[0], found, box)
 
 
-def auto_law(sample: Sample, law: Floats) -> tuple[Floats, dict[str, Any]]:
-    """Returns a law without demands above the cap, mixed with the sample, and the diagnostics of both."""
+def auto_law(sample: Sample, law: Floats) -> tuple[Floats, int, float]:
+    """Returns a law without demands above the cap, mixed with the sample, the cap, and its share in the mixture."""
     from ..chances import mixture, scaled
     cap = cap_of(sample)
     law = scaled(law[:cap + 1])
     share = share_of(sample, law)
-    return mixture([(share, law), (1 - share, sample.law)]), {"cap": cap, "share": share}
+    return mixture([(share, law), (1 - share, sample.law)]), cap, share
 
 
 def fit_demand(observed: Observed | Iterable[Any], *, method: str = "auto", box: int = 1, borrow: Prior | None = None,
-               item_class: str | None = None) -> DemandLaw:
+               item_class: str | None = None) -> FittedLaw:
     """Fits the law of demand to a history, or to any whole numbers from 0, one for each period.
 
     `method` is one of these:
@@ -207,4 +170,7 @@ def fit_demand(observed: Observed | Iterable[Any], *, method: str = "auto", box:
     larger = f"count in larger boxes: --box {-(-max(numbers) // MOST_DEMAND)} or more"
     reason = f"is above {MOST_DEMAND:,}{f' in boxes of {box}' if box > 1 else ''}; {larger}"
     check(boxes, places, lambda it: reason if it > MOST_DEMAND else "is below 0; correct it" if it < 0 else None)
-    return DemandLaw(**(empirical(boxes) if method == "empirical" else _family_law(boxes, method)), box=box)
+    if method != EMPIRICAL:
+        return _family_law(boxes, method, box)
+    seen = Law.of_numbers(boxes)
+    return FittedLaw.made(seen, EMPIRICAL, Diagnostics(seen, method), box)

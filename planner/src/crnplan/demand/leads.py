@@ -7,11 +7,11 @@ from typing import Any
 
 from ..errors import Refused
 from ..formats import MOST_LEAD
+from ..law import Law
 from ..records.observed import Observed
-from .fitting import fields_of, weights_of
-from .laws import LeadLaw, check, empirical, numbers_of
+from .fitted import EMPIRICAL, Diagnostics, FittedLaw, check, numbers_of
 
-LEAD_METHODS = ("auto", "empirical")
+LEAD_METHODS = ("auto", EMPIRICAL)
 FEW = 20  # lead times: with so many, what was seen stays as it is
 LEAST_LEADS = 2  # one lead time is what a supplier says, not a sample
 SIDES = [(cell + 0.5) / 100 for cell in range(30)]  # the shares that the kernel may move to each neighbour
@@ -57,7 +57,7 @@ def side_of(numbers: Sequence[int]) -> float:
     return sum(side * it for side, it in sides_of(numbers).items())
 
 
-def fit_lead(observed: Observed | Iterable[Any], *, method: str = "auto") -> LeadLaw:
+def fit_lead(observed: Observed | Iterable[Any], *, method: str = "auto") -> FittedLaw:
     """Fits the law of lead times to observed ones: whole numbers of periods, at least 1.
 
     `empirical` has each lead time as often as it was seen. `auto` moves a part of 2 to 19 observed ones to the periods
@@ -69,14 +69,17 @@ def fit_lead(observed: Observed | Iterable[Any], *, method: str = "auto") -> Lea
     above = f"is above {MOST_LEAD}; take longer periods (weeks for days, months for weeks), for demands too"
     below = "is below 1; write 1 if the order is there for the next period's demand"
     check(numbers, places, lambda it: above if it > MOST_LEAD else below if it < 1 else None)
-    seen = empirical(numbers)
-    if method == "empirical":
-        return LeadLaw(**seen)
-    if not LEAST_LEADS <= len(numbers) < FEW:
-        return LeadLaw(**fields_of(seen["values"], seen["weights"], "empirical", numbers, side=0.0, doubt=DOUBT))
-    import numpy as np
+    seen = Law.of_numbers(numbers)
+    if method == EMPIRICAL or not LEAST_LEADS <= len(numbers) < FEW:
+        return FittedLaw.made(seen, EMPIRICAL, Diagnostics(seen, method, side=0.0))
     side = side_of(numbers)
-    law = np.zeros(MOST_LEAD + 1)
-    for lead, share in blurred(Counter(numbers), side).items():
-        law[lead] = share
-    return LeadLaw(**fields_of(*weights_of(law), "blurred", numbers, side=side, doubt=DOUBT))
+    return FittedLaw.made(lead_law(Counter(numbers), side), "blurred", Diagnostics(seen, method, side=side))
+
+
+def lead_law(weights: Mapping[int, float], side: float) -> Law:
+    """Returns the law of lead times with these weights, blurred."""
+    import numpy as np
+    chances = np.zeros(MOST_LEAD + 1)
+    for lead, share in blurred(weights, side).items():
+        chances[lead] = share
+    return Law.of_chances(chances)

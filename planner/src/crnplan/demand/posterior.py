@@ -30,14 +30,13 @@ from scipy import special
 
 from ..chances import Floats, cut, in_items, scaled
 from ..errors import Refused
-from ..formats import MOST_LEAD, MOST_WEIGHT
+from ..formats import MOST_WEIGHT
 from ..records.observed import Observed
-from ..scenario import Table
+from ..law import Law
 from .families import family_of, fits_of
 from .families.family import UNIFORMS, Fit, Parameters
-from .fitting import LEAST_DEMANDS, WORSE, fit_demand, weights_of
-from .laws import Law
-from .leads import FEW, LEAST_LEADS, blurred, fit_lead, sides_of
+from .fitting import LEAST_DEMANDS, WORSE, fit_demand
+from .leads import FEW, LEAST_LEADS, fit_lead, lead_law, sides_of
 from .sample import Sample
 
 FROM_HISTORY = "history"  # the name of the Bayesian bootstrap among the families
@@ -60,7 +59,7 @@ class AllowedLaws:
     """
 
     families: Mapping[str, int]
-    laws: tuple[Table, ...]
+    laws: tuple[Law, ...]
 
 
 def stratified(random: np.random.Generator, rows: int, times: int) -> Floats:
@@ -192,13 +191,13 @@ def allowed_laws(observed: Observed | Iterable[Any], *, times: int = 100, box: i
     check_times(times)
     sample = sample_of(fit_demand(observed, method="empirical", box=box))
     families, laws = demand_laws(sample, times, random_of(seed, 0))
-    return AllowedLaws(families, tuple(table_of(law, sample.most) for law in laws))
+    return AllowedLaws(families, tuple(law_of_chances(law, sample.most) for law in laws))
 
 
-def table_of(chances: Floats, most: int) -> Table:
-    """Returns a law as a table. If it has no demand, one unit of its weight goes to the largest demand seen."""
-    values, weights = weights_of(chances)
-    return Table((0, most), (MOST_WEIGHT - 1, 1)) if values == (0,) and most else Table(values, weights)
+def law_of_chances(chances: Floats, most: int) -> Law:
+    """Returns the law of chances. If it has no demand, one unit of its weight goes to the largest demand seen."""
+    law = Law.of_chances(chances)
+    return Law((0, most), (MOST_WEIGHT - 1, 1)) if law.values == (0,) and most else law
 
 
 def allowed_leads(observed: Observed | Iterable[Any], *, times: int = 100, seed: int = 1) -> AllowedLaws:
@@ -211,7 +210,7 @@ def allowed_leads(observed: Observed | Iterable[Any], *, times: int = 100, seed:
     check_times(times)
     sample = sample_of(fit_lead(observed, method="empirical"))
     if sample.size < LEAST_LEADS:
-        return AllowedLaws({FROM_HISTORY: times}, (Table((sample.most,), (MOST_WEIGHT,)),) * times)
+        return AllowedLaws({FROM_HISTORY: times}, (Law((sample.most,), (MOST_WEIGHT,)),) * times)
     random = random_of(seed, 1)
     sides, family = np.zeros(times), FROM_HISTORY
     if sample.size < FEW:
@@ -219,13 +218,5 @@ def allowed_leads(observed: Observed | Iterable[Any], *, times: int = 100, seed:
         places = np.searchsorted(np.cumsum([*chances.values()])[:-1], stratified(random, 1, times)[0])
         sides, family = np.array([*chances])[places], "blurred"
     rows = random.standard_gamma(sample.counts, (times, len(sample.counts)))
-    tables = (lead_table(dict(zip(sample.values.tolist(), row)), float(side)) for row, side in zip(rows, sides))
-    return AllowedLaws({family: times}, tuple(tables))
-
-
-def lead_table(weights: Mapping[int, float], side: float) -> Table:
-    """Returns the table of lead times with these weights, blurred."""
-    chances = np.zeros(MOST_LEAD + 1)
-    for lead, share in blurred(weights, side).items():
-        chances[lead] = share
-    return Table(*weights_of(chances))
+    laws = (lead_law(dict(zip(sample.values.tolist(), row)), float(side)) for row, side in zip(rows, sides))
+    return AllowedLaws({family: times}, tuple(laws))

@@ -8,14 +8,14 @@ from functools import cached_property
 from ..crnsim.trajectory import Period
 from ..decide.doubt import WITHIN
 from ..decide.intervals import Compared as ComparedRow
-from ..demand.notes import fit_lines
+from ..demand import fit_remarks
 from ..plan.answer import CHEAPER, CHOSEN, DEARER, SAME, SERVICE, THEORY, UNDECIDED, Figures
 from ..plan.depth import Coming, Compared, Depth
 from ..decide.moves import Moves
 from ..records.item import Item
 from ..records.dates import EVERY, period_name
 from ..theory.long_run import exactness_of
-from ..words import sentence
+from ..words import advised, sentence
 from .laws import law_words
 from .page import number, percent
 
@@ -125,7 +125,7 @@ class ItemWords:
     @property
     def law(self) -> str:
         """Returns by which law of demand all figures are."""
-        return law_words(self.question.demand, self.settings.fit)
+        return law_words(self.question.demand)
 
     @property
     def run(self) -> str:
@@ -191,4 +191,4 @@ class ItemWords:
     @property
     def notes(self) -> list[str]:
         """Returns what is to be said of the history, and of how its law was fitted."""
-        return [capital(it) for it in (*self.heard, *map(sentence, self.item.remarks), *fit_lines(self.question.demand))]
+        return [capital(it) for it in (*self.heard, *map(sentence, self.item.remarks), *map(advised, fit_remarks(self.question.demand)))]

@@ -4,15 +4,13 @@ from __future__ import annotations
 from collections.abc import Iterator
 from typing import TYPE_CHECKING
 
-from ..demand.fitting import QUANTILES, figures_of
-from ..demand.laws import DemandLaw, Law
+from ..demand.fitted import EMPIRICAL, QUANTILES, FittedLaw
 from ..plan.question import Question
 from ..table import Cell, number, text, whole
 
 if TYPE_CHECKING:
     from ..demand.borrowing import Borrowed
 
-BORROWED = "borrowed"  # the family of a law that is learned from other items, and the name of what is known of it
 ALONE = "the law of this item alone"
 LAW_COLUMNS = (
     text("table", "demand, returns or lead"), text("law", "what was seen, or the law that was fitted to it"),
@@ -28,34 +26,30 @@ def learned_words(its: Borrowed) -> str:
     return f"the law learned from {source}" + f" ({1 - its.share:.0%} from what was seen)" * (its.share < 1)
 
 
-def law_words(law: Law, method: str) -> str:
+def law_words(law: FittedLaw) -> str:
     """Returns in words what a figure is by that rests on a law: on a fitted one, or on the history."""
-    if law.family == "empirical":
-        is_unlike = method != "empirical" and isinstance(law, DemandLaw)
+    its, method = law.diagnostics, law.diagnostics.method
+    if law.family == EMPIRICAL:
+        is_unlike = method != EMPIRICAL and not law.is_of_leads
         return "this history" + f" ({method}: no family gives it back)" * is_unlike
-    if law.family == BORROWED:
-        return learned_words(law.diagnostics[BORROWED])
-    families, share = law.diagnostics.get("families", {}), law.diagnostics.get("share", 1)
-    others = len(families) - 1
-    named = law.family + f" {families.get(law.family, 1):.0%} and {others} more" * (others > 0)
-    seen = f"; {1 - share:.0%} from what was seen" * (share < 1)
+    if its.borrowed and not its.borrowed.alone:
+        return learned_words(its.borrowed)
+    others = len(its.families) - 1
+    named = law.family + f" {its.families.get(law.family, 1):.0%} and {others} more" * (others > 0)
+    seen = f"; {1 - its.share:.0%} from what was seen" * (its.share < 1)
     return f"the law fitted to this history ({f'{method}: ' * (method != law.family)}{named}{seen})"
 
 
-def law_rows(question: Question, single: DemandLaw | None) -> Iterator[list[Cell]]:
+def law_rows(question: Question, single: FittedLaw | None) -> Iterator[list[Cell]]:
     """Yields the rows of a table of laws: for each the figures of what was seen, and its own if it was fitted. Below a
     law that is learned from other items stands that of the item alone, `single`, if there is one."""
-    laws: dict[str, tuple[Law | None, str]] = {
-        "demand": (question.demand, question.settings.fit), "returns": (question.returns, question.settings.fit),
-        "lead": (question.lead, question.settings.lead_fit)}
-    for name, (law, method) in laws.items():
+    for name, law in {"demand": question.demand, "returns": question.returns, "lead": question.lead}.items():
         if law is None:
             continue
-        its = law.diagnostics
-        seen = its.get("history") or figures_of(law.values, law.weights) | {"variance": its["variance"]}
-        named = law_words(law, method)
-        rows = {named: seen} if law.family == "empirical" else {"what was seen": seen, named: its}
+        seen = law.diagnostics.history
+        named = law_words(law)
+        rows = {named: seen} if law.family == EMPIRICAL else {"what was seen": seen, named: law.figures}
         if name == "demand" and single is not None:
-            rows[ALONE] = single.diagnostics
+            rows[ALONE] = single.figures
         for title, figures in rows.items():
-            yield [name, title, figures["mean"], figures["variance"], *figures["quantiles"].values(), figures["most"]]
+            yield [name, title, figures.mean, figures.variance, *figures.quantiles.values(), figures.most]

@@ -7,7 +7,8 @@ from collections import Counter
 from collections.abc import Mapping, Sequence
 from dataclasses import dataclass
 
-from ..demand.fitting import QUANTILES, figures_of
+from ..demand.fitted import QUANTILES, Figures
+from ..law import Law
 from .page import UNITS, Chances, Scale, number, tick
 
 MARKS = 4
@@ -98,8 +99,8 @@ def marks_of(names: Sequence[str]) -> list[Mark]:
 def levels_of(values: Sequence[int], weights: Sequence[int], box: int, period: str) -> list[Level]:
     """Returns what a law says of the demand of a period, in items: its mean, and what 99 of 100 periods do not exceed.
     """
-    its = figures_of(values, weights)
-    mean, high = box * its["mean"], box * its["quantiles"][QUANTILES[1]]
+    its = Figures.of(Law(tuple(values), tuple(weights)))
+    mean, high = box * its.mean, box * its.quantiles[QUANTILES[1]]
     return [Level(MEAN, f"mean of the law: {number(mean, 2)} a {period}", mean),
             Level(HIGH, f"99 of 100 {period}s by the law: at most {number(high)}", high)]
 

@@ -116,7 +116,6 @@ class Answer:
 
 # Codes of remarks on an answer, each with the names of its facts.
 FEW_DEMANDS = "few demands"  # demands, and whether the law is `learned`
-LEARNS_NOTHING = "learns nothing"  # reason
 UNLIKE = "unlike the catalogue"
 STEPS = "steps"  # items
 ROUNDED_COSTS = "rounded costs"  # error, as a share

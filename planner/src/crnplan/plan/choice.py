@@ -9,7 +9,7 @@ from ..demand.borrowing import borrowed_laws
 from ..demand.posterior import allowed_laws, allowed_leads
 from ..errors import Refused
 from ..formats import MOST_ITEMS
-from ..scenario import Table
+from ..law import Law
 from ..theory.confidence import FillLevels, Promises
 from ..theory.long_run import Candidate, LongRun
 from .answer import ALONE, CHOSEN, TODAY
@@ -38,7 +38,7 @@ class Choice:
     is_promised: bool = True
 
 
-def allowed_by(question: Question, laws: int = LAWS) -> tuple[tuple[Table, ...], tuple[Table, ...]]:
+def allowed_by(question: Question, laws: int = LAWS) -> tuple[tuple[Law, ...], tuple[Law, ...]]:
     """Returns so many laws of demand, and perhaps of lead times, that an item's history allows. They follow from its
     name and the seed."""
     item, seed = question.item, question.seed("allowed")

@@ -16,11 +16,12 @@ from ..crnsim.report import report_of
 from ..crnsim.trajectory import Period, trajectories
 from ..decide.doubt import WITHIN, Doubt
 from ..decide.intervals import Compared as ComparedRow, with_intervals
-from ..demand import DemandLaw
+from ..demand import FittedLaw
 from ..demand.posterior import AllowedLaws
 from ..errors import Refused
 from ..formats import MOST_ITEMS, POLICIES
-from ..scenario import Policy, Scenario, Table
+from ..law import Law
+from ..scenario import Policy, Scenario
 from ..theory.confidence import CONFIDENCE, FillLevels, Promises
 from ..theory.lattice import NoTheory
 from ..theory.long_run import Candidate, Figures as TheoryFigures, LongRun
@@ -95,12 +96,12 @@ class Depth:
         return TODAY if self.levels[CHOSEN] == self.levels[TODAY] else CHOSEN
 
     @cached_property
-    def single(self) -> DemandLaw | None:
+    def single(self) -> FittedLaw | None:
         """Returns the law of the item's own history alone, if another one was learned."""
         return self.question.alone().demand if learns(self.question) else None
 
     @cached_property
-    def allowed(self) -> tuple[tuple[Table, ...], tuple[Table, ...]]:
+    def allowed(self) -> tuple[tuple[Law, ...], tuple[Law, ...]]:
         """Returns the laws of demand, and perhaps of lead times, that the item's history allows."""
         return allowed_by(self.question, self.laws)
 
@@ -181,7 +182,7 @@ class Depth:
         what it has learned. None if no such law has a long run. Without a backlog cost only fill rates mean something.
         """
         (demands, leads), scenario = self.allowed, self._costed()
-        laws: list[tuple[Table, Table]] = [*zip(demands, leads or [scenario.lead] * len(demands))]
+        laws: list[tuple[Law, Law]] = [*zip(demands, leads or [scenario.lead] * len(demands))]
         policies = tuple(self.policies)
         try:
             figures = figures_of_laws(scenario, laws, policies)

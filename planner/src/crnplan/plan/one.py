@@ -11,7 +11,7 @@ from collections.abc import Callable, Iterable, Iterator, Mapping
 from typing import TypeVar
 
 from ..crnsim.report import Report, report_of
-from ..demand import DemandLaw
+from ..demand.fitted import EMPIRICAL, FittedLaw
 from ..demand.borrowing import Prior
 from ..demand.checks import remarks_of as checked
 from ..errors import Refused, worded
@@ -20,7 +20,7 @@ from ..records.item import Item
 from ..remarks import Remark
 from ..scenario import Policy, Scenario, key_words
 from ..theory.long_run import LongRun
-from .answer import (ALONE, CHEAPER, CHOSEN, DEARER, FAILED, FEW_DEMANDS, LEARNS_NOTHING, NO_INTERVAL, NO_POLICY,
+from .answer import (ALONE, CHEAPER, CHOSEN, DEARER, FAILED, FEW_DEMANDS, NO_INTERVAL, NO_POLICY,
                      NO_PROMISE, REFUSED, ROUNDED_COSTS, RUN, SAME, SERVICE, STEPS, THEORY, TODAY, UNDECIDED, UNLIKE,
                      Answer, Estimate, Figures, LawFacts, Run)
 from .choice import Choice, NoPolicy, choice_of, levels_of
@@ -86,13 +86,13 @@ def verdict_of(question: Question, today: Figures, saving: float, ends: tuple[fl
     return DEARER if high is not None and high < 0 else UNDECIDED
 
 
-def law_facts(law: DemandLaw, box: int) -> LawFacts:
+def law_facts(law: FittedLaw, box: int) -> LawFacts:
     """Returns what is said of a law."""
-    borrowed = law.diagnostics.get("borrowed")
-    share = law.diagnostics.get("share", 0.0 if law.family == "empirical" else 1.0)
+    borrowed = law.diagnostics.borrowed
+    share = 0.0 if law.family == EMPIRICAL else law.diagnostics.share
     if borrowed and not borrowed.alone:
         share = borrowed.share
-    return LawFacts(law.family, share, borrowed.log10_bayes if borrowed else None, float(law.table.mean) * box)
+    return LawFacts(law.family, share, borrowed.log10_bayes if borrowed else None, float(law.mean) * box)
 
 
 def remarks_of(question: Question, theory: LongRun, sample: Sample, choice: Choice) -> Iterator[Remark]:
@@ -103,7 +103,7 @@ def remarks_of(question: Question, theory: LongRun, sample: Sample, choice: Choi
     if demands < LEAST_DEMANDS:
         yield Remark(FEW_DEMANDS, {"demands": demands, "learned": bool(learned and learned.few and not learned.alone)})
     if learned is not None and learned.alone:
-        yield Remark(LEARNS_NOTHING, {"reason": learned.alone})
+        yield learned.alone
     elif learned is not None and learned.unlike:
         yield Remark(UNLIKE)
     if not theory.exact:

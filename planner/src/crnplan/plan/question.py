@@ -9,7 +9,7 @@ from dataclasses import dataclass, field
 from fractions import Fraction
 
 from .. import __version__
-from ..demand import DemandLaw, LeadLaw, fit_demand, fit_lead
+from ..demand import FittedLaw, fit_demand, fit_lead
 from ..demand.borrowing import Borrowed, Prior, law_of
 from ..demand.fitting import METHODS
 from ..demand.leads import LEAD_METHODS
@@ -92,9 +92,9 @@ class Question:
     rates: Mapping[str, int]
     scale: Fraction
     rate_error: float
-    demand: DemandLaw
-    lead: LeadLaw
-    returns: DemandLaw | None
+    demand: FittedLaw
+    lead: FittedLaw
+    returns: FittedLaw | None
 
     @property
     def levels(self) -> Levels:
@@ -115,8 +115,7 @@ class Question:
     @property
     def learned(self) -> Borrowed | None:
         """Returns what the law has learned from other items, or why nothing; None if it was not to learn."""
-        found: Borrowed | None = self.demand.diagnostics.get("borrowed")
-        return found
+        return self.demand.diagnostics.borrowed
 
     @property
     def implied_backlog(self) -> int:

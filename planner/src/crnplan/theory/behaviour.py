@@ -9,9 +9,10 @@ from __future__ import annotations
 
 import math
 
-from ..scenario import Scenario, Table
+from ..law import Law
+from ..scenario import Scenario
 
-NOTHING = Table((0,), (1,))
+NOTHING = Law((0,), (1,))
 
 
 class Depths:

@@ -15,7 +15,8 @@ import math
 from collections.abc import Iterable, Sequence
 
 from ..errors import Refused
-from ..scenario import Scenario, Table
+from ..law import Law
+from ..scenario import Scenario
 from .lattice import NoTheory, Shape, finest, has_room, late_work, shape_of, theory_on
 from .long_run import NO_POLICY, Candidate, LongRun, exactness_of
 
@@ -37,7 +38,7 @@ def shape_or_none(scenario: Scenario) -> Shape | None:
 class FillLevels:
     """The least S that meets shares of demand at once, for each of some laws and each gap."""
 
-    def __init__(self, scenario: Scenario, theory: LongRun, gap: int, laws: Sequence[Table], leads: Sequence[Table],
+    def __init__(self, scenario: Scenario, theory: LongRun, gap: int, laws: Sequence[Law], leads: Sequence[Law],
                  shares: Sequence[float]) -> None:
         """Takes laws of demand and, perhaps, as many of lead times, which belong together one by one.
 

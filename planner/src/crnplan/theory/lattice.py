@@ -14,7 +14,8 @@ import numpy as np
 
 from ..errors import Refused
 from ..formats import MOST_ITEMS
-from ..scenario import Scenario, Table
+from ..law import Law
+from ..scenario import Scenario
 from .wiener_hopf import DIGITS, decay_of
 from .lattice_law import LatticeLaw, sum_of
 from .long_run import LongRun, gap_grid
@@ -73,7 +74,7 @@ class Shape:
         return min(MOST_ITEMS, (self.lead + 1) * self.mean + self.spread / 2 + self.gap)
 
 
-def net_tables(scenario: Scenario) -> list[Table]:
+def net_tables(scenario: Scenario) -> list[Law]:
     """Returns the tables of demand and, if there are any, returns."""
     return [scenario.demand, *([scenario.returns] if scenario.returns else [])]
 
@@ -92,7 +93,7 @@ def height_of(scenario: Scenario, high: int) -> float:
     return 0.0 if net.low >= 0 else step * DIGITS / decay_of(net)
 
 
-def moments_of(table: Table | None) -> tuple[float, float]:
+def moments_of(table: Law | None) -> tuple[float, float]:
     """Returns the mean and the mean square of a table; 0 if there is none."""
     if table is None:
         return 0.0, 0.0

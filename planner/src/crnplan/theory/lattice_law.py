@@ -11,7 +11,7 @@ from typing import TypeVar
 import numpy as np
 
 from ..chances import Floats, Whole
-from ..scenario import Table
+from ..law import Law
 
 Places = TypeVar("Places", int, Whole)
 
@@ -35,7 +35,7 @@ class LatticeLaw:
         return cls(int(low + kept[0]), chances / chances.sum())
 
     @classmethod
-    def of(cls, table: Table, step: int) -> LatticeLaw:
+    def of(cls, table: Law, step: int) -> LatticeLaw:
         """Returns the law of a table. A value between two cells is shared by both, such that the mean stays."""
         chances = np.zeros(max(table.values) // step + 2)
         for value, weight in zip(table.values, table.weights):

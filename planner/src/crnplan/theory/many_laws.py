@@ -12,7 +12,8 @@ from functools import partial
 import numpy as np
 
 from ..chances import Floats
-from ..scenario import Policy, Scenario, Table
+from ..law import Law
+from ..scenario import Policy, Scenario
 from .lattice import NoTheory, Shape, finest, shape_of, theory_on, values_of
 from .lattice_law import room_for
 from .long_run import LongRun
@@ -91,7 +92,7 @@ def least_cost(theory: LongRun, most: int) -> float:
     return least
 
 
-def figures_of_laws(scenario: Scenario, laws: Sequence[tuple[Table, Table]],
+def figures_of_laws(scenario: Scenario, laws: Sequence[tuple[Law, Law]],
                     policies: Sequence[Policy]) -> LawFigures:
     """Returns the figures of policies under laws, each of demand and of lead times; all else is the scenario's.
 

@@ -30,7 +30,6 @@ import numpy.typing as npt
 from scipy import fft
 
 from ..chances import Floats, Whole
-from ..scenario import Table
 from .lattice_law import LatticeLaw, convolved
 
 Transforms = npt.NDArray[np.complex128]
@@ -108,12 +107,6 @@ def chances_of(states: Iterable[Transforms], net: LatticeLaw, late: Floats, room
         solved.append(renewed(kept[time][0], [it[0] for it in placed[:time]], late[time - 1::-1], solved))
     found = fft.irfft(renewed(kept[-1][1], [it[1] for it in placed], late[::-1], solved), room.size)
     return np.roll(np.where(found > LEAST_CHANCE, found, 0), room.above, axis=1)
-
-
-def chances_of_leads(lead: Table) -> dict[int, float]:
-    """Returns the chance of each lead time that has one."""
-    total = sum(lead.weights)
-    return {value: weight / total for value, weight in zip(lead.values, lead.weights) if weight}
 
 
 def lateness(chances: Mapping[int, float]) -> Floats:

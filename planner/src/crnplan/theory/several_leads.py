@@ -17,7 +17,7 @@ from ..scenario import Scenario
 from .lattice_law import LatticeLaw, power_of, room_for, sum_of
 from .long_run import CLOSE, Candidate, LongRun, gap_grid, search
 from .means import Levels, LevelsOf, Means
-from .renewal import Room, chances_of, chances_of_leads, falling, lateness, transforms_of, walking
+from .renewal import Room, chances_of, falling, lateness, transforms_of, walking
 
 MOST_WORK = 20_000_000  # for all gaps of a search, by `work_of`
 FEW = 4  # Of the gaps of a grid, one in so many is looked at for a first policy.
@@ -38,7 +38,7 @@ class SeveralLeads(LongRun):
     def __init__(self, scenario: Scenario, step: int, exact: bool, most: int) -> None:
         """Takes the chance of each lead time, and that an order is late by its age after the shortest one."""
         super().__init__(scenario, step, exact, most)
-        self.chances = chances_of_leads(scenario.lead)
+        self.chances = scenario.lead.chances
         self.late = lateness(self.chances)
         self.amount = power_of(self.net, max(self.chances)).high
         self.above = -self.above_low.low + len(self.late) * max(0, -self.net.low)

@@ -14,7 +14,7 @@ from ..chances import Floats, Whole
 from ..scenario import Policy, Scenario
 from .lattice_law import NOTHING, LatticeLaw, Surplus, power_of, room_for, sum_of
 from .long_run import LongRun
-from .renewal import chances_of_leads, lateness, renewed, transforms_of
+from .renewal import lateness, renewed, transforms_of
 from .reviews import Reviews, Start
 
 
@@ -36,7 +36,7 @@ class StockBias:
     def __init__(self, theory: LongRun, scenario: Scenario) -> None:
         """Computes the costs of the periods before the shortest lead time has passed."""
         self.theory, self.initial, self.periods = theory, scenario.initial, scenario.periods
-        leads = chances_of_leads(scenario.lead)
+        leads = scenario.lead.chances
         least, self.late = min(leads), lateness(leads)
         self.counted = max(self.periods - max(leads), 0)
         amounts = [theory.net]

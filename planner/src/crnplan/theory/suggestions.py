@@ -13,7 +13,8 @@ from dataclasses import dataclass
 from ..toml import read_document
 from ..toml.writing import head_of, plain_text
 from ..formats import MOST_ITEMS, POLICIES
-from ..scenario import BY_ITS_LAWS, Policy, Scenario, Table
+from ..law import Law
+from ..scenario import BY_ITS_LAWS, Policy, Scenario
 from ..table import Cell, DataTable, Json, Result, number, text, whole
 from .behaviour import Depths
 from .confidence import CONFIDENCE, FillLevels, Promises
@@ -206,7 +207,7 @@ def figures_table(rows: Iterable[tuple[Policy, Figures]]) -> DataTable:
     return DataTable(COLUMNS, [(it.name, it.s, it.S, *figures) for it, figures in rows])
 
 
-def suggestions_of(scenario: Scenario, laws: Sequence[Table] = (), leads: Sequence[Table] = (),
+def suggestions_of(scenario: Scenario, laws: Sequence[Law] = (), leads: Sequence[Law] = (),
                    confidence: float = CONFIDENCE) -> Suggestions:
     """Returns the suggested policies of a scenario, at most 16 with today's.
 

@@ -11,7 +11,7 @@ from ...chances import Floats
 from ...errors import Fault, Refused, RefusedFaults
 from ...formats import MOST_DEMAND
 from ...records.observed import Observed
-from ..laws import check, numbers_of
+from ..fitted import check, numbers_of
 from ..sample import Sample
 from . import grid
 from .em import FLAT, estimated

@@ -12,7 +12,7 @@ from typing import TYPE_CHECKING, Any
 from ...money import whole
 from ...records.observed import History, Observed
 from ...remarks import Remark, Value
-from ..laws import numbers_of
+from ..fitted import numbers_of
 from .seasons import seasons_of
 
 if TYPE_CHECKING:

@@ -10,11 +10,13 @@ import numpy as np
 
 from ...chances import Floats, in_items, mixture, scaled
 from ...formats import MOST_DEMAND
+from ...law import Law
 from ...records.observed import Observed
-from ..fitting import LEAST_DEMANDS, cap_of, fields_of, fit_demand, share_of, weights_of
+from ...remarks import Remark
+from ..fitted import Diagnostics, FittedLaw
+from ..fitting import LEAST_DEMANDS, cap_of, fit_demand, share_of
 from ..guard import Shares, shares_of
-from ..laws import DemandLaw
-from ..posterior import AllowedLaws, allowed_laws, check_times, round_history, sample_of, stratified, table_of
+from ..posterior import AllowedLaws, allowed_laws, check_times, round_history, sample_of, stratified, law_of_chances
 from ..sample import Sample
 from . import grid
 from .learning import is_outside
@@ -29,10 +31,10 @@ ROWS = 4  # of uniform numbers for a drawn law; the last one chooses its part
 
 @dataclass(frozen=True)
 class Borrowed:
-    """What is known of an item's law, under the name "borrowed" in its diagnostics.
+    """What is known of an item's law, in its diagnostics.
 
     `demands` are the periods with demand, `prior` is the name of the class whose prior it has, or "all". `alone` says
-    why the law of the item's own history is taken; it is empty if the borrowed law is. `share` is that of what was
+    why the law of the item's own history is taken; None if the borrowed law is. `share` is that of what was
     learned in the law of the item; the rest is from its own history. `guard` has the shares of drawn histories, None
     with no or one demand; `log10_bayes` is the log10 of the Bayes factor for the learned prior against the flat one.
     Both are None if nothing was learned for such an item. `single` is the law of the item's own history by
@@ -41,11 +43,11 @@ class Borrowed:
 
     demands: int
     prior: str
-    alone: str = ""
+    alone: Remark | None = None
     share: float = 0.0
     guard: Shares | None = None
     log10_bayes: float | None = None
-    single: DemandLaw | None = None
+    single: FittedLaw | None = None
 
     @property
     def unlike(self) -> bool:
@@ -90,17 +92,17 @@ class Part:
                 for law in self.posterior.drawn(uniform)]
 
 
-def why_alone(prior: Prior, sample: Sample, box: int) -> str:
-    """Returns why an item learns from no others, without a look at its law; empty if it does."""
+def why_alone(prior: Prior, sample: Sample, box: int) -> Remark | None:
+    """Returns why an item learns from no others, without a look at its law; None if it does."""
     if prior.borrow == "none":
-        return "nothing is borrowed"
+        return Remark("nothing borrowed")
     if box > 1:
-        return f"demand is counted in boxes of {box}"
+        return Remark("demand in boxes", {"box": box})
     if sample.pack > 1 and not prior.packs:
-        return f"all demands are packs of {sample.pack}, as those of few others"
+        return Remark("packs of few others", {"pack": sample.pack})
     if is_outside(sample.in_packs(sample.pack)):
-        return f"the mean size of a demand is above {grid.MOST_SIZE:g}{' packs' * (sample.pack > 1)}"
-    return ""
+        return Remark("large sizes" + " in packs" * (sample.pack > 1), {"most": grid.MOST_SIZE})
+    return None
 
 
 def parts_of(packs: Sample, posterior: Posterior, few: bool) -> list[Part]:
@@ -123,13 +125,13 @@ def looked_at(prior: Prior, sample: Sample, item_class: str | None, box: int) ->
     guard = None if found.few else shares_of(packs, posterior.predictive)
     found = replace(found, guard=guard, log10_bayes=posterior.log10_bayes)
     if guard and min(guard) <= LEVEL:
-        return replace(found, alone="drawn histories do not look like the real one"), []
+        return replace(found, alone=Remark("unlike histories")), []
     parts = parts_of(packs, posterior, found.few)
     return replace(found, share=parts[0].weight * parts[0].share), parts
 
 
 def law_of(prior: Prior, observed: Observed | Iterable[Any], item_class: str | None = None, *, box: int = 1,
-           beside: bool = True) -> DemandLaw:
+           beside: bool = True) -> FittedLaw:
     """Fits the law of demand to a history with few orders, by what its catalogue has learned (`learn`).
 
     It is the posterior predictive law under what the item's class, the catalogue, or all items in packs have learned,
@@ -138,7 +140,7 @@ def law_of(prior: Prior, observed: Observed | Iterable[Any], item_class: str | N
     Drawn histories of the learned law must look like the real one (`LEVEL`), else the law is that of the item alone:
     `fit_demand(method="auto")`. So it is for boxes, for packs if few others have some, and for sizes outside the grid.
     An item with no or one demand has the learned law in any case, since its history alone has none. What is known is in
-    `diagnostics["borrowed"]`, a `Borrowed`, with the law of the item alone if `beside`.
+    `diagnostics.borrowed`, a `Borrowed`, with the law of the item alone if `beside`.
 
     `observed` and `box` are as in `fit_demand`, and so is what is raised. Weights add up to 65,536.
     """
@@ -147,12 +149,12 @@ def law_of(prior: Prior, observed: Observed | Iterable[Any], item_class: str | N
     found, parts = looked_at(prior, sample, item_class, box)
     if not parts:
         single = fit_demand(numbers, method=ALONE, box=box)
-        return replace(single, diagnostics={**single.diagnostics, FAMILY: replace(found, single=single)})
+        return replace(single, diagnostics=replace(single.diagnostics, borrowed=replace(found, single=single)))
     if beside:
         found = replace(found, single=fit_demand(numbers, method=ALONE))
     law = in_items(mixture((it.weight, it.law) for it in parts), sample.pack)
-    fitted = DemandLaw(**fields_of(*weights_of(law), FAMILY, np.repeat(sample.values, sample.counts).tolist()))
-    return replace(fitted, diagnostics={**fitted.diagnostics, FAMILY: found})
+    seen = Law(tuple(sample.values.tolist()), tuple(sample.counts.tolist()))
+    return FittedLaw.made(Law.of_chances(law), FAMILY, Diagnostics(seen, FAMILY, borrowed=found))
 
 
 def borrowed_laws(prior: Prior, observed: Observed | Iterable[Any], item_class: str | None = None, *, times: int = 100,
@@ -175,4 +177,4 @@ def borrowed_laws(prior: Prior, observed: Observed | Iterable[Any], item_class: 
     places = np.searchsorted(np.cumsum([it.weight for it in parts])[:-1], choice, side="right")
     laws = (law for place, part in enumerate(parts)
             for law in part.drawn(np.array(uniform)[:, places == place], random))
-    return AllowedLaws({FAMILY: times}, tuple(table_of(in_items(law, sample.pack), sample.most) for law in laws))
+    return AllowedLaws({FAMILY: times}, tuple(law_of_chances(in_items(law, sample.pack), sample.most) for law in laws))

@@ -1,0 +1,121 @@
+"""Defines fitted laws: with what is known of the fit, and of what was observed."""
+from __future__ import annotations
+
+from collections.abc import Callable, Iterable, Mapping
+from dataclasses import dataclass, field
+from fractions import Fraction
+from functools import cached_property
+from typing import TYPE_CHECKING, Any
+
+from ..errors import Fault, Refused
+from ..formats import MOST_WEIGHT
+from ..law import Law
+from ..money import whole
+from ..records.faults import Place, RefusedFiles
+from ..records.observed import Observed
+
+if TYPE_CHECKING:
+    from .borrowing import Borrowed
+    from .guard import Shares
+
+QUANTILES = (0.95, 0.99, 0.999)
+EMPIRICAL = "empirical"  # the family of a law that is what was seen
+
+
+@dataclass(frozen=True)
+class Figures:
+    """Mean, variance (None of a single number), quantiles and the largest value of a law, or of what was observed."""
+
+    mean: float
+    variance: float | None
+    most: int
+    quantiles: Mapping[float, int]
+
+    @classmethod
+    def of(cls, law: Law, *, is_sample: bool = False) -> Figures:
+        """Computes the figures of a law. A sample has its unbiased variance."""
+        import numpy as np
+        shares, below = np.array(law.weights) / law.size, np.cumsum(law.weights)
+        mean = float(shares @ law.values)
+        places = (int(np.searchsorted(below, np.ceil(share * below[-1] - 1e-6))) for share in QUANTILES)
+        variance = _unbiased(law) if is_sample else float(shares @ (np.array(law.values) - mean)**2)
+        return cls(mean, variance, law.values[-1], {it: law.values[at] for it, at in zip(QUANTILES, places)})
+
+
+def _unbiased(law: Law) -> float | None:
+    """Returns the unbiased variance of observed numbers; None of a single one."""
+    total = sum(value * count for value, count in zip(law.values, law.weights))
+    squares = law.size * sum(value**2 * count for value, count in zip(law.values, law.weights)) - total**2
+    return float(Fraction(squares, law.size * (law.size - 1))) if law.size > 1 else None
+
+
+@dataclass(frozen=True)
+class Diagnostics:
+    """What is known of a fit.
+
+    `seen` is the empirical law of what was observed, and `method` how it was fitted. Of a law of families: `pack` is the size of the packs that were
+    fitted, `bic` has the families, the least BIC first, and `guard` the shares of drawn histories of those not far
+    behind. `families` has the chances of those in the law, `cap` is its largest demand, `share` its part beside what
+    was seen, and `bulks` how many demands are bulks, and the least of them. `side` is the part of lead times that
+    counts a period earlier, and as much later. `borrowed` is what an item has learned from others.
+    """
+
+    seen: Law
+    method: str
+    pack: int = 1
+    bic: Mapping[str, float] = field(default_factory=dict)
+    guard: Mapping[str, Shares] = field(default_factory=dict)
+    families: Mapping[str, float] = field(default_factory=dict)
+    cap: int | None = None
+    share: float = 1.0
+    bulks: tuple[int, int] | None = None
+    side: float | None = None
+    borrowed: Borrowed | None = None
+
+    @cached_property
+    def history(self) -> Figures:
+        """Returns the figures of what was observed."""
+        return Figures.of(self.seen, is_sample=True)
+
+
+@dataclass(frozen=True)
+class FittedLaw(Law):
+    """A law of demand, in boxes of `box` items, or of lead times, in periods. `family` says how it was fitted."""
+
+    family: str
+    diagnostics: Diagnostics = field(compare=False, repr=False)
+    box: int = 1
+
+    @classmethod
+    def made(cls, law: Law, family: str, diagnostics: Diagnostics, box: int = 1) -> FittedLaw:
+        """Makes a fitted law of a law."""
+        return cls(law.values, law.weights, family, diagnostics, box)
+
+    @cached_property
+    def figures(self) -> Figures:
+        """Returns the figures of the law."""
+        return Figures.of(self)
+
+    @property
+    def is_of_leads(self) -> bool:
+        """Returns whether this is a law of lead times."""
+        return self.diagnostics.side is not None
+
+
+def numbers_of(observed: Observed | Iterable[Any], what: str) -> tuple[list[int], Iterable[Place | None]]:
+    """Returns numbers and their places. Whole numbers of any kind are taken, and floats that are whole."""
+    if isinstance(observed, Observed):
+        return list(observed.counts), observed.places
+    numbers = [whole(it, f"{what}: entry {place}") for place, it in enumerate(observed, 1)]
+    if not 1 <= len(numbers) <= MOST_WEIGHT:
+        raise Refused(f"there are {len(numbers):,} numbers of {what}; give 1 to {MOST_WEIGHT:,}")
+    return numbers, (Place("", 0, 0, what, f"entry {place}, {it},") for place, it in enumerate(numbers, 1))
+
+
+def check(numbers: Iterable[int], places: Iterable[Place | None], reason_of: Callable[[int], str | None]) -> None:
+    """Rejects all numbers that a scenario can't have."""
+    reasons = [*map(reason_of, numbers)]
+    if any(reasons):
+        faults: list[Fault] = [place.fault(reason) for place, reason in zip(places, reasons) if place and reason]
+        if faults:
+            raise RefusedFiles(faults)
