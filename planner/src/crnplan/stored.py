@@ -82,6 +82,10 @@ class Columns(Generic[Row]):
             self.parts.append((it.name, is_union, None, *KINDS[key]))
             self.names.append(name)
 
+    def insert(self, table: str) -> str:
+        """Returns what has SQL add the cells of a value to a table with these columns."""
+        return f"INSERT INTO {table} VALUES ({', '.join('?' * len(self.names))})"
+
     def cells(self, value: Row | None) -> list[Cell]:
         """Returns the cells of a value; all are None if there is none."""
         if value is None:

@@ -53,7 +53,7 @@ def test_costs_are_those_of_the_run_where_theory_is_rounded(program: Path, monke
     assert answer.step > 1 and answer.source == RUN and "steps" in {it.code for it in answer.remarks}
     assert (answer.cost_today, answer.cost_chosen, answer.saving) == (
         estimate.cost_today, estimate.cost_chosen, estimate.saving) != (
-        answer.today.cost, answer.chosen.cost, answer.theory_saving)
+        answer.today.cost, answer.chosen.cost, answer.today.cost - answer.chosen.cost)
     assert (answer.verdict == UNDECIDED) == (estimate.low is None or estimate.low <= 0 <= (estimate.high or 0))
 
 

@@ -1,7 +1,7 @@
 """What is answered for an item: numbers, codes and facts. Words are made of them where they are shown."""
 from __future__ import annotations
 
-from dataclasses import dataclass, replace
+from dataclasses import dataclass
 from fractions import Fraction
 
 from ..remarks import Remark
@@ -107,11 +107,6 @@ class Answer:
     periods: int
     run: Run
     remarks: tuple[Remark, ...]
-
-    @property
-    def theory_saving(self) -> float:
-        """Returns what the chosen policy saves a period by theory."""
-        return self.today.cost - self.chosen.cost
 
 
 # Codes of remarks on an answer, each with the names of its facts.

@@ -10,7 +10,6 @@ from collections.abc import Mapping
 from dataclasses import dataclass
 from fractions import Fraction
 from functools import cached_property
-from typing import Any
 
 from ..crnsim.report import report_of
 from ..crnsim.trajectory import Period, trajectories

@@ -8,14 +8,14 @@ import contextlib
 import json
 import os
 import sqlite3
-from collections.abc import Iterable, Iterator, Mapping, Sequence
+from collections.abc import Iterable, Iterator, Mapping
+from dataclasses import dataclass
 from pathlib import Path
-from typing import Any, NamedTuple
+from typing import Any
 
 from ..errors import Refused
 from ..files import Folder
 from ..remarks import Remark
-from ..stored import KINDS as WRITTEN
 from ..stored import Columns, digest_of, quoted
 from .item import PLANNED, Item
 
@@ -23,11 +23,10 @@ CATALOGUE = "catalogue"  # the kind of the folder
 READ = "catalogue.sqlite"
 # Rows that are sent to SQLite at a time.
 AT_ONCE = 2_000
-KINDS = ("row", "item", "suspicious")
-ITEM = Columns(Item)
 
 
-class Reject(NamedTuple):
+@dataclass(frozen=True)
+class Reject:
     """What is left out, or only named: a row, an item with its rows of demand, or a row that is suspicious.
 
     `rows` is how many rows of demand are left out: none with a suspicious row. `remark` says why.
@@ -42,15 +41,8 @@ class Reject(NamedTuple):
     remark: Remark
     rows: int
 
-    @property
-    def cells(self) -> tuple[Any, ...]:
-        """Returns the cells in which it is kept."""
-        return (*self[:6], WRITTEN[Remark][0](self.remark), self.rows)
 
-    @classmethod
-    def of(cls, cells: Sequence[Any]) -> Reject:
-        """Returns what cells have."""
-        return cls._make([*cells[:6], WRITTEN[Remark][1](cells[6]), cells[7]])
+ITEM, REJECT = Columns(Item), Columns(Reject)
 
 
 class Catalogued:
@@ -73,12 +65,11 @@ class Catalogued:
         """Yields what was left out or named, with more of it: by file, line, item and column."""
         base = sqlite3.connect("")
         with contextlib.closing(base):
-            base.execute(f"CREATE TABLE rejects ({', '.join(Reject._fields)})")
-            slots = ", ".join("?" * len(Reject._fields))
-            for its in (self.base.execute("SELECT * FROM rejects"), (it.cells for it in more)):
-                base.executemany(f"INSERT INTO rejects VALUES ({slots})", its)
-            yield from map(Reject.of, base.execute(
-                "SELECT * FROM rejects ORDER BY file, line, item, kind, column, text, remark"))
+            base.execute(f"CREATE TABLE rejects ({quoted(REJECT.names)})")
+            for cells in (self.base.execute("SELECT * FROM rejects"), map(REJECT.cells, more)):
+                base.executemany(REJECT.insert("rejects"), cells)
+            yield from map(REJECT.value, base.execute(
+                'SELECT * FROM rejects ORDER BY file, line, item, kind, "column", text, remark'))
 
     def digests(self, common: str) -> Iterator[tuple[str, str]]:
         """Yields the name of each item with the digest of what its plan depends on: its facts, and what is common to
@@ -124,7 +115,7 @@ class Writer:
         self.base.executescript("PRAGMA journal_mode = OFF; PRAGMA synchronous = OFF;"
                                 f"CREATE TABLE items ({quoted(ITEM.names)}, PRIMARY KEY (name)) WITHOUT ROWID;"
                                 "CREATE TABLE facts (name TEXT PRIMARY KEY, value TEXT);"
-                                f"CREATE TABLE rejects ({', '.join(Reject._fields)});")
+                                f"CREATE TABLE rejects ({quoted(REJECT.names)});")
 
     def reject(self, reject: Reject) -> None:
         """Adds what is left out or named."""
@@ -134,14 +125,12 @@ class Writer:
 
     def _send(self) -> None:
         """Sends what waits."""
-        slots = ", ".join("?" * len(Reject._fields))
-        self.base.executemany(f"INSERT INTO rejects VALUES ({slots})", [it.cells for it in self.waiting])
+        self.base.executemany(REJECT.insert("rejects"), map(REJECT.cells, self.waiting))
         self.waiting.clear()
 
     def add_items(self, items: Iterable[Item]) -> None:
         """Adds items."""
-        slots = ", ".join("?" * len(ITEM.names))
-        self.base.executemany(f"INSERT INTO items VALUES ({slots})", map(ITEM.cells, items))
+        self.base.executemany(ITEM.insert("items"), map(ITEM.cells, items))
 
     def finish(self, facts: Mapping[str, Any]) -> Path:
         """Adds the facts, and gives the file its name."""
