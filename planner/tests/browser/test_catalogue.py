@@ -89,13 +89,15 @@ def test_search_shows_the_rows_that_have_a_text(items: Items, decisions: list[Ro
 
 
 def test_lists_show_the_rows_of_a_choice(items: Items, decisions: list[Row]) -> None:
-    """Each verdict, with or without a warning, shows just its rows. Sorting keeps the choice, and it can be undone."""
+    """Each verdict, with, without or with one code of a warning, shows just its rows. Sorting keeps the choice, and it
+    can be undone."""
     for verdict in sorted({row["verdict"] for row in decisions}):
         items.choose("verdict", verdict)
-        for warning in ("with", "without", ""):
+        for warning in ("is few demands", "with", "without", ""):
             items.choose("warning", warning)
             wanted = [row for row in decisions if row["verdict"] == verdict
-                      and (not warning or (row["warnings"] != "") == (warning == "with"))]
+                      and {"": True, "with": row["warnings"] != "", "without": row["warnings"] == ""}.get(
+                          warning, "few demands" in row["codes"].split("; "))]
             assert by_item(items.shown()) == by_item(wanted)
             assert items.count() == f"{len(wanted)} of {len(decisions)}"
     items.button("s_today").click()

@@ -281,6 +281,12 @@ def widths(columns: Sequence[Column], rows: Sequence[Shown]) -> list[int]:
     return [width(it) for it in columns]
 
 
+def codes_of(rows: Sequence[Shown]) -> list[tuple[str, int]]:
+    """Returns the codes of what must be said of items, with the number of items of each."""
+    counts = Counter(code for row in rows for code in {it.code for it in (*row.item.remarks, *row.answer.remarks)})
+    return sorted(counts.items())
+
+
 def catalogue_page(its: Contents) -> str:
     """Returns the page."""
     columns, verdicts = columns_of(its.rows), Counter(row.answer.verdict for row in its.rows)
@@ -288,6 +294,6 @@ def catalogue_page(its: Contents) -> str:
         "its": its, "headline": headline(its), "meaning": meaning(its), "cards": cards(its),
         "plot": exchange_plot(its) if its.curve else None, "savings": savings(its), "verdicts": verdict_rows(its),
         "left_out": left_out(its), "columns": columns, "parts": widths(columns, its.rows),
-        "styles": VERDICT_STYLES, "choices": sorted(verdicts.items()),
+        "styles": VERDICT_STYLES, "choices": sorted(verdicts.items()), "codes": codes_of(its.rows),
         "warned": sum(row.cells["warnings"] != "" for row in its.rows),
         "not_shown": its.totals.planned - len(its.rows), "priceless": its.totals.planned - its.totals.priced})

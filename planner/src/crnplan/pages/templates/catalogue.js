@@ -50,13 +50,19 @@ function sortBy(heading) {
 const searched = rows.map((row) =>
   ["item", "description", "class", "warnings"].map((name) => textOf(row, name)).join("\n").toLowerCase());
 
+// Returns whether a row has what the list of warnings asks for: all, with, without, or one code.
+function hasWarning(row, asked) {
+  if (asked.startsWith("is ")) return row.dataset.codes.split("; ").includes(asked.slice(3));
+  return asked === "" || (asked === "with") === (textOf(row, "warnings") !== "");
+}
+
 function filter() {
   const wanted = words.value.toLowerCase();
   let count = 0;
   rows.forEach((row, place) => {
     const isShown = searched[place].includes(wanted)
       && (verdict.value === "" || verdict.value === textOf(row, "verdict"))
-      && (warning.value === "" || (warning.value === "with") === (textOf(row, "warnings") !== ""));
+      && hasWarning(row, warning.value);
     row.hidden = !isShown;
     count += isShown;
   });
