@@ -1,4 +1,4 @@
-"""Reads and writes checkpoints: the state of a run between two blocks. docs/FORMATS.md defines the text.
+"""Writes checkpoints: the state of a run between two blocks. docs/FORMATS.md defines the text.
 
 A checkpoint need not come from the program. It may give each policy another state, and `resume` continues from there.
 What the program computes from it is exact and proved; this module is not.
@@ -12,7 +12,6 @@ from dataclasses import dataclass, field
 from pathlib import Path
 
 from .. import formats
-from ..errors import Refused
 from ..scenario import Scenario
 from .program import JOBS, run_program
 
@@ -35,14 +34,6 @@ class State:
     cost: int = 0
     due: Mapping[int, int] = field(default_factory=dict)
     costs: tuple[int, ...] = ()
-
-
-@dataclass(frozen=True)
-class Checkpoint:
-    """The states of all policies before a block."""
-
-    block: int
-    states: tuple[State, ...]
 
 
 def _head(scenario: Scenario, block: int) -> Iterator[tuple[object, ...]]:
@@ -73,40 +64,6 @@ def checkpoint_text(scenario: Scenario, block: int, states: Sequence[State]) -> 
     """Returns the checkpoint of a scenario before a block, with a state for each policy. Ranges are not checked."""
     lines = (",".join([*map(str, row), *"-" * (FIELDS - len(row))]) for row in _rows(scenario, block, states))
     return "\n".join(lines) + "\n"
-
-
-def _states(rows: Iterable[Sequence[str]]) -> Iterator[State]:
-    """Yields the states of a checkpoint's rows. Raises LookupError or ValueError if they are none."""
-    state: tuple[int, int] | None = None
-    due: dict[int, int] = {}
-    costs: list[int] = []
-    for kind, *its in rows:
-        if kind in ("policy", "end"):
-            if state:
-                yield State(*state, due, tuple(costs))
-            state, due, costs = None, {}, []
-        elif kind == "state":
-            state = int(its[0]), int(its[1])
-        elif kind == "due":
-            due[int(its[0])] = int(its[1])
-        elif kind == "cost":
-            costs.append(int(its[1]))
-
-
-def read_checkpoint(text: str, scenario: Scenario) -> Checkpoint:
-    """Reads a checkpoint of a scenario, of the newest version.
-
-    Raises Refused unless the text is, byte for byte, what `checkpoint_text` writes for what is read. Ranges are not
-    checked.
-    """
-    rows = [line.split(",") for line in text.splitlines()]
-    try:
-        found = Checkpoint(int(rows[0][2]), tuple(_states(rows)))
-        if checkpoint_text(scenario, found.block, found.states) == text:
-            return found
-    except (LookupError, ValueError):
-        pass
-    raise Refused("this is no checkpoint of the scenario; give what `crnsim leg` has written of it")
 
 
 def replication_costs(text: str) -> list[int]:

@@ -159,14 +159,6 @@ def read_settings(path: str | Path) -> ItemSettings:
     return ItemSettings(path, tables)
 
 
-def need_file(path: str | Path) -> bytes:
-    """Returns the bytes of a file. Raises Refused if it cannot be read."""
-    try:
-        return Path(path).read_bytes()
-    except OSError as fault:
-        raise Refused(f"{path}: {fault.strerror}; name a file that can be read") from fault
-
-
 def as_setting(name: str, value: str) -> str:
     """Returns an argument of the library as the key of the settings."""
     key = {"start": "from", "end": "to"}.get(name, name)
