@@ -199,11 +199,11 @@ FITS: dict[str, tuple[Say, Say]] = {
     "likelier by the catalogue": (_likelier, ""), "guard": (_guard, ""), "families": (_families, ""),
     "packs are fitted": ("all demands are packs of {pack}, so packs are fitted", ""),
     "no family": ("no family gives back this history, so it stays as it is", ""), "family": ("{family}", ""),
-    "bulks": (lambda it: f"for the family bulk, the {_plural(it['count'], 'demand')} of at least {it['least']} are bulks",
-              ""),
+    "bulks": (lambda it: f"for the family bulk, the {_plural(it['count'], 'demand')} of at least {it['least']} are "
+              "bulks", ""),
     "BIC": (lambda it: "BIC above the least: " + ", ".join(f"{name} {value:.1f}" for name, value in it.items()), ""),
     "figures of a law": (_figures, ""),
-    "blurred lead times": ("of each of the {observed} lead times seen, {side:.1%} count one period earlier, and as much "
-                           "one later", ""),
+    "blurred lead times": ("of each of the {observed} lead times seen, {side:.1%} count one period earlier, and as "
+                           "much one later", ""),
     "few lead times": (_few_leads, "")}
 LAWS = {**CHECKS, **FITS}

@@ -15,12 +15,15 @@ import math
 from collections.abc import Iterator, Sequence
 from dataclasses import dataclass, fields
 from fractions import Fraction
-from typing import Protocol
+from typing import NamedTuple, Protocol
 
 from .. import formats
 from ..crnsim.keys import MOST_KEYS
 from ..crnsim.report import Row
 from ..errors import Refused, argument
+
+
+FEWEST_ORDERS = 2  # of the rarer policy of a comparison, in all replications
 
 
 @dataclass(frozen=True)
@@ -59,6 +62,27 @@ def t_quantile(tails: float, degrees: int) -> float:
     return math.sqrt(degrees * (1 - inside) / inside)
 
 
+def quantiles_of(level: float, policies: int, replications: int) -> tuple[float, float]:
+    """Returns how many standard errors the joint intervals of so many policies reach, and one by itself; 0 with one
+    replication. Raises Refused if the level is not between 0 and 1."""
+    tails = 1 - checked_level(level)
+    if replications == 1:
+        return 0.0, 0.0
+    return t_quantile(tails / max(1, policies - 1), replications - 1), t_quantile(tails, replications - 1)
+
+
+def around(figure: float, half: float | None) -> tuple[float | None, float | None]:
+    """Returns both ends of an interval; None if there is none."""
+    return (None, None) if half is None else (figure - half, figure + half)
+
+
+def verdict_of(low: float | None, high: float | None) -> str:
+    """Returns what the interval of a difference from the base says of a policy."""
+    if low is None or high is None or low <= 0 <= high:
+        return "undecided"
+    return "worse" if low > 0 else "better"
+
+
 def periods_of(row: Row, replications: int) -> Fraction | None:
     """Returns the periods of a replication that a row implies: None if the policy costs nothing."""
     return row.total / (row.per_period * replications) if row.total and row.per_period else None
@@ -68,6 +92,35 @@ def own_variance(row: Row, base: Row, replications: int) -> Fraction:
     """Returns the variance of a policy's own cost from one replication to the next. All three columns have a figure."""
     assert row.diff_var is not None and row.cov is not None and base.cov is not None
     return replications * row.diff_var - base.cov + 2 * row.cov
+
+
+class Estimate(NamedTuple):
+    """What a run says of a policy in the long run, in money of a period: its cost, and that less the base's, each with
+    its standard error. None stands for no error: the rarer policy hardly orders, or nothing varies. `orders` are those
+    of the whole run; None if they are many."""
+
+    policy: str
+    cost: float
+    own_error: float | None
+    difference: float
+    error: float | None
+    orders: float | None
+
+
+def estimates_of(rows: Sequence[Row], replications: int, periods: int, shifts: Sequence[float],
+                 orders: Sequence[float | None]) -> list[Estimate]:
+    """Returns an estimate of each policy of a report. `shifts` are taken from the costs of a period."""
+    enough = [count is None or count >= FEWEST_ORDERS for count in orders]
+
+    def estimate(place: int) -> Estimate:
+        """Returns the estimate of a policy."""
+        row, shift = rows[place], shifts[place]
+        own = math.sqrt(own_variance(row, rows[0], replications) / replications) / periods
+        error = math.sqrt(row.diff_var or 0) / periods
+        return Estimate(row.policy, float(row.per_period) - shift, own if enough[place] else None,
+                        float(row.diff_mean) / periods - shift + shifts[0],
+                        error if enough[0] and enough[place] and error > 0 else None, orders[place])
+    return [estimate(place) for place in range(len(rows))]
 
 
 def is_of(row: Row, base: Row, replications: int) -> bool:
@@ -99,14 +152,13 @@ def with_interval(row: Row, base: Row, replications: int, quantiles: tuple[float
     if replications > 1:
         error = math.sqrt(own_variance(row, base, replications) / replications)
         half = quantiles[1] * error / float(periods_of(row, replications) or 1)
-        compared |= {"cost_low": float(row.per_period) - half, "cost_high": float(row.per_period) + half}
+        compared["cost_low"], compared["cost_high"] = around(float(row.per_period), half)
     if row is base:
         compared["verdict"] = "base"
     elif replications > 1:
-        mean, error = float(row.diff_mean), math.sqrt(row.diff_var or 0)
-        low, high = mean - quantiles[0] * error, mean + quantiles[0] * error
-        verdict = "worse" if low > 0 else "better" if high < 0 else "undecided"
-        compared |= {"std_error": error, "low": low, "high": high, "verdict": verdict}
+        error = math.sqrt(row.diff_var or 0)
+        ends = around(float(row.diff_mean), quantiles[0] * error)
+        compared |= {"std_error": error, "low": ends[0], "high": ends[1], "verdict": verdict_of(*ends)}
     return Compared(**compared)
 
 
@@ -115,9 +167,7 @@ def with_intervals(rows: Sequence[Row], replications: int, level: float) -> list
 
     Raises Refused if the level is not between 0 and 1.
     """
-    tails, quantiles = 1 - checked_level(level), (0.0, 0.0)
-    if replications > 1:
-        quantiles = t_quantile(tails / max(1, len(rows) - 1), replications - 1), t_quantile(tails, replications - 1)
+    quantiles = quantiles_of(level, len(rows), replications)
     compared = (with_interval(row, rows[0], replications, quantiles) for row in rows)
     return sorted(compared, key=lambda it: it.diff_total)
 

@@ -114,9 +114,9 @@ def check_keys(scenario: Scenario, best: str, *, keys: Sequence[Sequence[str]] =
 
     `keys` are given ones, each of four words, or of one that replaces the first word of the scenario's key; a word has
     16 digits of 0-9a-f. If they are fewer than `count`, 1 to 64, the others are drawn. Each is run with so many
-    `replications`, 2 to 256. The joint `level` is between 0 and 1. `out` is a folder, new, empty or of an earlier check, which gets the
-    scenario and the report of each key, key_1.toml and key_1.csv for the first one, and pooled.csv if there are
-    several: the report of all replications. Raises Refused, also for the scenario's own key, and ProgramError if a run
+    `replications`, 2 to 256. The joint `level` is between 0 and 1. `out` is a folder, new, empty or of an earlier
+    check, which gets the scenario and the report of each key, key_1.toml and key_1.csv for the first one, and
+    pooled.csv if there are several: the report of all replications. Raises Refused, also for the scenario's own key, and ProgramError if a run
     fails.
     """
     checked_replications(replications)

@@ -26,11 +26,11 @@ from ..table import DataTable, Json, Result, names_of, number
 from ..theory.lattice import NoTheory
 from ..theory.long_run import exactness_of
 from ..theory.start_bias import StartBias, exactness, start_bias, theory_of
-from .intervals import checked_level, own_variance, t_quantile, with_verdict
+from .intervals import (FEWEST_ORDERS, Estimate, around, checked_level, estimates_of, quantiles_of, t_quantile,
+                        verdict_of, with_verdict)
 from .keys import Check, policies_of
 from .verdicts import MOST_ROWS, POLICY, VERDICT, VERDICTS, Decision, decided, end_warning, horizon_of, listed
 
-FEWEST_ORDERS = 2
 # In standard errors of a difference. Measured: with smaller effects 94% of uncorrected 95% intervals hold.
 MOST_EFFECT = 0.25
 # Runs and theory are said to differ if chance alone lets them differ so much in this share of tables.
@@ -120,93 +120,78 @@ class LongRunDecision(Result):
     @property
     def tree(self) -> dict[str, Json]:
         """Returns all as data, without rounding to decimals."""
-        head: dict[str, Json] = {"horizon": "the long run", "base": self.base, "replications": self.replications, "level": self.level,
-                "crnsim": self.title, "theory": self.theory}
+        head: dict[str, Json] = {"horizon": "the long run", "base": self.base, "replications": self.replications,
+                                 "level": self.level, "crnsim": self.title, "theory": self.theory}
         return {**head, "policies": self.table.records, "warnings": list(self.warnings)}
 
 
-class _Table:
-    """The rows of a report on the long run. `shifts` are taken from the costs of a period, `orders` None if many."""
-
-    def __init__(self, rows: Sequence[Row], size: tuple[int, int], level: float, shifts: Sequence[float],
-                 orders: Sequence[float | None]) -> None:
-        """Takes the number of replications and of the periods of each as `size`."""
-        self.rows, (self.replications, self.periods), self.orders = rows, size, orders
-        joint = (1 - checked_level(level)) / max(1, len(rows) - 1)
-        self.quantiles = t_quantile(joint, self.replications - 1), t_quantile(1 - level, self.replications - 1)
-        self.costs = [float(row.per_period) - shift for row, shift in zip(rows, shifts)]
-        self.diffs = [float(row.diff_mean) / self.periods - shift + shifts[0] for row, shift in zip(rows, shifts)]
-        self.own = [math.sqrt(own_variance(row, rows[0], self.replications) / self.replications) / self.periods
-                    for row in rows]
-        self.errors = [math.sqrt(row.diff_var or 0) / self.periods for row in rows]
-
-    def has_orders(self, *places: int) -> bool:
-        """Returns whether each of these policies places enough orders for an interval."""
-        counts = (self.orders[it] for it in places)
-        return all(count is None or count >= FEWEST_ORDERS for count in counts)
-
-    def has_interval(self, place: int) -> bool:
-        """Returns whether the difference of a policy from the base has an interval."""
-        return place > 0 and self.errors[place] > 0 and self.has_orders(0, place)
-
-    def row(self, place: int, theory: Sequence[float] | None, effect: float | None) -> LongRunRow:
-        """Returns the row of a policy."""
-        it, cost, diff, error = self.rows[place], self.costs[place], self.diffs[place], self.errors[place]
-        own = self.quantiles[1] * self.own[place] if self.has_orders(place) else None
-        half = self.quantiles[0] * error if self.has_interval(place) else None
-        verdict = "base" if place == 0 else "undecided" if half is None or abs(diff) <= half else (
-            "worse" if diff > 0 else "better")
-        return LongRunRow(it.policy, it.s, it.S, cost, *_around(cost, own), diff,
-                          100 * diff / self.costs[0] if self.costs[0] else None, None if half is None else error,
-                          *_around(diff, half), verdict, theory[place] if theory else None,
-                          theory[place] - theory[0] if theory else None, effect)
-
-    def without(self) -> Iterable[str]:
-        """Yields what must be said of policies without an interval."""
-        few = [self.rows[it].policy for it in range(1, len(self.rows)) if not self.has_orders(0, it)]
-        if few:
-            yield (f"no interval for {names_of(few, MOST_ROWS)}: the rarer policy places fewer than {FEWEST_ORDERS} "
-                   "orders in all replications")
-        same = [row.policy for place, row in enumerate(self.rows)
-                if place and self.errors[place] == 0 and self.has_orders(0, place)]
-        if same:
-            yield f"no interval for {names_of(same, MOST_ROWS)}: the difference is the same in all replications"
-
-    def disagreeing(self, theory: Sequence[float]) -> list[str]:
-        """Returns the policies whose cost, or difference from the base, is further from theory's than chance allows."""
-        quantile = t_quantile(CHANCE_OF_ALARM / (2 * len(self.rows)), self.replications - 1)
-
-        def is_off(place: int) -> bool:
-            """Returns whether a policy is too far from theory."""
-            gaps = [(self.costs[place] - theory[place], self.own[place], self.has_orders(place)),
-                    (self.diffs[place] - theory[place] + theory[0], self.errors[place], self.has_interval(place))]
-            return any(known and error > 0 and abs(gap) > quantile * error for gap, error, known in gaps)
-        return [row.policy for place, row in enumerate(self.rows) if is_off(place)]
+def _row(row: Row, place: int, estimates: Sequence[Estimate], quantiles: tuple[float, float],
+         theory: Sequence[float] | None, effect: float | None) -> LongRunRow:
+    """Returns the row of a policy in the long run."""
+    own, base = estimates[place], estimates[0]
+    error = own.error if place else None
+    ends = around(own.difference, None if error is None else quantiles[0] * error)
+    return LongRunRow(row.policy, row.s, row.S, own.cost,
+                      *around(own.cost, None if own.own_error is None else quantiles[1] * own.own_error),
+                      own.difference, 100 * own.difference / base.cost if base.cost else None, error, *ends,
+                      verdict_of(*ends) if place else "base", theory[place] if theory else None,
+                      theory[place] - theory[0] if theory else None, effect)
 
 
-def _around(figure: float, half: float | None) -> tuple[float | None, float | None]:
-    """Returns both ends of an interval; None if there is none."""
-    return (None, None) if half is None else (figure - half, figure + half)
+def _compared(rows: Sequence[Row], estimates: Sequence[Estimate], level: float, replications: int,
+              theory: Sequence[float] | None, effects: Sequence[float | None]) -> tuple[LongRunRow, ...]:
+    """Returns the policies of a report in the long run, the cheapest first."""
+    quantiles = quantiles_of(level, len(rows), replications)
+    found = (_row(row, place, estimates, quantiles, theory, effects[place]) for place, row in enumerate(rows))
+    return tuple(sorted(found, key=lambda row: row.diff))
+
+
+def _without(estimates: Sequence[Estimate]) -> Iterable[str]:
+    """Yields what must be said of policies without an interval."""
+    lacking = [it for it in estimates[1:] if it.error is None]
+    few = [it.policy for it in lacking if min(_many(it.orders), _many(estimates[0].orders)) < FEWEST_ORDERS]
+    if few:
+        yield (f"no interval for {names_of(few, MOST_ROWS)}: the rarer policy places fewer than {FEWEST_ORDERS} "
+               "orders in all replications")
+    same = [it.policy for it in lacking if it.policy not in few]
+    if same:
+        yield f"no interval for {names_of(same, MOST_ROWS)}: the difference is the same in all replications"
+
+
+def _many(orders: float | None) -> float:
+    """Returns how many orders there are, if they are not counted as many."""
+    return math.inf if orders is None else orders
+
+
+def _disagreeing(estimates: Sequence[Estimate], theory: Sequence[float], replications: int) -> list[str]:
+    """Returns the policies whose cost, or difference from the base, is further from theory's than chance allows."""
+    quantile = t_quantile(CHANCE_OF_ALARM / (2 * len(estimates)), replications - 1)
+
+    def is_off(own: Estimate, cost: float) -> bool:
+        """Returns whether a policy is too far from theory."""
+        gaps = [(own.cost - cost, own.own_error), (own.difference - cost + theory[0], own.error)]
+        return any(error is not None and error > 0 and abs(gap) > quantile * error for gap, error in gaps)
+    return [own.policy for own, cost in zip(estimates, theory) if is_off(own, cost)]
 
 
 def long_run_decision(report: LongRunReport, level: float = 0.95) -> LongRunDecision:
     """Compares the policies of runs from own starts, with theory's figures beside. `level` is above 0, below 1."""
-    table = _Table(report.rows, (report.keys, report.periods), level, [0.0] * len(report.orders), report.orders)
-    warnings, costs = [*table.without()], None
+    estimates = estimates_of(report.rows, report.keys, report.periods, [0.0] * len(report.orders), report.orders)
+    warnings, costs = [*_without(estimates)], None
     try:
         theory = theory_of(report.scenario)
         costs = [theory.figures(it.s, it.S).cost for it in report.scenario.policies]
         said = exactness(theory) + ", so not compared with the intervals" * (not theory.exact)
-        off = table.disagreeing(costs) if theory.exact else []
+        off = _disagreeing(estimates, costs, report.keys) if theory.exact else []
         if off:
-            warnings.append(f"crnsim and theory differ by more than chance allows for {names_of(off, MOST_ROWS)}: one of "
-                            "them is wrong, or an order lasts for so long that the start still matters")
+            warnings.append(f"crnsim and theory differ by more than chance allows for {names_of(off, MOST_ROWS)}: one "
+                            "of them is wrong, or an order lasts for so long that the start still matters")
     except NoTheory as fault:
         said = f"not known: {fault}"
-    rows = sorted((table.row(place, costs, None) for place in range(len(report.orders))), key=lambda it: it.diff)
+    rows = _compared(report.rows, estimates, level, report.keys, costs, [None] * len(estimates))
     title = (f"each policy from a state of its own, over {report.periods:,} periods under each of {report.keys:,} "
              "keys")
-    return LongRunDecision(tuple(rows), report.rows[0].policy, report.keys, level, title, said, tuple(warnings))
+    return LongRunDecision(rows, report.rows[0].policy, report.keys, level, title, said, tuple(warnings))
 
 
 class _Start(NamedTuple):
@@ -271,12 +256,12 @@ def corrected_decision(rows: Sequence[Row], scenario: Scenario, level: float = 0
     start, (replications, periods) = _Start.of(rows, scenario), (scenario.replications, scenario.periods)
     bias = start.bias
     orders = [bias.theory.figures(it.s, it.S).orders * periods * replications for it in rows]
-    table = _Table(rows, (replications, periods), level, start.shifts, orders)
-    found = [table.row(place, bias.costs, effect) for place, effect in enumerate(start.effects)]
-    warnings, strong = [*table.without()], start.strong(rows)
+    estimates = estimates_of(rows, replications, periods, start.shifts, orders)
+    found = _compared(rows, estimates, level, replications, bias.costs, start.effects)
+    warnings, strong = [*_without(estimates)], start.strong(rows)
     if strong:
-        warnings.append(f"without this correction the start counts too much for {names_of(strong, MOST_ROWS)}: its effect "
-                        f"is above {MOST_EFFECT} standard errors")
+        warnings.append(f"without this correction the start counts too much for {names_of(strong, MOST_ROWS)}: its "
+                        f"effect is above {MOST_EFFECT} standard errors")
     title = (f"from a common stock of {scenario.initial:,} over {periods:,} periods, less the bias of that start by "
              "theory, which so is no check of it")
     said = bias.exactness
@@ -284,8 +269,7 @@ def corrected_decision(rows: Sequence[Row], scenario: Scenario, level: float = 0
         said += ", and so is the bias of the start"
     elif not bias.on_lattice:
         said += f", but the bias of the start is {exactness_of(bias.theory.step, False)}"
-    return LongRunDecision(tuple(sorted(found, key=lambda it: it.diff)), rows[0].policy, replications, level, title,
-                           said, tuple(warnings))
+    return LongRunDecision(found, rows[0].policy, replications, level, title, said, tuple(warnings))
 
 
 def check_long_run(scenario: Scenario, best: str, *, keys: Sequence[Sequence[str]] = (), count: int | None = None,

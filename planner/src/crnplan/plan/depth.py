@@ -14,7 +14,7 @@ from functools import cached_property
 from ..crnsim.report import report_of
 from ..crnsim.trajectory import Period, trajectories
 from ..decide.doubt import WITHIN, Doubt
-from ..decide.intervals import Compared as ComparedRow, with_intervals
+from ..decide.intervals import Compared as ComparedRow, Estimate, with_intervals
 from ..demand import FittedLaw
 from ..demand.posterior import AllowedLaws
 from ..errors import Refused
@@ -28,7 +28,7 @@ from ..theory.many_laws import figures_of_laws
 from ..theory.suggestions import FILLS, Chosen, add_fills, chosen_policies
 from .answer import ALONE, CHOSEN, THEORY, TODAY, Answer, Figures
 from .choice import LAWS, allowed_by, choice_of, learns
-from .estimate import Sample, Sampled, interval, quantile, sample_of
+from .estimate import Sample, interval, quantile, sample_of
 from ..decide.moves import Case, Found, Moves, moves_of
 from .one import figures_of
 from .question import Levels, Question
@@ -51,7 +51,7 @@ class Compared:
     figures: Figures
     cost: float
     difference: float
-    run: Sampled
+    run: Estimate
     own_ends: Ends
     ends: Ends
     verdict: str
@@ -150,7 +150,7 @@ class Depth:
         backlog = self.question.rates.get("backlog", 0)
         return self.question.scenario(backlog, self.answer.run.initial).with_policies(self.policies)
 
-    def _sampled(self, sampled: Sampled) -> Sampled:
+    def _sampled(self, sampled: Estimate) -> Estimate:
         """Returns a policy of the run. The answer's own policies are as there: theory counts the start on a coarser
         lattice if another policy has a wide gap."""
         estimate = self.answer.run.estimate

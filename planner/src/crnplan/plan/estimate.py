@@ -13,8 +13,7 @@ from typing import NamedTuple
 import numpy as np
 
 from ..crnsim.report import Report
-from ..decide.intervals import own_variance, t_quantile
-from ..decide.long_run import FEWEST_ORDERS
+from ..decide.intervals import Estimate, estimates_of, t_quantile
 from ..errors import Failed
 from ..scenario import Scenario
 from ..theory.long_run import LongRun
@@ -40,23 +39,10 @@ class Disagreement(Failed):
         self.fault = fault
 
 
-class Sampled(NamedTuple):
-    """A policy in a run, as of the long run, in money of a period: the cost, and the cost less that of the first policy,
-    each with its standard error. None stands for no error: the rarer policy hardly orders, or nothing varies.
-    `orders` are those that theory expects in the whole run."""
-
-    policy: str
-    cost: float
-    own_error: float | None
-    difference: float
-    error: float | None
-    orders: float
-
-
 class Sample(NamedTuple):
     """The policies of a run, the first one being the base. `bias_is_exact` says whether the bias of the start is."""
 
-    policies: tuple[Sampled, ...]
+    policies: tuple[Estimate, ...]
     bias_is_exact: bool
 
 
@@ -65,19 +51,16 @@ def sample_of(question: Question, report: Report) -> Sample:
     known."""
     rows, scenario = report.rows, report.scenario
     bias, periods, replications = start_bias(scenario), scenario.periods, scenario.replications
-    shifts = [its / periods for its in bias.biases]
     orders = [bias.theory.figures(it.s, it.S).orders * periods * replications for it in rows]
+    estimates = estimates_of(rows, replications, periods, [its / periods for its in bias.biases], orders)
+    return Sample(tuple(in_money(question, it) for it in estimates), bias.theory.exact and bias.on_lattice)
 
-    def sampled(place: int) -> Sampled:
-        """Returns a policy."""
-        row, cost = rows[place], float(rows[place].per_period) - shifts[place]
-        own = math.sqrt(own_variance(row, rows[0], replications) / replications) / periods
-        difference = float(row.diff_mean) / periods - shifts[place] + shifts[0]
-        error, is_known = math.sqrt(row.diff_var or 0) / periods, min(orders[0], orders[place]) >= FEWEST_ORDERS
-        return Sampled(row.policy, question.money(cost), question.money(own) if orders[place] >= FEWEST_ORDERS else None,
-                       question.money(difference), question.money(error) if is_known and error > 0 else None,
-                       orders[place])
-    return Sample(tuple(map(sampled, range(len(rows)))), bias.theory.exact and bias.on_lattice)
+
+def in_money(question: Question, estimate: Estimate) -> Estimate:
+    """Returns an estimate of the program's costs as one of money."""
+    own, error = (None if it is None else question.money(it) for it in (estimate.own_error, estimate.error))
+    return Estimate(estimate.policy, question.money(estimate.cost), own, question.money(estimate.difference), error,
+                    estimate.orders)
 
 
 @functools.lru_cache
@@ -86,12 +69,12 @@ def quantile(chance: float, replications: int) -> float:
     return t_quantile(chance, replications - 1)
 
 
-def interval(sampled: Sampled, level: float, replications: int) -> tuple[float, float] | None:
+def interval(estimate: Estimate, level: float, replications: int) -> tuple[float, float] | None:
     """Returns both ends of the interval of a difference by itself; None if there is none."""
-    if sampled.error is None:
+    if estimate.error is None:
         return None
-    half = quantile(1 - level, replications) * sampled.error
-    return sampled.difference - half, sampled.difference + half
+    half = quantile(1 - level, replications) * estimate.error
+    return estimate.difference - half, estimate.difference + half
 
 
 def differences(sample: Sample, figures: Sequence[Figures]) -> Iterator[tuple[str, int, float, float, float]]:

@@ -113,7 +113,7 @@ def remarks_of(question: Question, theory: LongRun, sample: Sample, choice: Choi
     if not choice.is_promised:
         yield Remark(NO_PROMISE, {"confidence": settings.confidence})
     if choice.levels != question.levels and sample.policies[-1].error is None:
-        yield Remark(NO_INTERVAL, {"orders": min(it.orders for it in sample.policies)})
+        yield Remark(NO_INTERVAL, {"orders": min(it.orders or 0 for it in sample.policies)})
 
 
 def plan_one(question: Question, program: str) -> Answer:

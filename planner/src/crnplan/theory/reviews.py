@@ -93,7 +93,8 @@ class Moving(Reviews):
     For few cells, powers of the matrix of the moves take many reviews at once.
     """
 
-    def __init__(self, net: LatticeLaw, start: Start, settled: LatticeLaw, orders: float, periods: int, counted: int) -> None:
+    def __init__(self, net: LatticeLaw, start: Start, settled: LatticeLaw, orders: float, periods: int,
+                 counted: int) -> None:
         """Takes the net demand of a period, and the law and the orders of a review in the long run."""
         self.net, self.low, self.count = net, start.law.low, len(start.law.chances)
         self.places, self.settled = np.arange(self.count), np.zeros(self.count)
