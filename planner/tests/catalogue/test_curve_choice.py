@@ -129,7 +129,7 @@ def test_each_bound_against_every_choice(seed: int, scarce: str) -> None:
     service and no more orders or stock; and at most so much less that the bound is worth something."""
     source = np.random.default_rng(50 + seed)
     answers, points = zip(*(made_item(source, 9) for _ in range(4)))
-    items = Items.of([(str(place), its, 1.0) for place, its in enumerate(answers)])
+    items = Items.of((str(place), 1.0, its) for place, its in enumerate(answers))
     values, unmet, orders, cost = every_choice(list(answers), list(points)).T
     used = {"nothing": None, "orders": orders, "stock": values}[scarce]
     bounds = []
