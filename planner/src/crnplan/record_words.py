@@ -22,20 +22,6 @@ def _other_sign(it: Facts) -> str:
     return "write digits, as 12" + (f", or say --decimal {other} if the decimal sign is {other!r}" if other else "")
 
 
-def _far_date(it: Facts) -> str:
-    """Returns why a date is not in the record."""
-    return {"before": "{day} is before --from", "after": "{day} is after --to", "late": "{day} is after {last}, the record's end",
-            "far before": "{day} is more than a year before nearly all other dates",
-            "far after": "{day} is more than a year after nearly all other dates"}[str(it["side"])].format_map(it)
-
-
-def _far_date_advice(it: Facts) -> str:
-    """Returns what to do about a date that is not in the record."""
-    return {"before": "change --from if it is to count", "after": "change --to if it is to count",
-            "late": "correct it, or say --to", "far before": "correct it, or say --from",
-            "far after": "correct it, or say --to"}[str(it["side"])]
-
-
 def _each(it: Facts) -> list[tuple[str, Facts]]:
     """Returns the codes and facts that are joined in one remark."""
     places = [name for name in it if name.isdecimal()]
@@ -86,7 +72,10 @@ RECORDS: dict[str, tuple[Say, Say]] = {
     "day or month": (lambda it: f"{it['text']!r} may have the day or the month first, and " + (
         f"the dates here have both, as {it['sides']}" if it["sides"] else "no date here decides it"), lambda it: (
         "write it as 2026-03-31, or " if it["sides"] else "") + "say --date-format %d/%m/%Y or --date-format %m/%d/%Y"),
-    "outside": (_far_date, _far_date_advice),
+    "before start": ("{day} is before --from", "change --from if it is to count"),
+    "far before": ("{day} is more than a year before nearly all other dates", "correct it, or say --from"),
+    "after end": ("{day} is after --to", "change --to if it is to count"),
+    "late date": ("{day} is after {last}, the record's end", "correct it, or say --to"),
     # Masters.
     "no lead time": ("{text!r} is no lead time", LEADS),
     "unit of lead": ("{text!r} is no lead time", "write {word!r} as days, weeks, months or years"),

@@ -22,7 +22,7 @@ from .items import KEEP, LEAVE_OUT, Reader, Ways
 from .masters import AMOUNTS, MONEY
 from .rows import DATES, RejectRow, Rows, read_rows
 from .sources import Given, Source, Table, open_source, whole_table
-from .span import record_of
+from .span import ends_of, record_of
 from .stated import found_text
 from .texts import Rules
 from .units import unit_fault
@@ -70,22 +70,6 @@ class Words:
     def stated(self, kind: str) -> Stated:
         """Returns what is stated of the columns of a file."""
         return Stated(self.columns.get(kind, {}), self.units.get(kind, {}), self.names.get(kind, {}))
-
-    @property
-    def ends(self) -> tuple[Day | None, Day | None]:
-        """Returns the stated ends of the record."""
-        first, last = _day_of(self.start, "--from"), _day_of(self.end, "--to")
-        if first and last and first > last:
-            raise Refused(f"--from {first} is after --to {last}; change one of them")
-        return first, last
-
-
-def _day_of(day: Day | str | None, option: str) -> Day | None:
-    """Returns the day that an option names."""
-    try:
-        return DateReader([day]).read(day)[0] if isinstance(day, str) else day
-    except Unreadable as fault:
-        raise Refused(f"{option}: {fault}") from fault
 
 
 @dataclass(frozen=True)
@@ -229,7 +213,7 @@ def read_into(folder: Folder, tables: Mapping[str, Table | None], words: Words) 
 
 def _read(sources: Mapping[str, Source], words: Words, writer: Writer) -> dict[str, Any]:
     """Writes the items of tables and what is left out, and returns the facts of the catalogue."""
-    start, end = words.ends
+    start, end = ends_of(words.start, words.end)
 
     def reject(source: Source) -> RejectRow:
         """Returns what rejects a row of a table that has no item."""

@@ -17,6 +17,7 @@ from .observed import History
 from .reading import Reading
 from .returned import net_of
 from .sources import Table, whole_table
+from .span import ends_of
 from .texts import Rules
 
 Day = datetime.date
@@ -45,9 +46,7 @@ def read_history(table: Table, *, demand: str, returns: str | None = None, date:
             return _undated(Reading(given, names, rule), names)
     if every not in EVERY:
         raise Refused(NEED_PERIOD)
-    first, last = _day_of(start, "--from"), _day_of(end, "--to")
-    if first and last and first > last:
-        raise Refused(f"--from {first} is after --to {last}; change one of them")
+    first, last = ends_of(start, end)
     with whole_table(table, "history") as given:
         movements = _movements(Reading(given, [*names, date], rule), names, date, every, net)
         movements.cut(first, last)
@@ -61,14 +60,6 @@ def _check_undated(given: Mapping[str, object]) -> None:
     for option in (it for it in given if given[it]):
         more = "" if option.startswith("--every") else ", and --every"
         raise Refused(f"{option} dates: say --date with the name of their column{more}")
-
-
-def _day_of(day: Day | str | None, option: str) -> Day | None:
-    """Returns the day that an option names."""
-    try:
-        return DateReader([day]).read(day)[0] if isinstance(day, str) else day
-    except Unreadable as fault:
-        raise Refused(f"{option}: {fault}") from fault
 
 
 def _undated(reading: Reading, names: Sequence[str]) -> History:

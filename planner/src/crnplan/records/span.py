@@ -7,7 +7,7 @@ from dataclasses import dataclass
 
 from ..errors import Refused
 from ..formats import MOST_WEIGHT
-from .dates import period_name, period_of
+from .dates import DateReader, period_name, period_of
 from .faults import Unreadable
 
 Day = datetime.date
@@ -24,7 +24,7 @@ class Record:
     every: str
     first: Day
     last: Day
-    # How a day before it, and one after it, is left out: `before`, `far before`, `after`, `far after` or `late`.
+    # The codes by which a day before it, and one after it, is left out.
     before: str
     after: str
 
@@ -36,7 +36,7 @@ class Record:
     def check(self, day: Day) -> None:
         """Raises Unreadable if a day is not in the record."""
         if not self.first <= day <= self.last:
-            raise Unreadable("outside", day=str(day), last=str(self.last), side=self.before if day < self.first else self.after)
+            raise Unreadable(self.before if day < self.first else self.after, day=str(day), last=str(self.last))
 
     def first_of(self, period: int) -> int:
         """Returns where the history of an item begins that is first seen in a period."""
@@ -45,6 +45,20 @@ class Record:
     def name(self, period: int) -> str:
         """Returns the name of a period."""
         return period_name(period, self.every)
+
+
+def ends_of(start: Day | str | None, end: Day | str | None) -> tuple[Day | None, Day | None]:
+    """Returns the stated ends of a record. Raises Refused."""
+    ends: list[Day | None] = []
+    for option, day in (("--from", start), ("--to", end)):
+        try:
+            ends.append(DateReader([day]).read(day)[0] if isinstance(day, str) else day)
+        except Unreadable as fault:
+            raise Refused(f"{option}: {fault}") from fault
+    first, last = ends
+    if first and last and first > last:
+        raise Refused(f"--from {first} is after --to {last}; change one of them")
+    return first, last
 
 
 def _near(days: Sequence[Day], counts: Mapping[Day, int]) -> Day:
@@ -71,7 +85,7 @@ def record_of(counts: Mapping[Day, int], every: str, start: Day | None, end: Day
     if not days:
         raise Refused(f"no row of demand has a date from {start or 'the beginning'} to {latest}; change --from or --to")
     first, last = start or _near(days, counts), end or _near(days[::-1], counts)
-    record = Record(every, first, last, "before" if start else "far before", "after" if end else "late")
+    record = Record(every, first, last, "before start" if start else "far before", "after end" if end else "late date")
     if len(record.periods) > MOST_WEIGHT:
         raise Refused(f"{len(record.periods):,} {every}s are more than {MOST_WEIGHT:,}; change --from or --to, or take "
                       "longer periods (--every)")
