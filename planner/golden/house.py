@@ -224,8 +224,10 @@ def item_figures(plan: ItemPlan) -> Figures:
     return {"laws": law, "theory": theory, "decision": decision,
             "doubt": by_policy({**row, "policy": names.get(row["policy"], row["policy"])}
                                for row in records(doubt.frame)) if doubt else {},
-            "sensitivity": {it.words: {**asdict(it), "words": None, "cost": it.cost * scale,
-                                       "kept_cost": it.kept_cost * scale} for it in depth.moves().moves}}
+            "sensitivity": {
+                it.words: {"case": it.words, "s": it.s, "S": it.S, "cost": it.cost * scale, "fill": it.fill,
+                           "kept_cost": it.kept_cost * scale, "kept_more": it.kept_more, "kept_fill": it.kept_fill}
+                for it in depth.moves().moves}}
 
 
 def items_of(files: Mapping[str, Any], folder: Path) -> dict[str, Item]:
