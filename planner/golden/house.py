@@ -117,7 +117,7 @@ def drawn_stocks(scenario: crn.Scenario, program: str, periods: int) -> Figures:
 
 def plan_catalogue(files: Mapping[str, Any], folder: Path, program: str, jobs: int, **settings: Any) -> None:
     """Reads a catalogue and plans it into a folder."""
-    crn.plan(crn.read_catalogue(files["demand"], files["items"], files["orders"]), folder, jobs=jobs, program=program,
+    crn.plan(crn.read_catalogue(files["demand"], files["items"], files["orders"]), out=folder, jobs=jobs, program=program,
              **settings)
 
 
@@ -157,7 +157,7 @@ def read_rows(folder: Path) -> Figures:
 
 def curve_rows(folder: Path, program: str, jobs: int, **budget: float) -> list[Figures]:
     """Returns the points of the exchange curve under a budget, the named ones first."""
-    return records(crn.exchange_curve(folder, jobs=jobs, program=program, **budget))
+    return records(crn.exchange_curve(folder, jobs=jobs, program=program, **budget).frame)
 
 
 def candidate_rows(folder: Path, names: Iterable[str]) -> dict[str, Figures]:

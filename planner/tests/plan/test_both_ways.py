@@ -8,8 +8,8 @@ from pathlib import Path
 
 import pytest
 
+from crnplan import plan
 from crnplan.plan.answer import Answer
-from crnplan.plan.catalogue import plan
 from crnplan.plan.folder import planned_folder
 from crnplan.plan.item import planned, read_item
 from crnplan.records.catalogue_reading import read_catalogue
@@ -82,7 +82,7 @@ def folder(items: Mapping[str, Item], tmp_path_factory: pytest.TempPathFactory, 
             for it in items.values())])
     read = read_catalogue(room / "demand.csv", room / "items.csv", start=START,
                           end=START + datetime.timedelta(7 * WEEKS - 1))
-    plan(read, room / "plan", jobs=1, program=program, borrow="none", replications=4)
+    plan(read, out=room / "plan", jobs=1, program=program, borrow="none", replications=4)
     return room / "plan"
 
 
