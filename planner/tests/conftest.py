@@ -2,6 +2,7 @@
 from __future__ import annotations
 
 import io
+import signal
 import sys
 from collections.abc import Callable
 from pathlib import Path
@@ -21,6 +22,12 @@ class Answer(NamedTuple):
 
 
 Command = Callable[..., Answer]
+
+
+def heed_interrupts() -> None:
+    """Gives a process the default action of an interrupt, as a terminal does: one that is started in the background by a
+    script ignores interrupts, and so would all that it starts."""
+    signal.signal(signal.SIGINT, signal.SIG_DFL)
 
 
 @pytest.fixture

@@ -5,6 +5,7 @@ A message is one line for each thing that is wrong. It says where, what, and wha
 """
 from __future__ import annotations
 
+import re
 from collections.abc import Callable, Sequence
 from dataclasses import dataclass
 from typing import Any, ClassVar
@@ -12,6 +13,16 @@ from typing import Any, ClassVar
 # The signs around the name of an argument, and before its value. No text of a user has them: control characters of
 # theirs are shown as escapes.
 MARK, VALUE = "\x1f", "\x1e"
+
+
+# What a terminal would obey, or TOML forbids: control characters but for ends of lines and tabs, parts of characters, and
+# changes of the direction of writing.
+UNSHOWN = re.compile(r"[\x00-\x08\x0b-\x1f\x7f-\x9f\ud800-\udfff\u2028-\u202e\u2066-\u2069]")
+
+
+def escaped(text: str) -> str:
+    """Returns a text of others with escapes for what a terminal would obey, as TOML and JSON spell them."""
+    return UNSHOWN.sub(lambda sign: f"\\u{ord(sign[0]):04x}", text)
 
 
 def argument(name: str, value: str = "") -> str:

@@ -7,7 +7,6 @@ up. The marker is also the lock: one run at a time works in a folder.
 from __future__ import annotations
 
 import contextlib
-import csv
 import errno
 import fcntl
 import functools
@@ -19,11 +18,11 @@ import shutil
 import sqlite3
 import stat
 import sys
-from collections.abc import Iterable, Iterator, Sequence
+from collections.abc import Iterable, Iterator
 from pathlib import Path
 from typing import IO
 
-from .errors import Failed, Refused
+from .errors import Failed, Refused, escaped
 
 MARKER = "crnplan-folder.txt"
 SIGNATURE = "crnplan folder, version 1: {kind}. Only the files named below are overwritten or removed by crnplan."
@@ -62,7 +61,7 @@ def new_file(path: Path, room: Path | None = None) -> Iterator[IO[str]]:
     part = (room or path.parent) / f".{secrets.token_hex(8)}.part"
     descriptor = os.open(part, os.O_WRONLY | os.O_CREAT | os.O_EXCL | os.O_NOFOLLOW, 0o666)
     try:
-        with open(descriptor, "w", encoding="utf-8", newline="") as file:
+        with open(descriptor, "w", encoding="utf-8", errors="backslashreplace", newline="") as file:
             yield file
             file.flush()
             os.fsync(file.fileno())
@@ -70,13 +69,6 @@ def new_file(path: Path, room: Path | None = None) -> Iterator[IO[str]]:
     except BaseException:
         part.unlink(missing_ok=True)
         raise
-
-
-def write_rows(file: IO[str], heading: Sequence[str], rows: Iterable[Sequence[object]]) -> None:
-    """Writes a table as CSV. Rows may be many: they are not kept."""
-    out = csv.writer(file, lineterminator="\n")
-    out.writerow(heading)
-    out.writerows(rows)
 
 
 @contextlib.contextmanager
@@ -158,14 +150,9 @@ class Folder:
             yield file
 
     def write(self, name: str, text: str) -> None:
-        """Writes a text as a whole file."""
+        """Writes a text as a whole file. TOML has no raw control characters."""
         with self.whole(name) as file:
-            file.write(text)
-
-    def write_rows(self, name: str, heading: Sequence[str], rows: Iterable[Sequence[object]]) -> None:
-        """Writes a CSV table as a whole file."""
-        with self.whole(name) as file:
-            write_rows(file, heading, rows)
+            file.write(escaped(text) if name.endswith(".toml") else text)
 
     def remove(self, *names: str) -> None:
         """Removes those of the files that are crnplan's."""

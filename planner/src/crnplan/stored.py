@@ -1,6 +1,7 @@
 """Keeps frozen dataclasses in the columns of SQLite: what is kept of a class, and where, follows from its fields."""
 from __future__ import annotations
 
+import contextlib
 import dataclasses
 import hashlib
 import json
@@ -53,6 +54,25 @@ KINDS: dict[Any, tuple[Callable[[Any], Cell], Callable[[Any], Any]]] = {
     Remark: (lambda it: json.dumps([it.code, it.facts]), lambda it: Remark(*json.loads(it))),
     (Remark,): (lambda its: json.dumps([[it.code, it.facts] for it in its]),
                 lambda it: tuple(Remark(*its) for its in json.loads(it)))}
+
+
+@contextlib.contextmanager
+def damages_of(path: Path) -> Iterator[None]:
+    """Turns what SQLite finds in a file that is no whole store into Damaged."""
+    try:
+        yield
+    except sqlite3.OperationalError:
+        raise
+    except sqlite3.DatabaseError as fault:
+        raise Damaged(path, str(fault)) from fault
+
+
+def check_whole(base: sqlite3.Connection, path: Path) -> None:
+    """Raises Damaged if a store is not whole, as SQLite sees it."""
+    with damages_of(path):
+        for (found,) in base.execute("PRAGMA quick_check(1)"):
+            if found != "ok":
+                raise Damaged(path, str(found))
 
 
 class Columns(Generic[Row]):
@@ -126,21 +146,15 @@ class Store(Generic[Row]):
         self.path, self.columns = path, Columns(kind)
         self.base = sqlite3.connect(path)
         names = ["item", "digest", "seal", "fault", *self.columns.names]
-        try:
+        with damages_of(path):
             self.base.execute("PRAGMA journal_mode = WAL")
             self.base.execute("PRAGMA synchronous = NORMAL")
-            for (found,) in self.base.execute("PRAGMA quick_check(1)"):
-                if found != "ok":
-                    raise Damaged(path, str(found))
+            check_whole(self.base, path)
             if [it[1] for it in self.base.execute("PRAGMA table_info(answers)")] != names:
                 self.base.executescript("DROP TABLE IF EXISTS answers; CREATE TABLE answers (item TEXT PRIMARY KEY, "
                                         f"{quoted(names[1:])})")
             with self.base:
                 self.base.execute("CREATE TABLE IF NOT EXISTS facts (name TEXT PRIMARY KEY, value TEXT)")
-        except sqlite3.DatabaseError as fault:
-            if isinstance(fault, sqlite3.OperationalError):
-                raise
-            raise Damaged(path, str(fault)) from fault
         self.slots = ", ".join("?" * len(names))
 
     def fact(self, name: str) -> str | None:

@@ -27,7 +27,7 @@ from crnplan.jobs import BATCH
 from crnplan.files import MARKER
 from planner.tests.catalogue.conftest import FILES, SETTINGS, TABLES, WORDS, leave_few
 from planner.tests.catalogue.made import Made
-from planner.tests.conftest import Command
+from planner.tests.conftest import Command, heed_interrupts
 from planner.tests.jobs.clusters import SECONDS, Cluster
 
 # Two batches and a half. After so many runs of the program all others wait, so that a plan stops in its middle: one
@@ -90,7 +90,7 @@ def start(folder: Path, holding: Path) -> Iterator[Start]:
         command = [sys.executable, "-m", "crnplan", *command, "--program", str(holding)]
         begun.append(subprocess.Popen(
             [*command, *words], cwd=folder, stdin=subprocess.DEVNULL, stdout=subprocess.DEVNULL, stderr=subprocess.PIPE,
-            start_new_session=True, preexec_fn=before))
+            start_new_session=True, preexec_fn=before or heed_interrupts))
         return begun[-1]
     yield starting
     for process in begun:

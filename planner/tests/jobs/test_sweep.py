@@ -15,7 +15,7 @@ import numpy as np
 import pytest
 
 import crnplan as crn
-from planner.tests.conftest import Command
+from planner.tests.conftest import Command, heed_interrupts
 from planner.tests.decide.answers import changed, priced
 
 COUNTING = '#!/bin/sh\necho >> "{room}/runs"\n{how}"{program}"\n'
@@ -207,7 +207,8 @@ def test_goes_on_after_an_interrupt(base: Path, room: Path, program: Path, crnpl
     (room / "counting").write_text(WAITING.format(room=room, program=program), "utf-8")
     words = ["sweep", str(base), *GRID, "--s", "1", "60", "3", "--out", "kept"]
     with subprocess.Popen([sys.executable, "-m", "crnplan", *words], stdout=subprocess.PIPE,
-                          stderr=subprocess.PIPE, text=True, start_new_session=True) as process:
+                          stderr=subprocess.PIPE, text=True, start_new_session=True,
+                          preexec_fn=heed_interrupts) as process:
         for _ in range(600):
             if (room / "third").exists() and len(kept(room / "kept")) == 2:
                 break

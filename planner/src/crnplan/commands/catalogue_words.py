@@ -12,7 +12,7 @@ from ..pages.catalogue_summary import counted_rows
 from ..pages.exports import CATALOGUE_FILES, FOUND
 from ..pages.reasons import reasons_of, rejects_of
 from ..plan.catalogue import Lost, plan_into
-from ..plan.config import read_config
+from ..plan.config import CONFIG, read_config
 from ..plan.question import Settings
 from ..records.catalogue_reading import Catalogue, Words, kinds_of, read_into
 from ..records.catalogued import CATALOGUE
@@ -84,7 +84,9 @@ def too_few(counts: Mapping[str, Any]) -> Iterator[str]:
 
 def commanded(asked: Mapping[str, Any], say: Callable[[str], None], note: Callable[[str], None]) -> int:
     """Reads and plans a catalogue, and returns the exit status. `say` prints a result, `note` what is beside it."""
-    config = read_config(asked["config"])
+    config, path = read_config(asked["config"]), Path(asked["config"] or CONFIG)
+    if path.is_file():
+        note(f"# settings are from {path}\n")
     words, settings = words_of(asked, config)
     if not asked["only_read"] and asked["out"] is None:
         raise Refused("--out is missing; name the folder for the plan, or say --check to only read the files")

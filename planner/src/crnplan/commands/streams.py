@@ -4,14 +4,11 @@ from __future__ import annotations
 import contextlib
 import io
 import os
-import re
 import sys
 from collections.abc import Iterator
 from typing import Any, TextIO, cast
 
-# What a terminal would obey, or could not show: control characters but for ends of lines and tabs, parts of characters,
-# and changes of the direction of writing.
-UNSHOWN = re.compile(r"[\x00-\x08\x0b-\x1f\x7f-\x9f\ud800-\udfff\u2028-\u202e\u2066-\u2069]")
+from ..errors import escaped
 
 
 class Shown:
@@ -29,7 +26,7 @@ class Shown:
     def write(self, text: str) -> int:
         """Writes a text."""
         with self.dropped():
-            self.stream.write(UNSHOWN.sub(lambda sign: ascii(sign[0])[1:-1], text))
+            self.stream.write(escaped(text))
         return len(text)
 
     def flush(self) -> None:

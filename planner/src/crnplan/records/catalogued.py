@@ -16,7 +16,7 @@ from typing import Any
 from ..errors import Refused
 from ..files import Folder
 from ..remarks import Remark
-from ..stored import Columns, digest_of, quoted
+from ..stored import Columns, check_whole, digest_of, quoted
 from .item import PLANNED, Item
 
 CATALOGUE = "catalogue"  # the kind of the folder
@@ -50,11 +50,12 @@ class Catalogued:
     names."""
 
     def __init__(self, path: Path) -> None:
-        """Opens a file that was written by `Writer`. Raises Refused if it is not there."""
+        """Opens a file that was written by `Writer`. Raises Refused if it is not there, and Damaged."""
         if not path.is_file():
             raise Refused(f"{path.parent}: no catalogue was read into this folder", "run crnplan catalogue first")
         self.path = path
         self.base = sqlite3.connect(f"file:{path}?mode=ro", uri=True)
+        check_whole(self.base, path)
 
     def fact(self, name: str) -> Any:
         """Returns a fact."""

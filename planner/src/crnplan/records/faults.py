@@ -8,7 +8,8 @@ from pathlib import Path
 from typing import NamedTuple
 
 from ..errors import Fault, RefusedFaults
-from ..files import faults_of, new_file, write_rows
+from ..files import faults_of, new_file
+from ..table import Cell, DataTable, text, whole
 from ..remarks import Remark, Value
 from ..words import advice, sentence
 
@@ -95,8 +96,13 @@ class RefusedFiles(RefusedFaults):
         super().__init__(faults, "\n".join([*lines, *notes]))
 
 
+REJECTS = (text("file", "name of the file"), whole("line", "", "line of the fault, 0 if there is none"),
+           whole("column", "", "column, 0 if there is none"), text("what", "what is wrong"), text("row", "text of the row"))
+
+
 def write_rejects(path: Path, faults: Sequence[Fault]) -> None:
     """Writes all faults as CSV: file, line and column (0 if there is none), what is wrong, and the text of the row."""
+    rows: Iterator[Sequence[Cell]] = (
+        [it.file, it.line, it.column, str(it.what), str(getattr(it, "row", "")).replace("\r", "\\r")] for it in faults)
     with faults_of(path), new_file(path) as file:
-        write_rows(file, ["file", "line", "column", "what", "row"],
-                   ([it.file, it.line, it.column, it.what, getattr(it, "row", "").replace("\r", "\\r")] for it in faults))
+        file.writelines(DataTable(REJECTS, rows).lines)
