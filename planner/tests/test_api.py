@@ -2,13 +2,19 @@
 from __future__ import annotations
 
 import importlib
+import inspect
 import subprocess
 import sys
 import time
+import typing
+from collections.abc import Iterator
 from pathlib import Path
 from types import ModuleType
 
+import numpy
+import pandas
 import pytest
+from matplotlib.figure import Figure
 
 import crnplan as crn
 from crnplan.commands import COMMANDS
@@ -64,6 +70,41 @@ def test_command(name: str) -> None:
     """Checks that each command has a help with an example."""
     command = importlib.import_module(f"crnplan.commands.{name}").command
     assert command.help and command.epilog.startswith(f"Example: crnplan {name}")
+
+
+def names_of_types() -> dict[str, object]:
+    """Returns the names in annotations that modules import for checks of types alone."""
+    names: dict[str, object] = {"Floats": numpy.ndarray, "Figure": Figure, "pd": pandas, "np": numpy}
+    for part in ("crnsim.report", "crnsim.long_run", "decide.verdicts", "decide.long_run", "decide.keys", "decide.doubt",
+                 "theory.suggestions", "theory.many_laws", "demand.posterior", "demand.borrowing", "curve.exchange_curve"):
+        its = vars(importlib.import_module(f"crnplan.{part}"))
+        names |= {name: it for name, it in its.items() if inspect.isclass(it)}
+    return names
+
+
+def public() -> Iterator[tuple[str, object]]:
+    """Yields the public functions, and the classes with their public methods."""
+    for name in crn.__all__:
+        found = getattr(crn, name)
+        if inspect.isclass(found) or inspect.isfunction(found):
+            yield name, found
+        for part, its in vars(found).items() if inspect.isclass(found) else ():
+            function = next((getattr(its, it) for it in ("fget", "func", "__func__") if hasattr(its, it)), its)
+            if not part.startswith("_") and inspect.isfunction(function):
+                yield f"{name}.{part}", function
+
+
+def has_any(hint: object) -> bool:
+    """Returns whether a type is Any, or has it."""
+    return hint is typing.Any or any(map(has_any, typing.get_args(hint)))
+
+
+def test_no_public_name_takes_anything() -> None:
+    """Each argument, field and result of the public interface has a type, and none is Any."""
+    types = names_of_types()
+    hints = {name: typing.get_type_hints(it, None, types) for name, it in public()}
+    assert len(hints) > 100
+    assert [f"{name}: {part}" for name, its in hints.items() for part, hint in its.items() if has_any(hint)] == []
 
 
 def test_types() -> None:

@@ -2,11 +2,11 @@
 from __future__ import annotations
 
 from collections import Counter
-from collections.abc import Iterable, Mapping
+from collections.abc import Iterable, Mapping, Sequence
 from dataclasses import dataclass
 from fractions import Fraction
 from functools import cached_property
-from typing import TYPE_CHECKING, Any
+from typing import TYPE_CHECKING
 
 from .formats import MOST_DEMAND, MOST_WEIGHT
 
@@ -48,12 +48,12 @@ class Law:
         return Law(tuple(values.tolist()), tuple(weights[values].tolist()))
 
     @classmethod
-    def of_tree(cls, tree: Mapping[str, Any]) -> Law:
+    def of_tree(cls, tree: Mapping[str, Sequence[int]]) -> Law:
         """Makes a law from a tree with the keys `values` and `weights`, as they stand there."""
         return Law(tuple(tree["values"]), tuple(tree["weights"]))
 
     @property
-    def tree(self) -> dict[str, Any]:
+    def tree(self) -> dict[str, list[int]]:
         """Returns the tree that tomllib would read."""
         return {"values": list(self.values), "weights": list(self.weights)}
 

@@ -4,12 +4,15 @@ from __future__ import annotations
 
 from collections.abc import Mapping
 from fractions import Fraction
-from typing import Any
+from typing import Any, SupportsFloat
 
 from . import formats
 from .toml.values import shown
 from .errors import Refused
 
+# A number of Python, numpy, Decimal or Fraction; an amount of money may be a text such as "12.50" too.
+Number = SupportsFloat
+Amount = SupportsFloat | str
 # Costs are scaled by a power of ten from -8 to 8, the nearest to 0 that can be.
 MOST_DECIMALS = 8
 SCALES = [Fraction(10)**power for power in sorted(range(-MOST_DECIMALS, MOST_DECIMALS + 1), key=abs)]
@@ -77,7 +80,7 @@ def rounded_costs(costs: Mapping[str, Fraction], exact_one: str) -> tuple[dict[s
     return whole_ones, scale, float(max(errors))
 
 
-def scaled_costs(costs: Mapping[str, Any]) -> tuple[dict[str, int], Fraction]:
+def scaled_costs(costs: Mapping[str, Amount]) -> tuple[dict[str, int], Fraction]:
     """Returns costs as the program's whole numbers, and what one unit of money counts in them: a power of ten.
 
     Each cost is an int, float, Decimal, Fraction or text, such as "12.50". The scale is 1 if that can be, or if all are

@@ -22,8 +22,8 @@ from .toml.values import shown
 from .toml.writing import toml_text
 from .errors import Refused
 from .law import Law
-from .money import scaled_costs, whole
-from .table import Result
+from .money import Amount, Number, scaled_costs, whole
+from .table import Json, Result
 
 if TYPE_CHECKING:
     from .crnsim.long_run import LongRunReport
@@ -31,6 +31,9 @@ if TYPE_CHECKING:
     from .theory.suggestions import Suggestions
 
 Tree = dict[str, Any]
+# What stands for a law: a law, values with weights, or what was observed; and what stands for policies.
+Chances = Law | Mapping[int, int] | Iterable[Number]
+Policies = Iterable[object] | Mapping[str, tuple[int, int]] | Result
 # What is said of all figures of a scenario.
 BY_ITS_LAWS = "by this law of demand, and this law of lead times; crnplan doubt says what else a history allows"
 # The fields that `Scenario.changed` takes.
@@ -83,15 +86,16 @@ class Scenario:
     scale: Fraction = field(default=Fraction(1), compare=False)
 
     @classmethod
-    def of_tree(cls, tree: Tree, source: str | None = None) -> Scenario:
+    def of_tree(cls, tree: Mapping[str, object], source: str | None = None) -> Scenario:
         """Makes a scenario from a tree as tomllib gives it, which is known to have no fault."""
-        plain = {name: tree[name] for name in ("version", "periods", "replications", "initial", "ring")}
-        return cls(**plain, key=tuple(tree["key"]), costs=Costs(**tree["costs"]), demand=Law.of_tree(tree["demand"]),
-                   lead=Law.of_tree(tree["lead"]), policies=tuple(Policy(**it) for it in tree["policy"]),
-                   returns=Law.of_tree(tree["returns"]) if "returns" in tree else None, source=source)
+        its: Tree = {**tree}
+        plain = {name: its[name] for name in ("version", "periods", "replications", "initial", "ring")}
+        return cls(**plain, key=tuple(its["key"]), costs=Costs(**its["costs"]), demand=Law.of_tree(its["demand"]),
+                   lead=Law.of_tree(its["lead"]), policies=tuple(Policy(**it) for it in its["policy"]),
+                   returns=Law.of_tree(its["returns"]) if "returns" in its else None, source=source)
 
     @property
-    def tree(self) -> Tree:
+    def tree(self) -> dict[str, Json]:
         """Returns the tree that tomllib would read: a new dict of str, int and list."""
         returns = {"returns": self.returns.tree} if self.returns else {}
         return {"version": self.version, "key": list(self.key), "periods": self.periods,
@@ -117,9 +121,9 @@ class Scenario:
         return cls.of_tree(tree, reading.text_of_document(data))
 
     @classmethod
-    def of(cls, demand: Any, lead: Any, *, setup: Any, holding: Any, backlog: Any, unit: Any = 0, returns: Any = None,
-           today: tuple[int, int], initial: int | None = None, periods: int = 104, replications: int = 64,
-           key: str | Sequence[str] = "crnsim") -> Scenario:
+    def of(cls, demand: Chances, lead: Chances, *, setup: Amount, holding: Amount, backlog: Amount, unit: Amount = 0,
+           returns: Chances | None = None, today: tuple[int, int], initial: int | None = None, periods: int = 104,
+           replications: int = 64, key: str | Sequence[str] = "crnsim") -> Scenario:
         """Makes a scenario from laws, tables, mappings or observed whole numbers.
 
         `demand`, `lead` and `returns` are each a `Law`, a mapping of values to weights, or
@@ -140,14 +144,15 @@ class Scenario:
                 "policy": [{"name": "today", "s": low, "S": high}]}
         return dataclasses.replace(cls.of_tree(reading.checked_tree(tree)), scale=scale)
 
-    def changed(self, **changes: Any) -> Scenario:
+    def changed(self, **changes: object) -> Scenario:
         """Returns the scenario with changed fields, checked. Raises Refused, and ScenarioError with all faults.
 
         `costs` may be a mapping of some costs, as the program counts them. Laws are given as to `of`, policies as to
         `run`. The version follows from `returns`, unless it is given.
         """
-        tree = self.tree
-        for name, value in changes.items():
+        tree: Tree = {**self.tree}
+        given: Tree = changes
+        for name, value in given.items():
             if name == "policies":
                 tree["policy"] = [dataclasses.asdict(it) for it in policies_of(value)]
             elif name == "costs":
@@ -183,14 +188,14 @@ class Scenario:
         from .theory.suggestions import suggestions_of
         return suggestions_of(self)
 
-    def _with_base(self, policies: Any) -> Scenario:
+    def _with_base(self, policies: Policies) -> Scenario:
         """Returns the scenario with its first policy and then these, each pair of levels once unless it is named."""
         base = self.policies[0]
         unnamed = Policy.of_levels(base.s, base.S)
         others = (it for it in policies_of(policies) if it not in (base, unnamed))
         return self.with_policies(dict.fromkeys([base, *others]))
 
-    def run(self, policies: Any = None, *, program: str | Path | None = None) -> Report:
+    def run(self, policies: Policies | None = None, *, program: str | Path | None = None) -> Report:
         """Runs crnsim on any number of policies and returns the exact report. The base is the scenario's first policy.
 
         `policies` are the others, by default the scenario's own: Policy objects, pairs (s, S), a mapping of names to
@@ -200,7 +205,8 @@ class Scenario:
         from .crnsim.report import report_of
         return report_of(self if policies is None else self._with_base(policies), program)
 
-    def long_run(self, policies: Any = None, *, keys: int = 48, program: str | Path | None = None) -> LongRunReport:
+    def long_run(self, policies: Policies | None = None, *, keys: int = 48,
+                 program: str | Path | None = None) -> LongRunReport:
         """Runs crnsim in the long run on any number of policies: the effect of the start is left out.
 
         Each of the `keys`, 2 to 256, is a replication, and each policy starts from a state of its own. `policies` are
@@ -241,17 +247,16 @@ def _levels(pair: Any, name: str) -> tuple[int, int]:
     return whole(low, f"{name}: s"), whole(high, f"{name}: S")
 
 
-def policies_of(policies: Any) -> list[Policy]:
+def policies_of(given: Policies) -> list[Policy]:
     """Returns policies, from those, pairs (s, S), a mapping of names to pairs, or a table with the columns s and S."""
-    if isinstance(policies, Result):
-        policies = policies.frame
+    policies: Any = given.frame if isinstance(given, Result) else given
     if hasattr(policies, "columns"):
         if not {"s", "S"} <= {*policies.columns}:
             raise Refused("policies: the table lacks the column s or S; name them policy, s and S")
         table = policies.set_index("policy") if "policy" in policies else policies
         has_names = table.index.name == "policy" or table.index.dtype == object
-        given = zip(map(str, table.index) if has_names else [""] * len(table), zip(table["s"], table["S"]))
-        return [Policy.of_levels(*_levels(pair, "policies"), name) for name, pair in given]
+        pairs = zip(map(str, table.index) if has_names else [""] * len(table), zip(table["s"], table["S"]))
+        return [Policy.of_levels(*_levels(pair, "policies"), name) for name, pair in pairs]
     if isinstance(policies, Mapping):
         return [Policy.of_levels(*_levels(pair, f"policies: {name}"), name) for name, pair in policies.items()]
     return [it if isinstance(it, Policy) else Policy.of_levels(*_levels(it, "policies")) for it in policies]

@@ -102,7 +102,7 @@ def _planned(folder: Folder, asked: Mapping[str, Any], config: Mapping[str, Any]
     folder.write(FOUND, catalogue.found)
     if not any(name in config for name in ("demand", "items")) and not asked["columns"]:
         note(f"{catalogue.found}\n")
-    note("".join(f"# {line}\n" for line in catalogue.fact("said")))
+    note("".join(f"# {line}\n" for line in catalogue.said))
     if asked["only_read"]:
         if asked["rejects"]:
             with catalogue.opened() as read, faults_of(asked["rejects"]), new_file(asked["rejects"]) as file:

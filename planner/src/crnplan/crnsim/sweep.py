@@ -5,13 +5,12 @@ import contextlib
 from collections.abc import Iterable, Sequence
 from dataclasses import dataclass
 from pathlib import Path
-from typing import Any
 
 from .. import formats
 from ..errors import Refused
 from ..files import own_folder
 from ..jobs import Work, program_digest, workers_of
-from ..money import whole
+from ..money import Number, whole
 from ..remarks import Remark
 from ..scenario import Policy, Scenario
 from ..stored import Store, digest_of
@@ -47,7 +46,7 @@ def numbers_of(name: str, first: int, last: int, step: int) -> range:
     return range(first, last + 1, step)
 
 
-def grid_of(scenario: Scenario, points: Iterable[Any], levels: Iterable[Any]) -> list[Policy]:
+def grid_of(scenario: Scenario, points: Iterable[Number], levels: Iterable[Number]) -> list[Policy]:
     """Returns the pairs of the grid with s <= S, without the base's own pair.
 
     Raises Refused if there is none or if a name would come twice, and ScenarioError if a level is out of range.
@@ -94,7 +93,7 @@ def kept_rows(part: Part, kept: Kept | Remark) -> list[Row]:
     return rows_of(part.policies, kept.report, "")
 
 
-def sweep(scenario: Scenario, s: Iterable[Any], S: Iterable[Any], *, jobs: int | None = None,
+def sweep(scenario: Scenario, s: Iterable[Number], S: Iterable[Number], *, jobs: int | None = None,
           out: str | Path | None = None, cluster: str | None = None, program: str | Path | None = None,
           progress: bool = False) -> Report:
     """Compares all pairs of reorder points `s` and levels `S` (items) with the scenario's first policy, the base.

@@ -17,14 +17,15 @@ from collections.abc import Iterable, Sequence
 from dataclasses import dataclass
 from functools import cached_property
 from pathlib import Path
-from typing import TYPE_CHECKING, Any
+from typing import TYPE_CHECKING
 
 from ..toml.reading import checked_tree
 from ..crnsim.report import report_of
 from ..errors import Refused, argument
 from ..records.observed import Observed
 from ..law import Law
-from ..scenario import Policy, Scenario, policies_of
+from ..money import Number
+from ..scenario import Policies, policies_of, Policy, Scenario
 from ..table import Cell, DataTable, Json, Result, number
 from .intervals import own_variance
 from .verdicts import POLICY, horizon_of
@@ -216,7 +217,7 @@ def _mean_notes(doubt: Doubt) -> Iterable[str]:
                    "and boxes?")
 
 
-def candidates_of(scenario: Scenario, policies: Any) -> tuple[Policy, ...]:
+def candidates_of(scenario: Scenario, policies: Policies | None) -> tuple[Policy, ...]:
     """Returns the policies to be looked at: the given ones, or the scenario's. Raises ScenarioError with all faults."""
     if policies is None:
         return scenario.policies
@@ -246,8 +247,8 @@ def spreads_of(scenario: Scenario, laws: Iterable[tuple[Law, Law]], program: str
     return Spreads(np.array(costs), luck)
 
 
-def doubt(scenario: Scenario, history: Observed | Iterable[Any], leads: Observed | Iterable[Any] | None = None, *,
-          policies: Any = None, times: int = 100, within: float = WITHIN, seed: int = 1, box: int = 1,
+def doubt(scenario: Scenario, history: Observed | Iterable[Number], leads: Observed | Iterable[Number] | None = None, *,
+          policies: Policies | None = None, times: int = 100, within: float = WITHIN, seed: int = 1, box: int = 1,
           runs: bool = False, program: str | Path | None = None) -> Doubt:
     """Returns what each policy costs, and how well it fills, under the laws that a history allows.
 

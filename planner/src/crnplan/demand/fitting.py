@@ -8,8 +8,9 @@ from __future__ import annotations
 import math
 from collections.abc import Iterable, Mapping, Sequence
 from dataclasses import dataclass, field, replace
-from typing import TYPE_CHECKING, Any
+from typing import TYPE_CHECKING
 
+from ..money import Number
 from ..errors import Refused
 from ..formats import MOST_DEMAND
 from ..law import Law
@@ -135,7 +136,7 @@ def auto_law(sample: Sample, law: Floats) -> tuple[Floats, int, float]:
     return mixture([(share, law), (1 - share, sample.law)]), cap, share
 
 
-def fit_demand(observed: Observed | Iterable[Any], *, method: str = "auto", box: int = 1, borrow: Prior | None = None,
+def fit_demand(observed: Observed | Iterable[Number], *, method: str = "auto", box: int = 1, borrow: Prior | None = None,
                item_class: str | None = None) -> FittedLaw:
     """Fits the law of demand to a history, or to any whole numbers from 0, one for each period.
 

@@ -3,8 +3,8 @@ from __future__ import annotations
 
 from collections import Counter
 from collections.abc import Iterable, Mapping, Sequence
-from typing import Any
 
+from ..money import Number
 from ..errors import Refused
 from ..formats import MOST_LEAD
 from ..law import Law
@@ -57,7 +57,7 @@ def side_of(numbers: Sequence[int]) -> float:
     return sum(side * it for side, it in sides_of(numbers).items())
 
 
-def fit_lead(observed: Observed | Iterable[Any], *, method: str = "auto") -> FittedLaw:
+def fit_lead(observed: Observed | Iterable[Number], *, method: str = "auto") -> FittedLaw:
     """Fits the law of lead times to observed ones: whole numbers of periods, at least 1.
 
     `empirical` has each lead time as often as it was seen. `auto` moves a part of 2 to 19 observed ones to the periods

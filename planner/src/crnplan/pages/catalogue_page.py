@@ -6,12 +6,12 @@ from collections import Counter
 from collections.abc import Mapping, Sequence
 from dataclasses import dataclass
 from itertools import groupby
-from typing import TypedDict
 
 from ..curve.kept import Point
 from ..plan.answer import CHEAPER, CHOSEN, DEARER, SAME, SERVICE, TODAY, UNDECIDED, Answer
 from ..plan.question import Settings
 from ..plan.totals import Totals
+from ..records.catalogue_reading import FileCounts
 from ..records.item import Item
 from .page import UNITS, Scale, number, rendered
 from .reasons import Reason
@@ -70,17 +70,6 @@ NO_CURVE = "There is no curve yet. It is drawn by crnplan curve FOLDER, and then
 OLD_CURVE = "The curve here is not that of this plan. Run crnplan curve FOLDER again, then crnplan report FOLDER."
 
 
-class Source(TypedDict):
-    """What became of the rows of a file."""
-
-    name: str
-    read: int
-    blank: int
-    used: int
-    rejected: int
-    with_item: int
-
-
 @dataclass(frozen=True)
 class Shown:
     """A planned item in the table, with its cells as decisions.csv has them."""
@@ -100,7 +89,7 @@ class Contents:
     every: str
     decimals: int
     settings: Settings
-    sources: Mapping[str, Source]
+    sources: Mapping[str, FileCounts]
     named: int
     totals: Totals
     rows: Sequence[Shown]

@@ -5,8 +5,8 @@ from collections.abc import Iterator, Mapping
 from typing import TYPE_CHECKING
 
 from ..plan.folder import PlannedFolder
+from ..records.catalogue_reading import FileCounts
 from ..words import sentence
-from .catalogue_page import Source
 from .catalogue_tables import REJECTS
 
 if TYPE_CHECKING:
@@ -21,7 +21,7 @@ NOTES = (
     "The greatest savings are also where a wrong master or a wrong row shows first. Look at these items first.")
 
 
-def counted_rows(files: Mapping[str, Source]) -> Iterator[str]:
+def counted_rows(files: Mapping[str, FileCounts]) -> Iterator[str]:
     """Yields a line for each file on what became of its rows."""
     for its in files.values():
         yield (f"{its['name']}: {its['read']:,} rows = {its['used']:,} used + {its['rejected']:,} rejected + "

@@ -8,11 +8,12 @@ from collections import Counter
 from collections.abc import Mapping, Sequence
 from dataclasses import asdict, dataclass, field
 from pathlib import Path
-from typing import TYPE_CHECKING, Any
+from typing import TYPE_CHECKING, Any, TypedDict
 
 from ..errors import Fault, Refused, RefusedFaults
 from ..files import Folder, faults_of, own_folder
 from ..remarks import Remark, Value
+from ..table import Json
 from .amounts import AmountReader
 from .catalogued import CATALOGUE, Catalogued, Reject, Writer
 from .columns import ROLES, Stated
@@ -31,6 +32,24 @@ if TYPE_CHECKING:
     import pandas as pd
 
 Day = datetime.date
+
+
+class FileCounts(TypedDict):
+    """What became of the rows of a file."""
+
+    name: str
+    read: int
+    blank: int
+    used: int
+    rejected: int
+    with_item: int
+
+
+class Counts(TypedDict):
+    """What became of all rows, by the kind of their file, and how many items there are of each kind."""
+
+    files: dict[str, FileCounts]
+    items: dict[str, int]
 
 
 @dataclass(frozen=True)
@@ -84,21 +103,29 @@ class Catalogue:
         """Returns what was read, to be closed after use."""
         return contextlib.closing(Catalogued(self.path))
 
-    def fact(self, name: str) -> Any:
+    def fact(self, name: str) -> Json:
         """Returns a fact: `counts`, `found`, `every`, `decimals` or `periods`."""
         with self.opened() as its:
-            return its.fact(name)
+            found: Json = its.fact(name)
+        return found
 
     @property
-    def counts(self) -> dict[str, Any]:
+    def counts(self) -> Counts:
         """Returns how many rows of each file there are, by what became of them, and how many items."""
-        its: dict[str, Any] = self.fact("counts")
-        return its
+        with self.opened() as its:
+            counts: Counts = its.fact("counts")
+        return counts
 
     @property
     def found(self) -> str:
         """Returns what was found in the files, as TOML that states it."""
         return str(self.fact("found"))
+
+    @property
+    def said(self) -> list[str]:
+        """Returns what is to be said of the files, as units that were converted."""
+        with self.opened() as its:
+            return [str(line) for line in its.fact("said")]
 
     @property
     def missing(self) -> list[str]:
@@ -115,7 +142,7 @@ class Catalogue:
             return rejects_of(its.rejects()).frame
 
 
-def missing_of(counts: Mapping[str, Any], answered: int) -> list[str]:
+def missing_of(counts: Counts, answered: int) -> list[str]:
     """Returns a line for each file, and for the items, whose counts do not add up. `answered` items have an answer."""
     lines = []
     for kind, its in counts["files"].items():
@@ -137,7 +164,8 @@ def read_catalogue(demand: Table, items: Table, orders: Table | None = None, *,
                    names: Mapping[str, Mapping[str, Sequence[str]]] | None = None,
                    start: Day | str | None = None, end: Day | str | None = None, net: bool = False, twice: str = KEEP,
                    far: str = LEAVE_OUT, least: int = 13, factors: Mapping[str, int] | None = None,
-                   today: Day | None = None, **rules: Any) -> Catalogue:
+                   today: Day | None = None, delimiter: str | None = None, encoding: str | None = None,
+                   decimal: str | None = None, date_formats: Sequence[str] = ()) -> Catalogue:
     """Reads a catalogue from CSV files of any size, sheets of workbooks (FILE.xlsx!SHEET) or DataFrames.
 
     `demand` has a row for each movement (item, date, quantity, perhaps returned), `items` one for each item (item,
@@ -151,7 +179,8 @@ def read_catalogue(demand: Table, items: Table, orders: Table | None = None, *,
 
     Raises Refused and RefusedFaults for files that can't be read. Rows and items with faults are in `rejects`.
     """
-    words = Words(every, columns or {}, units or {}, names or {}, Rules(**rules), start, end, Ways(net, twice, far, least, factors or {}),
+    rules, ways = Rules(delimiter, encoding, decimal, tuple(date_formats)), Ways(net, twice, far, least, factors or {})
+    words = Words(every, columns or {}, units or {}, names or {}, rules, start, end, ways,
                   today or datetime.date.today())
     room = tempfile.TemporaryDirectory(prefix="crnplan-")
     path = read_alone(Path(room.name), {"demand": demand, "items": items, "orders": orders}, words)

@@ -25,7 +25,9 @@ Day = datetime.date
 
 def read_history(table: Table, *, demand: str, returns: str | None = None, date: str | None = None,
                  every: str | None = None, net: bool = False, whole: bool = False, start: Day | str | None = None,
-                 end: Day | str | None = None, **rules: Any) -> History:
+                 end: Day | str | None = None, delimiter: str | None = None, encoding: str | None = None,
+                 decimal: str | None = None, date_formats: Sequence[str] = (), item: Mapping[str, str] | None = None,
+                 leave_out: bool = False) -> History:
     """Reads a history of demand from a CSV file (`-` is standard input), a sheet (FILE.xlsx!SHEET) or a DataFrame.
     `demand`, `returns` and `date` name its columns.
 
@@ -38,7 +40,8 @@ def read_history(table: Table, *, demand: str, returns: str | None = None, date:
     Raises RefusedFaults with all faults of the file. With `leave_out` rows with faults are left out, and are in
     `faults`.
     """
-    rule, names = Rules(**rules), [demand] if returns is None else [demand, returns]
+    rule = Rules(delimiter, encoding, decimal, tuple(date_formats), item or {}, leave_out)
+    names = [demand] if returns is None else [demand, returns]
     if date is None:
         _check_undated({"--every needs": every, "--net and --whole need": net or whole,
                         "--from and --to need": start or end})

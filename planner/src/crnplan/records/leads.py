@@ -1,7 +1,7 @@
 """Reads lead times: a column of whole periods, or the dates on which orders were placed and received."""
 from __future__ import annotations
 
-from typing import Any
+from collections.abc import Mapping, Sequence
 
 from ..errors import Refused
 from ..formats import MOST_WEIGHT
@@ -15,7 +15,9 @@ from .units import DAYS, factor_of, periods_of, said
 
 
 def read_lead_times(table: Table, *, lead: str | None = None, every: str | None = None, ordered: str = "ordered",
-                    received: str = "received", **rules: Any) -> LeadTimes:
+                    received: str = "received", delimiter: str | None = None, encoding: str | None = None,
+                    decimal: str | None = None, date_formats: Sequence[str] = (),
+                    item: Mapping[str, str] | None = None, leave_out: bool = False) -> LeadTimes:
     """Reads lead times in whole periods from a CSV file (`-` is standard input), a sheet or a DataFrame.
 
     With `lead`, the name of a column, each row is a lead time; if its heading names a unit of time, as `Days`, and `every` is known,
@@ -24,7 +26,7 @@ def read_lead_times(table: Table, *, lead: str | None = None, every: str | None 
     received on any day of period t + L has lead time L, and 1 if both fell in one period. Orders not yet received are
     left out, with a note. Further words are those of `Rules`. Raises RefusedFaults with all faults of the file.
     """
-    rule = Rules(**rules)
+    rule = Rules(delimiter, encoding, decimal, tuple(date_formats), item or {}, leave_out)
     if lead is None and every not in EVERY:
         raise Refused(NEED_PERIOD)
     with whole_table(table, "lead times" if lead else "orders") as given:

@@ -7,9 +7,9 @@ from __future__ import annotations
 import math
 from collections.abc import Iterable, Iterator, Sequence
 from dataclasses import dataclass, field, replace
-from typing import TYPE_CHECKING, Any
+from typing import TYPE_CHECKING
 
-from ...money import whole
+from ...money import Number, whole
 from ...records.observed import History, Observed
 from ...remarks import Remark, Value
 from ..fitted import numbers_of
@@ -71,7 +71,7 @@ def lines_of(checks: Checks) -> list[str]:
     return [f"demand: {line}" for line in (*warnings, *map(advised, (*checks.notes, *checks.unknown)))]
 
 
-def checks_of(observed: Observed | Iterable[Any], *, season: int | None = None) -> Checks:
+def checks_of(observed: Observed | Iterable[Number], *, season: int | None = None) -> Checks:
     """Checks a history of demand, or any whole numbers from 0, one for each period in their order.
 
     Permutation tests look for autocorrelation (Ljung and Box), a trend (Spearman), a shift of the level, and a season
