@@ -50,7 +50,7 @@ VERDICTS = [("0.95", "B 60 80 4.875 1.802 7.948 4.000 25.81 1.291 -0.109 8.109 u
              "A holds: no policy is better; B can't be told apart from A."),
             ("0.9", "B 60 80 4.875 2.603 7.147 4.000 25.81 1.291 0.962 7.038 worse",
              "A holds: no policy is better; B is worse.")]
-TWO_LINES = "#!/bin/sh\necho first >&2\necho second >&2\nexit 7\n"
+TWO_LINES = "#!/bin/sh\necho first >&2\necho second >&2\nexit 2\n"
 OWN = "5eed000000000001 0000000000000000 0000000000000000 0000000000000000"
 # What is said of words that are refused, of a copy of examples/spare_part.toml with an old and a new text.
 REFUSED = [
