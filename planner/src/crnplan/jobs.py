@@ -232,7 +232,7 @@ def cluster(address: str, program: str = "") -> Iterator[Workers]:
         raise Refused(NO_DISTRIBUTED, INSTALL) from fault
     try:
         client = distributed.Client(address, timeout=CONNECT_SECONDS)
-    except (OSError, ValueError) as fault:
+    except (OSError, ValueError, TypeError) as fault:  # a TypeError for tls:// without certificates
         raise Refused(f"{place}: {fault}") from fault
     try:
         yield Cluster(client, program)
@@ -302,7 +302,7 @@ class Work(Generic[Answer]):
                     done += len(some)
                     show(done)
         except BaseException:
-            if shown:
+            if shown and done:
                 print(f"{done:,} of {total:,} {unit} are done and kept; run again to go on", file=sys.stderr)
             raise
 
