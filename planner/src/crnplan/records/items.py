@@ -78,8 +78,8 @@ class Moves:
     """The movements of all items, by item and in the order of their rows: lines, periods, amounts asked for and back."""
 
     ends: Numbers
-    lines: Numbers
-    periods: Numbers
+    lines: npt.NDArray[np.int32]
+    periods: npt.NDArray[np.int32]
     asked: Numbers
     back: Numbers
 
@@ -201,11 +201,12 @@ class Reader:
 
     def _moves(self) -> Moves:
         """Returns the movements of all items. Rows with faults, and twins if they are to be left out, are rejected."""
-        rows, columns, bad = self.rows["demand"], {}, np.zeros(len(self.rows["demand"]), bool)
+        rows, bad = self.rows["demand"], np.zeros(len(self.rows["demand"]), bool)
+        columns: dict[str, Numbers] = {}
         faults: dict[str, dict[int, Remark]] = {}
-        for role in MOVED:
+        for role in (it for it in MOVED if it in rows.columns):
             values, faults[role] = self._values("demand", role)
-            codes = rows.codes(role) if role in rows.columns else np.zeros(len(rows), np.int32)
+            codes = rows.codes(role)
             columns[role] = values[codes]
             if faults[role]:
                 is_bad = np.zeros(len(values), bool)
@@ -215,10 +216,12 @@ class Reader:
         good = self._without_twins(~bad)
         if "measure" in rows.columns and self.ways.factors:
             factors = np.array([self.ways.factors.get(text_of(it), 1) for it in rows.columns["measure"].distinct], np.int64)
-            for role in MOVED[1:]:
+            for role in columns.keys() - {"date"}:
                 columns[role] = columns[role] * factors[rows.codes("measure")]
         order, ends = rows.by_item(np.flatnonzero(good))
-        return Moves(ends, rows.lines[order], *(columns[role][order] for role in MOVED))
+        nothing = np.broadcast_to(np.int64(0), len(order))
+        return Moves(ends, rows.lines[order], columns["date"][order].astype(np.int32), columns["quantity"][order],
+                     columns["returned"][order] if "returned" in columns else nothing)
 
     def _reject_rows(self, bad: Numbers, faults: Mapping[str, Mapping[int, Remark]]) -> None:
         """Rejects rows of demand with what is wrong with their cells. An item of totals alone is none."""
@@ -391,7 +394,7 @@ class Reader:
         for role, amounts in (("quantity", moves.asked), ("returned", moves.back)) if self.ways.far == LEAVE_OUT else ():
             far = far_above(amounts)
             if far:
-                ranked = np.lexsort((moves.lines, -amounts))
+                ranked = np.lexsort((moves.lines.astype(np.int64), -amounts))
                 lines, least, below = moves.lines[ranked[:far]].tolist(), int(amounts[ranked[far - 1]]), int(amounts[ranked[far]])
                 raise Left("demand", lines[0], self.column("demand", role), str(amounts[ranked[0]]),
                            Remark("far", {"lines": named_lines(lines), "times": least // below, "next": below}))

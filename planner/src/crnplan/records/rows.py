@@ -70,7 +70,7 @@ class Rows:
         self.columns: dict[str, Codes] = {role: names if role == "item" else Codes(
             dated_cell if role in DATES and not has_patterns else bare_cell) for role in roles}
         self._codes = {role: array("i") for role in roles}
-        self._lines, self._twins = array("q"), array("q")
+        self._lines, self._twins = array("i"), array("q")
         self.blank = self.rejected = 0
 
     def fill(self, reject: RejectRow) -> None:
@@ -120,18 +120,19 @@ class Rows:
         return np.frombuffer(self._codes[role], np.int32) if len(self) else np.zeros(0, np.int32)
 
     @property
-    def lines(self) -> Numbers:
+    def lines(self) -> npt.NDArray[np.int32]:
         """Returns the line of each row."""
-        return np.frombuffer(self._lines, np.int64) if len(self) else np.zeros(0, np.int64)
+        return np.frombuffer(self._lines, np.int32) if len(self) else np.zeros(0, np.int32)
 
     def twins(self) -> Numbers:
-        """Returns for each row the first row with the same cells, which is itself for most. Rows are compared by a hash of
-        64 bits: in a million rows, two different ones collide once in 37 million files."""
+        """Returns for each row the first row with the same cells, which is itself for most, and forgets the hashes. Rows are
+        compared by a hash of 64 bits: in a million rows, two different ones collide once in 37 million files."""
         hashes = np.frombuffer(self._twins, np.int64) if len(self) else np.zeros(0, np.int64)
         order = np.argsort(hashes, kind="stable")
         starts = np.flatnonzero(np.r_[True, np.diff(hashes[order]) != 0]) if len(order) else order
         first = np.empty(len(order), np.int64)
         first[order] = np.repeat(order[starts], np.diff(np.r_[starts, len(order)]))
+        self._twins = array("q")
         return first
 
     def cell(self, role: str, row: int) -> Cell:
