@@ -74,7 +74,7 @@ def tests_of(folder: Path) -> dict[tuple[str, int], list[str]]:
     read = coverage.Coverage(config_file=str(folder.resolve() / "settings.ini"))
     read.combine([str(folder)], keep=True)
     data, found, sizes = read.get_data(), dict[tuple[str, int], list[str]](), Counter[str]()
-    for path in data.measured_files():
+    for path in (it for it in data.measured_files() if it.endswith(".py")):
         for line, names in data.contexts_by_lineno(path).items():
             tests = [it for it in names if it]
             sizes.update(tests)
