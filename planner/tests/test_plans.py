@@ -108,3 +108,17 @@ def test_a_seed_may_be_a_number(paths: list[Path], program: Path) -> None:
     """A whole number is a seed as a text is, and another one gives other runs of the same figures of theory."""
     one, other = (crn.plan(*paths, seed=seed, program=program, **SETTINGS).decisions for seed in (7, "8"))
     assert (one.saving == other.saving).all() and (one.run_saving != other.run_saving).any()
+
+
+def test_a_series_is_never_silently_dense() -> None:
+    """Periods that a Series by period lacks count 0. One by dates with gaps is refused, and so is NaN."""
+    weeks = pd.Series([3, 0, 2, 4], pd.PeriodIndex(["2026-01-05", "2026-01-12", "2026-02-02", "2026-02-09"], freq="W-SUN"))
+    assert crn.fit_demand(weeks, method="empirical") == crn.fit_demand([3, 0, 0, 0, 2, 4], method="empirical")
+    with pytest.raises(ValueError, match="its dates have gaps"):
+        crn.fit_demand(weeks.to_timestamp(), method="empirical")
+    summed = weeks.to_timestamp().resample("W-MON").sum()
+    assert crn.fit_demand(summed, method="empirical") == crn.fit_demand([3, 0, 0, 0, 2, 4], method="empirical")
+    with pytest.raises(ValueError, match="stand twice or are not in order"):
+        crn.fit_demand(weeks[::-1], method="empirical")
+    with pytest.raises(ValueError, match="entry 2: nan is not a whole number"):
+        crn.fit_demand(pd.Series([1, float("nan")]), method="empirical")

@@ -5,7 +5,7 @@ from collections.abc import Callable, Iterable, Mapping
 from dataclasses import dataclass, field
 from fractions import Fraction
 from functools import cached_property
-from typing import TYPE_CHECKING, Any
+from typing import TYPE_CHECKING, Any, cast
 
 from ..errors import Fault, Refused
 from ..formats import MOST_WEIGHT
@@ -102,11 +102,32 @@ class FittedLaw(Law):
         return self.diagnostics.side is not None
 
 
+def dense(observed: Any, what: str) -> Iterable[Any]:
+    """Returns observed numbers; a Series of pandas by period with 0 in each period that it lacks.
+
+    Raises Refused for a Series by dates whose periods are not known, are not in order, or stand twice.
+    """
+    index: Any = getattr(observed, "index", None)
+    kind = type(index).__name__
+    if kind not in ("PeriodIndex", "DatetimeIndex"):
+        return cast(Iterable[Any], observed)
+    if not index.is_unique or not index.is_monotonic_increasing:
+        raise Refused(f"{what}: its dates stand twice or are not in order", "sum it by period, and sort it")
+    if kind == "PeriodIndex":
+        import pandas as pd
+        every = pd.period_range(index[0], index[-1]) if len(index) else index
+        return cast(Iterable[Any], observed.reindex(every, fill_value=0))
+    if len(index) > 1 and index.freq is None and (len(index) == 2 or index.inferred_freq is None):
+        raise Refused(f"{what}: its dates have gaps, or are not those of periods", "sum it by period, as with "
+                      'resample("W").sum(), so that periods without demand count 0')
+    return cast(Iterable[Any], observed)
+
+
 def numbers_of(observed: Observed | Iterable[Any], what: str) -> tuple[list[int], Iterable[Place | None]]:
     """Returns numbers and their places. Whole numbers of any kind are taken, and floats that are whole."""
     if isinstance(observed, Observed):
         return list(observed.counts), observed.places
-    numbers = [whole(it, f"{what}: entry {place}") for place, it in enumerate(observed, 1)]
+    numbers = [whole(it, f"{what}: entry {place}") for place, it in enumerate(dense(observed, what), 1)]
     if not 1 <= len(numbers) <= MOST_WEIGHT:
         raise Refused(f"there are {len(numbers):,} numbers of {what}; give 1 to {MOST_WEIGHT:,}")
     return numbers, (Place("", 0, 0, what, f"entry {place}, {it},") for place, it in enumerate(numbers, 1))
