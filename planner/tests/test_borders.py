@@ -129,6 +129,16 @@ def test_blank_rows_are_counted(write: Write, crnplan: Command, program: Path, b
     assert ("2 blank rows" in line, "blank" in line) == (blank == 2, blank == 2)
 
 
+def test_rows_of_another_width(write: Write, crnplan: Command, program: Path) -> None:
+    """A row with too few cells lacks its last ones, empty cells too many are nothing, and a text too many is rejected."""
+    day = datetime.date(2025, 1, 6)
+    rows = [[str(day + datetime.timedelta(7 * week)), "A", 1 + week % 3, "x"] for week in range(20)]
+    odd = [rows[0][:3], rows[1][:2], [*rows[2], ""], [*rows[3], "y"]]
+    write("demand.csv", [["date", "item", "quantity", "note"], *odd, *rows[4:]])
+    catalogue(crnplan, ["A"], "--program", program)
+    assert {(row["line"], row["column"]) for row in rejects() if row["kind"] == "row"} == {("3", "quantity"), ("5", "")}
+
+
 @pytest.mark.parametrize("count", range(1, 13))
 def test_lines_of_equal_rows(write: Write, crnplan: Command, count: int) -> None:
     """A note on rows that stand twice names all their lines, or says that there are more."""
