@@ -8,6 +8,7 @@ from typing import Any
 import pytest
 
 from crnplan.records.catalogue_reading import read_catalogue
+from crnplan.files import MARKER
 from planner.bench import page, whole
 from planner.bench.compared import all_figures, compare
 from planner.bench.made import Made, make
@@ -64,7 +65,7 @@ def test_usage() -> None:
 
 def test_size_of_a_part(tmp_path: Path) -> None:
     row, = whole.measured_parts(tmp_path, ITEMS, 1, ["read"])
-    assert row["bytes"] == (tmp_path / "plan/catalogue.sqlite").stat().st_size
+    assert row["bytes"] == sum((tmp_path / "plan" / it).stat().st_size for it in ("catalogue.sqlite", MARKER))
     assert row["items"] == ITEMS and 0 < row["processor"] and 0 < row["own"]
 
 

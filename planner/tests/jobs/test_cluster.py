@@ -163,4 +163,11 @@ def test_missing_distributed_is_refused(room: Path, crnplan: Command, monkeypatc
     assert told[:2] == (2, "") and "needs distributed, which is missing here; install it (on Debian" in told.errors
 
 
+def test_tls_without_certificates(room: Path, crnplan: Command, program: Path, monkeypatch: pytest.MonkeyPatch) -> None:
+    """Refuses an address that needs certificates if Dask has none, in one line."""
+    monkeypatch.setenv("DASK_CONFIG", str(room / "no_settings"))
+    told = crnplan("sweep", "examples/two_policies.toml", *GRID, "--cluster", f"tls://{LOOPBACK}:1", "--program", program)
+    assert told[:2] == (2, "") and "--cluster tls://127.0.0.1:1: TLS expects" in told.errors and told.errors.count("\n") == 1
+
+
 pytestmark = pytest.mark.timeout(2 * SECONDS)
