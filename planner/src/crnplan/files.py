@@ -34,7 +34,7 @@ NO_SUCH_PLACE = {errno.EACCES, errno.EPERM, errno.EROFS, errno.EEXIST, errno.ENO
 UNFINISHED = re.compile(r"unfinished-[0-9a-f]{16}/")
 
 
-def digest_of(data: bytes) -> str:
+def bytes_digest(data: bytes) -> str:
     """Returns the SHA-256 of bytes, in hexadecimal."""
     return hashlib.sha256(data).hexdigest()
 
@@ -46,9 +46,9 @@ def package_digest() -> str:
     import scipy
     top = Path(__file__).parent
     texts = [f"{sys.version_info} {numpy.__version__} {scipy.__version__}"]
-    texts += [f"{path.relative_to(top)} {digest_of(path.read_bytes())}" for path in sorted(top.rglob("*"))
+    texts += [f"{path.relative_to(top)} {bytes_digest(path.read_bytes())}" for path in sorted(top.rglob("*"))
               if path.is_file() and "__pycache__" not in path.parts]
-    return digest_of("\n".join(texts).encode())
+    return bytes_digest("\n".join(texts).encode())
 
 
 @contextlib.contextmanager

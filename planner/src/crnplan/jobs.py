@@ -22,7 +22,7 @@ from pathlib import Path
 from typing import Any, Generic, TypeVar
 
 from .errors import Failed, Refused, argument
-from .files import KEPT, digest_of, package_digest
+from .files import KEPT, bytes_digest, package_digest
 from .remarks import Remark
 from .stored import Store
 
@@ -150,7 +150,7 @@ def processes(jobs: int) -> Iterator[Workers]:
 def identity(program: str) -> dict[str, str]:
     """Returns the digests of what makes figures here: of crnplan, and of a program, empty if it is not there."""
     path = shutil.which(program) if program else None
-    return {"crnplan": package_digest(), "crnsim": digest_of(Path(path).read_bytes()) if path else ""}
+    return {"crnplan": package_digest(), "crnsim": bytes_digest(Path(path).read_bytes()) if path else ""}
 
 
 class Stranger:

@@ -5,10 +5,9 @@ import json
 from collections.abc import Iterable
 from typing import TypedDict
 
-from ..files import digest_of
 from ..plan.answer import Answer
 from ..plan.folder import PlannedFolder
-from ..stored import Store
+from ..stored import Store, digest_of
 
 CURVE = "curve"  # the name of the fact
 
@@ -26,7 +25,7 @@ class Point(TypedDict):
 
 def plan_digest(answers: Store[Answer]) -> str:
     """Returns the digest of what all answers depend on: a curve is of these answers alone."""
-    return digest_of(json.dumps(sorted(answers.digests().items())).encode())
+    return digest_of(*sorted(answers.digests().items()))
 
 
 def keep_curve(answers: Store[Answer], points: Iterable[Point]) -> None:
