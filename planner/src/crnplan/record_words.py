@@ -33,8 +33,9 @@ def _several(which: int) -> Say:
     """Returns the function that gives what is wrong with several cells of a row, or what to do about them."""
     def said(facts: Facts) -> str:
         """Returns it."""
-        says = ((RECORDS[code][which], its) for code, its in _each(facts))
-        return " and ".join(dict.fromkeys(say.format_map(its) if isinstance(say, str) else say(its) for say, its in says))
+        says = [(RECORDS[code][which], its) for code, its in _each(facts)]
+        words = (say.format_map(its) if isinstance(say, str) else say(its) for say, its in says)
+        return " and ".join(dict.fromkeys(words))
     return said
 
 
@@ -49,9 +50,11 @@ RECORDS: dict[str, tuple[Say, Say]] = {
     "no number": ("{text!r} is not a number", _other_sign),
     "digits": ("{text!r} has more than {digits} digits", "correct it"),
     "two readings": (lambda it: f"{it['text']!r} may be {it['large']} or {it['small']}, and " + (
-        f"the column has both signs, as {it['signs']}" if it["signs"] else "no other number of the column decides it"), DECIDE),
+        f"the column has both signs, as {it['signs']}" if it["signs"] else "no other number of the column decides it"),
+        DECIDE),
     "currencies": ("amounts of money are in several currencies, as {texts}", "convert them into one"),
-    "not whole": ("{text!r} is not a whole number", "count in a smaller unit, as grams for kilograms, and then in boxes of "
+    "not whole": ("{text!r} is not a whole number",
+                  "count in a smaller unit, as grams for kilograms, and then in boxes of "
                        "many (--box)"),
     "below 0": ("{text!r} is below 0", "write 0 or more"),
     "negative": ("{text!r} is negative", "correct it, or say --net to take it off the sale that it undoes"),
@@ -63,11 +66,14 @@ RECORDS: dict[str, tuple[Say, Say]] = {
     # Dates.
     "no date": ("the cell is empty", "write the date, or leave the row out"),
     "year": ("{text!r}: the year is not from {first} to {last}", "correct it, or leave the row out"),
-    "two patterns": ("{text!r} may be {dates} by the patterns of --date-format", "say one, or write the date as 2026-03-31"),
-    "other pattern": ("{text!r} is no date of the form {patterns} that --date-format says", "correct it, or say another "
+    "two patterns": ("{text!r} may be {dates} by the patterns of --date-format",
+                     "say one, or write the date as 2026-03-31"),
+    "other pattern": ("{text!r} is no date of the form {patterns} that --date-format says",
+                      "correct it, or say another "
                            "pattern"),
-    "no form": ("{text!r} is no date as 2026-03-31, 31.03.2026 or 31/03/2026", lambda it: "write it so, or say --date-format "
-                     "with its pattern" + " (a spreadsheet's number of a day: format the column as a date)" * bool(it["is_number"])),
+    "no form": ("{text!r} is no date as 2026-03-31, 31.03.2026 or 31/03/2026",
+                lambda it: "write it so, or say --date-format with its pattern" + (
+                    " (a spreadsheet's number of a day: format the column as a date)" if it["is_number"] else "")),
     "no day": ("{text!r} is no day of the calendar", "correct it, or leave the row out"),
     "day or month": (lambda it: f"{it['text']!r} may have the day or the month first, and " + (
         f"the dates here have both, as {it['sides']}" if it["sides"] else "no date here decides it"), lambda it: (
@@ -79,7 +85,8 @@ RECORDS: dict[str, tuple[Say, Say]] = {
     # Masters.
     "no lead time": ("{text!r} is no lead time", LEADS),
     "unit of lead": ("{text!r} is no lead time", "write {word!r} as days, weeks, months or years"),
-    "lead range": ("the lead time {lead} is not from 1 to {most} periods", "correct it, or take longer periods (--every)"),
+    "lead range": ("the lead time {lead} is not from 1 to {most} periods",
+                   "correct it, or take longer periods (--every)"),
     "no borrow": ("{text!r} is not {known}", "write one of them, or nothing"),
     "is share": ("{text!r} is a share", "say --unit items.holding=percent if it is one of the price a year"),
     "no price for share": ("it is a share of the price, and there is no price", "write one"),
@@ -88,24 +95,28 @@ RECORDS: dict[str, tuple[Say, Say]] = {
     "s above S": ("s = {s} is above S = {S}", "interchange them, or raise S"),
     "several": (_several(0), _several(1)),
     # Rows.
-    "long": ("there are {cells} cells, and {columns} columns in the heading", "put a cell with a {sign} in quotes, or name "
+    "long": ("there are {cells} cells, and {columns} columns in the heading",
+             "put a cell with a {sign} in quotes, or name "
                   "each column in the heading"),
     "unprintable name": ("the name of the item has a line break or another control character", "write it in one line"),
     "no item": ("the item is missing", "write its name"),
     "total": ("the row looks like a total of the rows above", "leave it out"),
     "twin": (lambda it: _lines(it, f"the row is the same as that of line {it['first']}",
                                     f"{it['count']:,} rows are the same as others above them ({it['lines']})"),
-                  lambda it: _lines(it, "if it was", "if they were") + " exported twice, remove " + _lines(it, "it", "them")
+                  lambda it: _lines(it, "if it was exported twice, remove it",
+                                    "if they were exported twice, remove them")
                   + ", or say --twice leave-out"),
     "before order": ("it is before the order of {ordered!r}", "correct one of the dates, or leave the row out"),
     # Items.
     "no master": ("there is no master of this item", "add its row to the masters"),
     "several masters": ("there are {masters} masters that differ, in {lines}", "leave one"),
     "no rows": ("there is no row of demand in the record", "nothing can be said without one"),
-    "measures": ("rows are in several units of measure, {measures}", "say how many items one is, as --factor {text}=12"),
+    "measures": ("rows are in several units of measure, {measures}",
+                 "say how many items one is, as --factor {text}=12"),
     "far": ("{lines}: {times:,} times {next:,}, the next largest of the item", "correct the row, or say --far keep"),
     "short": ("a history of {periods} {every}s is short", "wait, or say --least {periods}"),
-    "unmet return": ("{amount:,} came back by {period}, and less was asked for before", "correct the row, or leave it out"),
+    "unmet return": ("{amount:,} came back by {period}, and less was asked for before",
+                     "correct the row, or leave it out"),
     "nothing asked": ("nothing was asked for", "nothing can be said without demand"),
     "all comes back": ("as much comes back ({back:,}) as is asked for ({asked:,}), so nothing is ever ordered",
                             "check both columns"),

@@ -141,7 +141,8 @@ def test_what_was_found_is_stated(catalogue: Catalogue, files: Path) -> None:
     assert [*again.rejects.itertuples()] == [*catalogue.rejects.itertuples()]
 
 
-def test_limits_change_nothing(files: Path, catalogue: Catalogue, tmp_path: Path, monkeypatch: pytest.MonkeyPatch) -> None:
+def test_limits_change_nothing(files: Path, catalogue: Catalogue, tmp_path: Path,
+                               monkeypatch: pytest.MonkeyPatch) -> None:
     """Reads the same if but a few cells are remembered, and leaves no file behind but its own."""
     monkeypatch.setattr(rows, "MOST_KEPT", 3)
     paths = dict(zip(("demand", "items", "orders"), (files / it for it in FILES)))
@@ -159,7 +160,8 @@ def test_order_of_rows_changes_nothing(planted: Made, catalogue: Catalogue, tmp_
     random.Random(3).shuffle(mixed.masters)
     mixed.demand.append(total)
     again = read_catalogue(*(mixed.write(tmp_path) / it for it in FILES), today=TODAY)
-    alike = [{name: dataclasses.replace(item, line=0) for name, item in items_of(its).items()} for its in (catalogue, again)]
+    alike = [{name: dataclasses.replace(item, line=0) for name, item in items_of(its).items()}
+             for its in (catalogue, again)]
     assert alike[0] == alike[1] and again.counts == catalogue.counts
 
 

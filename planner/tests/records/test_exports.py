@@ -160,7 +160,8 @@ WEEKS_OF_YEAR = Fraction(1461, 28)
     (LEADS.format("Lieferzeit (Tage)"), "A,45,1,10,3,3,9", "leads", [1]),
     # Placed on four days of the week it is there in the next week, on three in the week after.
     (LEADS.format("PLIFZ"), "A,45,1,10,10,3,9", "leads", [1, 1, 1, 1, 2, 2, 2]),
-    (LEADS.format("提前期（天）"), "A,45,1,10,21,3,9", "leads", [3]), (LEADS.format("lead"), "A,45,1,10,14D,3,9", "leads", [2]),
+    (LEADS.format("提前期（天）"), "A,45,1,10,21,3,9", "leads", [3]),
+    (LEADS.format("lead"), "A,45,1,10,14D,3,9", "leads", [2]),
     (LEADS.format("czas dostawy (tygodnie)"), "A,45,1,10,3,3,9", "leads", [3]),
     ("item,setup,Holding cost per year,backlog,lead,s,S", "A,45,52.18,10,2,3,9", "holding",
      Fraction("52.18") / WEEKS_OF_YEAR),
@@ -226,18 +227,24 @@ def test_rows_in_two_units_of_measure(words: Sequence[str], total: int | None, c
 
 
 @pytest.mark.parametrize("demand, masters", [
-    ("Material;Buchungsdatum;Menge in ErfassME;ErfassME", "Material;Materialkurztext;Bestellkosten;Lagerkosten pro Woche;"
+    ("Material;Buchungsdatum;Menge in ErfassME;ErfassME",
+     "Material;Materialkurztext;Bestellkosten;Lagerkosten pro Woche;"
      "Fehlmengenkosten pro Woche;Planlieferzeit;Meldebestand;Höchstbestand;LABST;Standardpreis;Preiseinheit;ABC-Kennzeichen"),
     ("MATNR;BUDAT;MENGE;MEINS", "MATNR;MAKTX;setup;holding;backlog;PLIFZ;MINBE;MABST;LABST;STPRS;PEINH;MAABC"),
-    ("Item No.;Posting Date;Invoiced Quantity;Unit of Measure Code", "Item No.;Description;Ordering Cost;Carrying Cost;Stockout "
+    ("Item No.;Posting Date;Invoiced Quantity;Unit of Measure Code",
+     "Item No.;Description;Ordering Cost;Carrying Cost;Stockout "
      "Cost;Lead Time Calculation (days);Reorder Point;Maximum Inventory;Inventory;Unit Cost;Price Unit;Item Category Code"),
-    ("Item;Date;Qty. Sold;UoM", "Item;Display Name;Setup cost;Holding cost;Backorder cost;Lead Time (Days);Reorder Point;Preferred "
+    ("Item;Date;Qty. Sold;UoM",
+     "Item;Display Name;Setup cost;Holding cost;Backorder cost;Lead Time (Days);Reorder Point;Preferred "
      "Stock Level;Qty on Hand;Average Cost;Price Unit;Category"),
-    ("Référence;Date comptable;Quantité vendue;Unité de mesure", "Référence;Désignation;Coût de commande;Coût de possession;Coût "
+    ("Référence;Date comptable;Quantité vendue;Unité de mesure",
+     "Référence;Désignation;Coût de commande;Coût de possession;Coût "
      "de rupture;Délai de livraison (jours);Point de commande;Stock maximum;Stock actuel;Prix unitaire;Unité de prix;Catégorie"),
-    ("Código;Fecha contable;Cantidad vendida;Unidad de medida", "Código;Descripción;Costo de pedido;Costo de almacenamiento;Coste de "
+    ("Código;Fecha contable;Cantidad vendida;Unidad de medida",
+     "Código;Descripción;Costo de pedido;Costo de almacenamiento;Coste de "
      "rotura;Plazo de entrega (días);Punto de reorden;Stock máximo;Existencias;Precio unitario;Unidad de precio;Clase"),
-    ("Kod towaru;Data sprzedaży;Ilość;Jednostka miary", "Kod towaru;Nazwa;Koszt zamówienia;Koszt utrzymania zapasu;Koszt braku;"
+    ("Kod towaru;Data sprzedaży;Ilość;Jednostka miary",
+     "Kod towaru;Nazwa;Koszt zamówienia;Koszt utrzymania zapasu;Koszt braku;"
      "Czas dostawy (dni);Punkt zamawiania;Zapas maksymalny;Stan magazynowy;Cena;Jednostka ceny;Kategoria"),
     ("物料编码;出库日期;出库数量;单位", "物料编码;物料描述;订货成本;持有成本;缺货成本;提前期（天）;再订货点;最大库存;现有库存;单价;价格单位;类别")])
 def test_headings_of_exports(demand: str, masters: str, check: Checked, tmp_path: Path) -> None:
@@ -306,7 +313,8 @@ def test_lone_carriage_return_in_a_cell(check: Checked, crnplan: Answers, tmp_pa
     (tmp_path / "bad.csv").write_bytes(bad.encode())
     its = crnplan("history", tmp_path / "bad.csv", "--demand", "quantity", "--rejects", tmp_path / "rejects.csv")
     rows = list(csv.DictReader((tmp_path / "rejects.csv").open(encoding="utf-8", newline="")))
-    assert its.status == 2 and [row["what"] for row in rows] == ["column 'quantity': 'x' is not a number; write digits, "
+    assert its.status == 2 and [row["what"]
+                                for row in rows] == ["column 'quantity': 'x' is not a number; write digits, "
                                                                  "as 12"]
 
 
@@ -323,7 +331,8 @@ def test_reasons_are_counted_on_the_terminal(check: Checked) -> None:
     bad = [f"A,{DAYS[0]},{text}\n" for text in ["x"] * 5 + ["1.5"] * 3 + ["-1"] * 2]
     answer, rejects = check(demand_of(["2", "3"]) + "".join(bad) + "B,2026-03-02,1\n")
     lines = [line for line in answer.output.splitlines() if " left out, " in line]
-    assert [line.split(",")[0] for line in lines] == ["5 rows left out", "3 rows left out", "2 rows left out", "1 items left out"]
+    assert [line.split(",")[0] for line in lines] == ["5 rows left out", "3 rows left out", "2 rows left out",
+                                                      "1 items left out"]
     assert f"quantity: \u2026 is not a number (demand.csv:{WEEKS + 2}, item A: 'x' is not a number; write digits" in lines[0]
     assert len(rejects) == 11 and answer.status == 0
 
@@ -339,7 +348,8 @@ def test_only_the_most_frequent_reasons(check: Checked) -> None:
 
 
 @pytest.mark.parametrize("quantities, status, said", [
-    (["x", "2"], 0, ""), (["x", "x", "2"], 1, "demand.csv: 18 of 26 rows were rejected, more than half; correct the files"),
+    (["x", "2"], 0, ""),
+    (["x", "x", "2"], 1, "demand.csv: 18 of 26 rows were rejected, more than half; correct the files"),
     (["x"], 1, "no item can be planned; correct the files, or say --anyway")])
 def test_status_if_little_is_left(quantities: list[str], status: int, said: str, check: Checked) -> None:
     """The status says if nothing can be planned or most rows were rejected, unless that is allowed."""

@@ -113,8 +113,10 @@ def test_frames(tmp_path: Path) -> None:
 
 
 @pytest.mark.parametrize("encoding, heading, unit", [
-    ("gb18030", "物料编码,出库日期,数量,备注", "中文备注说明"), ("cp1250", "indeks,data,Ilość,uwagi", "Łódź, zażółć gęślą".replace(",", "")),
-    ("cp1252", "item,date,quantité,note", "qualité “supérieure” à l’été"), ("utf-16-le", "item,date,quantity,note", "x"),
+    ("gb18030", "物料编码,出库日期,数量,备注", "中文备注说明"),
+    ("cp1250", "indeks,data,Ilość,uwagi", "Łódź, zażółć gęślą".replace(",", "")),
+    ("cp1252", "item,date,quantité,note", "qualité “supérieure” à l’été"),
+    ("utf-16-le", "item,date,quantity,note", "x"),
     ("utf-16-be", "item,date,quantity,note", "x"), ("latin-1", "Artikel,Datum,Menge,Gerät", "größer als")])
 def test_encodings_are_named(encoding: str, heading: str, unit: str, tmp_path: Path) -> None:
     """A file that is not UTF-8 is refused with the name of its encoding, by which it is read."""
@@ -160,7 +162,8 @@ def test_many_rows_of_one_item(tmp_path: Path) -> None:
     """Rows of one item take no longer than rows of many."""
     count, seconds = 300_000, []
     for items in (1, 3_000):
-        rows = "".join(f"A{row % items},{MONDAY + datetime.timedelta(days=row % 180)},{1 + row // 7 % 5}\n" for row in range(count))
+        rows = "".join(f"A{row % items},{MONDAY + datetime.timedelta(days=row % 180)},{1 + row // 7 % 5}\n"
+                       for row in range(count))
         masters = MASTERS + "".join(f"A{item},45,1,10,2,3,9\n" for item in range(items))
         begin = time.process_time()
         counts = read(tmp_path, rows, masters).counts
@@ -184,14 +187,18 @@ def test_twins_are_counted(twice: str, total: int, tmp_path: Path) -> None:
     # The sale of four weeks before is undone.
     ([5, 3, 5, 0, 1], (4, -5), [5, 3, 0, 0, 1]), ([5, 3, 5, 0, 7], (4, -5), [5, 3, 5, 0, 2]),
     # No sale was as large: the last ones are undone together.
-    ([5, 3, 5, 0, 1], (4, -7), [5, 2, 0, 0, 0]), ([5, 3, 5, 0, 1], (2, -14), None), ([5, 3, 5, 0, 1], (4, -14), [0] * 5)])
-def test_a_return_belongs_to_the_sale_that_it_undoes(amounts: list[int], late: tuple[int, int], counts: list[int] | None,
+    ([5, 3, 5, 0, 1], (4, -7), [5, 2, 0, 0, 0]), ([5, 3, 5, 0, 1], (2, -14), None),
+    ([5, 3, 5, 0, 1], (4, -14), [0] * 5)])
+def test_a_return_belongs_to_the_sale_that_it_undoes(amounts: list[int], late: tuple[int, int],
+                                                     counts: list[int] | None,
                                                      tmp_path: Path) -> None:
-    """With net an amount below 0 is taken off the last earlier periods that have enough, by a catalogue as by a history."""
+    """With net an amount below 0 is taken off the last earlier periods that have enough, by a catalogue as by a
+    history."""
     week, amount = late
     rows = weekly(amounts + [2] * WEEKS) + f"A,{MONDAY + datetime.timedelta(days=7 * week + 1)},{amount}\n"
     catalogue = read(tmp_path, rows, net=True)
-    history: Callable[[], Any] = lambda: read_history(tmp_path / "demand.csv", demand="quantity", date="date", every="week",
+    history: Callable[[], Any] = lambda: read_history(tmp_path / "demand.csv", demand="quantity", date="date",
+                                                      every="week",
                                                       net=True)
     if counts is None:
         assert list(catalogue.rejects.line) == [rows.count("\n") + 1] and not items_of(catalogue)
@@ -206,7 +213,8 @@ def test_a_return_belongs_to_the_sale_that_it_undoes(amounts: list[int], late: t
     ("Lead time (days)", "week", (2, 1, 1, 1, 1, 2, 2, 2), "converted from days to weeks"),
     ("Lead time (days)", "day", (14, 10), ""), ("Weeks", "week", (14, 10), ""), ("lead", "week", (14, 10), ""),
     ("Lead time (days)", None, (14, 10), "its numbers are taken as periods")])
-def test_units_of_lead_times(heading: str, every: str | None, leads: tuple[int, ...], said: str, tmp_path: Path) -> None:
+def test_units_of_lead_times(heading: str, every: str | None, leads: tuple[int, ...], said: str,
+                             tmp_path: Path) -> None:
     """Lead times of one item are converted too. An order of ten days is there after one week or two, by its day."""
     (tmp_path / "leads.csv").write_text(f"{heading}\n14\n10\n", "utf-8")
     read = read_lead_times(tmp_path / "leads.csv", lead=heading, every=every)

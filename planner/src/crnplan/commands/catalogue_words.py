@@ -39,7 +39,8 @@ def words_of(asked: Mapping[str, Any], config: Mapping[str, Any]) -> tuple[Words
     ways = Ways(bool(its["net"]), its["twice"] or KEEP, its["far"] or LEAVE_OUT, its["least"] or Ways().least,
                 factors_of(asked["factors"]) or config.get("factors", {}))
     settings = Settings(**{name: its[name] for name in SETTINGS if its[name] is not None})
-    return Words(its["every"] or "week", columns, units, _by_kind(config.get("names", {})), rules, its["start"], its["end"], ways), settings
+    return Words(its["every"] or "week", columns, units, _by_kind(config.get("names", {})), rules, its["start"],
+                 its["end"], ways), settings
 
 
 def factors_of(words: Sequence[str]) -> dict[str, int]:

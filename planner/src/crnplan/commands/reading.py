@@ -127,7 +127,8 @@ def read_files(attempts: Attempts, asked: dict[str, Any]) -> tuple[History | Non
     history = attempts.made(lambda: read_history(asked["file"], every=every, **words, **rules))
     lead: LeadTimes | None = None
     if asked["lead"]:
-        lead = attempts.made(lambda: read_lead_times(asked["lead"][0], lead=asked["lead"][1].strip(), every=every, **rules))
+        lead = attempts.made(lambda: read_lead_times(asked["lead"][0], lead=asked["lead"][1].strip(), every=every,
+                                                     **rules))
     if asked["orders"]:
         orders = {it: asked[it] for it in ("every", "ordered", "received")}
         lead = attempts.made(lambda: read_lead_times(asked["orders"], **orders, **rules))

@@ -27,7 +27,8 @@ NAMES = {".": "the point", ",": "the comma"}
 # Signs and codes of money, before or behind an amount, and the code that a sign stands for.
 CODES = ("AED AUD BGN BRL CAD CHF CNY CZK DKK EUR GBP HKD HUF IDR ILS INR JPY KRW MXN MYR NOK NZD PHP PLN RON RUB SAR "
          "SEK SGD THB TRY TWD UAH USD VND ZAR").split()
-SIGNS = {"€": "EUR", "£": "GBP", "₹": "INR", "zł": "PLN", "Kč": "CZK", "US$": "USD", "R$": "BRL", "元": "CNY", "円": "JPY",
+SIGNS = {"€": "EUR", "£": "GBP", "₹": "INR", "zł": "PLN", "Kč": "CZK", "US$": "USD", "R$": "BRL", "元": "CNY",
+         "円": "JPY",
          "₽": "RUB", "₺": "TRY", "₩": "KRW", "₪": "ILS", "Ft": "HUF"}
 CURRENCY = "|".join(map(re.escape, [*SIGNS, *CODES, "$", "¥", "kr", "Fr."]))
 MONEY = re.compile(rf"(?P<sign>[{MINUS}+]?) ?(?P<before>{CURRENCY})? ?(?P<number>.*?) ?(?P<behind>{CURRENCY})?")
@@ -78,10 +79,11 @@ def split_money(text: str) -> tuple[str, str]:
 
 
 class AmountReader:
-    """Reads the amounts of a column: texts, or numbers as a sheet stores them. `sides` has the first text for each decimal
-    sign that has one reading alone.
+    """Reads the amounts of a column: texts, or numbers as a sheet stores them. `sides` has the first text for each
+    decimal sign that has one reading alone.
 
-    Amounts of money may have a currency. `currencies` has the first text of each, and is shared by all columns of money.
+    Amounts of money may have a currency. `currencies` has the first text of each, and is shared by all columns of
+    money.
     """
 
     def __init__(self, stated: str | None = None, currencies: dict[str, str] | None = None) -> None:
@@ -179,7 +181,8 @@ class AmountReader:
         has_sign = isinstance(cell, str) and cell.endswith("%")
         number = self.number(cell.rstrip("% ") if isinstance(cell, str) else cell)
         if in_percent and not has_sign and 0 < number < 1:
-            raise Unreadable("small percent", text=shown(str(cell)), unit="--unit items.fill=share or --unit items.fill=percent")
+            raise Unreadable("small percent", text=shown(str(cell)),
+                             unit="--unit items.fill=share or --unit items.fill=percent")
         if has_sign or in_percent:
             number /= 100
         if not 0 < number < 1:

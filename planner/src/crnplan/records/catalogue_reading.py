@@ -54,8 +54,8 @@ class Counts(TypedDict):
 
 @dataclass(frozen=True)
 class Words:
-    """How the files of a catalogue are read: periods, columns with their units and usual names by file and role, ways of
-    writing, the ends of the record, and how rows are taken. Raises Refused for what can't be meant."""
+    """How the files of a catalogue are read: periods, columns with their units and usual names by file and role, ways
+    of writing, the ends of the record, and how rows are taken. Raises Refused for what can't be meant."""
 
     every: str = "week"
     columns: Mapping[str, Mapping[str, str]] = field(default_factory=dict)
@@ -175,7 +175,8 @@ def read_catalogue(demand: Table, items: Table, orders: Table | None = None, *,
     "day"}}; else its heading does. Periods are `every` day, week or month. The record is that of the whole file, or
     from `start` to `end`; rows after `today` are rejected. With `net` quantities below 0 are taken off their period.
     Rows that stand `twice` and items with amounts `far` above all others are kept or left out ("keep", "leave-out"). An
-    item needs a history of `least` periods. `factors` says how many items one of a unit of measure is. Further words are `delimiter`, `encoding`, `decimal` and `date_formats`.
+    item needs a history of `least` periods. `factors` says how many items one of a unit of measure is. Further words
+    are `delimiter`, `encoding`, `decimal` and `date_formats`.
 
     Raises Refused and RefusedFaults for files that can't be read. Rows and items with faults are in `rejects`.
     """
@@ -214,7 +215,8 @@ def readers_of(rows: Mapping[str, Rows], decimal: str | None) -> dict[str, Amoun
     for kind, roles in AMOUNTS.items():
         for role in roles:
             codes = rows[kind].columns.get(role) if kind in rows else None
-            readers[role] = AmountReader(decimal, currencies if role in MONEY else None).look(codes.distinct if codes else ())
+            readers[role] = AmountReader(decimal, currencies if role in MONEY else None).look(codes.distinct if codes
+                                                                                              else ())
     return readers
 
 
@@ -254,7 +256,8 @@ def _read(sources: Mapping[str, Source], words: Words, writer: Writer) -> dict[s
         return rejected
     patterns = words.rules.date_formats
     rows = read_rows(sources, ROLES, bool(patterns), reject)
-    dates = {kind: DateReader([cell for role in DATES if role in its.columns for cell in its.columns[role].distinct], patterns)
+    dates = {kind: DateReader([cell for role in DATES if role in its.columns for cell in its.columns[role].distinct],
+                              patterns)
              for kind, its in rows.items()}
     record = record_of(days_of(rows["demand"], dates["demand"]), words.every, start, end, words.today)
     amounts = readers_of(rows, words.rules.decimal)
@@ -269,7 +272,8 @@ def counts_of(rows: Mapping[str, Rows], reader: Reader) -> dict[str, Any]:
     """Returns the counts of rows by table, and of items: of rows as they were read, and of what became of them."""
     its = reader.counts
     files = {kind: {"name": table.source.name, "read": len(table) + table.rejected, "blank": table.blank,
-                    "used": its.used[kind], "rejected": table.rejected + its.rejected[kind], "with_item": its.with_item[kind]}
+                    "used": its.used[kind], "rejected": table.rejected + its.rejected[kind],
+                    "with_item": its.with_item[kind]}
              for kind, table in rows.items()}
     items = {name: value for name, value in asdict(its).items() if isinstance(value, int) and name != "decimals"}
     return {"files": files, "items": items}

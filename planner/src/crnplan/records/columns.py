@@ -16,7 +16,8 @@ from .units import ROLE_UNITS, is_doubtful, unit_fault
 NAMES = tomllib.loads(Path(__file__).with_name("headings.toml").read_text("utf-8"))
 # The roles of each file in order, and those that each must have. s and S differ by their case.
 ROLES = {"demand": ["item", "date", "quantity", "returned", "measure"],
-         "items": ["item", "description", "setup", "holding", "backlog", "fill", "lead", "s", "S", "stock", "price", "price_for",
+         "items": ["item", "description", "setup", "holding", "backlog", "fill", "lead", "s", "S", "stock", "price",
+                   "price_for",
                    "class", "borrow"],
          "orders": ["item", "ordered", "received"]}
 NEEDED = {"item", "date", "quantity", "setup", "holding", "s", "S", "ordered", "received"}
@@ -87,7 +88,8 @@ def bare_name(name: str) -> tuple[str, str]:
         return name, IMPLIED.get(name, "")
     bare = " ".join(word for word, unit in zip(words, units) if not unit and word not in BESIDE)
     # A number says more than a share, that more than a time, and that more than items.
-    return bare, min(filter(None, units), key=lambda unit: (not unit.isdecimal(), unit not in ("share", "percent"), unit == "item"))
+    return bare, min(filter(None, units),
+                     key=lambda unit: (not unit.isdecimal(), unit not in ("share", "percent"), unit == "item"))
 
 
 def _listed(heading: Sequence[str]) -> str:
@@ -122,8 +124,8 @@ class Finder:
             elif places:
                 self._add(role, places[0], True)
             elif role in NEEDED:
-                self.wrong.append(f"no column looks like the {role}; say --column {self.kind}.{role}=NAME; the columns are: "
-                                  f"{_listed(self.heading)}")
+                self.wrong.append(f"no column looks like the {role}; say --column {self.kind}.{role}=NAME; the "
+                                  f"columns are: {_listed(self.heading)}")
         return self.found, self.wrong
 
     def _take(self, role: str, places: Sequence[int], name: str) -> None:
@@ -136,8 +138,8 @@ class Finder:
                               f"{_listed(self.heading)}")
 
     def _places(self, role: str) -> list[int]:
-        """Returns the places of the columns that may have a role: those with its very name, else those with its name and a
-        unit, else those that begin so."""
+        """Returns the places of the columns that may have a role: those with its very name, else those with its name
+        and a unit, else those that begin so."""
         taken = {it.place for it in self.found.values()}
         known = {name for other, names in self.names.items() if other != role for name in names} - self.names[role]
         free = [place for place, name in enumerate(self.plain) if place not in taken and name not in known]
@@ -156,7 +158,8 @@ class Finder:
         reason = unit_fault(role, unit) if unit else None
         if reason:
             origin = "is stated" if stated else f"is the unit in the heading {heading!r}"
-            self.wrong.append(f"{unit!r} {origin}, and {reason}; say --unit {self.kind}.{role}=UNIT, or convert its numbers")
+            self.wrong.append(f"{unit!r} {origin}, and {reason}; say --unit {self.kind}.{role}=UNIT, or convert its "
+                              "numbers")
         if is_doubtful(role, unit, self.every):
             self.wrong.append(f"the column {heading!r} names no unit, and may count {self.every}s or weeks; say --unit "
                               f"{self.kind}.{role}={self.every} or --unit {self.kind}.{role}=week")

@@ -109,7 +109,8 @@ class DateReader:
         """Returns the month, the day and the form of a date with slashes."""
         day_first = first > 12 if (first > 12) != (second > 12) else True in self.sides
         if first <= 12 and second <= 12 and first != second and len(self.sides) != 1:
-            raise Unreadable("day or month", text=shown(text), sides=" and ".join(repr(shown(it)) for it in self.sides.values()))
+            raise Unreadable("day or month", text=shown(text),
+                             sides=" and ".join(repr(shown(it)) for it in self.sides.values()))
         return (second, first, "31/03/2026") if day_first else (first, second, "03/31/2026")
 
 

@@ -97,7 +97,8 @@ class RefusedFiles(RefusedFaults):
 
 
 REJECTS = (text("file", "name of the file"), whole("line", "", "line of the fault, 0 if there is none"),
-           whole("column", "", "column, 0 if there is none"), text("what", "what is wrong"), text("row", "text of the row"))
+           whole("column", "", "column, 0 if there is none"), text("what", "what is wrong"),
+           text("row", "text of the row"))
 
 
 def write_rejects(path: Path, faults: Sequence[Fault]) -> None:

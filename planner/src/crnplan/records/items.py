@@ -31,7 +31,8 @@ KEEP, LEAVE_OUT = "keep", "leave-out"
 MOVED = ("date", "quantity", "returned")
 ITEMS_AT_ONCE = 1_000
 # Codes of remarks on an item, each with the names of its facts.
-EQUAL_MASTERS, LATE, BOXES, NETTED = "equal masters", "late", "boxes", "taken off earlier"  # masters; period; items; amounts
+EQUAL_MASTERS, LATE, BOXES = "equal masters", "late", "boxes"  # masters; period; items
+NETTED = "taken off earlier"  # amounts
 STOCK_BELOW, TWICE = "stock below 0", "rows twice"  # none; rows
 
 
@@ -75,7 +76,8 @@ class Left(Exception):
 
 @dataclass(frozen=True)
 class Moves:
-    """The movements of all items, by item and in the order of their rows: lines, periods, amounts asked for and back."""
+    """The movements of all items, by item and in the order of their rows: lines, periods, amounts asked for and
+    back."""
 
     ends: Numbers
     lines: npt.NDArray[np.int32]
@@ -168,7 +170,8 @@ class Reader:
         kind, line, column, text = why.place
         self.counts.left_out += 1
         self.counts.with_item.update(count)
-        self.writer.reject(Reject("item", self.rows[kind].source.name, line, name, column, on_one_line(text), why.remark,
+        self.writer.reject(Reject("item", self.rows[kind].source.name, line, name, column, on_one_line(text),
+                                  why.remark,
                                   count["demand"]))
 
     def _values(self, kind: str, role: str) -> tuple[Numbers, dict[int, Remark]]:
@@ -215,7 +218,8 @@ class Reader:
         self._reject_rows(np.flatnonzero(bad), faults)
         good = self._without_twins(~bad)
         if "measure" in rows.columns and self.ways.factors:
-            factors = np.array([self.ways.factors.get(text_of(it), 1) for it in rows.columns["measure"].distinct], np.int64)
+            factors = np.array([self.ways.factors.get(text_of(it), 1) for it in rows.columns["measure"].distinct],
+                               np.int64)
             for role in columns.keys() - {"date"}:
                 columns[role] = columns[role] * factors[rows.codes("measure")]
         order, ends = rows.by_item(np.flatnonzero(good))
@@ -229,14 +233,16 @@ class Reader:
         codes = {role: rows.codes(role)[bad].tolist() for role in MOVED if role in rows.columns}
         items = rows.codes("item")[bad].tolist()
         for place, (row, item) in enumerate(zip(bad.tolist(), items)):
-            found = [(role, rows.columns[role].distinct[its[place]], faults[role][its[place]]) for role, its in codes.items()
+            found = [(role, rows.columns[role].distinct[its[place]], faults[role][its[place]]) for role,
+                     its in codes.items()
                      if its[place] in faults[role]]
             if is_total(self.names[item], rows.cell("date", row)):
                 found = [("item", self.names[item], Remark("total"))]
                 totals_of[item] += 1
             self._reject(rows, row, found)
         of_item = np.bincount(rows.codes("item"), minlength=len(self.names))
-        elsewhere = {*(code for kind, its in self.rows.items() if kind != "demand" for code in its.codes("item").tolist())} \
+        elsewhere = {*(code for kind, its in self.rows.items() if kind != "demand"
+                       for code in its.codes("item").tolist())} \
             if totals_of else set()
         self.no_items = {item for item, count in totals_of.items() if of_item[item] == count and item not in elsewhere}
 
@@ -245,13 +251,15 @@ class Reader:
         kind = rows.source.kind
         self.counts.rejected[kind] += 1
         columns, texts, remark = self._said(kind, found)
-        self.writer.reject(Reject("row", rows.source.name, int(rows.lines[row]), self.names[rows.codes("item")[row]], columns,
+        self.writer.reject(Reject("row", rows.source.name, int(rows.lines[row]), self.names[rows.codes("item")[row]],
+                                  columns,
                                   texts, remark, int(kind == "demand")))
 
     def _said(self, kind: str, found: Sequence[Found]) -> tuple[str, str, Remark]:
         """Returns columns and texts of faults, each joined, and what is said of them."""
         return (", ".join(self.column(kind, role) for role, _, _ in found),
-                ", ".join(on_one_line(text_of(cell)) for _, cell, _ in found), joined([remark for _, _, remark in found]))
+                ", ".join(on_one_line(text_of(cell)) for _, cell, _ in found),
+                joined([remark for _, _, remark in found]))
 
     def _without_twins(self, good: npt.NDArray[np.bool_]) -> npt.NDArray[np.bool_]:
         """Names the rows that are the same as others, once for each item, and takes them out if that is wanted."""
@@ -264,7 +272,9 @@ class Reader:
             lines = rows.lines[mine].tolist()
             self.twice[item] = len(lines)
             leaves = self.ways.twice == LEAVE_OUT
-            remark = Remark("twin", {"count": len(lines), "lines": named_lines(lines), "first": int(rows.lines[first[mine[0]]])})
+            remark = Remark("twin",
+                            {"count": len(lines), "lines": named_lines(lines),
+                             "first": int(rows.lines[first[mine[0]]])})
             self.counts.rejected["demand"] += len(lines) * leaves
             self.writer.reject(Reject("row" if leaves else "suspicious", rows.source.name, lines[0], self.names[item],
                                       self.column("demand", "item"), self.names[item], remark, len(lines) * leaves))
@@ -284,7 +294,8 @@ class Reader:
         for role in ("ordered", "received"):
             columns[role], faults[role] = self._values("orders", role)
         leads, kept = [], []
-        for row, placed, there in zip(range(len(rows)), rows.codes("ordered").tolist(), rows.codes("received").tolist()):
+        for row, placed, there in zip(range(len(rows)), rows.codes("ordered").tolist(),
+                                      rows.codes("received").tolist()):
             if rows.columns["received"].distinct[there] == "":
                 self.counts.open_orders += 1
                 leads.append(0)
@@ -313,7 +324,8 @@ class Reader:
             raise Faulty(found)
         days = [self.dates["orders"].read(cell)[0] for cell in cells.values()]
         if days[1] < days[0]:
-            raise Faulty([("received", cells["received"], Remark("before order", {"ordered": text_of(cells["ordered"])}))])
+            raise Faulty([("received", cells["received"],
+                           Remark("before order", {"ordered": text_of(cells["ordered"])}))])
         try:
             return checked_lead(max(1, int(columns["received"][there] - columns["ordered"][placed])))
         except Unreadable as why:
@@ -332,11 +344,15 @@ class Reader:
         self._check_counts(asked, back)
         self.counts.late += first > self.record.periods[0]
         self.counts.decimals = max(self.counts.decimals, master.decimals)
-        its = Item(name, tuple(asked), master.leads, master.levels, master.setup, master.holding, master.backlog, master.fill,
-                   returns=tuple(back) if any(back) else (), group=master.group, borrow=master.borrow, stock=master.stock,
-                   price=master.price, description=master.description, first=first, line=master.line, rows=len(moves.lines))
+        its = Item(name, tuple(asked), master.leads, master.levels, master.setup, master.holding, master.backlog,
+                   master.fill,
+                   returns=tuple(back) if any(back) else (), group=master.group, borrow=master.borrow,
+                   stock=master.stock,
+                   price=master.price, description=master.description, first=first, line=master.line,
+                   rows=len(moves.lines))
         if round(its.levels[1] / its.box) > MOST_ITEMS:
-            raise Left("items", master.line, self.column("items", "S"), str(master.levels[1]), Remark("S too large", {"most": MOST_ITEMS}))
+            raise Left("items", master.line, self.column("items", "S"), str(master.levels[1]),
+                       Remark("S too large", {"most": MOST_ITEMS}))
         return replace(its, remarks=tuple(self._remarks(item, its, len(masters), netted)))
 
     def _asked(self, moves: Moves, first: int, periods: int) -> tuple[list[int], int]:
@@ -367,7 +383,8 @@ class Reader:
         if len(rest) > 1:
             both = " and ".join(repr(text) for text, _ in sorted(rest, key=lambda it: it[1]))
             text, line = max(rest, key=lambda it: it[1])
-            raise Left("demand", line, self.column("demand", "measure"), text, Remark("measures", {"measures": both, "text": text}))
+            raise Left("demand", line, self.column("demand", "measure"), text,
+                       Remark("measures", {"measures": both, "text": text}))
 
     def _master(self, name: str, rows: Sequence[int], leads: Sequence[int], moves: Moves) -> Master:
         """Returns the master of an item that has demand. Raises Left."""
@@ -391,11 +408,12 @@ class Reader:
 
     def _check_far(self, moves: Moves) -> None:
         """Raises Left if some amounts are far above all others, as if counted a thousand times too large."""
-        for role, amounts in (("quantity", moves.asked), ("returned", moves.back)) if self.ways.far == LEAVE_OUT else ():
+        for role, amounts in (("quantity", moves.asked),
+                              ("returned", moves.back)) if self.ways.far == LEAVE_OUT else ():
             far = far_above(amounts)
             if far:
                 ranked = np.lexsort((moves.lines.astype(np.int64), -amounts))
-                lines, least, below = moves.lines[ranked[:far]].tolist(), int(amounts[ranked[far - 1]]), int(amounts[ranked[far]])
+                lines, (least, below) = moves.lines[ranked[:far]].tolist(), amounts[ranked[far - 1:far + 1]].tolist()
                 raise Left("demand", lines[0], self.column("demand", role), str(amounts[ranked[0]]),
                            Remark("far", {"lines": named_lines(lines), "times": least // below, "next": below}))
 

@@ -20,8 +20,8 @@ def read_lead_times(table: Table, *, lead: str | None = None, every: str | None 
                     item: Mapping[str, str] | None = None, leave_out: bool = False) -> LeadTimes:
     """Reads lead times in whole periods from a CSV file (`-` is standard input), a sheet or a DataFrame.
 
-    With `lead`, the name of a column, each row is a lead time; if its heading names a unit of time, as `Days`, and `every` is known,
-    it is converted. Without it each row is an order, with the dates on which
+    With `lead`, the name of a column, each row is a lead time; if its heading names a unit of time, as `Days`, and
+    `every` is known, it is converted. Without it each row is an order, with the dates on which
     it was placed and received, and `every` is day, week or month. An order that was placed on any day of period t and
     received on any day of period t + L has lead time L, and 1 if both fell in one period. Orders not yet received are
     left out, with a note. Further words are those of `Rules`. Raises RefusedFaults with all faults of the file.
@@ -66,7 +66,8 @@ def _orders(reading: Reading, ordered: str, received: str, every: str) -> LeadTi
     if len(reading.rows) > MOST_WEIGHT:
         reason = f"{len(reading.rows):,} orders are more than {MOST_WEIGHT:,}; leave the oldest out"
         raise reading.refused(reading.rows[MOST_WEIGHT], ordered, reason)
-    reader = DateReader([*reading.columns[ordered].distinct, *reading.columns[received].distinct], reading.rules.date_formats)
+    reader = DateReader([*reading.columns[ordered].distinct, *reading.columns[received].distinct],
+                        reading.rules.date_formats)
     dates = {name: reading.read(name, reader.read, reading.rows) for name in (ordered, received)}
     numbers: list[int | None] = [None] * len(reading.rows)
     for place, (placed, there) in enumerate(zip(dates[ordered], dates[received])):

@@ -105,8 +105,10 @@ class Masters:
         self.readers: dict[str, Callable[[Cell], Any]] = {
             "setup": amounts["setup"].amount, "holding": self._holding(amounts["holding"]),
             "lead": lambda cell: leads_of(cell, units.get("lead", ""), every), "backlog": amounts["backlog"].positive,
-            "fill": lambda cell: amounts["fill"].share(cell, "fill" in self.factors), "s": amounts["s"].items, "S": amounts["S"].items,
-            "stock": amounts["stock"].number, "price": amounts["price"].amount, "price_for": amounts["price_for"].positive,
+            "fill": lambda cell: amounts["fill"].share(cell, "fill" in self.factors), "s": amounts["s"].items,
+            "S": amounts["S"].items,
+            "stock": amounts["stock"].number, "price": amounts["price"].amount,
+            "price_for": amounts["price_for"].positive,
             "borrow": borrowed_from}
 
     def _holding(self, reader: AmountReader) -> Callable[[Cell], Fraction]:
@@ -119,7 +121,8 @@ class Masters:
                 raise Unreadable("is share", text=shown(text))
             number = reader.positive(text.rstrip("% ") if is_percent else cell)
             if self.share == "share" and number >= 1 and not is_percent:
-                raise Unreadable("small percent", text=shown(text), unit="--unit items.holding=percent, or write a share below 1")
+                raise Unreadable("small percent", text=shown(text),
+                                 unit="--unit items.holding=percent, or write a share below 1")
             return number / 100 if is_percent and self.share == "share" else number
         return holding
 
@@ -136,11 +139,14 @@ class Masters:
             raise Faulty(faults)
         decimals = max(decimals_of(read[it]) for it in MONEY if read[it] is not None)
         read["price"] = None if read["price"] is None else read["price"] / (read["price_for"] or 1)
-        its = {role: value if value is None or role not in self.factors or role == "fill" else value * self.factors[role]
+        its = {role: value if value is None or role not in self.factors or role == "fill"
+               else value * self.factors[role]
                for role, value in read.items()}
         holding = its["holding"] * its["price"] if self.share else its["holding"]
-        return Master(line, UNPRINTABLE.sub(" ", str(cells.get("description", ""))), its["setup"], holding, its["backlog"],
-                      its["fill"], tuple(its["lead"] or observed), (int(its["s"]), int(its["S"])), its["stock"], its["price"],
+        return Master(line, UNPRINTABLE.sub(" ", str(cells.get("description", ""))), its["setup"], holding,
+                      its["backlog"],
+                      its["fill"], tuple(its["lead"] or observed), (int(its["s"]), int(its["S"])), its["stock"],
+                      its["price"],
                       UNPRINTABLE.sub(" ", str(cells.get("class", ""))), its["borrow"] or "", decimals)
 
     def _read(self, cells: Mapping[str, Cell]) -> tuple[dict[str, Any], list[Found]]:

@@ -27,7 +27,8 @@ def checked_heading(source: Source, wanted: Sequence[str]) -> None:
     faults = []
     for column in (it for it in dict.fromkeys(wanted) if source.heading.count(it) != 1):
         how_many, advice = ("no", "") if column not in source.heading else ("more than one", "; rename all but one")
-        faults.append(Fault(f"{how_many} column {column!r}; the columns are: {found}{advice}", source.sheet.name, source.line))
+        faults.append(Fault(f"{how_many} column {column!r}; the columns are: {found}{advice}", source.sheet.name,
+                            source.line))
     if faults:
         raise RefusedFaults(faults)
 
@@ -51,13 +52,15 @@ class Reading:
         self.notes: list[str] = []
         # What is wrong with a cell, or is to be said of it: its row, its place in the row and a text.
         self.found: list[tuple[int, int, str]] = []
-        self._said: list[str | tuple[int, str, str]] = [*(f"{self.source.sheet.name}: {it}" for it in title_note(self.source.titles))]
+        self._said: list[str | tuple[int, str, str]] = [*(f"{self.source.sheet.name}: {it}"
+                                                          for it in title_note(self.source.titles))]
         rows = self._item_rows()
         self.long = {row: self.wide[row] for row in rows if row in self.wide}
         self.rows = [row for row in rows if row not in self.long]
         for row, cells in self.long.items():
             width = len(self.source.heading)
-            self.found.append((row, width, f"there are {cells} cells, and {width} columns in the heading; put a cell with a "
+            self.found.append((row, width,
+                               f"there are {cells} cells, and {width} columns in the heading; put a cell with a "
                                f"{self.source.sheet.sign} in quotes, or name each column in the heading"))
 
     def _fill(self, names: Sequence[str]) -> None:
@@ -68,7 +71,7 @@ class Reading:
         slots = [(heading.index(name), codes, self.codes[name].append) for name, codes in self.columns.items()]
         self.lines, self.blank, self.wide, self.twice = array("q"), set[int](), dict[int, int](), dict[int, int]()
         waiting: list[int] = []
-        # Rows are compared by a hash of 64 bits. In a million rows, two different ones collide once in 37 million files.
+        # Rows are compared by a hash of 64 bits: see `Rows.twins`.
         first_of: dict[int, int] = {}
         width = len(heading)
         for line, cells in self.source.rows():
@@ -109,8 +112,9 @@ class Reading:
             wanted[name] = {code for code, value in enumerate(values) if value == text}
             if not wanted[name]:
                 others = [repr(shown(it)) for it in values if it]
-                raise Refused(f"{self.source.sheet.name}: no row has {text!r} in column {name!r}, which has {len(others):,} "
-                              f"others: {', '.join(others[:MOST_NAMED])}{', ..' * (len(others) > MOST_NAMED)}")
+                raise Refused(f"{self.source.sheet.name}: no row has {text!r} in column {name!r}, which has "
+                              f"{len(others):,} others: {', '.join(others[:MOST_NAMED])}"
+                              + ", .." * (len(others) > MOST_NAMED))
         if not asked:
             return rows
         found = [row for row in rows if all(self.codes[name][row] in codes for name, codes in wanted.items())]
@@ -159,7 +163,8 @@ class Reading:
         faults = []
         for row, place, what in found:
             text = texts.get(self.lines[row], "")
-            faults.append(Reject(what, self.source.sheet.name, *self.source.sheet.place(text, self.lines[row], place), text))
+            faults.append(Reject(what, self.source.sheet.name, *self.source.sheet.place(text, self.lines[row], place),
+                                 text))
         return sorted(faults, key=lambda it: (it.line, it.column))
 
     def refused(self, row: int, name: str, reason: str) -> RefusedFaults:
@@ -171,9 +176,11 @@ class Reading:
         cells = [(row, self.source.heading.index(name), f"column {name!r}: {what}") for row, name, what in (
             it for it in self._said if not isinstance(it, str))]
         texts = self.source.sheet.texts({self.lines[row] for row, _, _ in cells})
-        placed = (Fault(what, self.source.sheet.name, *self.source.sheet.place(texts.get(self.lines[row], ""), self.lines[row], place))
+        placed = (Fault(what, self.source.sheet.name,
+                        *self.source.sheet.place(texts.get(self.lines[row], ""), self.lines[row], place))
                   for row, place, what in cells)
-        return tuple(it if isinstance(it, str) else str(next(placed)) for it in self._said), tuple(self.rejects(self.found))
+        return tuple(it if isinstance(it, str) else str(next(placed))
+                     for it in self._said), tuple(self.rejects(self.found))
 
     def kept(self, columns: Mapping[str, Sequence[Any]]) -> tuple[list[int], dict[str, list[Any]]]:
         """Returns the rows in which each of these columns was read, and their values.
@@ -195,7 +202,8 @@ class Reading:
         return rows, {name: [values[it] for it in places] for name, values in columns.items()}
 
     def total_reason(self, row: int, number: int | None, others: Sequence[int]) -> str | None:
-        """Returns why a row looks like a total of the rows above, the numbers of which are given; None if it doesn't."""
+        """Returns why a row looks like a total of the rows above, the numbers of which are given; None if it
+        doesn't."""
         cells = self.source.sheet.cells(self.source.sheet.texts([self.lines[row]])[self.lines[row]])
         word = next((it for it in cells if TOTAL.match(it)), None)
         if word is not None:
@@ -204,12 +212,13 @@ class Reading:
         return f"{number} is the sum of all others" if summed else None
 
     def suspect(self, name: str, rows: Sequence[int], numbers: Sequence[int]) -> None:
-        """Notes what is suspicious in a column of amounts: a last row that looks like a total, amounts far above all others,
-        and amounts that few rows write so, which another decimal sign would change."""
+        """Notes what is suspicious in a column of amounts: a last row that looks like a total, amounts far above all
+        others, and amounts that few rows write so, which another decimal sign would change."""
         if rows and rows[-1] == len(self.lines) - 1:
             reason = self.total_reason(rows[-1], numbers[-1], numbers[:-1])
             if reason:
-                self.note_cell(rows[-1], name, f"the last row looks like a total of the rows above ({reason}); if it is, remove "
+                self.note_cell(rows[-1], name,
+                               f"the last row looks like a total of the rows above ({reason}); if it is, remove "
                                "it")
                 rows, numbers = rows[:-1], numbers[:-1]
         for row, number, below, next_row in far_rows(rows, numbers):
@@ -218,7 +227,8 @@ class Reading:
         decimal = self.rules.decimal
         for place, how_many in rare_signs([self.text(name, row) for row in rows], decimal) if decimal else ():
             text = self.text(name, rows[place])
-            self.note_cell(rows[place], name, f"{shown(text)!r} is read as {numbers[place]} ({how_many} of {len(rows)} rows are "
+            self.note_cell(rows[place], name,
+                           f"{shown(text)!r} is read as {numbers[place]} ({how_many} of {len(rows)} rows are "
                            f"written so; with another decimal sign it would be {other_reading(text, decimal)})")
 
     def note_twins(self, rows: Sequence[int], amounts: Sequence[str]) -> None:
@@ -229,8 +239,10 @@ class Reading:
         if again:
             more = named_lines([self.lines[it] for it in again[1:]])
             others = f", and {len(again) - 1} more as others above them ({more})" if again[1:] else ""
-            self._said.append(str(Fault(f"the row is the same as that of line {self.lines[self.twice[again[0]]]}{others}; if they "
-                                        "were exported twice, remove them", self.source.sheet.name, self.lines[again[0]])))
+            first = self.lines[self.twice[again[0]]]
+            self._said.append(str(Fault(f"the row is the same as that of line {first}{others}; if they "
+                                        "were exported twice, remove them", self.source.sheet.name,
+                                        self.lines[again[0]])))
 
     def note_forms(self, name: str, rows: Sequence[int], dates: Sequence[tuple[datetime.date, str]],
                    reader: DateReader) -> None:
@@ -241,7 +253,8 @@ class Reading:
         if len(first_rows) > 1:
             named = ", ".join(f"{shown(self.text(name, row))!r} (line {self.lines[row]}) is "
                               f"{reader.read(self.text(name, row))[0]}" for row in first_rows.values())
-            self.note_cell(max(first_rows.values()), name, f"the dates have {len(first_rows)} forms: {named}; if one is wrong, "
+            self.note_cell(max(first_rows.values()), name,
+                           f"the dates have {len(first_rows)} forms: {named}; if one is wrong, "
                            "say --date-format")
 
     def places(self, cells: Sequence[tuple[int, str, str] | None]) -> tuple[Place | None, ...]:
@@ -253,7 +266,8 @@ class Reading:
                 places.append(None)
                 continue
             row, name, subject = cell
-            line, column = self.source.sheet.place(texts[self.lines[row]], self.lines[row], self.source.heading.index(name))
+            line, column = self.source.sheet.place(texts[self.lines[row]], self.lines[row],
+                                                   self.source.heading.index(name))
             places.append(Place(self.source.sheet.name, line, column, name, subject))
         return tuple(places)
 
@@ -272,7 +286,8 @@ class Reading:
     def check_rows(self, name: str) -> None:
         """Rejects more rows than a table can count, each of which would count 1."""
         if len(self.rows) > MOST_WEIGHT:
-            raise self.refused(self.rows[MOST_WEIGHT], name, f"{len(self.rows):,} rows are more than {MOST_WEIGHT:,}; leave the "
+            raise self.refused(self.rows[MOST_WEIGHT], name,
+                               f"{len(self.rows):,} rows are more than {MOST_WEIGHT:,}; leave the "
                                "oldest out")
 
 

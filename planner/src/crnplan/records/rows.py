@@ -76,13 +76,15 @@ class Rows:
     def fill(self, reject: RejectRow) -> None:
         """Reads all rows. Those without an item, and with too many cells, are rejected."""
         width, place_of_item = len(self.source.heading), self.source.columns["item"].place
-        slots = [(self.source.columns[role].place, codes, self._codes[role].append) for role, codes in self.columns.items()]
+        slots = [(self.source.columns[role].place, codes, self._codes[role].append) for role,
+                 codes in self.columns.items()]
         add_line, add_twin, names = self._lines.append, self._twins.append, self.names
         known = names.places
         for line, cells in self.source.rows():
             if len(cells) != width:
                 if any(map(text_of, cells[width:])):
-                    self._reject(reject, line, "long", "", ",".join(map(text_of, cells)), {"cells": len(cells), "columns": width, "sign": self.source.sheet.sign})
+                    self._reject(reject, line, "long", "", ",".join(map(text_of, cells)),
+                                 {"cells": len(cells), "columns": width, "sign": self.source.sheet.sign})
                     continue
                 cells = [*cells[:width], *[""] * (width - len(cells))]
             name = cells[place_of_item]
@@ -106,7 +108,8 @@ class Rows:
         else:
             self.blank += 1
 
-    def _reject(self, reject: RejectRow, line: int, code: str, role: str, text: str, facts: Mapping[str, Value]) -> None:
+    def _reject(self, reject: RejectRow, line: int, code: str, role: str, text: str,
+                facts: Mapping[str, Value]) -> None:
         """Rejects a row."""
         self.rejected += 1
         reject(line, code, role, text, facts)
@@ -125,8 +128,9 @@ class Rows:
         return np.frombuffer(self._lines, np.int32) if len(self) else np.zeros(0, np.int32)
 
     def twins(self) -> Numbers:
-        """Returns for each row the first row with the same cells, which is itself for most, and forgets the hashes. Rows are
-        compared by a hash of 64 bits: in a million rows, two different ones collide once in 37 million files."""
+        """Returns for each row the first row with the same cells, which is itself for most, and forgets the hashes.
+        Rows are compared by a hash of 64 bits: in a million rows, two different ones collide once in 37 million
+        files."""
         hashes = np.frombuffer(self._twins, np.int64) if len(self) else np.zeros(0, np.int64)
         order = np.argsort(hashes, kind="stable")
         starts = np.flatnonzero(np.r_[True, np.diff(hashes[order]) != 0]) if len(order) else order

@@ -21,7 +21,8 @@ from ..errors import Fault, Refused, RefusedFaults
 from .amounts import Cell
 from .columns import Column, Finder, Stated, role_of
 from .faults import shown
-from .texts import (DELIMITERS, HEAD_BYTES, SAMPLE_ROWS, Rules, RoleOf, byte_fault, delimiter_of, head_of, heading_of, lines_of,
+from .texts import (DELIMITERS, HEAD_BYTES, SAMPLE_ROWS, Rules, RoleOf, byte_fault, delimiter_of, head_of, heading_of,
+                    lines_of,
                     nul_fault, rows_of_lines, sample, state_of, unchanged, whole_file)
 from .units import said
 
@@ -36,7 +37,8 @@ BOOKS = (".xlsx", ".xlsm")
 
 
 class Sheet:
-    """A table before its columns are known: its name in messages, how it is written, and what is wrong with its bytes."""
+    """A table before its columns are known: its name in messages, how it is written, and what is wrong with its
+    bytes."""
 
     def __init__(self, name: str, written: str) -> None:
         """Takes the name and how the table is written."""
@@ -121,7 +123,8 @@ class TextSheet(Sheet):
         """Gives the lines of the file, which nobody may change meanwhile."""
         errors = "replace" if self.fault else "strict"
         try:
-            with unchanged(self.path, self.name, self.state), self.path.open(encoding=self.encoding, errors=errors, newline="") as file:
+            with unchanged(self.path, self.name, self.state), self.path.open(encoding=self.encoding, errors=errors,
+                                                                             newline="") as file:
                 yield lines_of(self.name, file)
         except UnicodeError as fault:
             raise RefusedFaults([self._undecodable(fault)]) from fault
@@ -188,7 +191,8 @@ class BookSheet(Sheet):
         try:
             self.book = openpyxl.load_workbook(path, read_only=True, data_only=True)
         except (OSError, zipfile.BadZipFile, KeyError, ValueError) as fault:
-            raise Refused(f"{path}: this is no workbook that can be read ({fault}); export it again, or as CSV") from fault
+            raise Refused(f"{path}: this is no workbook that can be read ({fault}); export it again, or as "
+                          "CSV") from fault
         names = self.book.sheetnames
         if sheet is None and len(names) > 1 or sheet is not None and sheet not in names:
             known = ", ".join(names[:MOST_LISTED])

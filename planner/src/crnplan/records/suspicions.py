@@ -17,8 +17,8 @@ TOTAL = re.compile(r"\W*(?:grand |sub)?(?:totals?|totale|totaal|sum|summe|gesamt
 
 
 def far_rows(rows: Sequence[int], numbers: Sequence[int]) -> Iterator[tuple[int, int, int, int]]:
-    """Yields each of the few numbers that are far above all others: its row, the number, the next largest, and the row of
-    that."""
+    """Yields each of the few numbers that are far above all others: its row, the number, the next largest, and the row
+    of that."""
     ranked = sorted({it for it in numbers if it > 0}, reverse=True)
     for above, below in list(zip(ranked, ranked[1:]))[:MOST_FAR]:
         far = [(row, number) for row, number in zip(rows, numbers) if number >= above]
@@ -29,8 +29,8 @@ def far_rows(rows: Sequence[int], numbers: Sequence[int]) -> Iterator[tuple[int,
 
 
 def rare_signs(texts: Sequence[str], decimal: str) -> Iterator[tuple[int, int]]:
-    """Yields the place of the first number that another decimal sign would make a thousand times smaller, or larger, and
-    how many are written so, if they are few."""
+    """Yields the place of the first number that another decimal sign would make a thousand times smaller, or larger,
+    and how many are written so, if they are few."""
     group = "." if decimal == "," else ","
     signed = {it for it in {*texts} if ("," in it or "." in it) and other_reading(it, decimal)}
     for is_grouped in (True, False):

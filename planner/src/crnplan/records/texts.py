@@ -30,8 +30,9 @@ SAMPLE_ROWS, TITLE_ROWS = 1_000, 50
 DELIMITERS = {",": ",", ";": ";", "tab": "\t", "\t": "\t"}
 MARKS = ((codecs.BOM_UTF8, "utf-8-sig"), (codecs.BOM_UTF16_LE, "utf-16"), (codecs.BOM_UTF16_BE, "utf-16"))
 EXPORT = "or export the file as CSV in UTF-8"
-# Bytes beside letters that are letters of Central Europe in cp1250, and signs or rare letters in cp1252; and the reverse.
-CENTRAL, WESTERN = b"\x8c\x8d\x8f\x9c\x9d\x9f\xa3\xa5\xaf\xb3\xb9\xbe\xbf\xe6\xec", b"\xe0\xe2\xe5\xe8\xea\xf1\xf2\xf8\xfb"
+# Bytes beside letters that are letters in cp1250, and signs or rare letters in cp1252; and the reverse.
+CENTRAL = b"\x8c\x8d\x8f\x9c\x9d\x9f\xa3\xa5\xaf\xb3\xb9\xbe\xbf\xe6\xec"
+WESTERN = b"\xe0\xe2\xe5\xe8\xea\xf1\xf2\xf8\xfb"
 RoleOf = Callable[[str], str | None]
 
 
@@ -132,8 +133,8 @@ def nul_fault(name: str, data: bytes, text: str, line: int = 1) -> Fault:
 def head_of(path: Path, name: str, rules: Rules) -> tuple[str, str, Fault | None]:
     """Returns the encoding of a file, the text of its first lines, and what is wrong with its bytes.
 
-    If nobody has stated the encoding and the bytes are not UTF-8, it is the likely one, with a fault: so the rest of the
-    file can be checked too. Raises Refused, and RefusedFaults for other bytes that can't be decoded.
+    If nobody has stated the encoding and the bytes are not UTF-8, it is the likely one, with a fault: so the rest of
+    the file can be checked too. Raises Refused, and RefusedFaults for other bytes that can't be decoded.
     """
     try:
         with path.open("rb") as file:
@@ -142,7 +143,8 @@ def head_of(path: Path, name: str, rules: Rules) -> tuple[str, str, Fault | None
         raise Refused(f"{name}: {fault.strerror}; check the name of the file") from fault
     encoding, found = encoding_of(data, rules.encoding), None
     if len(data) == HEAD_BYTES and not re.search(b"[\r\n]", data):
-        raise RefusedFaults([Fault(f"the first line has more than {HEAD_BYTES:,} bytes; end each row with a line feed", name, 1)])
+        raise RefusedFaults([Fault(f"the first line has more than {HEAD_BYTES:,} bytes; end each row with a line feed",
+                                   name, 1)])
     if len(data) == HEAD_BYTES and not encoding.startswith("utf-16"):
         data = data[:data.rfind(b"\n") + 1] or data
     try:
@@ -180,7 +182,8 @@ def lines_of(name: str, file: io.TextIOBase) -> Iterator[str]:
     read = functools.partial(file.readline, MOST_LETTERS)
     for number, line in enumerate(iter(read, ""), 1):
         if len(line) == MOST_LETTERS:
-            raise RefusedFaults([Fault(f"the line has more than {MOST_LETTERS - 1:,} letters; end each row with a line feed",
+            raise RefusedFaults([Fault(f"the line has more than {MOST_LETTERS - 1:,} letters; end each row with a "
+                                       "line feed",
                                        name, number)])
         yield line
 
