@@ -298,14 +298,14 @@ def test_no_program(room: Path, plan: Plan) -> None:
     assert not (room / "plan").exists()
 
 
-@pytest.mark.parametrize("script, part", [("echo no report", "no report"),
-                                          ("echo crnsim: memory >&2; exit 7", "crnsim: memory")])
-def test_program_that_fails(script: str, part: str, room: Path, plan: Plan) -> None:
+@pytest.mark.parametrize("script, wanted, part", [("echo no report", 2, "no report"),
+                                                  ("echo crnsim: memory >&2; exit 7", 3, "crnsim: memory")])
+def test_program_that_fails(script: str, wanted: int, part: str, room: Path, plan: Plan) -> None:
     """If the program fails, nothing is decided, and a good program then does it all."""
     bad = room / "bad"
     bad.write_text(f"#!/bin/sh\n{script}\n")
     bad.chmod(0o755)
     status, output, errors = plan(used=bad)
-    assert (status, output) == (2, "") and part in errors
+    assert (status, output) == (wanted, "") and part in errors
     assert plan().status == 0
     assert read_settings(room / "settings.toml")["run"]["horizon"] == 12
