@@ -90,18 +90,20 @@ def put_file(case: Case, room: Path) -> None:
         (room / "FILE").write_bytes(text)
 
 
-def instructions_in(file: Path, program: Path) -> int:
-    """Returns the instructions of the program itself that callgrind has written to a file.
+def instructions_in(file: Path, program: Path, function: str = "") -> int:
+    """Returns the instructions of the program itself that callgrind has written to a file, or of a function by its begin.
 
     Each function's object is named above its lines, which have a place and a count. The line behind a call counts what
     was called, which has lines too.
     """
-    count, is_own, is_call = 0, False, False
+    count, is_own, is_call, is_asked = 0, False, False, True
     with open(file, encoding="utf-8", errors="replace") as lines:
         for line in lines:
             if line.startswith("ob="):
                 is_own = line.rstrip() == f"ob={program}"
-            elif is_own and not is_call and line[0].isdigit():
+            elif line.startswith("fn="):
+                is_asked = line.startswith(f"fn={function}")
+            elif is_own and is_asked and not is_call and line[0].isdigit():
                 count += int(line.split()[1])
             is_call = line.startswith("calls=")
     return count
