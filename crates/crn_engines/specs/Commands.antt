@@ -60,7 +60,8 @@ WroteReport reading reading' held held' = Wrote (MadeReport reading reading') he
 abbrev pub WroteFront : Option (List ℕ) → Option (List ℕ) → Option (List ℕ) → Option (List ℕ) → Type 0
 WroteFront reading reading' held held' = WroteFrontOf (MadeReport reading reading') held held'
 
--- the scenario was read before a thread is started and before anything is written
+-- a fault of a thread or of the output comes only if the whole input was read and is the text of a scenario; each other fault
+-- says what is wrong with the input, or that an allocation failed
 abbrev pub RefusesSimulation : Fault → Option (List ℕ) → Option (List ℕ) → Type 0
 RefusesSimulation (fault.Thread _) reading reading' = HasScenario reading reading'
 RefusesSimulation (fault.Writing _) reading reading' = HasScenario reading reading'

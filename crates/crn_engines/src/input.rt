@@ -24,7 +24,8 @@ pub enum ReadFault {
     TooLong,
 }
 
-// Appends what one read gives and counts the read if it succeeds. Returns whether the input goes on.
+// One turn: appends what a read gives, and counts the turn if the read succeeds. Returns whether the input goes on. That a turn
+// makes one read and no more, no contract says of a reader that shows no bytes; `tests/sources` does.
 fn read_some<R: Read>(reader: &mut R, input: &mut Vec<u8>, reads: &mut usize) -> Result<bool, Fault>
     requires { reads.old < INPUT_LIMIT + 1 }
     ensures counted { reads.new ≤ reads.old + 1 }
@@ -45,7 +46,7 @@ fn read_some<R: Read>(reader: &mut R, input: &mut Vec<u8>, reads: &mut usize) ->
     Ok(true)
 }
 
-/// Reads to the end. At most `INPUT_LIMIT + 1` reads succeed.
+/// Reads to the end, in turns of one read each, of which at most `INPUT_LIMIT + 1` succeed.
 pub(crate) fn read_input<R: Read>(alloc: Global, reader: &mut R) -> Result<Vec<u8>, Fault>
     ensures all { IfOk result (λ input. ReadAll (R.remaining reader.old) (R.remaining reader.new) input.items) }
     ensures refused { IfErr result (λ e. RefusesInput e (R.remaining reader.old) (R.remaining reader.new)) }
@@ -54,7 +55,7 @@ pub(crate) fn read_input<R: Read>(alloc: Global, reader: &mut R) -> Result<Vec<u
     read_counted(alloc, reader, &mut reads)
 }
 
-// Reads to the end, and counts the reads that succeed.
+// Reads to the end, and counts the turns that succeed.
 fn read_counted<R: Read>(alloc: Global, reader: &mut R, reads: &mut usize) -> Result<Vec<u8>, Fault>
     requires { reads.old ≡ 0 }
     ensures few { reads.new ≤ INPUT_LIMIT + 1 }

@@ -23,7 +23,7 @@ use Rattle.crn_sequential.specs.Runs.{IsCheckpointOf, StandsBefore, EachOnward}
 use Rattle.crn_run.specs.declared.worker.PolicyEnd.{PolicyEnd}
 use Rattle.crn_run.specs.declared.worker.PolicyEnd.TheVariants.{Reached, Short, Held}
 use Rattle.crn_run.specs.Ends.{EndsAs, HasReadAll, IsRun, is_held}
-use Rattle.crn_run.specs.Faults.{EndedUnused, IsEnded, found_end}
+use Rattle.crn_run.specs.Faults.{EndedUnused, IsEnded, IsEndedOn, found_end}
 use Rattle.crn_run.specs.Gates.{AllPassed, AllPassedOrHeld, HeldAt, PassedOrHeld, PassedUpTo, SomeHeld, WasAsked}
 use Rattle.crn_run.specs.Inner.Ends.{AllReached, HasEarly, IsEarlyEnd, is_short}
 use Rattle.crn_run.specs.Jobs.{ring_spec}
@@ -134,7 +134,7 @@ reader_from ends k at w x place is i eq = (w, subst (λ (n : ℕ). slice_get end
 
 -- ---- all policies' runs
 
-item_at : {X : Type 0} (xs : List X) (i : ℕ) → i < length xs → (x : X) × (slice_get xs i ≡ Some x)
+pub item_at : {X : Type 0} (xs : List X) (i : ℕ) → i < length xs → (x : X) × (slice_get xs i ≡ Some x)
 item_at [] i lt = absurd (omega (arith, lt))
 item_at (x ∷ xs) zero lt = (x, refl)
 item_at (x ∷ xs) (suc i) lt = item_at xs i (omega (arith, lt))
@@ -259,24 +259,22 @@ module _ {G : Type 0} (refused : G → Bool) (asked : G → ℕ → ℕ → Bool
         passed_to first k at.0 checkpoint (end_of at.1 k at.0 at.3 at.2) (never_any is_short ends at.1 at.0 reached.0 at.2) (never_any is_held ends at.1 at.0 reached.1 at.2) gate is_gate
 
     -- an end that came early, of a reader of the ring
-    ended_of : (first k : ℕ) (f : ThreadFault) (e : PolicyEnd) → spec_of ring ≡ ring_spec s first upto → EndOf refused asked s ring start gates k e → IsEarlyEnd f e → IsEnded s first upto (found_end f.cause)
-    ended_of first k f (Reached w x) opened o early = absurd early
-    ended_of first k f (Short n w x) opened o early =
+    ended_of : (k : ℕ) (f : ThreadFault) (e : PolicyEnd) → EndOf refused asked s ring start gates k e → IsEarlyEnd f e → IsEndedOn ring upto (found_end f.cause)
+    ended_of k f (Reached w x) o early = absurd early
+    ended_of k f (Short n w x) o early =
         let told = ends_as_told k (Short n w x) o in
-        subst (IsEnded s first upto) (sym early) (record {
-          ring = ring;
-          spec = opened;
+        subst (IsEndedOn ring upto) (sym early) (record {
           number = k;
           reader = x;
           read = told.2;
           early = subst (λ (m : ℕ). n < m) total told.0;
         })
-    ended_of first k f (Held w x) opened o early = absurd early
+    ended_of k f (Held w x) o early = absurd early
 
-    pub some_early : (first : ℕ) (f : ThreadFault) → spec_of ring ≡ ring_spec s first upto → HasEarly f ends → IsEnded s first upto (found_end f.cause)
-    some_early first f opened h =
+    pub some_early : (f : ThreadFault) → HasEarly f ends → IsEndedOn ring upto (found_end f.cause)
+    some_early f h =
         let at : (k : ℕ) × (k + h.place + 1 ≡ length s.policies) = place_of h.place (length s.policies) (omega (arith, are_ends.count, are_jobs.count, slice_get_within ends h.place h.end h.is_end)) in
-        ended_of first at.0 f h.end opened (end_of h.place at.0 h.end (omega (arith, at.1)) h.is_end) h.early
+        ended_of at.0 f h.end (end_of h.place at.0 h.end (omega (arith, at.1)) h.is_end) h.early
 
     held_of : (first k : ℕ) (e : PolicyEnd) → IsCheckpointOf s first start → EndOf refused asked s ring start gates k e → is_held e ≡ true → SomeHeld refused asked first upto gates
     held_of first k (Reached w x) checkpoint o held = absurd (false≢true held)
@@ -316,10 +314,10 @@ module _ {G : Type 0} (refused : G → Bool) (asked : G → ℕ → ℕ → Bool
         passed_or_held first k at.0 checkpoint (end_of at.1 k at.0 at.3 at.2) (never_any is_short ends at.1 at.0 whole at.2) gate is_gate
 
     -- why the run has no result, by its ends
-    pub of_ends : (first : ℕ) (e : RunFault) → spec_of ring ≡ ring_spec s first upto → IsCheckpointOf s first start → RefusesEnds ends e → RefusesRun refused asked s first upto gates e
-    of_ends first (Thread f) opened checkpoint h = some_early first f opened h
-    of_ends first Gate opened checkpoint h = (some_held first checkpoint h.1, all_passed_or_held first checkpoint h.0)
-    of_ends first (Memory refused) opened checkpoint h = absurd h
+    pub of_ends : (first : ℕ) (e : RunFault) → IsCheckpointOf s first start → RefusesEnds ends e → RefusesRun refused asked ring first upto gates e
+    of_ends first (Thread f) checkpoint h = some_early f h
+    of_ends first Gate checkpoint h = (some_held first checkpoint h.1, all_passed_or_held first checkpoint h.0)
+    of_ends first (Memory refused) checkpoint h = absurd h
 
 -- so the states are a checkpoint at `upto`, with the facts of each policy's run
 pub checkpoint_of : (s : ScenarioParts) (start states : List Parts) (upto : ℕ) → length states ≡ length s.policies → ((k : ℕ) (w : Parts) → slice_get states k ≡ Some w → RunFrom s start upto k w) → IsCheckpointOf s upto states
@@ -365,8 +363,8 @@ ends_as s k v ring r n w x e run read within total early =
     (λ not. subst (EndsAs s k v ring r) (sym (early not)) (omega (arith, within, not), run, read))
 
 -- why it has no result where a thread failed to start
-pub ended_unused : (s : ScenarioParts) (ring : Ring) (first upto : ℕ) (f : ThreadFault) → spec_of ring ≡ ring_spec s first upto → found_end f.cause ≡ None → EndedUnused ring → IsEnded s first upto (found_end f.cause)
-ended_unused s ring first upto f opened none unused = subst (IsEnded s first upto) (sym none) (record { ring = ring; spec = opened; unused = unused })
+pub ended_unused : (ring : Ring) (upto : ℕ) (f : ThreadFault) → found_end f.cause ≡ None → EndedUnused ring → IsEndedOn ring upto (found_end f.cause)
+ended_unused ring upto f none unused = subst (IsEndedOn ring upto) (sym none) unused
 
 -- what is told of an answer on either side
 pub on_ok : {T E : Type 0} (r : Result T E) (A : Type 0) (B : E → Type 0) → MatchResult r (λ _. A) B → OnOk r A
@@ -377,12 +375,14 @@ pub on_err : {T E : Type 0} (r : Result T E) (A : T → Type 0) (B : E → Type 
 on_err (Ok x) A B h = tt
 on_err (Err e) A B h = h
 
-module _ {G : Type 0} (refused : G → Bool) (asked : G → ℕ → ℕ → Bool → G → Type 0) (s : ScenarioParts) (first upto : ℕ) (gates : List G) where
-  pub told_thread : {T : Type 0} (f : ThreadFault) (r : Result T RunFault) → r ≡ Err (Thread f) → IfErr r (λ e. RefusesRun refused asked s first upto gates e) → IsEnded s first upto (found_end f.cause)
-  told_thread {T} f r is h = subst (λ (x : Result T RunFault). IfErr x (λ e. RefusesRun refused asked s first upto gates e)) is h
+module _ {G : Type 0} (refused : G → Bool) (asked : G → ℕ → ℕ → Bool → G → Type 0) (ring : Ring) (first upto : ℕ) (gates : List G) where
+  pub told_thread : {T : Type 0} (s : ScenarioParts) (f : ThreadFault) (r : Result T RunFault) → spec_of ring ≡ ring_spec s first upto → r ≡ Err (Thread f)
+      → IfErr r (λ e. RefusesRun refused asked ring first upto gates e) → IsEnded s first upto (found_end f.cause)
+  told_thread {T} s f r opened is h =
+      record { ring = ring; spec = opened; ended = subst (λ (x : Result T RunFault). IfErr x (λ e. RefusesRun refused asked ring first upto gates e)) is h }
 
-  pub told_gate : (e : RunFault) → e ≡ Gate → RefusesRun refused asked s first upto gates e → SomeHeld refused asked first upto gates × AllPassedOrHeld refused asked first upto gates
-  told_gate e is h = subst (λ (x : RunFault). RefusesRun refused asked s first upto gates x) is h
+  pub told_gate : (e : RunFault) → e ≡ Gate → RefusesRun refused asked ring first upto gates e → SomeHeld refused asked first upto gates × AllPassedOrHeld refused asked first upto gates
+  told_gate e is h = subst (λ (x : RunFault). RefusesRun refused asked ring first upto gates x) is h
 
 -- what the gate was asked in a run that its reader has seen the end of
 pub asked_whole : {G : Type 0} (asked : G → ℕ → ℕ → Bool → G → Type 0) (k from n all : ℕ) (g g' : G) (w : Parts) (x : Reader) (e : PolicyEnd) → (n ≡ all → e ≡ Reached w x) → (n ≢ all → e ≡ Short n w x)

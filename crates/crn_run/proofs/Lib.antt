@@ -2,4 +2,5 @@ mod Advancing
 mod Asking
 mod Opening
 mod Ending
+mod OneResult
 mod Publishing

@@ -30,23 +30,21 @@ pub record EndedUnused (ring : Ring) : Type 0 where
   pub nothing : (producer_part producer).published ≡ (spec_of ring).id.first
   pub ended : (producer_part producer).ended ≡ true
 
--- the producer of the scenario's ring for the blocks from `first` to upto - 1 has marked the end with nothing published
-pub record HasEndedUnused (s : ScenarioParts) (first upto : ℕ) : Type 0 where
-  pub ring : Ring
-  pub spec : spec_of ring ≡ ring_spec s first upto
-  pub unused : EndedUnused ring
-
--- a reader of the scenario's ring for the blocks from `first` to upto - 1 has seen the end before block n, which is below upto
-pub record HasEndedEarly (s : ScenarioParts) (first upto n : ℕ) : Type 0 where
-  pub ring : Ring
-  pub spec : spec_of ring ≡ ring_spec s first upto
+-- a reader of the ring has seen the end before block n, which is below upto
+pub record EndedEarly (ring : Ring) (upto n : ℕ) : Type 0 where
   pub number : ℕ
   pub reader : Reader
   pub read : HasReadAll ring number n reader
   pub early : n < upto
 
--- what a fault of a thread says of such a run: a reader found the end early, before this block, or, with none, the end was
--- marked with nothing published
-abbrev pub IsEnded : ScenarioParts → ℕ → ℕ → Option ℕ → Type 0
-IsEnded s first upto None = HasEndedUnused s first upto
-IsEnded s first upto (Some n) = HasEndedEarly s first upto n
+-- what a fault of a thread says of the ring of a run up to block upto: a reader found the end early, before this block, or,
+-- with none, the end was marked with nothing published
+abbrev pub IsEndedOn : Ring → ℕ → Option ℕ → Type 0
+IsEndedOn ring upto None = EndedUnused ring
+IsEndedOn ring upto (Some n) = EndedEarly ring upto n
+
+-- so of a ring of the scenario for the blocks from `first` to upto - 1
+pub record IsEnded (s : ScenarioParts) (first upto : ℕ) (found : Option ℕ) : Type 0 where
+  pub ring : Ring
+  pub spec : spec_of ring ≡ ring_spec s first upto
+  pub ended : IsEndedOn ring upto found

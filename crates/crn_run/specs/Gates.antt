@@ -1,11 +1,11 @@
 -- What a policy's gate was asked. `asked` is what the gate's type says of one call: of the value before, the policy, the
--- block, the answer and the value after.
+-- block, the answer and the value after. A type that says nothing there, or of each call alike, tells no calls apart.
 use Rattle.std.specs.Prelude.{◌≡◌, ℕ, zero, suc, ◌+◌, ◌<◌, Bool, true, false, List, Some, slice_get}
 use Rattle.crn_stock.specs.Stock.{next_block}
 use Rattle.crn_run.specs.declared.worker.PolicyEnd.{PolicyEnd}
 use Rattle.crn_run.specs.declared.worker.PolicyEnd.TheVariants.{Reached, Short, Held}
 
--- the gate was asked once for each of policy k's blocks from n on, `count` of them and in order, and has passed them all
+-- gate' is what calls make of the gate: one for each of policy k's blocks from n on, `count` of them and in order, all passed
 abbrev pub HasPassed : {Gate : Type 0} → (Gate → ℕ → ℕ → Bool → Gate → Type 0) → ℕ → ℕ → ℕ → Gate → Gate → Type 0
 HasPassed asked k n zero gate gate' = gate ≡ gate'
 HasPassed {Gate} asked k n (suc count) gate gate' = (between : Gate) × HasPassed asked k n count gate between × asked between k (n + count) true gate'
@@ -16,24 +16,24 @@ pub record PassedUpTo {Gate : Type 0} (asked : Gate → ℕ → ℕ → Bool →
   pub place : m ≡ n + count
   pub passed : HasPassed asked k n count gate gate'
 
--- so up to block m, which it was asked for once and did not pass
+-- so up to block m, and then one call for that block, which is not passed
 pub record HeldAt {Gate : Type 0} (asked : Gate → ℕ → ℕ → Bool → Gate → Type 0) (k n m : ℕ) (gate gate' : Gate) : Type 0 where
   pub between : Gate
   pub before : PassedUpTo asked k n m gate between
   pub answer : asked between k m false gate'
 
--- what the gate of policy k was asked in a run from block n on, by the run's end
+-- the calls that make gate' of the gate of policy k in a run from block n on, by the run's end
 abbrev pub WasAsked : {Gate : Type 0} → (Gate → ℕ → ℕ → Bool → Gate → Type 0) → ℕ → ℕ → PolicyEnd → Gate → Gate → Type 0
 WasAsked asked k n (Reached w x) gate gate' = PassedUpTo asked k n (next_block w) gate gate'
 WasAsked asked k n (Short m w x) gate gate' = PassedUpTo asked k n (next_block w) gate gate'
 WasAsked asked k n (Held w x) gate gate' = HeldAt asked k n (next_block w) gate gate'
 
--- each policy's gate was asked once for each of its blocks from `first` to upto - 1, in order, has passed them all, and has not
--- refused
+-- from each policy's gate such calls, for its blocks from `first` to upto - 1, lead to a value that has not refused. That the
+-- gate has this value when its thread has ended, no contract can say
 abbrev pub AllPassed : {Gate : Type 0} → (Gate → Bool) → (Gate → ℕ → ℕ → Bool → Gate → Type 0) → ℕ → ℕ → List Gate → Type 0
 AllPassed {Gate} refused asked first upto gates = (k : ℕ) (gate : Gate) → slice_get gates k ≡ Some gate → (gate' : Gate) × PassedUpTo asked k first upto gate gate' × (refused gate' ≡ false)
 
--- some policy's gate was asked so up to a block below `upto`, for which it answered false, and has refused
+-- from some policy's gate such calls, up to a block below `upto` that it does not pass, lead to a value that has refused
 pub record SomeHeld {Gate : Type 0} (refused : Gate → Bool) (asked : Gate → ℕ → ℕ → Bool → Gate → Type 0) (first upto : ℕ) (gates : List Gate) : Type 0 where
   pub policy : ℕ
   pub gate : Gate
@@ -44,13 +44,13 @@ pub record SomeHeld {Gate : Type 0} (refused : Gate → Bool) (asked : Gate → 
   pub held : HeldAt asked policy first block gate gate'
   pub has_refused : refused gate' ≡ true
 
--- policy k's gate was asked so up to block `upto`, or up to a block below, for which it answered false; whether it has refused
--- says which
+-- from policy k's gate such calls, up to block `upto` or up to a block below that it does not pass, lead to a value; whether it
+-- has refused says which
 pub record PassedOrHeld {Gate : Type 0} (refused : Gate → Bool) (asked : Gate → ℕ → ℕ → Bool → Gate → Type 0) (k first upto : ℕ) (gate : Gate) : Type 0 where
   pub gate' : Gate
   pub passed : refused gate' ≡ false → PassedUpTo asked k first upto gate gate'
   pub held : refused gate' ≡ true → (block : ℕ) × (block < upto) × HeldAt asked k first block gate gate'
 
--- each policy's gate was asked so, up to block `upto` or to one that it held
+-- so from each policy's gate
 abbrev pub AllPassedOrHeld : {Gate : Type 0} → (Gate → Bool) → (Gate → ℕ → ℕ → Bool → Gate → Type 0) → ℕ → ℕ → List Gate → Type 0
 AllPassedOrHeld {Gate} refused asked first upto gates = (k : ℕ) (gate : Gate) → slice_get gates k ≡ Some gate → PassedOrHeld refused asked k first upto gate

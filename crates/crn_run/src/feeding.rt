@@ -2,7 +2,7 @@
 ghost use Rattle.std.specs.Prelude.{◌≡◌, ℕ, ◌+◌, ◌-◌, ◌<◌, ◌≤◌, true, false, length, min, slice_get, Some};
 ghost use Rattle.crn_cipher.specs.declared.stream.Block.{Block};
 ghost use Rattle.crn_cipher.specs.Following.{FollowOn};
-ghost use Rattle.crn_ring.specs.Calls.{IsProducerOf, producer_part, spec_of};
+ghost use Rattle.crn_ring.specs.Calls.{AfterPublishMany, IsProducerOf, producer_part, spec_of};
 ghost use Rattle.crn_ring.specs.Gates.{HaveRoom};
 ghost use Rattle.crn_ring.specs.Parts.{PublishesOnce};
 
@@ -10,6 +10,7 @@ use crate::batch::{BATCH, room};
 use crate::waiting::Waiting;
 use crn_cipher::{Block, fill_blocks};
 use crn_ring::{Producer, PublishMany, Ring};
+use std::snapshot::Snapshot;
 use std::sync::Wait;
 
 /// Publishes all blocks of the ring's stream that are not published yet, in batches of at most 16, and then marks the end. If
@@ -90,13 +91,42 @@ fn publish_all<R: Wait>(
         if start == blocks.len() {
             return;
         }
-        match producer.publish_batch(ring, &blocks[start..]) {
+        match publish_or_wait(rt, ring, producer, &blocks[start..], waiting) {
             PublishMany::Done { count } => start += count,
             PublishMany::Full {
                 reader: _,
                 taken: _,
-            } => waiting.wait_for_slot(rt, ring, producer),
+            } => {}
         }
     }
     unreachable!()
+}
+
+// Publishes as many of these blocks, which are the next ones, as there is room for. If its look at the ring shows no room for
+// the first, it waits before it returns.
+#[inline(always)]
+fn publish_or_wait<R: Wait>(
+    rt: &R,
+    ring: &Ring,
+    producer: &mut Producer,
+    blocks: &[Block],
+    waiting: &mut Waiting,
+) -> PublishMany
+    requires of { IsProducerOf ring.now producer.old }
+    requires running { (producer_part producer.old).ended ≡ false }
+    requires blocks { (0 < length blocks.now) × ((producer_part producer.old).published + length blocks.now ≤ (spec_of ring.now).id.total) × FollowOn (spec_of ring.now).id.key (producer_part producer.old).published (length blocks.now) blocks.now }
+    ensures of { IsProducerOf ring.now producer.new }
+    ensures answer { AfterPublishMany (spec_of ring.now) (producer_part producer.old) (producer_part producer.new) (length blocks.now) result }
+    ensures quiet { HaveRoom (spec_of ring.now) (producer_part producer.old) (length blocks.now) → (producer_part producer.new).loads ≡ (producer_part producer.old).loads }
+{
+    let before = Snapshot::of(&*producer);
+    let published = producer.publish_batch(ring, blocks);
+    if let PublishMany::Full {
+        reader: _,
+        taken: _,
+    } = published
+    {
+        waiting.wait_for_slot(rt, ring, &before, producer);
+    }
+    published
 }

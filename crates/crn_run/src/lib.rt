@@ -7,6 +7,8 @@ mod fault;
 mod feeding;
 mod gate;
 mod jobs;
+pub mod laws;
+mod pausing;
 mod prepared;
 mod refusal;
 mod run;

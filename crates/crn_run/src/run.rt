@@ -36,7 +36,8 @@ pub struct Finished {
 }
 
 /// Runs all policies from `start` up to block `upto`, with one thread for each policy, while the calling thread feeds
-/// the scenario's ring. `start` stays as it is. The result equals that of [`run_plain`](crate::run_plain).
+/// the scenario's ring. `start` stays as it is. The states equal those of [`run_plain`](crate::run_plain), by
+/// [`one_result`](crate::laws::one_result).
 ///
 /// Before each block the policy's gate is asked, with the numbers of the policy and of the block. All memory is allocated
 /// before the first thread starts, and every thread that was started is joined. It returns only if every policy's run
@@ -51,7 +52,8 @@ pub struct Finished {
 /// # Errors
 ///
 /// - [`RunFault::Thread`]: a thread failed to start, and the ring was ended with nothing published. Or a policy's reader found
-///   the end before `upto`, whether or not a gate answered false. [`ThreadFault::ended`] says which.
+///   the end before `upto`, whether or not a gate answered false. [`ThreadFault::ended`] says which. The contract cannot name
+///   this call's ring: it says so of a ring of the scenario for these blocks. That of the function which runs on the ring names it.
 /// - [`RunFault::Gate`]: a policy's gate was asked, as it was for each block before, and answered false. Each policy's gate has
 ///   passed all blocks or answered false so, since no reader found an early end.
 /// - [`RunFault::Memory`]: an allocation failed, and no thread was started.
@@ -96,7 +98,7 @@ fn run_prepared<R: Threads + Wait + Sync, G: Gate + Send>(
     ensures run { (first upto : ℕ) (start : List Parts) → spec_of prepared.ring ≡ ring_spec scenario.now first upto → IsCheckpointOf scenario.now first start → AreJobs scenario.now prepared.ring start prepared.jobs.items
         → IfOk result (λ f. HasRun scenario.now first start upto f.checkpoint.next f.checkpoint.states.items f.readers.items) }
     ensures told { (first upto : ℕ) (start : List Parts) → spec_of prepared.ring ≡ ring_spec scenario.now first upto → IsCheckpointOf scenario.now first start → AreJobs scenario.now prepared.ring start prepared.jobs.items
-        → MatchResult result (λ _. AllPassed G.refused G.asked first upto gates.old) (λ e. RefusesRun G.refused G.asked scenario.now first upto gates.old e) }
+        → MatchResult result (λ _. AllPassed G.refused G.asked first upto gates.old) (λ e. RefusesRun G.refused G.asked prepared.ring first upto gates.old e) }
 {
     let Prepared {
         ring,

@@ -1,13 +1,13 @@
-//! What a thread does between two tries at a ring. Nothing is claimed of how long that takes, nor that it ends.
-ghost use Rattle.std.specs.Prelude.{◌≡◌, ◌≤◌};
+//! What a thread does between two looks at a ring that show it nothing to do.
+ghost use Rattle.std.specs.Prelude.{◌≡◌};
 ghost use Rattle.std.specs.Duration.{as_nanos};
 ghost use Rattle.crn_ring.specs.Calls.{producer_part, reader_part, spec_of};
-ghost use Rattle.crn_run.specs.Inner.Waits.{LacksSlot, Waits, producer_sleep, reader_sleep};
+ghost use Rattle.crn_run.specs.Inner.Waits.{HasSeenNoBlock, HasSeenNoSlot, Waits, producer_sleep, reader_sleep};
 
+use crate::pausing::{Pause, Paused, Pauses};
 use crn_ring::{Producer, Reader, Ring};
-use crossbeam_utils::Backoff;
+use std::snapshot::Snapshot;
 use std::sync::Wait;
-use std::thread::Parker;
 use std::time::Duration;
 
 // How many waits in a row only spin.
@@ -29,17 +29,6 @@ const PRODUCER_SLOTS: u64 = 64;
 // By how many microseconds at least a timer is late; the system adds up to 50.
 const LATENESS: u64 = 16;
 
-// What a thread does before its next try at the ring.
-#[derive(Clone, Copy, Debug, PartialEq, Eq)]
-enum Pause {
-    // Keeps its processor busy for some tens of instructions.
-    Spin,
-    // Lets another thread have its processor.
-    Yield,
-    // Sleeps for this time.
-    Sleep(Duration),
-}
-
 /// The waits of one thread for the others of its ring.
 #[derive(Drop)]
 pub(crate) struct Waiting {
@@ -47,12 +36,7 @@ pub(crate) struct Waiting {
     block: u64,
     // How many waits for that block, in a row, did not sleep.
     awake: u32,
-    // It spins for longer with each wait for the same block.
-    spinning: Backoff,
-    // It is never reset, so that all but its first seven snoozes yield.
-    yielding: Backoff,
-    // Nobody wakes it, so that its sleep is over when the time is.
-    sleeper: Parker,
+    pauses: Pauses,
 }
 
 // Calls of a wait stay calls: inlined, they would take registers from the loop that runs blocks.
@@ -64,41 +48,58 @@ impl Waiting {
         Waiting {
             block: 0,
             awake: 0,
-            spinning: Backoff::new(),
-            yielding: Backoff::new(),
-            sleeper: Parker::new(),
+            pauses: Pauses::new(),
         }
     }
 
-    /// Waits before a reader's next try to take a block. The first few waits for the same block keep the processor.
+    /// Waits before a reader's next look for a block, and returns the pause that it made. The first few waits for the same
+    /// block keep the processor.
     ///
     /// # Asks
     ///
-    /// The reader has taken all blocks that it knows to be published.
+    /// Since the reader was `before`, its one load of the ring cursor has shown no block that it has not taken, and no end.
     #[cold]
     #[inline(never)]
-    pub(crate) fn wait_for_block<R: Wait>(&mut self, rt: &R, ring: &Ring, reader: &Reader)
-        requires { (reader_part reader.now).seen ≤ (reader_part reader.now).taken }
+    pub(crate) fn wait_for_block<R: Wait>(
+        &mut self,
+        rt: &R,
+        ring: &Ring,
+        before: &Snapshot<Reader>,
+        reader: &Reader,
+    ) -> Paused
+        requires { HasSeenNoBlock (reader_part before.now.value) (reader_part reader.now) }
+        ensures { Waits (spec_of ring.now).size (reader_sleep (spec_of ring.now).size) (reader_part reader.now).taken self.old self.new result.pause }
     {
+        let _ = before;
         let pause = self.before_taking(ring, reader.taken());
-        self.pause(rt, pause);
+        self.pauses.make(rt, pause)
     }
 
-    /// Waits before the producer's next try to publish a block. The first few waits for the same block keep the processor.
+    /// Waits before the producer's next look for a free slot, and returns the pause that it made. The first few waits for the
+    /// same block keep the processor.
     ///
     /// # Asks
     ///
-    /// By what the producer last loaded of it, a reader has not freed the block's slot.
+    /// Since the producer was `before`, its loads of the readers' cursors have shown one that has not freed the slot of the
+    /// next block, and it has stored nothing.
     #[cold]
     #[inline(never)]
-    pub(crate) fn wait_for_slot<R: Wait>(&mut self, rt: &R, ring: &Ring, producer: &Producer)
-        requires { LacksSlot (spec_of ring.now) (producer_part producer.now) }
+    pub(crate) fn wait_for_slot<R: Wait>(
+        &mut self,
+        rt: &R,
+        ring: &Ring,
+        before: &Snapshot<Producer>,
+        producer: &Producer,
+    ) -> Paused
+        requires { HasSeenNoSlot (spec_of ring.now) (producer_part before.now.value) (producer_part producer.now) }
+        ensures { Waits (spec_of ring.now).size (producer_sleep (spec_of ring.now).size) (producer_part producer.now).published self.old self.new result.pause }
     {
+        let _ = before;
         let pause = self.before_publishing(ring, producer.published());
-        self.pause(rt, pause);
+        self.pauses.make(rt, pause)
     }
 
-    // Returns the pause before a reader's next try to take block number `block`, and counts it.
+    // Returns the pause before a reader's next look for block number `block`, and counts it.
     fn before_taking(&mut self, ring: &Ring, block: u64) -> Pause
         ensures { Waits (spec_of ring.now).size (reader_sleep (spec_of ring.now).size) block self.old self.new result }
     {
@@ -107,7 +108,7 @@ impl Waiting {
         self.next_pause(size, Duration::from_micros(micros), block)
     }
 
-    // Returns the pause before the producer's next try to publish block number `block`, and counts it.
+    // Returns the pause before the producer's next look for a slot for block number `block`, and counts it.
     fn before_publishing(&mut self, ring: &Ring, block: u64) -> Pause
         ensures { Waits (spec_of ring.now).size (producer_sleep (spec_of ring.now).size) block self.old self.new result }
     {
@@ -123,7 +124,7 @@ impl Waiting {
         if block != self.block {
             self.block = block;
             self.awake = 0;
-            self.spinning.reset();
+            self.pauses.begin_anew();
         }
         let pause = if self.awake < SPINS {
             Pause::Spin
@@ -134,14 +135,5 @@ impl Waiting {
         };
         self.awake += 1;
         pause
-    }
-
-    // Makes a pause.
-    fn pause<R: Wait>(&self, rt: &R, pause: Pause) {
-        match pause {
-            Pause::Spin => self.spinning.spin(),
-            Pause::Yield => self.yielding.snooze(),
-            Pause::Sleep(time) => self.sleeper.park_timeout(rt, time),
-        }
     }
 }

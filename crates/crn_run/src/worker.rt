@@ -3,7 +3,7 @@ ghost use Rattle.std.specs.Prelude.{◌≡◌, ◌≢◌, ◌+◌, ◌<◌, ◌�
 ghost use Rattle.crn_cipher.specs.Following.{FollowOn};
 ghost use Rattle.crn_stock.specs.Models.{IsPolicy, total};
 ghost use Rattle.crn_stock.specs.Stock.{next_block, terms_in, CanTake, HasTaken};
-ghost use Rattle.crn_ring.specs.Calls.{IsReaderOf, reader_number, reader_part, spec_of};
+ghost use Rattle.crn_ring.specs.Calls.{AfterBatch, IsReaderOf, reader_number, reader_part, spec_of};
 ghost use Rattle.crn_sequential.specs.Runs.{StandsBefore};
 ghost use Rattle.crn_run.specs.declared.worker.PolicyEnd.TheVariants.{Reached, Short};
 ghost use Rattle.crn_run.specs.Ends.{EndsAs, is_held};
@@ -17,6 +17,7 @@ use crn_cipher::Block;
 use crn_ring::{Batch, LeftReader, Reader, Ring};
 use crn_stock::laws::onward_from_itself;
 use crn_stock::{Policy, Scenario, State, Terms};
+use std::snapshot::Snapshot;
 use std::sync::Wait;
 
 /// How the run of one policy has ended.
@@ -79,17 +80,41 @@ pub fn run_policy<R: Wait, G: Gate>(
     let mut blocks = room();
     let mut waiting = Waiting::new();
     for _ in rt.forever() {
-        match reader.take_batch(ring, &mut blocks) {
+        match take_or_wait(rt, ring, &mut reader, &mut blocks, &mut waiting) {
             Batch::Got { count } => {
                 if !apply_all(scenario, rules, policy, &blocks, count, &mut state, gate) {
                     return PolicyEnd::Held(state, reader.into_left(ring));
                 }
             }
-            Batch::Empty { published: _ } => waiting.wait_for_block(rt, ring, &reader),
+            Batch::Empty { published: _ } => {}
             Batch::Ended { published } => return ended(ring, published, state, reader),
         }
     }
     unreachable!()
+}
+
+// Takes all published blocks that fit into `blocks`. If its look at the ring shows none, and no end, it waits before it returns.
+#[inline(always)]
+fn take_or_wait<R: Wait>(
+    rt: &R,
+    ring: &Ring,
+    reader: &mut Reader,
+    blocks: &mut [Block],
+    waiting: &mut Waiting,
+) -> Batch
+    requires reader { IsReaderOf ring.now reader.old × ((reader_part reader.old).seen_end ≡ false) }
+    requires places { 0 < length blocks.old }
+    ensures reader { IsReaderOf ring.now reader.new × (reader_number reader.new ≡ reader_number reader.old) }
+    ensures places { length blocks.new ≡ length blocks.old }
+    ensures answer { AfterBatch (spec_of ring.now) (reader_part reader.old) (reader_part reader.new) blocks.old blocks.new result }
+    ensures within { (reader_part reader.new).taken ≤ (spec_of ring.now).id.total }
+{
+    let before = Snapshot::of(&*reader);
+    let batch = reader.take_batch(ring, blocks);
+    if let Batch::Empty { published: _ } = batch {
+        waiting.wait_for_block(rt, ring, &before, reader);
+    }
+    batch
 }
 
 // Returns the end of a run whose reader has seen the end of the ring before block `published`.

@@ -1,17 +1,25 @@
 -- How a thread waits between two tries at a ring.
-use Rattle.std.specs.Prelude.{◌≡◌, ◌≢◌, ℕ, ◌+◌, ◌-◌, ◌*◌, ◌/◌, ◌<◌, ◌≤◌, max, slice_index}
+use Rattle.std.specs.Prelude.{◌≡◌, ◌≢◌, ℕ, ◌+◌, ◌-◌, ◌*◌, ◌/◌, ◌<◌, ◌≤◌, max}
 use Rattle.std.specs.Duration.{as_nanos}
 use Rattle.crn_proto.specs.declared.spec.RingSpec.{RingSpec}
 use Rattle.crn_proto.specs.declared.actor_parts.ProducerPart.{ProducerPart}
-use Rattle.crn_run.specs.declared.waiting.Pause.{Pause}
-use Rattle.crn_run.specs.declared.waiting.Pause.TheVariants.{Spin, Yield, Sleep}
+use Rattle.crn_proto.specs.declared.actor_parts.ReaderPart.{ReaderPart}
+use Rattle.crn_ring.specs.Parts.{IsFull, SeesNothing}
+use Rattle.crn_run.specs.declared.pausing.Pause.{Pause}
+use Rattle.crn_run.specs.declared.pausing.Pause.TheVariants.{Spin, Yield, Sleep}
 use Rattle.crn_run.specs.declared.waiting.Waiting.{Waiting}
 
--- By what the producer last loaded of it, some reader has not freed the slot of the next block.
-pub record LacksSlot (spec : RingSpec) (p : ProducerPart) : Type 0 where
+-- The last look of a reader that knew q and now knows q': one load of the ring cursor, which showed that all published blocks
+-- are taken, and no end. So it has taken nothing since.
+abbrev pub HasSeenNoBlock : ReaderPart → ReaderPart → Type 0
+HasSeenNoBlock q q' = (published : ℕ) × SeesNothing q q' published
+
+-- The last look of the producer, which knew p and now knows p': loads of the readers' cursors, up to one of a reader that has
+-- not freed the slot of the next block. So it has stored nothing since.
+pub record HasSeenNoSlot (spec : RingSpec) (p p' : ProducerPart) : Type 0 where
   pub reader : ℕ
-  pub below : reader < spec.readers
-  pub full : p.published ≡ slice_index p.gates reader + spec.size
+  pub taken : ℕ
+  pub full : IsFull spec p p' reader taken
 
 -- the nanoseconds for which a reader of a ring of so many slots sleeps: a microsecond for 8 slots, less 16, but at least one
 abbrev pub reader_sleep : ℕ → ℕ

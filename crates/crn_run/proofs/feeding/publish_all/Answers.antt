@@ -19,8 +19,8 @@ returns-then-start-blocks-clause-once g c room =
     let start : c.loop.start ≡ length c.args.blocks.now = search rules in
     ((c.loop.invariant.once room).all (omega (arith, start, c.requires.some))).1
 
-pub publish_batch-requires-clause-blocks : goal.publish_batch-requires-clause-blocks
-publish_batch-requires-clause-blocks g c =
+pub publish_or_wait-requires-clause-blocks : goal.publish_or_wait-requires-clause-blocks
+publish_or_wait-requires-clause-blocks g c =
     let left : c.loop.start < length c.args.blocks.now = search rules in
     let count = rest_length c.args.blocks.now c.loop.start in (
       omega (arith, left, count),
@@ -36,7 +36,7 @@ loop-preserved-in-Done g c =
     let start : ℕ = c.loop.start in
     let p : ProducerPart = producer_part c.args.producer.now in
     let q : ProducerPart = producer_part c.loop.producer in
-    let q' : ProducerPart = producer_part c.publish_batch.new.self in
+    let q' : ProducerPart = producer_part c.publish_or_wait.new.producer in
     let left : start < all = search rules in
     let rest : length (take (all - start) (drop start c.args.blocks.now)) ≡ all - start = rest_length c.args.blocks.now start in
     let done : Publishes spec q q' (length (take (all - start) (drop start c.args.blocks.now))) c.in-Done.count = search rules in
@@ -45,7 +45,7 @@ loop-preserved-in-Done g c =
       running = done.running;
       within = omega (arith, done.at_most, rest, left);
       published = omega (arith, done.published, c.loop.invariant.published);
-      once = once_done spec all start (length (take (all - start) (drop start c.args.blocks.now))) c.in-Done.count p q q' left rest c.loop.invariant.once c.publish_batch.ensures.quiet done;
+      once = once_done spec all start (length (take (all - start) (drop start c.args.blocks.now))) c.in-Done.count p q q' left rest c.loop.invariant.once c.publish_or_wait.ensures.quiet done;
     }
 
 pub loop-preserved : goal.loop-preserved
@@ -55,7 +55,7 @@ loop-preserved g c =
     let start : ℕ = c.loop.start in
     let p : ProducerPart = producer_part c.args.producer.now in
     let q : ProducerPart = producer_part c.loop.producer in
-    let q' : ProducerPart = producer_part c.publish_batch.new.self in
+    let q' : ProducerPart = producer_part c.publish_or_wait.new.producer in
     let left : start < all = search rules in
     let rest : length (take (all - start) (drop start c.args.blocks.now)) ≡ all - start = rest_length c.args.blocks.now start in
     let full : IsFull spec q q' c.in-Full.reader c.in-Full.taken = search rules in
@@ -65,5 +65,5 @@ loop-preserved g c =
       running = ap (λ (x : ProducerPart). x.ended) full.nothing_stored ∙ c.loop.invariant.running;
       within = c.loop.invariant.within;
       published = same ∙ c.loop.invariant.published;
-      once = once_full spec all start (length (take (all - start) (drop start c.args.blocks.now))) c.in-Full.reader c.in-Full.taken p q q' left rest c.loop.invariant.once c.publish_batch.ensures.quiet full;
+      once = once_full spec all start (length (take (all - start) (drop start c.args.blocks.now))) c.in-Full.reader c.in-Full.taken p q q' left rest c.loop.invariant.once c.publish_or_wait.ensures.quiet full;
     }

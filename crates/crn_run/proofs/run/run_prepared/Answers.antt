@@ -33,10 +33,10 @@ returns-clause-told g c first upto start opened checkpoint are_jobs =
 
 pub returns-in_err-ends-clause-told : goal.returns-in_err-ends-clause-told
 returns-in_err-ends-clause-told g c first upto start opened checkpoint are_jobs =
-    let s : ScenarioParts = c.args.scenario.now in
     let f = c.in_err-ends.field-0.0 in
+    let ring : Ring = c.args.prepared.ring in
     let refused = c.in_err-ends.ensures.thread in
-    handed_told _ (Thread f) _ (RefusesRun g.G.Gate.refused g.G.Gate.asked s first upto c.args.gates.now) c.from_residual.ensures (ended_unused s c.args.prepared.ring first upto f opened refused.0 refused.1)
+    handed_told _ (Thread f) _ (RefusesRun g.G.Gate.refused g.G.Gate.asked ring first upto c.args.gates.now) c.from_residual.ensures (ended_unused ring upto f refused.0 refused.1)
 
 pub returns-in_err-check-clause-told : goal.returns-in_err-check-clause-told
 returns-in_err-check-clause-told g c first upto start opened checkpoint are_jobs =
@@ -50,5 +50,5 @@ returns-in_err-check-clause-told g c first upto start opened checkpoint are_jobs
     let total = ap (λ (r : RingSpec). r.id.total) opened in
     let are_ends : AreEnds refused asked s ring jobs gates ends = search rules in
     let told : RefusesEnds ends c.in_err-check.field-0.0 = search rules in
-    let why = of_ends refused asked s ring start jobs gates ends are_jobs are_ends upto total first c.in_err-check.field-0.0 opened checkpoint told in
-    handed_told _ c.in_err-check.field-0.0 _ (RefusesRun refused asked s first upto gates) c.from_residual-in_err-check.ensures why
+    let why = of_ends refused asked s ring start jobs gates ends are_jobs are_ends upto total first c.in_err-check.field-0.0 checkpoint told in
+    handed_told _ c.in_err-check.field-0.0 _ (RefusesRun refused asked ring first upto gates) c.from_residual-in_err-check.ensures why

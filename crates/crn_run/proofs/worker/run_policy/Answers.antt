@@ -12,10 +12,10 @@ use Rattle.crn_run.proofs.worker.run_policy.Goals as goal
 
 pub apply_all-requires-clause-blocks : goal.apply_all-requires-clause-blocks
 apply_all-requires-clause-blocks g c =
-    let took : Takes (reader_part c.loop.reader) (reader_part c.take_batch.new.self) (length c.loop.blocks) c.in-Got.count = search rules in
-    let follow : FollowOn (spec_of c.args.ring.now).id.key (reader_part c.loop.reader).taken c.in-Got.count c.take_batch.new.out = search rules in (
+    let took : Takes (reader_part c.loop.reader) (reader_part c.take_or_wait.new.reader) (length c.loop.blocks) c.in-Got.count = search rules in
+    let follow : FollowOn (spec_of c.args.ring.now).id.key (reader_part c.loop.reader).taken c.in-Got.count c.take_or_wait.new.blocks = search rules in (
       search rules,
-      follow_from (spec_of c.args.ring.now).id.key c.args.scenario.now.key (reader_part c.loop.reader).taken (next_block c.loop.state) c.in-Got.count c.take_batch.new.out c.requires.ring.0 c.loop.invariant.taken follow,
+      follow_from (spec_of c.args.ring.now).id.key c.args.scenario.now.key (reader_part c.loop.reader).taken (next_block c.loop.state) c.in-Got.count c.take_or_wait.new.blocks c.requires.ring.0 c.loop.invariant.taken follow,
     )
 
 pub returns-then-not-apply_all-clause-end : goal.returns-then-not-apply_all-clause-end
@@ -25,8 +25,8 @@ returns-then-not-apply_all-clause-end g c =
     let is_policy : slice_get s.policies c.args.policy ≡ Some p = read_policy s.policies c.policies.result.now c.args.policy p c.policies.ensures.value (search rules) c.index-policies-policy.is in
     let all : Advances s.model p s.key c.args.state c.apply_all.new.state =
     advances_then s.model p s.key c.args.state c.loop.state c.apply_all.new.state c.loop.invariant.advances c.apply_all.ensures.advances in
-    let took : Takes (reader_part c.loop.reader) (reader_part c.take_batch.new.self) (length c.loop.blocks) c.in-Got.count = search rules in
-    let within : (reader_part c.take_batch.new.self).taken ≤ (spec_of c.args.ring.now).id.total = search rules in
+    let took : Takes (reader_part c.loop.reader) (reader_part c.take_or_wait.new.reader) (length c.loop.blocks) c.in-Got.count = search rules in
+    let within : (reader_part c.take_or_wait.new.reader).taken ≤ (spec_of c.args.ring.now).id.total = search rules in
     let before : next_block c.apply_all.new.state < next_block c.loop.state + c.in-Got.count = (c.apply_all.ensures.held (search rules)).0 in (
       omega (arith, before, within, took.taken, c.loop.invariant.taken),
       advanced s c.args.policy p c.args.state c.apply_all.new.state (next_block c.apply_all.new.state) is_policy c.onward_from_itself.ensures all refl,
@@ -42,13 +42,13 @@ pub loop-preserved-else-not-apply_all : goal.loop-preserved-else-not-apply_all
 loop-preserved-else-not-apply_all g c =
     let s = c.args.scenario.now in
     let p = c.index-policies-policy.result in
-    let took : Takes (reader_part c.loop.reader) (reader_part c.take_batch.new.self) (length c.loop.blocks) c.in-Got.count = search rules in
+    let took : Takes (reader_part c.loop.reader) (reader_part c.take_or_wait.new.reader) (length c.loop.blocks) c.in-Got.count = search rules in
     let went : next_block c.apply_all.new.state ≡ next_block c.loop.state + c.in-Got.count = search rules in
     record {
       reader = search rules;
       number = search rules;
       running = took.running;
-      taken = taken_on (reader_part c.loop.reader).taken (reader_part c.take_batch.new.self).taken (next_block c.loop.state) (next_block c.apply_all.new.state) c.in-Got.count c.loop.invariant.taken took.taken went;
+      taken = taken_on (reader_part c.loop.reader).taken (reader_part c.take_or_wait.new.reader).taken (next_block c.loop.state) (next_block c.apply_all.new.state) c.in-Got.count c.loop.invariant.taken took.taken went;
       advances = advances_then s.model p s.key c.args.state c.loop.state c.apply_all.new.state c.loop.invariant.advances c.apply_all.ensures.advances;
       places = search rules;
       gate = search rules;
@@ -60,11 +60,11 @@ returns-in-Ended-clause-end g c =
     let s = c.args.scenario.now in
     let p = c.index-policies-policy.result in
     let is_policy : slice_get s.policies c.args.policy ≡ Some p = read_policy s.policies c.policies.result.now c.args.policy p c.policies.ensures.value (search rules) c.index-policies-policy.is in
-    let saw : SeesEnd (reader_part c.loop.reader) (reader_part c.take_batch.new.self) c.in-Ended.published = search rules in
-    let within : (reader_part c.take_batch.new.self).taken ≤ (spec_of c.args.ring.now).id.total = search rules in
+    let saw : SeesEnd (reader_part c.loop.reader) (reader_part c.take_or_wait.new.reader) c.in-Ended.published = search rules in
+    let within : (reader_part c.take_or_wait.new.reader).taken ≤ (spec_of c.args.ring.now).id.total = search rules in
     let stands : next_block c.loop.state ≡ c.in-Ended.published = sym c.loop.invariant.taken ∙ sym saw.all_taken in
     let below : c.in-Ended.published ≤ (spec_of c.args.ring.now).id.total = omega (arith, within, saw.stays, saw.all_taken) in
-    ends_as s c.args.policy c.args.state c.args.ring.now (reader_number c.args.reader) c.in-Ended.published c.loop.state c.take_batch.new.self c.ended.result
+    ends_as s c.args.policy c.args.state c.args.ring.now (reader_number c.args.reader) c.in-Ended.published c.loop.state c.take_or_wait.new.reader c.ended.result
     (advanced s c.args.policy p c.args.state c.loop.state c.in-Ended.published is_policy c.onward_from_itself.ensures c.loop.invariant.advances stands)
     (record {
       of_ring = search rules;
@@ -76,5 +76,5 @@ returns-in-Ended-clause-end g c =
 
 pub returns-in-Ended-clause-asked : goal.returns-in-Ended-clause-asked
 returns-in-Ended-clause-asked g c =
-    asked_whole g.G.Gate.asked c.args.policy (next_block c.args.state) c.in-Ended.published (spec_of c.args.ring.now).id.total c.args.gate.now c.loop.gate c.loop.state c.take_batch.new.self c.ended.result c.ended.ensures.total c.ended.ensures.early
+    asked_whole g.G.Gate.asked c.args.policy (next_block c.args.state) c.in-Ended.published (spec_of c.args.ring.now).id.total c.args.gate.now c.loop.gate c.loop.state c.take_or_wait.new.reader c.ended.result c.ended.ensures.total c.ended.ensures.early
     c.loop.invariant.passed
