@@ -7,7 +7,7 @@ from typing import NamedTuple
 
 from tests.runs import TOP
 
-PAGES = [it.relative_to(TOP).as_posix() for folder in ("", "docs", "examples", "examples/case", "tests")
+PAGES = [it.relative_to(TOP).as_posix() for folder in ("", "docs", "crates/uses", "examples", "examples/case", "tests")
          for it in sorted((TOP / folder).glob("*.md"))]
 FENCE = re.compile(r"^```(\w*)\n(.*?)^```$", re.MULTILINE | re.DOTALL)
 NUMBER = re.compile(r"(?<![\w.,])[0-9]+(?:,[0-9]{3})*(?!\w)")

@@ -1,9 +1,10 @@
-"""Refuses the requests of calls that no command makes alone: tests of the crate tests_ring, as the gate has built them.
+"""Refuses the requests of calls that no command makes alone: tests of tests_ring and uses, as the gate has built them.
 
 Whatever is refused, each started thread is joined, and all memory is freed. One test opens a ring: if an allocation
 fails, opening it returns a memory fault and keeps nothing. Another runs two policies twice from one start: if an
 allocation or a thread start of the first run fails, the start is as before, and the second run is right. A third prints
-the fault of a run: that of a thread if a request that a thread's start makes was refused, and otherwise that of memory.
+the fault of a run: that of a thread if a request that a thread's start makes was refused, and otherwise that of memory. A
+caller of uses ends with a fault if its thread is refused.
 """
 from __future__ import annotations
 
@@ -13,11 +14,12 @@ from pathlib import Path
 import pytest
 
 from tests.hostile.known import Case, CheckAll, Command, unlike
-from tests.hostile.test_refusals import MOST, counted, keeps_nothing
+from tests.hostile.test_refusals import MOST, counted, has_threads, keeps_nothing
 from tests.preload import Counts
 from tests.runs import Shown
 
 OPENING = "ring::rows::a_refused_request_is_answered"
+CALLER = "tests::a_refused_thread_is_a_fault"
 RUN = "run::refusals::a_refusal_leaves_the_start"
 FAULT = "run::refusals::a_run_prints_its_fault"
 # The runs of these tests start so many threads.
@@ -30,10 +32,13 @@ Counted = Callable[..., tuple[Shown, Counts | None]]
 
 @pytest.fixture
 def run_counted(top: Path, preload_library: Path, room: Path) -> Counted:
-    """Returns a function that runs a test of the crate under rules, and says what it shows and what was counted."""
-    built = top / "crates" / "tests_ring" / "out" / "tests_ring_tests"
-    assert built.exists(), f"there are no tests {built}: run `rt test` in crates/tests_ring"
-    return lambda test, **rules: counted(built, Command(test, [test]), preload_library, room, **rules)
+    """Returns a function that runs a test of a crate under rules, and says what it shows and what was counted."""
+    def run(test: str, crate: str = "tests_ring", **rules: object) -> tuple[Shown, Counts | None]:
+        built = top / "crates" / crate / "out" / f"{crate}_tests"
+        assert built.exists(), f"there are no tests {built}: run `rt test` in crates/{crate}"
+        return counted(built, Command(test, [test]), preload_library, room, **rules)
+
+    return run
 
 
 def is_good(shown: Shown) -> bool:
@@ -104,3 +109,11 @@ def test_refused_memory_of_a_start_prints_its_fault(run_counted: Counted, check_
             yield f"memory {number}, its threads", kept
 
     check_all(cases())
+
+
+@pytest.mark.parametrize("is_refused", [True, False])
+def test_refused_start_of_a_caller(run_counted: Counted, is_refused: bool) -> None:
+    """The start of the one thread of a caller is refused, and the caller ends; or it is not refused."""
+    shown, counts = run_counted(CALLER, "uses", refuse_thread=1 if is_refused else 2)
+    assert is_good(shown), unlike(shown)
+    assert has_threads(counts, 1, 0 if is_refused else 1) is True

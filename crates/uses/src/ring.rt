@@ -1,5 +1,5 @@
 //! A ring between two threads: one publishes all blocks, the other takes some by batches and leaves.
-ghost use Rattle.std.specs.Prelude.{◌≡◌, ◌+◌, ◌≤◌, ◌<◌, false, [], IfOk, length, vec_len, vec_capacity};
+ghost use Rattle.std.specs.Prelude.{◌≡◌, ◌+◌, ◌≤◌, ◌<◌, true, false, [], IfOk, IfErr, length, min, vec_len, vec_capacity};
 ghost use Rattle.crn_cipher.specs.Following.{FollowOn};
 ghost use Rattle.crn_limits.specs.declared.TheConstants.{BLOCK_LIMIT};
 ghost use Rattle.crn_ring.specs.Calls.{AllFresh, IsFresh, IsProducerOf, IsReaderOf, producer_part, reader_part, spec_of};
@@ -9,10 +9,11 @@ use crn_proto::{RingFault, RingSpec};
 use crn_ring::{Batch, Producer, Reader, Ring};
 use crn_run::feed;
 use crossbeam_utils::Backoff;
-use std::alloc::Global;
+use std::alloc::{AllocError, Global};
+use std::snapshot::Snapshot;
 use std::sync::Wait;
 use std::thread;
-use std::thread::Threads;
+use std::thread::{Promise, PromisedHandle, Scope, SpawnError, Threads};
 
 // The most blocks that are taken at once.
 const BATCH: usize = 4;
@@ -53,9 +54,37 @@ impl Taken {
     }
 }
 
-/// Returns the first blocks of a key, at most `most` of those below `total`. They go through a ring of 16 slots: another
-/// thread takes them and then leaves, while the calling thread publishes all blocks below `total`. It returns only if that
-/// thread starts.
+/// Why the first blocks of a key were not taken.
+#[derive(Clone, Copy, Debug, PartialEq, Eq)]
+pub enum BlocksFault {
+    /// The ring was not opened: an allocation failed.
+    Ring(RingFault),
+    /// The thread that takes them failed to start.
+    Thread,
+    /// The end was marked before them. `feed` marks none, but no contract tells a reader so.
+    Short,
+}
+
+impl From<AllocError> for BlocksFault {
+    fn from(refused: AllocError) -> BlocksFault {
+        BlocksFault::Ring(RingFault::Memory(refused))
+    }
+}
+
+impl From<RingFault> for BlocksFault {
+    fn from(fault: RingFault) -> BlocksFault {
+        BlocksFault::Ring(fault)
+    }
+}
+
+impl<F: Drop> From<SpawnError<F>> for BlocksFault {
+    fn from(_refused: SpawnError<F>) -> BlocksFault {
+        BlocksFault::Thread
+    }
+}
+
+/// Returns the first blocks of a key: `most` of those below `total`, or all if these are fewer. They go through a ring of 16
+/// slots: another thread takes them and then leaves, while the calling thread publishes all blocks below `total`.
 ///
 /// # Asks
 ///
@@ -63,19 +92,20 @@ impl Taken {
 ///
 /// # Errors
 ///
-/// `Memory` if an allocation fails.
+/// `Ring` if an allocation fails. `Thread` if the thread fails to start: then nothing is published, and nobody waits.
 pub fn first_blocks<R: Threads + Wait + Sync>(
     rt: &R,
     alloc: Global,
     key: [u64; 4],
     total: u64,
     most: usize,
-) -> Result<Taken, RingFault>
+) -> Result<Taken, BlocksFault>
     requires { total ≤ BLOCK_LIMIT }
     ensures blocks { IfOk result (λ taken. (taken.key ≡ key) × (taken.first ≡ 0)) }
-    ensures most { IfOk result (λ taken. vec_len taken.blocks ≤ most) }
+    ensures count { IfOk result (λ taken. vec_len taken.blocks ≡ min most total) }
 {
-    let blocks = Vec::with_capacity(alloc, most)?;
+    let count = most.min(total as usize);
+    let room = Vec::with_capacity(alloc, count)?;
     let spec = RingSpec {
         size: 16,
         readers: 1,
@@ -87,7 +117,7 @@ pub fn first_blocks<R: Threads + Wait + Sync>(
     };
     let (ring, producer, readers) = Ring::open(alloc, spec)?;
     let reader = first_of(&ring, readers);
-    Ok(pass_on(rt, &ring, producer, reader, most, blocks))
+    pass_on(rt, &ring, producer, reader, count, room)
 }
 
 // Returns the reader of a ring that was opened with one.
@@ -101,56 +131,98 @@ fn first_of(ring: &Ring, mut readers: Vec<Reader>) -> Reader
     }
 }
 
-// Publishes all blocks of the ring's stream, while another thread takes the first `most` of them.
-fn pass_on<R: Threads + Wait + Sync>(
-    rt: &R,
-    ring: &Ring,
+// What a thread promises: if it was not kept from it by an early end, the next blocks of a reader, as many as asked for.
+#[derive(Drop)]
+struct TakesSome {
+    ring: Snapshot<Ring>,
+    reader: Snapshot<Reader>,
+    most: usize,
+}
+
+impl Promise<Result<Taken, Reader>> for TakesSome {
+    ghost kept_by = { λ p r. IfOk r (λ taken. (taken.key ≡ (spec_of p.ring.value).id.key) × (taken.first ≡ (reader_part p.reader.value).taken) × (vec_len taken.blocks ≡ p.most)) };
+}
+
+// Publishes all blocks of the ring's stream, while another thread takes the first `most` of them. If that thread fails to
+// start, nothing is published.
+fn pass_on<'r, R: Threads + Wait + Sync>(
+    rt: &'r R,
+    ring: &'r Ring,
     producer: Producer,
     reader: Reader,
     most: usize,
     room: Vec<Block>,
-) -> Taken
+) -> Result<Taken, BlocksFault>
     requires producer { IsProducerOf ring.now producer × ((producer_part producer).ended ≡ false) }
     requires reader { IsReaderOf ring.now reader × ((reader_part reader).seen_end ≡ false) }
     requires room { (room.items ≡ []) × (most ≤ vec_capacity room) }
-    ensures blocks { (result.key ≡ (spec_of ring.now).id.key) × (result.first ≡ (reader_part reader).taken) }
-    ensures most { vec_len result.blocks ≤ most }
+    ensures blocks { IfOk result (λ taken. (taken.key ≡ (spec_of ring.now).id.key) × (taken.first ≡ (reader_part reader).taken) × (vec_len taken.blocks ≡ most)) }
 {
-    let (taken, ()) = thread::join(
+    thread::scope(
+        thread::scope_env(),
         rt,
-        move ||
+        |scope| -> Result<Taken, BlocksFault>
+            requires producer { IsProducerOf ring.now producer × ((producer_part producer).ended ≡ false) }
             requires reader { IsReaderOf ring.now reader × ((reader_part reader).seen_end ≡ false) }
             requires room { (room.items ≡ []) × (most ≤ vec_capacity room) }
-            ensures blocks { (result.key ≡ (spec_of ring.entry.now).id.key) × (result.first ≡ (reader_part reader).taken) }
-            ensures most { vec_len result.blocks ≤ most }
-        { take_some(rt, ring, reader, most, room) },
-        move ||
-            requires producer { IsProducerOf ring.now producer × ((producer_part producer).ended ≡ false) }
+            ensures blocks { IfOk result (λ taken. (taken.key ≡ (spec_of ring.entry.now).id.key) × (taken.first ≡ (reader_part reader).taken) × (vec_len taken.blocks ≡ most)) }
         {
+            let child = start(rt, scope, ring, reader, most, room)?;
             let mut producer = producer;
-            feed(rt, ring, &mut producer)
+            feed(rt, ring, &mut producer);
+            child.join(rt).map_err(|_reader| BlocksFault::Short)
         },
-    );
-    taken
+    )
 }
 
-/// Takes blocks by batches until there are `most` or the end is marked, and then leaves, so that the producer no longer waits
-/// for this reader. Returns them in the vector that it was given. Between two tries it yields. Allocates nothing.
+// Starts a thread that takes the next `most` blocks of a reader.
+fn start<'s, 'e: 's, R: Wait + Sync>(
+    rt: &'e R,
+    scope: &'s Scope<'s, &'e ()>,
+    ring: &'e Ring,
+    reader: Reader,
+    most: usize,
+    room: Vec<Block>,
+) -> Result<PromisedHandle<Result<Taken, Reader>, TakesSome>, BlocksFault>
+    requires reader { IsReaderOf ring.now reader × ((reader_part reader).seen_end ≡ false) }
+    requires room { (room.items ≡ []) × (most ≤ vec_capacity room) }
+    ensures { IfOk result (λ h. (h.promise.ring.value ≡ ring.now) × (h.promise.reader.value ≡ reader) × (h.promise.most ≡ most)) }
+{
+    let promise = TakesSome {
+        ring: Snapshot::of(ring),
+        reader: Snapshot::of(&reader),
+        most,
+    };
+    let work = move || -> Result<Taken, Reader>
+        requires reader { IsReaderOf ring.now reader × ((reader_part reader).seen_end ≡ false) }
+        requires room { (room.items ≡ []) × (most ≤ vec_capacity room) }
+        ensures { IfOk result (λ taken. (taken.key ≡ (spec_of ring.entry.now).id.key) × (taken.first ≡ (reader_part reader).taken) × (vec_len taken.blocks ≡ most)) }
+    { take_some(rt, ring, reader, most, room) };
+    Ok(scope.spawn_with(promise, work)?)
+}
+
+/// Takes the next `most` blocks by batches, and then leaves, so that the producer no longer waits for this reader. Returns them
+/// in the vector that it was given. Between two looks it yields. Allocates nothing.
 ///
 /// # Asks
 ///
 /// The reader is one of the ring's and has not seen the end. `room` is empty and has capacity for `most` blocks.
+///
+/// # Errors
+///
+/// The reader, if it has seen the end before `most` blocks.
 pub fn take_some<R: Wait>(
     rt: &R,
     ring: &Ring,
     mut reader: Reader,
     most: usize,
     room: Vec<Block>,
-) -> Taken
+) -> Result<Taken, Reader>
     requires reader { IsReaderOf ring.now reader × ((reader_part reader).seen_end ≡ false) }
     requires room { (room.items ≡ []) × (most ≤ vec_capacity room) }
-    ensures blocks { (result.key ≡ (spec_of ring.now).id.key) × (result.first ≡ (reader_part reader).taken) }
-    ensures most { vec_len result.blocks ≤ most }
+    ensures blocks { IfOk result (λ taken. (taken.key ≡ (spec_of ring.now).id.key) × (taken.first ≡ (reader_part reader).taken)) }
+    ensures count { IfOk result (λ taken. vec_len taken.blocks ≡ most) }
+    ensures early { IfErr result (λ x. ((reader_part x).seen_end ≡ true) × ((reader_part x).taken < (reader_part reader).taken + most)) }
 {
     let key = ring.spec().id.key;
     let mut taken = Taken {
@@ -164,7 +236,7 @@ pub fn take_some<R: Wait>(
         let places = BATCH.min(most - taken.blocks.len());
         if places == 0 {
             reader.leave(ring);
-            return taken;
+            return Ok(taken);
         }
         match reader.take_batch(ring, &mut batch[..places]) {
             Batch::Got { count } => {
@@ -172,10 +244,7 @@ pub fn take_some<R: Wait>(
                 backoff.reset();
             }
             Batch::Empty { published: _ } => backoff.snooze(),
-            Batch::Ended { published: _ } => {
-                reader.leave(ring);
-                return taken;
-            }
+            Batch::Ended { published: _ } => return Err(reader),
         }
     }
     unreachable!()

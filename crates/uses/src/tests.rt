@@ -4,7 +4,7 @@ ghost use Rattle.std.specs.Prelude.{◌≤◌};
 use crate::blocks::block_with;
 use crate::checkpoint::run_for;
 use crate::report::report_of;
-use crate::ring::{Taken, first_blocks};
+use crate::ring::{BlocksFault, Taken, first_blocks};
 use crn_cipher::block;
 use crn_scenario::read_scenario;
 use std::alloc::Global;
@@ -53,6 +53,16 @@ fn last_of(taken: &Taken) -> u64 {
 fn a_reader_takes_some_blocks_or_all(rt: HostRuntime) {
     assert_eq!(rt; passed(&rt, rt.alloc(), 1_000, 10), Some((10, 9)));
     assert_eq!(rt; passed(&rt, rt.alloc(), 100, 1_000), Some((100, 99)));
+}
+
+#[test]
+fn a_refused_thread_is_a_fault(rt: HostRuntime) {
+    // Without a thread it ends too: tests/hostile runs it so.
+    let ended = match first_blocks(&rt, rt.alloc(), [0; 4], 100, 10) {
+        Ok(taken) => taken.blocks.len() == 10,
+        Err(fault) => fault == BlocksFault::Thread,
+    };
+    assert!(rt; ended);
 }
 
 // Whether a run of so many blocks stops at this block with this text.

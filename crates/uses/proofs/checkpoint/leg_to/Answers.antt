@@ -2,7 +2,7 @@ use Rattle.std.proofs.Common.{◌≤◌, ℕ, rules, subst, sym}
 use Rattle.crn_stock.specs.Models.{total}
 use Rattle.crn_sequential.specs.Runs.{EachAt}
 use Rattle.crn_checkpoint.specs.Reading.{IsTextOf}
-use Rattle.uses.proofs.checkpoint.run_for.Goals as goal
+use Rattle.uses.proofs.checkpoint.leg_to.Goals as goal
 
 pub returns : goal.returns
 returns g c =
@@ -10,9 +10,8 @@ returns g c =
     let states = c.in_ok-finished.finished.checkpoint.states.items in
     let text = c.in_ok-write_checkpoint.field-0.items in
     let next = c.in_ok-finished.ensures.next in
-    let enough : c.first_held-next.result ≤ total s.model = search rules in
-    let begun = subst (λ (k : ℕ). EachAt s k c.in_ok-start.start.states.items) (sym c.in_ok-start.ensures.next) c.in_ok-start.ensures.at in
-    let within = subst (λ (k : ℕ). k ≤ total s.model) (sym next) enough in
+    let begun = subst (λ (k : ℕ). EachAt s k c.args.start.now.states.items) (sym c.requires.start.0) c.requires.at in
+    let within = subst (λ (k : ℕ). k ≤ total s.model) (sym next) c.requires.within in
     record {
       states = states;
       at = c.in_ok-finished.ensures.at begun;

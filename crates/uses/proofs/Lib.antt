@@ -1,0 +1,2 @@
+mod Budgets
+mod Undone
