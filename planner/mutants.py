@@ -3,9 +3,9 @@
     .venv/bin/python -m pytest planner/tests -n 4 --lines FOLDER --by-test
     .venv/bin/python -m planner.mutants FOLDER --seed 1 --count 100 --jobs 4
 
-The first command says which tests run each line. The second takes lines at random, changes a statement of each in a copy
-of the repository, and runs the tests that run the line there, the shortest first. It takes about half an hour with four
-processes. A mutant that survives is either the same program (an equivalent one) or a hole in the tests.
+The first command says which tests run each line. The second takes lines at random, changes a statement of each in a
+copy of the repository, and runs the tests that run the line there, the shortest first. It takes about half an hour with
+four processes. A mutant that survives is either the same program (an equivalent one) or a hole in the tests.
 """
 from __future__ import annotations
 

@@ -1,5 +1,6 @@
 #!/usr/bin/env python3
-"""Which definitions public contracts state: tools/definitions.py reached [CRATE::FUNCTION ..], `kinds` for all, or `page`.
+"""Which definitions public contracts state: tools/definitions.py reached [CRATE::FUNCTION ..], `kinds` for all, or
+`page`.
 
 `reached` prints what the contracts of the named functions reach of `specs/`, through definitions, types of signatures
 and ghost parts of types; with no name, what any public function or type reaches. `kinds` sorts all: "stated" is reached
@@ -223,7 +224,8 @@ def page(repository):
         nodes = [it for it in repository.levels([public[contract]]) if it not in shown]
         shown.update(nodes)
         lines += [f"\n## {about[0].upper()}{about[1:]}: `{contract}`", *lines_of(repository, nodes)] if nodes else []
-    kept = sorted((it for it in sorts if sorts[it] == "kept"), key=lambda it: (*it[1:3], repository.definitions[it].line))
+    kept = sorted((it for it in sorts if sorts[it] == "kept"), key=lambda it: (*it[1:3],
+                                                                               repository.definitions[it].line))
     head = PAGE.format(stated=len(shown), all=len(sorts))
     return head + "\n".join(lines) + "\n" + KEPT + "\n".join(lines_of(repository, kept)) + "\n"
 

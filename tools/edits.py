@@ -1,4 +1,5 @@
-"""Reads the wrong implementations: crates/NAME/wrong/*.edit, crates/NAME/must-fail/*.edit and crates/NAME/tested/*.edit.
+"""Reads the wrong implementations: crates/NAME/wrong/*.edit, crates/NAME/must-fail/*.edit and
+crates/NAME/tested/*.edit.
 
 An edit changes lines of a crate's code. Its head says what goes wrong then and which function's proof must fail:
 
@@ -8,18 +9,18 @@ An edit changes lines of a crate's code. Its head says what goes wrong then and 
     old: if position < terms.low {
     new: if position <= terms.low {
 
-Each `old:` text stands exactly once in the file, on one line. Further pairs apply to what the earlier ones made. An edit
-of one arm of a `match` can name it, as in `refused by: commands::answer_command, arm Leg`: then a goal of that arm must be
-open, and edits of the other arms can share its check. An edit that adds a loop of which nothing shows that it ends says
-`refused by: producer::Producer::try_publish, measure`: the prover asks for the measure of that loop.
+Each `old:` text stands exactly once in the file, on one line. Further pairs apply to what the earlier ones made. An
+edit of one arm of a `match` can name it, as in `refused by: commands::answer_command, arm Leg`: then a goal of that arm
+must be open, and edits of the other arms can share its check. An edit that adds a loop of which nothing shows that it
+ends says `refused by: producer::Producer::try_publish, measure`: the prover asks for the measure of that loop.
 
 An edit of tested/ is proved, since no contract refuses it. It says which test must fail in place of `refused by`:
 
     what: `leave` stores nothing, so the producer waits for ever for a reader that has left.
     seen by: tests_ring ring::rows::a_reader_that_leaves_gates_no_more
 
-That is a test of a crate of tests, by its name, or tests by pytest. These have a second line with a text that one of the
-lines `FAILED ..` must contain, so that they fail for the right reason:
+That is a test of a crate of tests, by its name, or tests by pytest. These have a second line with a text that one of
+the lines `FAILED ..` must contain, so that they fail for the right reason:
 
     seen by: pytest tests/hostile/test_refusals.py -k leg
     fails: no refusal

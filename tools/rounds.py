@@ -6,8 +6,8 @@ must fail then (tools/edits.py has the format). An edit of a body changes no con
 functions are independent: a round applies many of them to a copy of the crate and checks it once. Each edit is judged
 by the function that it names. It passes only if a goal of that function is open; it fails if the function is proved,
 if its proof file only names something that the edit took away, if only a function that it calls is refused, or if the
-check gives no verdict on it. An edit that another one hides is tried again in a later round, at last alone. An edit that
-names a function that is not there fails, and the others of its round are tried without it.
+check gives no verdict on it. An edit that another one hides is tried again in a later round, at last alone. An edit
+that names a function that is not there fails, and the others of its round are tried without it.
 
     --names A,B      only the edits with these names
     --must-fail      also the edits of must-fail/, which `rt ci` tries one by one
@@ -53,8 +53,8 @@ PROVED = re.compile(r"proved|no holes")
 BELOW = re.compile(r"no proof: it calls")
 UNDECIDED = re.compile(r"could not tell")
 MEASURE = re.compile(r"expected a measure in")
-# An error in a file of a function's proof, and what it says if the file only names what the edit took away, itself or in
-# a declaration that others of it cite.
+# An error in a file of a function's proof, and what it says if the file only names what the edit took away, itself or
+# in a declaration that others of it cite.
 ERROR = re.compile(r"(?:note: )?(?:\./)?proofs/(\S+)/[^/\s]+\.antt:\d+:\d+: error: (.*)")
 STALE = re.compile(r"has no field|is not in scope|has no `|was not admitted|that depends? on .*rejected")
 # What a check says where it is asked for a function that is not there.
@@ -139,7 +139,8 @@ class Prover:
 
 
 def read(lines):
-    """What a check says of each item, and the errors of each function's proof files. An error may take several lines."""
+    """What a check says of each item, and the errors of each function's proof files. An error may take several
+    lines."""
     verdicts, errors, told = {}, collections.defaultdict(list), None
     for line in lines:
         if line.startswith("  ") and told:
@@ -227,8 +228,8 @@ def tries_of(crate, options):
 
 
 def packed(left, is_alone):
-    """The next round: as many edits as there are with functions, or arms, of their own. What changes more than bodies is
-    alone."""
+    """The next round: as many edits as there are with functions, or arms, of their own. What changes more than bodies
+    is alone."""
     chosen, taken = [], collections.defaultdict(set)
     for each in left:
         is_wide, arm = None in each.places, each.edit.arm

@@ -1,9 +1,10 @@
 """Tries the wrong implementations that contracts let through: crates/NAME/tested/*.edit.
 
-Used by `tools/rounds.py --tested`; tools/edits.py has the format. Each edit is planted in a copy of the repository, over
-the work that is kept in crates/*/out/. What its test needs is built, the program or a crate of tests, which also proves the
-changed crate and those above it. Then the test is run. An edit passes only if its test fails, and for the reason that the
-edit gives; it fails if the test passes, if another part of the test fails, or if the edit is not proved.
+Used by `tools/rounds.py --tested`; tools/edits.py has the format. Each edit is planted in a copy of the repository,
+over the work that is kept in crates/*/out/. What its test needs is built, the program or a crate of tests, which also
+proves the changed crate and those above it. Then the test is run. An edit passes only if its test fails, and for the
+reason that the edit gives; it fails if the test passes, if another part of the test fails, or if the edit is not
+proved.
 
 The control runs each test once without an edit, where it must not fail.
 """
@@ -36,8 +37,8 @@ Try = collections.namedtuple("Try", "edit test texts")
 
 
 def test_of(edit):
-    """Returns the test that an edit names: that of a crate of tests, a test by pytest, or a command for the program. The
-    last two have a text that a failure must contain."""
+    """Returns the test that an edit names: that of a crate of tests, a test by pytest, or a command for the program.
+    The last two have a text that a failure must contain."""
     words = shlex.split(edit.seen_by)
     if not edit.what or not words:
         raise BadEdit("it lacks a head line, 'what:' or 'seen by:'")
@@ -47,7 +48,8 @@ def test_of(edit):
         return Test(words[0], tuple(words[1:]), edit.fails)
     is_test = words[0] == "pytest" and len(words) > 1 and os.path.exists(f"{TOP}/{words[1].partition('::')[0]}")
     if not is_test and (not os.path.isfile(f"{TOP}/{words[0]}") or "PROGRAM" not in words):
-        raise BadEdit(f"'{edit.seen_by}' is neither a test of a crate nor a command of the repository for PROGRAM, nor tests by pytest")
+        raise BadEdit(f"'{edit.seen_by}' is neither a test of a crate nor a command of the repository for PROGRAM, nor "
+                      f"tests by pytest")
     if not edit.fails:
         raise BadEdit("it lacks the head line 'fails:'")
     return Test("", tuple(words), edit.fails)
@@ -80,7 +82,8 @@ def copied(room, link):
 def shown_of(words, folder, limit, ends_at=lambda line: False):
     """Runs a command until it ends, until a line that is waited for, or until its time is over."""
     lines, is_late, stopped = [], threading.Event(), False
-    process = subprocess.Popen(words, cwd=folder, stdin=subprocess.DEVNULL, stdout=subprocess.PIPE, stderr=subprocess.STDOUT,
+    process = subprocess.Popen(words, cwd=folder, stdin=subprocess.DEVNULL, stdout=subprocess.PIPE,
+                               stderr=subprocess.STDOUT,
                                text=True, errors="replace", env={**os.environ, "PYTHONUNBUFFERED": "1"},
                                start_new_session=True)
 
@@ -157,8 +160,10 @@ class Copy:
         """Builds what a test needs; what was said if that failed."""
         name, words = (test.crate, ["test"]) if test.crate else (PROGRAM, ["run"])
         jobs = str(self.options.lanes or len(os.sched_getaffinity(0)))
-        # The crate's tests are built and none is run, since no test has that name; of the program, the help is asked for.
-        words = [self.options.builder or "rt", *words, "--jobs", jobs, "--", "no_test_has_this_name" if test.crate else "help"]
+        # The crate's tests are built and none is run, since no test has that name; of the program, the help is asked
+        # for.
+        words = [self.options.builder or "rt", *words, "--jobs", jobs, "--", "no_test_has_this_name" if test.crate
+                 else "help"]
         made = self.target(test)
         if os.path.exists(made):
             os.remove(made)
@@ -206,7 +211,8 @@ class Tested:
         said = self.built[test.crate]
         if key not in self.shown:
             self.shown[key] = None if said else self.copy.run(test, True)
-            print(f"control, {test.crate or ''} {' '.join(test.words)}: {time.monotonic() - began:.0f} s".replace(",  ", ", "),
+            print(f"control, {test.crate or ''} {' '.join(test.words)}: {time.monotonic() - began:.0f} s".replace(",  ",
+                                                                                                                  ", "),
                   flush=True)
         return f"it is not built without an edit: {said}" if said else fault_of(test, self.shown[key])
 

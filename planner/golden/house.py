@@ -59,7 +59,8 @@ def fitted(counts: Any, leads: Any) -> Figures:
     """Returns the laws of a history by each method, and what its checks find."""
     checks = checks_of(counts)
     tests = {it.name: {"p": it.p, "size": it.size, "least_seen": it.least_seen} for it in checks.tests}
-    laws = {method: law_figures(crn.fit_demand(counts, method=method)) for method in ("auto", "empirical", "predictive")}
+    laws = {method: law_figures(crn.fit_demand(counts, method=method)) for method in ("auto", "empirical",
+                                                                                      "predictive")}
     return {"demand": laws, "lead": law_figures(crn.fit_lead(leads)), "checks": tests}
 
 
@@ -117,7 +118,8 @@ def drawn_stocks(scenario: crn.Scenario, program: str, periods: int) -> Figures:
 
 def plan_catalogue(files: Mapping[str, Any], folder: Path, program: str, jobs: int, **settings: Any) -> None:
     """Reads a catalogue and plans it into a folder."""
-    crn.plan(crn.read_catalogue(files["demand"], files["items"], files["orders"]), out=folder, jobs=jobs, program=program,
+    crn.plan(crn.read_catalogue(files["demand"], files["items"], files["orders"]), out=folder, jobs=jobs,
+             program=program,
              **settings)
 
 
@@ -138,12 +140,14 @@ def answer_figures(answer: Answer | Remark) -> Figures:
                 for name, its in (("today", answer.today), ("chosen", answer.chosen), ("alone", answer.alone)) if its}
     exact = {"scale": str(run.scale), "key": run.key, "initial": run.initial,
              "rates": {"setup": run.setup, "unit": 0, "holding": run.holding, "backlog": run.backlog},
-             "totals": [run.total_today, run.total_chosen], "diff_mean": str(run.difference), "diff_var": str(run.variance)}
+             "totals": [run.total_today, run.total_chosen], "diff_mean": str(run.difference),
+             "diff_var": str(run.variance)}
     law = answer.law
     return {**policies, "verdict": answer.verdict, "saving": answer.saving, "error": estimate.error,
             "low": estimate.low, "high": estimate.high, "confidence_cost": answer.confidence_cost, "law": law.family,
             "share": law.share, "log10_bayes": law.log10_bayes, "mean": law.mean, "demands": answer.demands,
-            "periods": answer.periods, "step": answer.step, "warnings": [it.code for it in answer.remarks], "exact": exact}
+            "periods": answer.periods, "step": answer.step, "warnings": [it.code for it in answer.remarks],
+            "exact": exact}
 
 
 def read_rows(folder: Path) -> Figures:

@@ -43,7 +43,8 @@ def case(program: str, jobs: int) -> Figures:
     counts = crn.read_history(folder / "history.csv", demand="demand")
     leads = crn.read_lead_times(folder / "lead_times.csv", lead="weeks")
     own, suggested = (crn.Scenario.read(folder / f"{name}.toml") for name in ("scenario", "suggested"))
-    planned = house.item_figures(house.planned(house.read_item(folder / "history.csv", folder / "settings.toml"), program))
+    planned = house.item_figures(house.planned(house.read_item(folder / "history.csv", folder / "settings.toml"),
+                                               program))
     return {"fit": house.fitted(counts, leads), "run": house.run_rows(own, program),
             "theory": house.theory_rows(own), "long_run": house.long_run_rows(suggested, program, 48),
             "sensitivity": house.sensitivity_rows(suggested, program), "item": planned,

@@ -145,7 +145,8 @@ def tables() -> dict[str, str]:
 @click.option("--small", is_flag=True, help="Run a small part.")
 @click.option("--jobs", type=click.IntRange(1), default=1, show_default=True)
 @click.option("--histories", type=click.IntRange(2), default=HISTORIES, show_default=True, help="Histories of a cell.")
-@click.option("--law", "names", type=click.Choice([*LAWS]), multiple=True, help="A true law; without it the designed ones.")
+@click.option("--law", "names", type=click.Choice([*LAWS]), multiple=True, help="A true law; without it the designed "
+              "ones.")
 @click.option("--periods", type=int, multiple=True, default=PERIODS, show_default=True)
 @click.option("--out", type=click.Path(dir_okay=False, path_type=Path), help="Write the rows as CSV.")
 def main(small: bool, jobs: int, histories: int, names: tuple[str, ...], periods: tuple[int, ...],

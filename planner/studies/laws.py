@@ -272,7 +272,8 @@ def tables() -> dict[str, str]:
                  for figure in FIGURES[:2] for method in by_method.index}
         worst = by_method.loc["auto"]
         lines.append({"laws": group, "periods": periods, **cells,
-                      "worst law of auto, points": f"{worst['worst_gain']:+.1f} ± {worst['worst_error']:.1f} ({worst['worst']})"})
+                      "worst law of auto, points": f"{worst['worst_gain']:+.1f} ± {worst['worst_error']:.1f} "
+                      f"({worst['worst']})"})
     return {"laws": markdown(pd.DataFrame(lines))}
 
 

@@ -99,7 +99,8 @@ def tables() -> dict[str, str]:
     """Returns the stored figures for the page: the regret after so many lead times."""
     cells = pd.read_csv(STORED).set_index(["demand", "leads", "seen", "method"])
     lines = [{"demand": demand, "lead times": leads,
-              **{f"{method}, after {seen}": "{regret:.1f} ± {regret_error:.1f}".format(**cells.loc[demand, leads, seen, method])
+              **{f"{method}, after {seen}": "{regret:.1f} ± "
+                 "{regret_error:.1f}".format(**cells.loc[demand, leads, seen, method])
                  for seen in RECORDS for method in METHODS}} for demand, leads in CASES]
     return {"lead-times": markdown(pd.DataFrame(lines))}
 

@@ -25,8 +25,8 @@ Command = Callable[..., Answer]
 
 
 def heed_interrupts() -> None:
-    """Gives a process the default action of an interrupt, as a terminal does: one that is started in the background by a
-    script ignores interrupts, and so would all that it starts."""
+    """Gives a process the default action of an interrupt, as a terminal does: one that is started in the background by
+    a script ignores interrupts, and so would all that it starts."""
     signal.signal(signal.SIGINT, signal.SIG_DFL)
 
 

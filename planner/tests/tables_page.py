@@ -1,4 +1,5 @@
-"""Writes docs/TABLES.md from the declared columns: `python -m planner.tests.tables_page` at the top of the repository."""
+"""Writes docs/TABLES.md from the declared columns: `python -m planner.tests.tables_page` at the top of the
+repository."""
 from __future__ import annotations
 
 from collections.abc import Mapping, Sequence

@@ -53,7 +53,8 @@ def catalogue(crnplan: Command, names: Sequence[str], *words: str | Path) -> Ans
 
 def of_days() -> list[str]:
     """Returns the words of a record of days, in which amounts of a period are those of a day."""
-    return ["--every", "day", *(word for it in ("holding", "backlog", "lead") for word in ("--unit", f"items.{it}=day"))]
+    return ["--every", "day", *(word for it in ("holding", "backlog", "lead") for word in ("--unit",
+                                                                                           f"items.{it}=day"))]
 
 
 def rejects() -> list[dict[str, str]]:
@@ -130,7 +131,8 @@ def test_blank_rows_are_counted(write: Write, crnplan: Command, program: Path, b
 
 
 def test_rows_of_another_width(write: Write, crnplan: Command, program: Path) -> None:
-    """A row with too few cells lacks its last ones, empty cells too many are nothing, and a text too many is rejected."""
+    """A row with too few cells lacks its last ones, empty cells too many are nothing, and a text too many is
+    rejected."""
     day = datetime.date(2025, 1, 6)
     rows = [[str(day + datetime.timedelta(7 * week)), "A", 1 + week % 3, "x"] for week in range(20)]
     odd = [rows[0][:3], rows[1][:2], [*rows[2], ""], [*rows[3], "y"]]

@@ -26,7 +26,8 @@ def run(words: Sequence[str], program: Path, **streams: object) -> "subprocess.C
     """Runs a command in a process of its own, perhaps on other standard streams."""
     environment = {**os.environ, "CRNSIM": str(program)}
     return subprocess.run([sys.executable, "-m", "crnplan", *words], env=environment, stdin=subprocess.DEVNULL,
-                          **{"stdout": subprocess.PIPE, "stderr": subprocess.PIPE, **streams})  # type: ignore[call-overload]
+                          **{"stdout": subprocess.PIPE, "stderr": subprocess.PIPE,
+                             **streams})  # type: ignore[call-overload]
 
 
 @pytest.mark.parametrize("closed", [("stdout",), ("stderr",), ("stdout", "stderr")], ids=lambda it: " and ".join(it))
@@ -42,7 +43,8 @@ def test_a_reader_that_has_gone(room: Path, program: Path, words: Sequence[str],
     assert words[0] not in names or (room / "plan" / names[words[0]]).is_file()
 
 
-@pytest.mark.parametrize("words", [SWEEP, ["--help"], ["run", "base.toml"], [*CATALOGUE, "--check"]], ids=lambda it: it[0])
+@pytest.mark.parametrize("words", [SWEEP, ["--help"], ["run", "base.toml"], [*CATALOGUE, "--check"]],
+                         ids=lambda it: it[0])
 def test_a_full_standard_output(room: Path, program: Path, words: Sequence[str]) -> None:
     """Ends with status 3 and a line if standard output is on a full disk."""
     with open("/dev/full", "wb") as full:
@@ -51,9 +53,11 @@ def test_a_full_standard_output(room: Path, program: Path, words: Sequence[str])
     assert ran.returncode == 3 and len(lines) == 1 and "No space left on device" in lines[0], ran.stderr
 
 
-@pytest.mark.parametrize("fault, part", [(MemoryError(), "out of memory"), (KeyError("x"), "a fault of crnplan itself: KeyE"),
+@pytest.mark.parametrize("fault, part", [(MemoryError(), "out of memory"), (KeyError("x"), "a fault of crnplan itself: "
+                                                                            "KeyE"),
                                          (RecursionError("deep"), "a fault of crnplan itself: RecursionError: deep ("),
-                                         (OSError(5, "Input/output error"), "Input/output error; what was done before")])
+                                         (OSError(5, "Input/output error"), "Input/output error; what was done "
+                                          "before")])
 def test_faults_that_no_input_is_to_blame_for(crnplan: Command, monkeypatch: pytest.MonkeyPatch, fault: Exception,
                                               part: str) -> None:
     """Ends with status 3 and one line, whatever is raised."""
@@ -149,7 +153,8 @@ def test_formulas_of_others(room: Path, crnplan: Command, program: Path) -> None
     for path in [*(room / "plan").glob("*.csv"), room / "rejects.csv"]:
         with path.open(encoding="utf-8", newline="") as file:
             cells = [cell for row in csv.reader(file) for cell in row]
-        run_by_it = [cell for cell in cells if cell[:1] in set("=@\t\r") or cell[:1] in set("+-") and not number.fullmatch(cell)]
+        run_by_it = [cell for cell in cells if cell[:1] in set("=@\t\r") or cell[:1] in set("+-")
+                     and not number.fullmatch(cell)]
         assert cells and not run_by_it, path
 
 

@@ -88,7 +88,8 @@ def test_pictures_are_figures(plan: crn.Plan) -> None:
 
 
 @pytest.mark.parametrize("words, message", [
-    ({"level": 2}, "level=2 is not between 0 and 1"), ({"fit": "best"}, "fit"), ({"masters": None}, "masters is missing"),
+    ({"level": 2}, "level=2 is not between 0 and 1"), ({"fit": "best"}, "fit"),
+    ({"masters": None}, "masters is missing"),
     ({"borrow": "some"}, "borrow")])
 def test_a_refusal_names_the_argument(words: dict[str, object], message: str, paths: list[Path]) -> None:
     """What can't be meant is a ValueError that names the argument, and no option of a command."""
@@ -112,7 +113,8 @@ def test_a_seed_may_be_a_number(paths: list[Path], program: Path) -> None:
 
 def test_a_series_is_never_silently_dense() -> None:
     """Periods that a Series by period lacks count 0. One by dates with gaps is refused, and so is NaN."""
-    weeks = pd.Series([3, 0, 2, 4], pd.PeriodIndex(["2026-01-05", "2026-01-12", "2026-02-02", "2026-02-09"], freq="W-SUN"))
+    weeks = pd.Series([3, 0, 2, 4], pd.PeriodIndex(["2026-01-05", "2026-01-12", "2026-02-02", "2026-02-09"],
+                                                   freq="W-SUN"))
     assert crn.fit_demand(weeks, method="empirical") == crn.fit_demand([3, 0, 0, 0, 2, 4], method="empirical")
     with pytest.raises(ValueError, match="its dates have gaps"):
         crn.fit_demand(weeks.to_timestamp(), method="empirical")

@@ -22,7 +22,8 @@ def made_in(text: str) -> Iterator[str]:
         if isinstance(node, (ast.FunctionDef, ast.ClassDef)) and not node.name.startswith("__"):
             yield node.name
     for node in tree.body:
-        targets = node.targets if isinstance(node, ast.Assign) else [node.target] if isinstance(node, ast.AnnAssign) else []
+        targets = node.targets if isinstance(node, ast.Assign) else [node.target] if isinstance(node,
+                                                                                                ast.AnnAssign) else []
         yield from (it.id for target in targets for it in ast.walk(target)
                     if isinstance(it, ast.Name) and not it.id.startswith("__"))
 

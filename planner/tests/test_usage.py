@@ -44,7 +44,8 @@ def test_from_a_history_to_a_decision(movements: Path, program: Path) -> None:
 def test_numbers_of_numpy_and_money_with_a_point(program: Path) -> None:
     """Whole numbers of numpy are whole numbers, and money is scaled to whole numbers."""
     counts = np.array([0, 1, 1, 2, 0, 3], dtype=np.int32)
-    part = crn.Scenario.of(counts, {2: 1, 3: 1}, setup="12.50", holding=0.25, backlog=4, today=(np.int64(2), np.int64(6)))
+    part = crn.Scenario.of(counts, {2: 1, 3: 1}, setup="12.50", holding=0.25, backlog=4,
+                           today=(np.int64(2), np.int64(6)))
     report = part.run([(1, 5), (2, 6)], program=program)
     assert (part.costs.setup, part.costs.holding, part.costs.backlog) == (1250, 25, 400)
     assert list(report.frame["S"]) == [6, 5]

@@ -62,7 +62,8 @@ def found_in(text: str) -> set[tuple[int, str]]:
 
 
 PLANTS = ["reason, _, advice = message.partition('; ')", "x = [it for it in decision.warnings if it.startswith('no ')]",
-          "x = str(why).split(';')[0]", "x = re.sub('--[a-z]+', key, str(refusal))", "x = row['verdict'].endswith('er')",
+          "x = str(why).split(';')[0]", "x = re.sub('--[a-z]+', key, str(refusal))",
+          "x = row['verdict'].endswith('er')",
           "x = WORD.search(self.note)", "x = 'no interval' in its.warnings",
           "for it in self.notes:\n    if re.match('[a-z]', it):\n        pass"]
 SOUND = ["x = cell.text.partition('; ')", "x = path.name.split('.')", "x = it.verdict == 'better'",

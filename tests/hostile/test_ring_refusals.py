@@ -3,8 +3,8 @@
 Whatever is refused, each started thread is joined, and all memory is freed. One test opens a ring: if an allocation
 fails, opening it returns a memory fault and keeps nothing. Another runs two policies twice from one start: if an
 allocation or a thread start of the first run fails, the start is as before, and the second run is right. A third prints
-the fault of a run: that of a thread if a request that a thread's start makes was refused, and otherwise that of memory. A
-caller of uses ends with a fault if its thread is refused.
+the fault of a run: that of a thread if a request that a thread's start makes was refused, and otherwise that of memory.
+A caller of uses ends with a fault if its thread is refused.
 """
 from __future__ import annotations
 

@@ -1,8 +1,8 @@
 """What calls of the crates take: python -m tests.program.calls writes the table anew.
 
-The calls are made by tests of the crates, as the gate has built them, and calls.csv has their figures: the allocations and
-the bytes that they ask for, and the threads that are started (counted by tests/preload.c). Most are of calls that no command
-makes, such as `run_plain`, which could allocate more than they need and nothing else would show it.
+The calls are made by tests of the crates, as the gate has built them, and calls.csv has their figures: the allocations
+and the bytes that they ask for, and the threads that are started (counted by tests/preload.c). Most are of calls that
+no command makes, such as `run_plain`, which could allocate more than they need and nothing else would show it.
 """
 from __future__ import annotations
 

@@ -91,7 +91,8 @@ def put_file(case: Case, room: Path) -> None:
 
 
 def instructions_in(file: Path, program: Path, function: str = "") -> int:
-    """Returns the instructions of the program itself that callgrind has written to a file, or of a function by its begin.
+    """Returns the instructions of the program itself that callgrind has written to a file, or of a function by its
+    begin.
 
     Each function's object is named above its lines, which have a place and a count. The line behind a call counts what
     was called, which has lines too.

@@ -1,9 +1,9 @@
 """No branch of the period loop depends on the stock, the position or the orders.
 
-The loop stands in the function that a policy's thread runs. Under the same draws this takes as many instructions whatever
-the initial stock and the levels are, so whether anything is ordered, and whether items are in stock or owed. If a branch
-depended on one of these, its two ways would have to be of one length for all these runs. The run is held, so that nothing
-has to wait (figures.py).
+The loop stands in the function that a policy's thread runs. Under the same draws this takes as many instructions
+whatever the initial stock and the levels are, so whether anything is ordered, and whether items are in stock or owed.
+If a branch depended on one of these, its two ways would have to be of one length for all these runs. The run is held,
+so that nothing has to wait (figures.py).
 """
 from __future__ import annotations
 
@@ -33,7 +33,8 @@ policy = [ {{ name = "A", s = {low}, S = {high} }} ]
 """
 
 
-def instructions_of(program: Path, built: Path, room: Path, initial: int, low: int, high: int, periods: int = 200) -> int:
+def instructions_of(program: Path, built: Path, room: Path, initial: int, low: int, high: int,
+                    periods: int = 200) -> int:
     """Returns the instructions of the policy's thread in a run."""
     environment = preload.environment(built, room / "counts", hold_threads=1)
     text = TEXT.format(periods=periods, initial=initial, low=low, high=high).encode()

@@ -3,8 +3,8 @@
 A fault that the system causes carries the value that reported it, or for a thread the evidence of it, and no contract
 can tell a value that was handed on from one that was made up. So nothing makes one, and what an allocation asks
 for is one of the listed lengths, getters, fields and constants. Nothing that was allocated is forgotten. The ring moves
-its words by loads and stores alone, and only the side that feeds it makes blocks. A pause is made where it is told, a gate
-is asked in one place, and a run opens one ring. RULES say what may not stand in the crates.
+its words by loads and stores alone, and only the side that feeds it makes blocks. A pause is made where it is told, a
+gate is asked in one place, and a run opens one ring. RULES say what may not stand in the crates.
 """
 from __future__ import annotations
 
@@ -20,7 +20,8 @@ GHOST = re.compile(r"^\s*(ghost |pub ghost |requires|ensures|→)")
 
 
 class Token(NamedTuple):
-    """A token of a source: its line, its text, the function in whose body it stands, and the head of the impl, or None."""
+    """A token of a source: its line, its text, the function in whose body it stands, and the head of the impl, or
+    None."""
 
     line: int
     text: str
@@ -359,7 +360,8 @@ TAKEN = {
     "crn_proto": ("LEFT", "ProducerPart", "ReaderPart", "RingFault", "RingSpec"),
     "crn_sequential": ("Checkpoint",),
 }
-CIPHER = ("block", "counter", "distinct", "fill_blocks", "from_words", "name", "threefry", "unthreefry", "word", "words")
+CIPHER = ("block", "counter", "distinct", "fill_blocks", "from_words", "name", "threefry", "unthreefry", "word",
+          "words")
 # Where a fault of a thread, and the evidence that none was started, may be made: in which impl and function.
 MADE_IN = {
     "ThreadFault": [("ThreadFault", "of_end"), ("< F : Drop > From < SpawnError < F > > for ThreadFault", "from")],

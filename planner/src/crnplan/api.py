@@ -197,26 +197,27 @@ def plan(sales: str | Path | pd.DataFrame | Catalogue, masters: str | Path | pd.
         plan.decisions                         # a row for each item
         plan.item("K-119").doubt().frame       # how sure its choice is
 
-    **What goes in.** Tables are data frames, CSV files, or sheets of workbooks (FILE.xlsx!SHEET). `sales` has a row for each movement: item, date,
-    quantity, and perhaps returned. `masters` has a row for each item: item, setup (money an order), holding and backlog
-    (money an item and period) or fill (the wanted share of demand met at once), lead (periods), today's s and S (items),
-    and perhaps description, stock, price, class and borrow. `orders` has dates of orders: item, ordered, received. Or
-    `sales` is a Catalogue that `read_catalogue` has read, and the other tables and words of reading are left out.
+    **What goes in.** Tables are data frames, CSV files, or sheets of workbooks (FILE.xlsx!SHEET). `sales` has a row for
+    each movement: item, date, quantity, and perhaps returned. `masters` has a row for each item: item, setup (money an
+    order), holding and backlog (money an item and period) or fill (the wanted share of demand met at once), lead
+    (periods), today's s and S (items), and perhaps description, stock, price, class and borrow. `orders` has dates of
+    orders: item, ordered, received. Or `sales` is a Catalogue that `read_catalogue` has read, and the other tables and
+    words of reading are left out.
 
     **How it is read.** A period is `every` day, week (ISO) or month. Columns are found by their names, or named as
     {"demand": {"quantity": "Menge"}} in `columns`; `units` states what they count, as {"items": {"lead": "day"}}. The
-    record is that of all rows, or from `start` to `end`; rows after `today` are rejected. With `net`, quantities below 0
-    are taken off their period. Rows that stand `twice`, and items with amounts `far` above all others, are kept or left
-    out ("keep", "leave-out"). An item needs a history of `least` periods. `factors` says how many items one of a unit of
-    measure is. Files have a `delimiter`, `encoding`, `decimal` sign and `date_formats`, which are found if they can be.
-    Nothing is lost: each row and item that is left out is in `rejects`, with its place, the reason and advice.
+    record is that of all rows, or from `start` to `end`; rows after `today` are rejected. With `net`, quantities below
+    0 are taken off their period. Rows that stand `twice`, and items with amounts `far` above all others, are kept or
+    left out ("keep", "leave-out"). An item needs a history of `least` periods. `factors` says how many items one of a
+    unit of measure is. Files have a `delimiter`, `encoding`, `decimal` sign and `date_formats`, which are found if they
+    can be. Nothing is lost: each row and item that is left out is in `rejects`, with its place, the reason and advice.
 
     **How it is planned.** `fit` is how laws of demand are fitted (auto, predictive, empirical, or a family). Items
     `borrow` laws from one another (all, class, none; by default all if there are 100). `confidence` keeps a wanted fill
     rate under this share of the laws that a history allows. Intervals hold at `level`. Each item is run by crnsim under
     `replications` of `periods` periods, with random numbers that follow from the `seed` (a text or a whole number) and
-    its name alone. `jobs` processes work, by default one for each processor, or those of a Dask `cluster`; the result is
-    the same. `program` is the path of crnsim, if it is not found by itself.
+    its name alone. `jobs` processes work, by default one for each processor, or those of a Dask `cluster`; the result
+    is the same. `program` is the path of crnsim, if it is not found by itself.
 
     With `out`, the folder keeps tables, pages and all answers: planned again, only what has changed is planned, and
     items learn from one another as before, unless `learn_again`. `progress` is shown on standard error.

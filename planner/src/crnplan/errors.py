@@ -15,8 +15,8 @@ from typing import Any, ClassVar
 MARK, VALUE = "\x1f", "\x1e"
 
 
-# What a terminal would obey, or TOML forbids: control characters but for ends of lines and tabs, parts of characters, and
-# changes of the direction of writing.
+# What a terminal would obey, or TOML forbids: control characters but for ends of lines and tabs, parts of characters,
+# and changes of the direction of writing.
 UNSHOWN = re.compile(r"[\x00-\x08\x0b-\x1f\x7f-\x9f\ud800-\udfff\u2028-\u202e\u2066-\u2069]")
 
 

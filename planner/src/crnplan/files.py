@@ -88,7 +88,8 @@ def faults_of(folder: Path) -> Iterator[None]:
         raise Failed(f"{folder}: {fault}", f"{KEPT}; make room, or name a folder that can be written, and run "
                      "again") from fault
     except sqlite3.DatabaseError as fault:
-        raise Failed(f"{folder}: a store in it is damaged ({fault})", "remove its .sqlite files, and run again") from fault
+        raise Failed(f"{folder}: a store in it is damaged ({fault})", "remove its .sqlite files, and run "
+                     "again") from fault
 
 
 class Folder:
@@ -134,7 +135,8 @@ class Folder:
         (self.path / name).mkdir(exist_ok=True)
 
     def store(self, name: str) -> Path:
-        """Returns the path of a file of SQLite that is written in place, and claims it. Raises Refused for a symlink."""
+        """Returns the path of a file of SQLite that is written in place, and claims it. Raises Refused for a
+        symlink."""
         names = [f"{name}{end}" for end in ("", "-journal", "-wal", "-shm")]
         self.claim(*names)
         link = next((it for it in names if (self.path / it).is_symlink()), None)

@@ -1,7 +1,9 @@
-"""Runs batches of work in this process, in others, or on the workers of a Dask cluster, and keeps each answer as it comes.
+"""Runs batches of work in this process, in others, or on the workers of a Dask cluster, and keeps each answer as it
+comes.
 
-A batch that takes too long is given to another worker as well; what comes first counts. A function gives the same answer
-wherever it runs: workers of a cluster say which crnplan and which crnsim they have, and others than here are refused.
+A batch that takes too long is given to another worker as well; what comes first counts. A function gives the same
+answer wherever it runs: workers of a cluster say which crnplan and which crnsim they have, and others than here are
+refused.
 """
 from __future__ import annotations
 
@@ -199,7 +201,8 @@ class Cluster(Workers):
     def submit(self, function: Callable[..., Any], words: Sequence[Any], late: Sequence[Any] = ()) -> Any:
         """Begins to run a function on a worker, not on those where it is late, if there are others."""
         keys = {future.key for future in late}
-        busy = {address for address, running in self.client.processing().items() if keys & {*running}} if late else set()
+        busy = {address for address, running in self.client.processing().items()
+                if keys & {*running}} if late else set()
         others = [address for address in self.client.scheduler_info()["workers"] if address not in busy] if late else []
         return self.client.submit(_run_as_here, function, self.own, self.program, *words, pure=False, retries=2,
                                   workers=others or None)
@@ -331,5 +334,6 @@ def progress(total: int, kept: int, shown: bool, unit: str) -> Iterator[Callable
         yield lines(total, kept, unit)
     else:
         from tqdm import tqdm
-        with tqdm(file=sys.__stderr__, total=total, initial=kept, unit=f" {unit}", desc=f"{kept} kept", dynamic_ncols=True) as bar:
+        with tqdm(file=sys.__stderr__, total=total, initial=kept, unit=f" {unit}", desc=f"{kept} kept",
+                  dynamic_ncols=True) as bar:
             yield lambda done: bar.update(done - bar.n) and None

@@ -1,7 +1,7 @@
 """The words of everything that is said as a code with facts: one sentence for each code, without a full stop.
 
-A template is a format of Python over the facts of a remark. Where words depend on a fact, a function makes them. Nothing
-reads these words again.
+A template is a format of Python over the facts of a remark. Where words depend on a fact, a function makes them.
+Nothing reads these words again.
 """
 from __future__ import annotations
 
@@ -38,7 +38,8 @@ PLAN: dict[str, Words] = {
     "unlike the catalogue": Words("unlike the catalogue from which laws are learned: see borrow = none"),
     "steps": Words("theory counts in steps of {items:,} items"),
     "rounded costs": Words("costs are rounded by up to {error:.1%}"),
-    "no promise": Words("its fill rate holds for its own law: no policy keeps it under {confidence:.0%} of the laws that "
+    "no promise": Words("its fill rate holds for its own law: no policy keeps it under {confidence:.0%} of the laws "
+                        "that "
                         "its history allows"),
     "no interval": Words(lambda it: "the run has no interval: " + (
         "the difference is the same in all replications" if float(it["orders"] or 0) >= 2 else
@@ -52,7 +53,8 @@ PLAN: dict[str, Words] = {
 
 # Of what a catalogue has learned (plan/learning.py).
 LEARNING: dict[str, Words] = {
-    "own laws": Words(lambda it: "each item has the law of its own history" + f" ({it['reason']})" * bool(it["reason"])),
+    "own laws": Words(lambda it: "each item has the law of its own history" + f" "
+                      f"({it['reason']})" * bool(it["reason"])),
     "learned": Words(lambda it: f"laws of demand were learned from {counted(it['items'], 'item')}"
                      + f" and {it['classes']:,} classes" * bool(it["classes"])
                      + " in an earlier run" * bool(it["earlier"])),

@@ -41,7 +41,8 @@ def twenty(planted: Made, tmp_path_factory: pytest.TempPathFactory, program: Pat
     for row in rows:
         row[column] = {NO_PRICE[0]: "", NO_PRICE[1]: "0"}.get(row[0], row[column])
     path.write_text("\r\n".join([";".join(row) for row in rows] + [""]), "utf-8")
-    crn.plan(crn.read_catalogue(*(files / it for it in FILES), today=TODAY), out=files / "plan", jobs=1, program=program,
+    crn.plan(crn.read_catalogue(*(files / it for it in FILES), today=TODAY), out=files / "plan", jobs=1,
+             program=program,
              **SETTINGS)
     crn.exchange_curve(files / "plan", jobs=1)
     return files / "plan"

@@ -271,7 +271,8 @@ def test_a_cluster_that_loses_a_worker(folder: Path, drawn: Path, holding: Path,
 
 @pytest.mark.timeout(2 * SECONDS)
 def test_a_cluster_whose_scheduler_ends(folder: Path, whole: Path, crnplan: Command, holding: Path) -> None:
-    """Ends the scheduler in the middle: a status and one line, no table of a part of the items, and the plan goes on."""
+    """Ends the scheduler in the middle: a status and one line, no table of a part of the items, and the plan goes
+    on."""
     cluster = Cluster(folder)
     try:
         cluster.open()

@@ -168,7 +168,8 @@ REFUSED: dict[str, tuple[str, Callable[[Path], object], str]] = {
     "left out": ("A-031", lambda folder: None, "item 'A-031' is left out: Artikel.csv:"),
     "not planned": (NO_PLAN, lambda folder: None, "it could not be planned: costs: these are too far apart"),
     "changed": ("A-040", forget, "its plan is not as the rows that were read last; run crnplan catalogue again"),
-    "no plan": ("A-040", lambda folder: (folder / "answers.sqlite").unlink(), "no plan is in it; run crnplan catalogue"),
+    "no plan": ("A-040", lambda folder: (folder / "answers.sqlite").unlink(), "no plan is in it; run crnplan "
+                "catalogue"),
     "no folder": ("A-040", shutil.rmtree, "no plan is in it; run crnplan catalogue")}
 
 

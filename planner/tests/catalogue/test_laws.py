@@ -211,7 +211,8 @@ def test_a_promise_that_no_policy_keeps(program: Path, monkeypatch: pytest.Monke
     sure = answered(item, Settings(borrow=NONE, confidence=0.8, **SHORT), Prior(NONE), program)
     assert sure.chosen == plain.chosen and sure.confidence_cost == 0
     remark, = (it for it in sure.remarks if it not in plain.remarks)
-    assert sentence(remark) == ("its fill rate holds for its own law: no policy keeps it under 80% of the laws that its "
+    assert sentence(remark) == ("its fill rate holds for its own law: no policy keeps it under 80% of the laws that "
+                                "its "
                                 "history allows")
 
 

@@ -1,7 +1,7 @@
 """Plans a catalogue again after a change that must not matter, or must matter in a known way alone.
 
-Money may be counted in another unit, items in boxes, periods in days, and rows may stand in another order. What comes of
-it follows from the first plan, so no expected figure is written down.
+Money may be counted in another unit, items in boxes, periods in days, and rows may stand in another order. What comes
+of it follows from the first plan, so no expected figure is written down.
 """
 from __future__ import annotations
 
@@ -63,7 +63,8 @@ class Files:
             random.Random(self.shuffled).shuffle(moves)
             random.Random(self.shuffled).shuffle(masters)
         heading = ["item", *self.items[0].master]
-        for name, rows in (("demand", [["date", "item", "quantity", "returned"], *moves]), ("items", [heading, *masters])):
+        for name, rows in (("demand", [["date", "item", "quantity", "returned"], *moves]),
+                           ("items", [heading, *masters])):
             with (folder / f"{name}.csv").open("w", encoding="utf-8", newline="") as file:
                 csv.writer(file).writerows(rows)
         settings = "".join(f"{name} = {json.dumps(value)}\n" for name, value in SETTINGS.items())

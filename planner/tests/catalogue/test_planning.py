@@ -264,7 +264,8 @@ def test_confidence_and_its_price(begun: Path, crnplan: Command, program: Path) 
     ("[catalogue]\nevry = 'week'\n", "crnplan.toml:2:1: [catalogue] evry: there should be no such key; write every"),
     ("[catalogue]\nfit = 'best'\n", "[catalogue] fit:"),
     ("[catalogue.demand]\namount = 'x'\n", "[catalogue.demand] amount"),
-    ("catalogue = 3\n", "[catalogue]: 3 is a whole number; a table should stand here"), ("[catalogue]\nlevel = 2\n", "level"),
+    ("catalogue = 3\n", "[catalogue]: 3 is a whole number; a table should stand here"), ("[catalogue]\nlevel = 2\n",
+                                                                                         "level"),
     ("[catalogue]\nconfidence = 80\n", "0.8 for 80% of the laws"),
     ("[catalogue\n", "crnplan.toml:1")])
 def test_refused_settings(folder: Path, crnplan: Command, text: str, said: str) -> None:

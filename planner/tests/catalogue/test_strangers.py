@@ -27,7 +27,8 @@ subprocess.run = lambda words, input=b"", **more: run(words, input=re.sub(rb'"[0
 def cluster(folder: Path, program: Path) -> Iterator[Cluster]:
     """Gives a cluster that is not yet open, the command crnsim of all, and that of the worker which leaves."""
     leave_few(folder, FEW)
-    for name, text in (("bin", f'#!/bin/sh\nexec "{program}" "$@"\n'), ("other", OTHER_PROGRAM.format(program=program))):
+    for name, text in (("bin", f'#!/bin/sh\nexec "{program}" "$@"\n'),
+                       ("other", OTHER_PROGRAM.format(program=program))):
         (folder / name).mkdir()
         (folder / name / "crnsim").write_text(text, "utf-8")
         (folder / name / "crnsim").chmod(0o755)

@@ -9,7 +9,8 @@ from pathlib import Path
 
 import pytest
 
-STORED = ["scenario.toml", "notes.txt", "report.csv", "decision.txt", "sweep.csv", "why.txt", "suggested.toml", "suggested.txt",
+STORED = ["scenario.toml", "notes.txt", "report.csv", "decision.txt", "sweep.csv", "why.txt", "suggested.toml",
+          "suggested.txt",
           "long_run.txt", "check.txt", "doubt.txt"]
 # The page whose blocks of `sh` are run, if it is not the one in place.
 PAGE = "CASE_README"

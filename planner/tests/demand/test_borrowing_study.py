@@ -59,7 +59,8 @@ def test_regret() -> None:
     """The true law has no regret, and another law that of the policies of `planner.studies.laws`."""
     true = laws.LAWS["NB3_9"] / laws.LAWS["NB3_9"].sum()
     truth, fitted = borrowing.Truth(true), fit_demand(stats.nbinom.rvs(1.5, 1 / 3, size=30, random_state=4))
-    assert truth.regret(FittedLaw.made(Law.of_chances(true), "true", Diagnostics(Law((0,), (1,)), "auto"))) == pytest.approx(0, abs=0.01)
+    assert truth.regret(FittedLaw.made(Law.of_chances(true), "true", Diagnostics(Law((0,), (1,)),
+                                                                                 "auto"))) == pytest.approx(0, abs=0.01)
     theirs = [regret for regret, _ in laws.Truth("NB3_9").regrets(fitted)]
     settings = [at for at, (_, _, cover) in enumerate(laws.SETTINGS) if cover == 8]
     assert truth.regret(fitted) == pytest.approx(100 * np.mean([theirs[at] for at in settings]))

@@ -182,10 +182,12 @@ def test_all_amounts_are_items(plan: Plan, room: Path) -> None:
     times = 10_000
     (room / "history.csv").write_text("demand\n" + "".join(f"{times * it}\n" for it in counts))
     for name in ("holding", "backlog"):
-        settings = re.sub(rf"^{name} = (\S+)$", lambda it: f"{it[0][:it[0].index('=')]}= {float(it[1]) / times:.10f}", settings,
+        settings = re.sub(rf"^{name} = (\S+)$", lambda it: f"{it[0][:it[0].index('=')]}= {float(it[1]) / times:.10f}",
+                          settings,
                           flags=re.MULTILINE)
     for name in ("s", "S", "stock"):
-        settings = re.sub(rf"^{name} = (\d+)$", lambda it: f"{it[0][:it[0].index('=')]}= {int(it[1]) * times}", settings,
+        settings = re.sub(rf"^{name} = (\d+)$", lambda it: f"{it[0][:it[0].index('=')]}= {int(it[1]) * times}",
+                          settings,
                           flags=re.MULTILINE)
     (room / "settings.toml").write_text(settings)
     assert plan("boxes").status == 0

@@ -26,7 +26,8 @@ FAULTS = {
     "a list for a table": ("[run]", "[[run]]", "[[run]]", "a table should stand here"),
     "a key that is misspelt": ("holding = 0.60", "holdng = 0.60", "holdng", "write holding"),
     "a key in capitals": ("stock = 20", "Stock = 20", "Stock", "write stock"),
-    "a key of another table": ("[costs]", "[costs]\nhorizon = 12", "horizon = 12\nset", "it belongs to [run]: move this line there"),
+    "a key of another table": ("[costs]", "[costs]\nhorizon = 12", "horizon = 12\nset", "it belongs to [run]: move "
+                               "this line there"),
     "a key that nobody knows": ("[costs]", "[costs]\nzebra = 1", "zebra",
         "the keys here are setup, holding, backlog, unit"),
     "a key that is missing": ("stock = 20", "", "[today]", "[today]: the key stock is missing; write it in this table"),
@@ -41,7 +42,8 @@ FAULTS = {
         "there is neither a backlog cost nor a wanted fill rate; write backlog, or [run] fill"),
     "a fill rate in percent": ("laws = 10", "fill = 95", "fill", "95 is not between 0 and 1; write 0.95 for 95%"),
     "a table that has gone": ("[run]", "[check]\nkeys = 2\n[run]", "[check]", "run crnplan check on scenario.toml"),
-    "a key that has gone": ('seed = "a text"', 'key = "a text"', "key", "follow from the seed and the name of the item"),
+    "a key that has gone": ('seed = "a text"', 'key = "a text"', "key", "follow from the seed and the name of the "
+                            "item"),
     "boxes of one's own": ('every = "week"', "box = 5", "box", "large numbers are counted in boxes by themselves"),
     "a number with a point for a level": ("S = 30", "S = 30.5", "S = 30.5",
         "30.5 is a number with a point; a whole number should stand here"),
@@ -67,10 +69,12 @@ FAULTS = {
     "no decimal sign": ('every = "week"', 'decimal = ";"', "decimal", 'write "." or ","'),
     "net without dates": ('every = "week"', 'net = true', "net",
         "this key needs the column of dates; write date and every too"),
-    "a text for yes": ('every = "week"', 'net = "yes"', "net", "'yes' is a text; true or false should stand here; write it without quotes"),
+    "a text for yes": ('every = "week"', 'net = "yes"', "net", "'yes' is a text; true or false should stand here; "
+                       "write it without quotes"),
     "dates without a period": ('every = "week"', 'date = "day"', "[history]",
         'the key every is missing; write every = "week"'),
-    "an empty text": ('demand = "demand"', 'demand = ""', "demand =", "'' is empty; a text should stand here; write it in double quotes"),
+    "an empty text": ('demand = "demand"', 'demand = ""', "demand =", "'' is empty; a text should stand here; write it "
+                      "in double quotes"),
     "formats that are no list": ('every = "week"', 'date_formats = "%d"', "date_formats",
         'a list of texts should stand here'),
     "an item that is no table": ('every = "week"', 'item = "4711"', "item =", 'a table should stand here'),
@@ -164,4 +168,5 @@ def test_any_text_is_read_or_refused(tmp_path_factory: pytest.TempPathFactory, e
     try:
         read_settings(path)
     except RefusedFaults as refusal:
-        assert refusal.faults and all(re.match(r"(\[|the document: |this is no TOML document: )", it.what) for it in refusal.faults)
+        assert refusal.faults and all(re.match(r"(\[|the document: |this is no TOML document: )", it.what)
+                                      for it in refusal.faults)

@@ -1,4 +1,5 @@
-"""Tests of work on a cluster: workers that end, hang, or are not as this machine; a scheduler that ends or is not there.
+"""Tests of work on a cluster: workers that end, hang, or are not as this machine; a scheduler that ends or is not
+there.
 """
 from __future__ import annotations
 
@@ -125,8 +126,8 @@ def test_a_scheduler_that_ends(cluster: Cluster, room: Path) -> None:
 
 @pytest.mark.parametrize("hangs", ["leaves", "both"])
 def test_a_batch_that_hangs(cluster: Cluster, room: Path, monkeypatch: pytest.MonkeyPatch, hangs: str) -> None:
-    """Gives a batch that takes too long to another worker, where the result is the same. If it hangs on all of them, the
-    sweep ends and says so."""
+    """Gives a batch that takes too long to another worker, where the result is the same. If it hangs on all of them,
+    the sweep ends and says so."""
     here = crn.sweep(crn.Scenario.read(room / "base.toml"), range(50, 62), range(70, 80), program=room / "holding")
     (room / "taken").unlink()
     (room / "holding").write_text(HANGING.format(room=room, program=room / "program", hangs=hangs), "utf-8")
@@ -166,8 +167,10 @@ def test_missing_distributed_is_refused(room: Path, crnplan: Command, monkeypatc
 def test_tls_without_certificates(room: Path, crnplan: Command, program: Path, monkeypatch: pytest.MonkeyPatch) -> None:
     """Refuses an address that needs certificates if Dask has none, in one line."""
     monkeypatch.setenv("DASK_CONFIG", str(room / "no_settings"))
-    told = crnplan("sweep", "examples/two_policies.toml", *GRID, "--cluster", f"tls://{LOOPBACK}:1", "--program", program)
-    assert told[:2] == (2, "") and "--cluster tls://127.0.0.1:1: TLS expects" in told.errors and told.errors.count("\n") == 1
+    told = crnplan("sweep", "examples/two_policies.toml", *GRID, "--cluster", f"tls://{LOOPBACK}:1", "--program",
+                   program)
+    assert told[:2] == (2,
+                        "") and "--cluster tls://127.0.0.1:1: TLS expects" in told.errors and told.errors.count("\n") == 1
 
 
 pytestmark = pytest.mark.timeout(2 * SECONDS)

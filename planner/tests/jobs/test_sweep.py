@@ -215,7 +215,8 @@ def test_goes_on_after_an_interrupt(base: Path, room: Path, program: Path, crnpl
             time.sleep(0.05)
         os.killpg(process.pid, signal.SIGINT)
         output, errors = process.communicate(timeout=60)
-    assert (process.returncode, output) == (130, "") and errors.endswith("crnplan: interrupted\n") and "are done and kept" in errors
+    assert (process.returncode, output) == (130, "") and errors.endswith("crnplan: "
+                                                                         "interrupted\n") and "are done and kept" in errors
     # The interrupt ends the third run too, so the next one may have begun before all are cancelled.
     assert len(kept(room / "kept")) == 2 and runs() in (3, 4)
     (room / "go_on").touch()

@@ -76,12 +76,15 @@ def made_pair(source: random.Random, name: str) -> Pair:
                      demand / 14)
     near = saving + error * source.uniform(-1, 1)
     estimate = Estimate(cost, cost - near, near, error, near - QUANTILE * error, near + QUANTILE * error)
-    run = Run("0 0 0 0", 1024, 24, 9, Fraction(100), 900, 60, 900, 1_000_000, 900_000, Fraction(-near), Fraction(error)**2,
+    run = Run("0 0 0 0", 1024, 24, 9, Fraction(100), 900, 60, 900, 1_000_000, 900_000, Fraction(-near),
+              Fraction(error)**2,
               True, estimate)
-    item = Item(name, (0, 3, 1), (2,), (s, s + 9), Fraction(9), Fraction(3, 5), Fraction(9), first=1000, line=7, rows=90,
+    item = Item(name, (0, 3, 1), (2,), (s, s + 9), Fraction(9), Fraction(3, 5), Fraction(9), first=1000, line=7,
+                rows=90,
                 group=source.choice(("X", "Y", "Z", "")), price=price if source.random() > 0.05 else None,
                 description=f"{source.choice(NOUNS)} {source.randrange(100)}")
-    answer = Answer(name, 1, CHEAPER if saving > 0 else SERVICE, THEORY, cost, cost - saving, saving, today, chosen, None, 1,
+    answer = Answer(name, 1, CHEAPER if saving > 0 else SERVICE, THEORY, cost, cost - saving, saving, today, chosen,
+                    None, 1,
                     None, LawFacts("poisson", 0.5, None, demand), 40, 104, run, source.choice(REMARKS))
     return item, with_verdict(source, answer)
 
@@ -99,7 +102,8 @@ def with_verdict(source: random.Random, answer: Answer) -> Answer:
     if draw < 0.16:
         its = run.estimate
         low, high = its.low or 0.0, its.high or 0.0
-        return replace(answer, source=RUN, cost_chosen=its.cost_chosen, saving=its.saving, verdict=CHEAPER if low > 0 else
+        return replace(answer, source=RUN, cost_chosen=its.cost_chosen, saving=its.saving, verdict=CHEAPER if low > 0
+                       else
                        SERVICE if high < 0 else UNDECIDED)
     return answer
 
@@ -140,7 +144,8 @@ def made_curve(pairs: Iterable[Pair]) -> list[Point]:
 
     def point(name: str, value: float, less: float, orders: float, cost: float) -> Point:
         """Returns a point, below the best share that its stock value can give."""
-        return Point(name=name, value=value, fill=1 - 0.3 * math.exp(-4.5 * value / most) - less, orders=orders, cost=cost)
+        return Point(name=name, value=value, fill=1 - 0.3 * math.exp(-4.5 * value / most) - less, orders=orders,
+                     cost=cost)
     return [point("today", today, 0.06, 250.0, 1900.0), point("chosen item by item", chosen, 0.004, 215.0, 1500.0),
             point("today's stock, best service", today, 0.0, 214.0, 1450.0),
             point("today's service, least stock", 0.4 * today, 0.0, 203.0, 900.0),

@@ -187,7 +187,8 @@ def test_texts_stand_as_they_are(tmp_path: Path) -> None:
     item = replace(item, description="  <b>two</b>  blanks ", group="&amp;",
                    remarks=(Remark("refused", {"what": "'a' \"b\" < c", "advice": ""}),))
     its = Page(crn.report(made_folder(tmp_path / "plan", 5, change=(item, replace(answer, remarks=()))))).items["texts"]
-    assert [its[name] for name in ("description", "class", "warnings")] == [item.description, item.group, "'a' \"b\" < c"]
+    assert [its[name] for name in ("description", "class", "warnings")] == [item.description, item.group,
+                                                                            "'a' \"b\" < c"]
 
 
 def test_totals(large: Path) -> None:
@@ -196,7 +197,8 @@ def test_totals(large: Path) -> None:
     with contextlib.closing(Store(large / ANSWERS, Answer)) as store:
         answers = [it for _, _, it in store.answers() if isinstance(it, Answer)]
     page, summary = Page(large / "report.html"), (large / "summary.txt").read_text("utf-8")
-    saving, run = (math.fsum(its) for its in ([it.saving for it in answers], [it.run.estimate.saving for it in answers]))
+    saving, run = (math.fsum(its) for its in ([it.saving for it in answers],
+                                              [it.run.estimate.saving for it in answers]))
     today, chosen = (math.fsum(its) for its in ([it.cost_today for it in answers], [it.cost_chosen for it in answers]))
     half = 1.959964 * math.sqrt(math.fsum((it.run.estimate.error or 0)**2 for it in answers))
     widths = [((row["run_high"], row["run_low"]), row) for row in rows_of(large / "decisions.csv") if row["run_low"]]

@@ -31,7 +31,8 @@ def item_of(place: int = 0, **changed: Any) -> Item:
 def several(count: int) -> Iterator[Item]:
     """Yields items of all kinds: several lead times, wanted fill rates, returns, packs."""
     kinds: tuple[dict[str, Any], ...] = (
-        {}, {"leads": (1, 3, 2)}, {"backlog": None, "fill": Fraction(19, 20), "levels": (1, 9)}, {"fill": Fraction(9, 10)})
+        {}, {"leads": (1, 3, 2)}, {"backlog": None, "fill": Fraction(19, 20), "levels": (1, 9)},
+        {"fill": Fraction(9, 10)})
     for place in range(count):
         item = item_of(place, **kinds[place % len(kinds)])
         if place % 5 == 4:

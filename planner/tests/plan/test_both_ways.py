@@ -115,7 +115,8 @@ def test_both_commands_show_the_same(items: Mapping[str, Item], folder: Path, tm
     for policy, row in policies.items():
         if policy not in ("today", "chosen"):
             continue
-        shown = [row["s"], row["S"], f"{float(row['stock']):.5g}", f"{float(row['orders']):.5g}", f"{float(row['fill']):.4f}"]
+        shown = [row["s"], row["S"], f"{float(row['stock']):.5g}", f"{float(row['orders']):.5g}",
+                 f"{float(row['fill']):.4f}"]
         assert shown == [decided[f"{it}_{policy}"] for it in ("s", "S", "stock", "orders", "fill")]
         assert row["cost"] == decided[f"cost_{policy}"]
     chosen = policies["chosen"]

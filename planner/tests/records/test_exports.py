@@ -208,7 +208,8 @@ def test_stated_units(check: Checked, tmp_path: Path) -> None:
     assert not rejects and item.leads[:6] in ((2,), (2,) * 6)
     assert (item.holding, item.backlog, sum(item.counts)) == (1, 10, 24 * WEEKS)
     settings = tmp_path / "mine.toml"
-    settings.write_text('[catalogue]\nevery = "month"\nleast = 2\n[catalogue.units]\n"items.lead" = "week"\n"items.holding" '
+    settings.write_text('[catalogue]\nevery = "month"\nleast = 2\n[catalogue.units]\n"items.lead" = '
+                        '"week"\n"items.holding" '
                         '= "year"\n"items.backlog" = "month"\n"demand.quantity" = "12"\n', "utf-8")
     check(demand_of(["2"]), "--config", settings, masters=f"{MASTERS}\nA,45,12,10,9,3,9\n")
     assert check.items["A"] == item
@@ -229,17 +230,20 @@ def test_rows_in_two_units_of_measure(words: Sequence[str], total: int | None, c
 @pytest.mark.parametrize("demand, masters", [
     ("Material;Buchungsdatum;Menge in ErfassME;ErfassME",
      "Material;Materialkurztext;Bestellkosten;Lagerkosten pro Woche;"
-     "Fehlmengenkosten pro Woche;Planlieferzeit;Meldebestand;Höchstbestand;LABST;Standardpreis;Preiseinheit;ABC-Kennzeichen"),
+     "Fehlmengenkosten pro "
+     "Woche;Planlieferzeit;Meldebestand;Höchstbestand;LABST;Standardpreis;Preiseinheit;ABC-Kennzeichen"),
     ("MATNR;BUDAT;MENGE;MEINS", "MATNR;MAKTX;setup;holding;backlog;PLIFZ;MINBE;MABST;LABST;STPRS;PEINH;MAABC"),
     ("Item No.;Posting Date;Invoiced Quantity;Unit of Measure Code",
      "Item No.;Description;Ordering Cost;Carrying Cost;Stockout "
-     "Cost;Lead Time Calculation (days);Reorder Point;Maximum Inventory;Inventory;Unit Cost;Price Unit;Item Category Code"),
+     "Cost;Lead Time Calculation (days);Reorder Point;Maximum Inventory;Inventory;Unit Cost;Price Unit;Item Category "
+     "Code"),
     ("Item;Date;Qty. Sold;UoM",
      "Item;Display Name;Setup cost;Holding cost;Backorder cost;Lead Time (Days);Reorder Point;Preferred "
      "Stock Level;Qty on Hand;Average Cost;Price Unit;Category"),
     ("Référence;Date comptable;Quantité vendue;Unité de mesure",
      "Référence;Désignation;Coût de commande;Coût de possession;Coût "
-     "de rupture;Délai de livraison (jours);Point de commande;Stock maximum;Stock actuel;Prix unitaire;Unité de prix;Catégorie"),
+     "de rupture;Délai de livraison (jours);Point de commande;Stock maximum;Stock actuel;Prix unitaire;Unité de "
+     "prix;Catégorie"),
     ("Código;Fecha contable;Cantidad vendida;Unidad de medida",
      "Código;Descripción;Costo de pedido;Costo de almacenamiento;Coste de "
      "rotura;Plazo de entrega (días);Punto de reorden;Stock máximo;Existencias;Precio unitario;Unidad de precio;Clase"),

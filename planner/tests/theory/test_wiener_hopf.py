@@ -47,7 +47,8 @@ def test_the_walk_with_returns() -> None:
 @settings(max_examples=40)
 @given(st.lists(st.integers(0, 9), min_size=2, max_size=6), st.lists(st.integers(0, 2), min_size=1, max_size=3))
 def test_any_walk_that_falls(demand: list[int], back: list[int]) -> None:
-    down, up = (LatticeLaw(0, np.array([9 - sum(its) % 3, *its]) / (sum(its) + 9 - sum(its) % 3)) for its in (demand, back))
+    down, up = (LatticeLaw(0, np.array([9 - sum(its) % 3, *its]) / (sum(its) + 9 - sum(its) % 3))
+                for its in (demand, back))
     net = sum_of(down, up.reflected)
     if net.mean > 0.5:
         assert error_of(net) < 1e-9

@@ -23,11 +23,13 @@ TAKEN = ("keep", "leave-out")
 @click.option("--rejects", metavar="FILE", type=click.Path(dir_okay=False, path_type=Path),
               help="With --check, write what was left out here.")
 @click.option("--anyway", is_flag=True,
-              help="End with status 0 even if no item can be planned, or more than half of a file's rows were rejected.")
+              help="End with status 0 even if no item can be planned, or more than half of a file's rows were "
+              "rejected.")
 @click.option("--column", "columns", metavar="FILE.ROLE=NAME", multiple=True,
               help="A column, as demand.quantity=Menge. May be given several times.")
 @click.option("--unit", "units", metavar="FILE.ROLE=UNIT", multiple=True,
-              help="What a column counts, as items.lead=day, items.holding=percent (of the price a year), items.price=100, "
+              help="What a column counts, as items.lead=day, items.holding=percent (of the price a year), "
+              "items.price=100, "
               "demand.quantity=12. May be given several times.")
 @click.option("--factor", "factors", metavar="MEASURE=NUMBER", multiple=True,
               help="How many items one of a unit of measure is, as KAR=12. May be given several times.")

@@ -21,7 +21,8 @@ from .output import Picture
 @click.option("--jobs", type=click.IntRange(min=1), metavar="N", help="Processes; by default one for each processor.")
 @click.option("--cluster", metavar="ADDRESS", help="A Dask scheduler, as tcp://host:8786. Its workers need crnplan.")
 @click.option("--program", metavar="PATH", help="The program crnsim.")
-def command(folder: Path, value: float | None, fill: float | None, orders: float | None, confirm: int, plot: Path | None,
+def command(folder: Path, value: float | None, fill: float | None, orders: float | None, confirm: int,
+            plot: Path | None,
             is_csv: bool, jobs: int | None, cluster: str | None, program: str | None) -> None:
     """Show how much service the whole stock can give for its value.
 

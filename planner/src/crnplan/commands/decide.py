@@ -43,7 +43,8 @@ def replications_of(asked: int | None, scenario: Scenario | None, name: str | No
 @click.option("--all", "every", is_flag=True, help="List all policies, not the first 20.")
 @form_options
 @click.option("--plot", type=Picture(), metavar="FILE.png", help="Draw the intervals, as PNG or SVG.")
-@click.option("--map", "of_costs", type=Picture(), metavar="FILE.png", help="Draw the cost over s and S, as PNG or SVG.")
+@click.option("--map", "of_costs", type=Picture(), metavar="FILE.png", help="Draw the cost over s and S, as PNG or "
+              "SVG.")
 def command(report: str, scenario_path: str | None, sweep: bool, replications: int | None, long_run: bool, level: float,
             every: bool, form: str | None, plot: Path | None, of_costs: Path | None) -> None:
     """Turn a report of crnsim into decimals, confidence intervals and a decision. `-` is standard input.

@@ -265,9 +265,11 @@ class Budget:
             if number is not None and not 0 < number < math.inf:
                 raise Refused(f"{argument(name, f'{number:g}')} is not above 0")
         if self.fill is not None and not 0 < self.fill < 1:
-            raise Refused(f"{argument('fill', f'{self.fill:g}')} is not between 0 and 1", "write 0.95 for 95 of 100 units of value")
+            raise Refused(f"{argument('fill', f'{self.fill:g}')} is not between 0 and 1", "write 0.95 for 95 of 100 "
+                          "units of value")
         if self.value is not None and self.fill is not None:
-            raise Refused(f"{argument('stock_value')} and {argument('fill')}: each alone names a point of the curve", "leave one out")
+            raise Refused(f"{argument('stock_value')} and {argument('fill')}: each alone names a point of the curve",
+                          "leave one out")
 
     def choice(self, items: Items, dearer: Dearer) -> Choice | None:
         """Returns the choice that keeps the stock value or the share; None if none does."""
@@ -285,10 +287,12 @@ def check_most(ladder: Ladder, budget: Budget) -> None:
     items = ladder.items
     most, end = float(ladder.along(items.value).max()), 1 - float(ladder.along(items.unmet)[-1]) / items.asked
     if budget.value is not None and budget.value > most * (1 + NEAR):
-        raise OffCurve(argument("stock_value", f"{budget.value:,.10g}"), f"the most stock on the curve is worth {most:,.2f}",
+        raise OffCurve(argument("stock_value", f"{budget.value:,.10g}"), f"the most stock on the curve is worth "
+                       f"{most:,.2f}",
                        "name less")
     if budget.fill is not None and budget.fill > end + NEAR:
-        raise OffCurve(argument("fill", f"{budget.fill:g}"), f"the curve ends with {end:.8f} of demand by value", "name less")
+        raise OffCurve(argument("fill", f"{budget.fill:g}"), f"the curve ends with {end:.8f} of demand by value",
+                       "name less")
 
 
 def chosen_by(items: Items, budget: Budget) -> Choice:
@@ -354,7 +358,8 @@ def _fewer_orders(items: Items, budget: Budget, first: Choice) -> Choice:
         found = choice_of(high)
         if found is not None:
             return _between(low, high, choice_of, found, is_high=True)
-    raise OffCurve(argument("orders", f"{budget.orders:g}"), f"with this stock or service there are {fewest:.4g} orders a period or "
+    raise OffCurve(argument("orders", f"{budget.orders:g}"), f"with this stock or service there are {fewest:.4g} "
+                   f"orders a period or "
                    "more", "name more")
 
 

@@ -26,7 +26,8 @@ if TYPE_CHECKING:
 CURVE, POLICIES, LEFT_OUT = "curve.csv", "curve_policies.csv", "curve_left_out.csv"
 FIGURES = (
     number("value", "money", "the value of the mean stock", MONEY),
-    number("fill", "share", "of demand by value met at once", ".6f"), number("orders", "orders a period", "mean number", ".6g"),
+    number("fill", "share", "of demand by value met at once", ".6f"), number("orders", "orders a period", "mean number",
+                                                                             ".6g"),
     number("cost", "money a period", "setup and holding", MONEY))
 COLUMNS = (
     text("point", "`today`, `chosen`, `same stock`, `same service`, `budget`, or `curve`"),
@@ -34,8 +35,10 @@ COLUMNS = (
     number("gap", "share", "by which setup and holding are at most above the best with this service", ".6f"))
 POLICY_COLUMNS = (
     text("item", "the item"), text("description", "of the masters"), whole("s_today", "items", "today's s"),
-    whole("S_today", "items", "today's S"), whole("s", "items", "s of the point"), whole("S", "items", "its S"), *FIGURES)
-LEFT_OUT_COLUMNS = (text("item", "the item"), text("reason", "why it is not on the curve"), text("advice", "what to do"))
+    whole("S_today", "items", "today's S"), whole("s", "items", "s of the point"), whole("S", "items", "its S"),
+    *FIGURES)
+LEFT_OUT_COLUMNS = (text("item", "the item"), text("reason", "why it is not on the curve"),
+                    text("advice", "what to do"))
 ON_CURVE, SAME_STOCK, SAME_SERVICE, BUDGET = "curve", "same stock", "same service", "budget"
 # What each point is, for a reader.
 SAID = {TODAY: "today", CHOSEN: "chosen item by item", SAME_STOCK: "today's stock, best service",
@@ -193,8 +196,10 @@ def curve_text(drawn: Drawn) -> str:
         rows.append([drawn.said[name], f"{point.value:,.{money}f}", f"{point.fill:.2%}", f"{point.orders:,.4g}",
                      f"{point.cost:,.{money}f}", gap_text(gap)])
     lines = [f"{len(its.items.names):,} items are on the curve" + (
-        f"; {len(left):,} are left out, as {left[0][0]}: {sentence(left[0][1])} ({LEFT_OUT} names all)" if left else ""),
-             "", aligned(rows), *(f"{SAID[name]}: there is no such point: {why}" for name, why in drawn.missing.items()), *NOTES]
+        f"; {len(left):,} are left out, as {left[0][0]}: {sentence(left[0][1])} ({LEFT_OUT} names all)" if left
+        else ""),
+             "", aligned(rows), *(f"{SAID[name]}: there is no such point: {why}" for name,
+                                  why in drawn.missing.items()), *NOTES]
     policies = SAID.get(drawn.written, "the least stock")
     lines.append(f'{CURVE} has the curve; {POLICIES} has the policies of "{policies}", in {its.folder.path}.')
     lines += ["", *drawn.confirmed.lines(drawn.said)] if drawn.confirmed else []

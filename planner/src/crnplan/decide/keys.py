@@ -116,8 +116,8 @@ def check_keys(scenario: Scenario, best: str, *, keys: Sequence[Sequence[str]] =
     16 digits of 0-9a-f. If they are fewer than `count`, 1 to 64, the others are drawn. Each is run with so many
     `replications`, 2 to 256. The joint `level` is between 0 and 1. `out` is a folder, new, empty or of an earlier
     check, which gets the scenario and the report of each key, key_1.toml and key_1.csv for the first one, and
-    pooled.csv if there are several: the report of all replications. Raises Refused, also for the scenario's own key, and ProgramError if a run
-    fails.
+    pooled.csv if there are several: the report of all replications. Raises Refused, also for the scenario's own key,
+    and ProgramError if a run fails.
     """
     checked_replications(replications)
     checked_level(level)

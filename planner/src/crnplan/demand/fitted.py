@@ -55,9 +55,10 @@ class Diagnostics:
 
     `seen` is the empirical law of what was observed, and `method` how it was fitted. Of a law of families: `pack` is
     the size of the packs that were fitted, `bic` has the families, the least BIC first, and `guard` the shares of drawn
-    histories of those not far behind. `families` has the chances of those in the law, `cap` is its largest demand, `share` its part beside what
-    was seen, and `bulks` how many demands are bulks, and the least of them. `side` is the part of lead times that
-    counts a period earlier, and as much later. `borrowed` is what an item has learned from others.
+    histories of those not far behind. `families` has the chances of those in the law, `cap` is its largest demand,
+    `share` its part beside what was seen, and `bulks` how many demands are bulks, and the least of them. `side` is the
+    part of lead times that counts a period earlier, and as much later. `borrowed` is what an item has learned from
+    others.
     """
 
     seen: Law

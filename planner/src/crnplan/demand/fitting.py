@@ -136,7 +136,8 @@ def auto_law(sample: Sample, law: Floats) -> tuple[Floats, int, float]:
     return mixture([(share, law), (1 - share, sample.law)]), cap, share
 
 
-def fit_demand(observed: Observed | Iterable[Number], *, method: str = "auto", box: int = 1, borrow: Prior | None = None,
+def fit_demand(observed: Observed | Iterable[Number], *, method: str = "auto", box: int = 1,
+               borrow: Prior | None = None,
                item_class: str | None = None) -> FittedLaw:
     """Fits the law of demand to a history, or to any whole numbers from 0, one for each period.
 

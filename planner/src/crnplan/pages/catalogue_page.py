@@ -152,9 +152,11 @@ def meaning(its: Contents) -> str:
     """Returns what the headline means."""
     totals = its.totals
     rounded = f", for {totals.by_run:,} of them by crnsim's runs, since theory is rounded there" * bool(totals.by_run)
-    return (f"In the long run the {totals.planned:,} planned items cost {its.money(totals['cost_today'])} a {its.every} "
+    return (f"In the long run the {totals.planned:,} planned items cost {its.money(totals['cost_today'])} a "
+            f"{its.every} "
             f"with today's policies, and {its.money(totals['cost_chosen'])} with the chosen ones{rounded}. The "
-            f"difference is {its.money(totals['saving'])}, if demand keeps to the laws that were fitted to its history. "
+            f"difference is {its.money(totals['saving'])}, if demand keeps to the laws that were fitted to its "
+            f"history. "
             f"{its.runs}{service(its)}")
 
 

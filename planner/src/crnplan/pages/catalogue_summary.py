@@ -40,7 +40,8 @@ def catalogue_summary(its: PlannedFolder, done: Done) -> str:
     by_run = f" ({totals.by_run:,} items by crnsim)" * bool(totals.by_run)
     lines = [
         *counted_rows(its.counts["files"]),
-        f"items: {items['named']:,} named = {totals.planned:,} planned + {items['left_out'] + totals.faults:,} left out "
+        f"items: {items['named']:,} named = {totals.planned:,} planned + {items['left_out'] + totals.faults:,} left "
+        f"out "
         f"({REJECTS} says why)",
         f"rows that stand twice: {items['twice']:,}; orders not yet received: {items['open_orders']:,}; items that "
         f"begin with their first movement: {items['late']:,}", "",

@@ -85,7 +85,8 @@ def decision_row(item: Item, answer: Answer) -> list[Cell]:
             answer.cost_today, answer.cost_chosen, answer.saving, PLANNED_BY[answer.source], estimate.saving,
             estimate.low, estimate.high, None if item.fill is None else float(item.fill), today.fill, chosen.fill,
             today.stock, chosen.stock, *prices, today.orders, chosen.orders, answer.confidence_cost,
-            *policy_cells(alone), *((alone.cost, alone.fill) if alone else (None, None)), answer.law.mean, answer.periods,
+            *policy_cells(alone), *((alone.cost, alone.fill) if alone else (None, None)), answer.law.mean,
+            answer.periods,
             answer.demands, answer.law.family, answer.law.share, answer.law.log10_bayes, codes, words]
 
 

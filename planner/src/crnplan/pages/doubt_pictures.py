@@ -26,7 +26,8 @@ def draw_row(axes: Axes, place: int, regrets: Floats, share: float) -> None:
     axes.plot(regrets, heights, ".", color=BLUE, markersize=5.5, markeredgewidth=0, alpha=0.45)
     axes.plot([np.mean(regrets)], [place], "D", color="white", markeredgecolor="black", markersize=6, zorder=4)
     bound = np.quantile(regrets, share)
-    axes.plot([bound, bound], [place - 0.34, place + 0.34], color=ORANGE, linewidth=2.5, solid_capstyle="butt", zorder=3)
+    axes.plot([bound, bound], [place - 0.34, place + 0.34], color=ORANGE, linewidth=2.5, solid_capstyle="butt",
+              zorder=3)
 
 
 def set_scale(axes: Axes, most: float) -> None:

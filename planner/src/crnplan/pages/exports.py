@@ -80,7 +80,8 @@ def pages_of(folder: Path, rows: Sequence[Shown]) -> Mapping[str, str]:
 
 
 ITEM_TABLES: Mapping[str, Callable[[ItemWords], DataTable | None]] = {
-    "demand.csv": demand_of, "lead_times.csv": leads_of, "laws.csv": laws_of, POLICIES: policies_of, EXACT: exact_of_item,
+    "demand.csv": demand_of, "lead_times.csv": leads_of, "laws.csv": laws_of, POLICIES: policies_of,
+    EXACT: exact_of_item,
     DOUBT: doubt_of, "sensitivity.csv": moves_of, PERIODS: periods_of, COMING: coming_of}
 ITEM_FILES = (*ITEM_TABLES, "scenario.toml", "notes.txt", SUMMARY, ITEM_PAGE)
 

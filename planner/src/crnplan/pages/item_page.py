@@ -137,7 +137,8 @@ class ItemPage:
     def decided(self) -> Ranges:
         """Returns the differences from today's policy."""
         figure = "by crnsim's run" if self.answer.source == RUN else f"by theory, {self.words.exactness}"
-        note = (f"A mark is the difference a {self.every} in the long run, {figure}. A line is the interval of crnsim's "
+        note = (f"A mark is the difference a {self.every} in the long run, {figure}. A line is the interval of "
+                f"crnsim's "
                 f"run, each at {100 * self.words.settings.level:g}% by itself. Left of 0 is cheaper.")
         rows = [self._difference(it) for it in self.words.compared]
         return Ranges("Cost compared with today's policy, in the long run", f"difference from {TODAY}",
@@ -148,7 +149,8 @@ class ItemPage:
         low, high = it.ends or (it.difference, it.difference)
         text = self.words.money(it.difference)
         between = f", from {self.words.money(low)} to {self.words.money(high)}" if it.ends else ""
-        return Range(it.name, it.figures.point, it.figures.level, it.verdict, it.difference, low, high, text, it.verdict,
+        return Range(it.name, it.figures.point, it.figures.level, it.verdict, it.difference, low, high, text,
+                     it.verdict,
                      f"{it.name}: {text}{between}, {it.verdict}", it.name == self.depth.chosen)
 
     @cached_property
@@ -165,7 +167,8 @@ class ItemPage:
             ALONE in self.by_name)
         costs = "" if self.question.has_backlog else (
             " Costs are those of orders and of stock, since no backlog has one.")
-        note = (f"Columns up to orders are by theory, {words.exactness}, unproved. The cost by crnsim is proved for its "
+        note = (f"Columns up to orders are by theory, {words.exactness}, unproved. The cost by crnsim is proved for "
+                f"its "
                 f"stream, less the effect of the start by theory; each interval is by itself.{costs}{single} All by "
                 f"{words.law}. The coloured row is the chosen policy.")
         return Grid("All policies in the long run", headings, rows, note, mark=self.depth.chosen)
@@ -202,11 +205,13 @@ class ItemPage:
         def drawn(name: str, row: Mapping[str, float]) -> Range:
             """Returns a policy."""
             its, mean, bound = self.by_name[name].figures, percent(row["regret"]), percent(row["regret_90"])
-            return Range(name, its.point, its.level, "undecided", 100 * row["regret"], 0.0, 100 * row["regret_90"], mean,
+            return Range(name, its.point, its.level, "undecided", 100 * row["regret"], 0.0, 100 * row["regret_90"],
+                         mean,
                          f"{bound} at most", f"{name}: {mean}, under 90% of the laws at most {bound}",
                          name == self.depth.chosen)
         note = ("A mark is what a policy costs more than the best of all policies of this page under the same law, in "
-                f"the mean; a line ends where that stays under 90% of the laws. The {len(rows)} policies with the least "
+                f"the mean; a line ends where that stays under 90% of the laws. The {len(rows)} policies with the "
+                f"least "
                 "mean cost are shown.")
         return Ranges("Dearer than the best policy under the laws that the history allows", "dearer than the best, %",
                       "mean", note, [drawn(*it) for it in rows.items()])
@@ -223,7 +228,8 @@ class ItemPage:
                  for it in found.moves]
         sure = self.words.settings.confidence is not None and self.item.fill is not None
         notes = [*found.remarks, *["best policies meet the fill rate by their law, without a confidence"] * sure]
-        note = " ".join(["In each case one thing differs and all else is as it is. chosen: what the chosen policy costs "
+        note = " ".join(["In each case one thing differs and all else is as it is. chosen: what the chosen policy "
+                         "costs "
                          f"then, how much more than the best that is, and what it meets. {UNPROVED}",
                          *map(capital, notes)])
         return Grid("The best policy in each case, and what it costs to keep the chosen one", headings, cells, note)
@@ -241,10 +247,13 @@ class ItemPage:
             figures, (mean, *ends) = self.by_name[row.policy].figures, self.words.ends_of(row)
             low, high = (mean if it is None else it for it in ends)
             between = f", from {money(low)} to {money(high)}" * (row.low is not None)
-            return Range(row.policy, figures.point, figures.level, row.verdict, mean, low, high, money(mean), row.verdict,
+            return Range(row.policy, figures.point, figures.level, row.verdict, mean, low, high, money(mean),
+                         row.verdict,
                          f"{row.policy}: {money(mean)}{between}, {row.verdict}", row.policy == self.depth.chosen)
-        note = (f"A mark is the mean difference a {self.every} over the coming {periods:,} {self.every}s, from the stock "
-                f"of today, by {found.scenario.replications:,} replications of crnsim. A line is its interval; all hold "
+        note = (f"A mark is the mean difference a {self.every} over the coming {periods:,} {self.every}s, from the "
+                f"stock "
+                f"of today, by {found.scenario.replications:,} replications of crnsim. A line is its interval; all "
+                f"hold "
                 f"together at {100 * self.words.settings.level:g}%.")
         return Ranges(f"Cost compared with today's policy, over the coming {periods:,} {self.every}s",
                       f"difference from {TODAY}", f"a {self.every}", note, [*map(drawn, found.rows)])

@@ -42,7 +42,8 @@ def policies_of(words: ItemWords) -> DataTable:
         it = words.compared[place]
         its, run = it.figures, it.run
         own, ends = it.own_ends or (None, None), it.ends or (None, None)
-        return [it.name, its.point, its.level, it.cost, it.difference, it.verdict, its.cost, its.fill, its.short, its.stock,
+        return [it.name, its.point, its.level, it.cost, it.difference, it.verdict, its.cost, its.fill, its.short,
+                its.stock,
                 its.orders, run.cost, *own, run.difference, *ends, "; ".join(it.reasons)]
     return DataTable(POLICY_COLUMNS, [*map(row, range(len(words.compared)))], words.decimals, index="policy")
 

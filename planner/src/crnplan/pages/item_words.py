@@ -30,7 +30,8 @@ MOST_DECIMALS = 6
 def decimals_of(item: Item) -> int:
     """Returns how many decimals the smallest unit of an item's money has: 2, or as many as its costs need."""
     costs = [it for it in (item.setup, item.holding, item.backlog, item.unit) if it is not None]
-    return next((it for it in range(2, MOST_DECIMALS) if all((cost * Fraction(10)**it).denominator == 1 for cost in costs)),
+    return next((it for it in range(2, MOST_DECIMALS) if all((cost * Fraction(10)**it).denominator == 1
+                                                             for cost in costs)),
                 MOST_DECIMALS)
 
 
@@ -142,7 +143,8 @@ class ItemWords:
         ends = "without an interval" if estimate.low is None or estimate.high is None else (
             f"from {self.spoken(estimate.low)} to {self.spoken(estimate.high)} at {100 * self.settings.level:g}%")
         if answer.source == THEORY:
-            return (f"In the long run the chosen policy costs {self.spoken(answer.saving)} a {self.every} than today's, by "
+            return (f"In the long run the chosen policy costs {self.spoken(answer.saving)} a {self.every} than "
+                    f"today's, by "
                     f"theory, {self.exactness}. By crnsim's run beside it ({self.run}) it is "
                     f"{self.spoken(estimate.saving)}, {ends}.")
         return (f"In the long run, by crnsim ({self.run}), the chosen policy costs {self.spoken(answer.saving)} a "
@@ -191,4 +193,5 @@ class ItemWords:
     @property
     def notes(self) -> list[str]:
         """Returns what is to be said of the history, and of how its law was fitted."""
-        return [capital(it) for it in (*self.heard, *map(sentence, self.item.remarks), *map(advised, fit_remarks(self.question.demand)))]
+        return [capital(it) for it in (*self.heard, *map(sentence, self.item.remarks),
+                                       *map(advised, fit_remarks(self.question.demand)))]

@@ -55,6 +55,7 @@ def reasons_of(rejects: Iterable[Reject]) -> list[Reason]:
 
 def rejects_of(rejects: Iterable[Reject]) -> DataTable:
     """Returns what was left out or named, with the reason and what to do."""
-    rows = ([it.kind, it.file, it.line or None, it.item, it.column, it.text, sentence(it.remark), advice(it.remark), it.rows]
+    rows = ([it.kind, it.file, it.line or None, it.item, it.column, it.text, sentence(it.remark), advice(it.remark),
+             it.rows]
             for it in rejects)
     return DataTable(REJECT_COLUMNS, rows, missing="")

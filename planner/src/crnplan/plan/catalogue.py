@@ -60,7 +60,8 @@ def plan_into(folder: Folder, settings: Settings, *, jobs: int | None = None, ad
         planned.keep(answers)
         work = Work(answers, dict(read.digests(planned.common)))
         write_rejects(folder, read)
-        work.finish(plan_batch, read.item, settings, learned.prior, path, workers=workers_of(jobs, address, path), shown=shown)
+        work.finish(plan_batch, read.item, settings, learned.prior, path, workers=workers_of(jobs, address, path),
+                    shown=shown)
         its = PlannedFolder(folder.path, read, answers, planned)
         totals = Totals.of(its.answers())
         done = Done(len(work.left), work.kept, totals, learned.remarks,

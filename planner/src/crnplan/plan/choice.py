@@ -1,4 +1,5 @@
-"""Chooses the policy of an item by theory: the best, or the cheapest that keeps a wanted share of demand met at once."""
+"""Chooses the policy of an item by theory: the best, or the cheapest that keeps a wanted share of demand met at
+once."""
 from __future__ import annotations
 
 import math

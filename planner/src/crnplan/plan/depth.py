@@ -216,14 +216,16 @@ class Depth:
         demand, lead = case.scenario.demand, case.scenario.lead
         return dataclasses.replace(
             its, item=dataclasses.replace(its.item, fill=None if case.fill is None else Fraction(case.fill)),
-            settings=dataclasses.replace(its.settings, confidence=None), rates={name: costs[name] for name in its.rates},
+            settings=dataclasses.replace(its.settings, confidence=None),
+            rates={name: costs[name] for name in its.rates},
             demand=dataclasses.replace(its.demand, values=demand.values, weights=demand.weights),
             lead=dataclasses.replace(its.lead, values=lead.values, weights=lead.weights))
 
     def _stock(self) -> int:
         """Returns today's stock in boxes; the initial stock of the run if that is not known."""
         stock = self.question.item.stock
-        return self.answer.run.initial if stock is None else min(max(round(stock / self.question.item.box), 0), MOST_ITEMS)
+        return self.answer.run.initial if stock is None else min(max(round(stock / self.question.item.box), 0),
+                                                                 MOST_ITEMS)
 
     def trajectory(self) -> Mapping[str, list[Period]]:
         """Returns today's and the chosen policy period by period, in boxes: replication 0 of the run, from today's

@@ -34,7 +34,8 @@ class Disagreement(Failed):
     def __init__(self, fault: Remark) -> None:
         """Keeps what differs."""
         its = fault.facts
-        super().__init__(f"{its['figure']}: crnsim gives {its['run']:g}, theory {its['theory']:g}, which differ by more "
+        super().__init__(f"{its['figure']}: crnsim gives {its['run']:g}, theory {its['theory']:g}, which differ by "
+                         f"more "
                          f"than chance allows (standard error {its['error']:g}); please report it")
         self.fault = fault
 

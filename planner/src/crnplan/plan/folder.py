@@ -63,7 +63,8 @@ class PlannedFolder:
         """Raises Refused if an item is not planned as its rows are now."""
         kept = self.store.digests()
         if any(kept.get(name) != digest for name, digest in self.read.digests(self.planned.common)):
-            raise Refused(f"{self.path}: its plan is not as the rows that were read last", "run crnplan catalogue again")
+            raise Refused(f"{self.path}: its plan is not as the rows that were read last", "run crnplan catalogue "
+                          "again")
 
     def answers(self) -> Iterator[tuple[Item, Answer | Remark]]:
         """Yields the items in order of their names, each with its answer, or with the fault for which it has none."""
@@ -95,7 +96,8 @@ class PlannedFolder:
         left = next((it for it in self.read.rejects() if it.kind == "item" and it.item == name), None)
         if left:
             where = f"{left.file}:{left.line}" if left.line else left.file
-            return Refused(f"{self.path}: item {name!r} is left out: {where}: {sentence(left.remark)}", advice(left.remark))
+            return Refused(f"{self.path}: item {name!r} is left out: {where}: {sentence(left.remark)}",
+                           advice(left.remark))
         close = get_close_matches(name, self.read.names(), 1)
         return Refused(f"{self.path}: there is no item {name!r}",
                        f"did you mean {close[0]!r}?" if close else "decisions.csv has all items")

@@ -1,4 +1,5 @@
-"""Plans one item from a history and settings: the same facts, question and answer as in a catalogue, and then deeper."""
+"""Plans one item from a history and settings: the same facts, question and answer as in a catalogue, and then
+deeper."""
 from __future__ import annotations
 
 import dataclasses
@@ -101,7 +102,8 @@ def read_item(history: str | Path, settings: str | Path) -> Facts:
     costs, today, returns = read["costs"], read["today"], demand.returns
     item = Item(_name_of(path, read), demand.counts, leads.counts if leads else tuple(read["lead"]["times"]),
                 (today["s"], today["S"]), costs["setup"], costs["holding"], costs["backlog"], read.fill, costs["unit"],
-                returns.counts if returns and any(returns.counts) else (), stock=Fraction(today["stock"]), first=demand.first,
+                returns.counts if returns and any(returns.counts) else (), stock=Fraction(today["stock"]),
+                first=demand.first,
                 rows=len(demand.counts))
     return Facts(item, path, demand, leads, read)
 

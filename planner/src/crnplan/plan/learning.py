@@ -100,4 +100,5 @@ def _kept(answers: Store[Answer], read: Catalogued, way: str, least: int, again:
 
 def _remark(prior: Prior, earlier: bool) -> Remark:
     """Returns from how many items something was learned."""
-    return Remark(LEARNED, {"items": prior.items - prior.outside, "classes": len(prior.classes or {}), "earlier": earlier})
+    return Remark(LEARNED, {"items": prior.items - prior.outside, "classes": len(prior.classes or {}),
+                            "earlier": earlier})

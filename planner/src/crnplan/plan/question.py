@@ -57,13 +57,15 @@ class Settings:
             if word not in words:
                 raise Refused(f"{argument(name, str(word))} is not one of {', '.join(words)}")
         if self.fit != "auto" and self.borrow not in (None, NONE):
-            raise Refused(f"{argument('fit', self.fit)} fits each item alone, and {argument('borrow', str(self.borrow))} "
+            raise Refused(f"{argument('fit', self.fit)} fits each item alone, and "
+                          f"{argument('borrow', str(self.borrow))} "
                           "learns from others", "leave one out")
         if not 0 < self.level < 1:
             raise Refused(f"{argument('level', f'{self.level:g}')} is not between 0 and 1", "write 0.95 for 95 of 100 "
                           "samples")
         if self.confidence is not None and not 0 < self.confidence < 1:
-            raise Refused(f"{argument('confidence', f'{self.confidence:g}')} is not between 0 and 1", "write 0.8 for 80% "
+            raise Refused(f"{argument('confidence', f'{self.confidence:g}')} is not between 0 and 1",
+                          "write 0.8 for 80% "
                           "of the laws that a history allows")
         for name, value, least, most in (("periods", self.periods, 1, MOST_PERIODS),
                                          ("replications", self.replications, 2, MOST_REPLICATIONS)):

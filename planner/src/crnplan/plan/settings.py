@@ -16,7 +16,8 @@ from ..demand.leads import LEAD_METHODS
 from ..errors import Refused
 from ..toml.reading import read_tables
 from ..toml.rules import MISSING, Key, Table
-from ..toml.values import (RANGE, Path as Place, TreeFault, choice, date, flag, money, number, numbers, share, shown, text,
+from ..toml.values import (RANGE, Path as Place, TreeFault, choice, date, flag, money, number, numbers, share, shown,
+                           text,
                            texts)
 
 TEXT, NO, DATE = Key(text), Key(flag, default=False), Key(date)

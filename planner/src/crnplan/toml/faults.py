@@ -1,4 +1,5 @@
-"""Finds the faults 2 to 13 of a scenario's tree, all of them: the keys of its tables, and what stands beside each other.
+"""Finds the faults 2 to 13 of a scenario's tree, all of them: the keys of its tables, and what stands beside each
+other.
 
 Which number crnsim reports is proved of the program; this module is not.
 """

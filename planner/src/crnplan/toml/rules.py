@@ -103,7 +103,8 @@ class Judge:
                             self._advice_on_key(key, rules)) for key in unknown]
         for key, rule in rules.keys.items():
             if rule.needed and key not in table and key not in instead:
-                faults.append(TreeFault(MISSING, path, f"the key {key} is missing", _advice_on_missing(path, key, rule)))
+                faults.append(TreeFault(MISSING, path, f"the key {key} is missing", _advice_on_missing(path, key,
+                                                                                                       rule)))
         return faults
 
     def _of_table(self, path: Path, table: Any, rules: Table) -> list[TreeFault]:
@@ -128,7 +129,8 @@ class Judge:
             return self._of_table(path, value, rule)
         if not isinstance(value, list):
             return wrong_kind(path, value, "a list of tables")
-        tables = [fault for entry, table in enumerate(value, 1) for fault in self._of_table((*path, entry), table, rule)]
+        tables = [fault for entry, table in enumerate(value, 1) for fault in self._of_table((*path, entry), table,
+                                                                                            rule)]
         return rule.joint_of_list(path, value) + tables
 
 
