@@ -17,7 +17,7 @@ import pandas as pd
 import pytest
 
 import crnplan as crn
-from crnplan.plan.question import Settings
+from crnplan.plan.question import Question, Settings
 from planner.tests.catalogue.audit import audit
 from planner.tests.catalogue.conftest import FILES, SETTINGS, TABLES, WORDS, leave_few
 from planner.tests.catalogue.made import NO_PLAN, START, TITLES, WEEKS, Made
@@ -286,3 +286,14 @@ def test_other_folders_are_refused(folder: Path, crnplan: Command) -> None:
                   {"fit": "empirical", "borrow": "all"}, {"confidence": 1.0}):
         with pytest.raises(crn.Refused):
             Settings(**words)  # type: ignore[arg-type]
+
+
+def test_a_fault_of_ours_has_its_status(folder: Path, crnplan: Command, monkeypatch: pytest.MonkeyPatch) -> None:
+    """An item that breaks our own code is a reject, and the command ends with the status of our faults."""
+    def broken(question: Question) -> None:
+        """Breaks as a bug would."""
+        raise ZeroDivisionError(question.item.name)
+    monkeypatch.setattr(Question, "theory", broken)
+    told = crnplan("catalogue", *WORDS, "--out", "plan", "--jobs", "1")
+    assert told.status == 3 and "are not planned by a fault of crnplan" in told.errors
+    assert "ZeroDivisionError" in (folder / "plan/rejects.csv").read_text("utf-8")

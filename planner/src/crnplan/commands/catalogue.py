@@ -80,7 +80,7 @@ def command(**asked: Any) -> int:
     takes a few times as long.
 
     The exit status is 1 if no item can be planned, or if more than half of a file's rows were rejected (--anyway allows
-    it), and 3 if the counts of rows or items do not add up.
+    it), and 3 if the counts of rows or items do not add up, or if an item has a fault of crnplan.
     """
     from .catalogue_words import commanded
     return commanded(asked, lambda line: click.echo(line, nl=False), lambda line: click.echo(line, err=True, nl=False))

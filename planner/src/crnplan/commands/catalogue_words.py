@@ -115,7 +115,8 @@ def _planned(folder: Folder, asked: Mapping[str, Any], config: Mapping[str, Any]
                          again=asked["again"], shown=True)
         note(f"{folder.path}: {done.planned:,} items planned, {done.kept:,} kept from before\n")
         say(done.summary)
-        missing = list(done.missing)
+        missing = [*done.missing, *[f"{done.totals.broken:,} items are not planned by a fault of crnplan: please report "
+                                    "them with their rows"] * (done.totals.broken > 0)]
     say("".join(f"{line}\n" for line in reason_lines(catalogue)))
     note("".join(f"crnplan: {line}\n" for line in missing))
     no = [] if asked["anyway"] else list(too_few(catalogue.counts))

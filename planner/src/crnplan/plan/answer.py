@@ -121,3 +121,5 @@ REFUSED = "refused"  # what, advice
 NO_POLICY = "no policy"  # fill
 DISAGREES = "disagrees"  # figure, theory, run, error
 FAILED = "failed"  # kind, what
+# Those that are faults of ours.
+OURS = (DISAGREES, FAILED)

@@ -9,7 +9,7 @@ from statistics import NormalDist
 
 from ..records.item import Item
 from ..remarks import Remark
-from .answer import CHOSEN, RUN, TODAY, Answer
+from .answer import CHOSEN, OURS, RUN, TODAY, Answer
 
 MOST_PARTS = 1_000
 
@@ -42,13 +42,15 @@ class Totals:
     `value_today` and `value_chosen` of the mean stock; `confidence_cost` of a period; `saving VERDICT`; of items with a
     price, the value of the demand of a period, `demand`, and `met_today` and `met_chosen` of it at once.
 
-    Counts of items: by verdict, those that are not planned (`faults`), those with the run's figures (`by_run`), without
-    an interval of the run, with a confidence in their fill rate (`promised`), with a remark, and with a price.
+    Counts of items: by verdict, those that are not planned (`faults`), those of them by a fault of ours (`broken`),
+    those with the run's figures (`by_run`), without an interval of the run, with a confidence in their fill rate
+    (`promised`), with a remark, and with a price.
     """
 
     sums: Sums = field(default_factory=Sums)
     verdicts: Counter[str] = field(default_factory=Counter)
     faults: int = 0
+    broken: int = 0
     by_run: int = 0
     without_interval: int = 0
     promised: int = 0
@@ -76,6 +78,7 @@ class Totals:
         """Adds an item."""
         if isinstance(answer, Remark):
             self.faults += 1
+            self.broken += answer.code in OURS
             return
         self.verdicts[answer.verdict] += 1
         self.by_run += answer.source == RUN
