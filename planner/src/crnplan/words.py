@@ -39,8 +39,7 @@ PLAN: dict[str, Words] = {
     "steps": Words("theory counts in steps of {items:,} items"),
     "rounded costs": Words("costs are rounded by up to {error:.1%}"),
     "no promise": Words("its fill rate holds for its own law: no policy keeps it under {confidence:.0%} of the laws "
-                        "that "
-                        "its history allows"),
+                        "that its history allows"),
     "no interval": Words(lambda it: "the run has no interval: " + (
         "the difference is the same in all replications" if float(it["orders"] or 0) >= 2 else
         "the rarer policy places fewer than 2 orders in all replications")),

@@ -212,8 +212,7 @@ def test_a_promise_that_no_policy_keeps(program: Path, monkeypatch: pytest.Monke
     assert sure.chosen == plain.chosen and sure.confidence_cost == 0
     remark, = (it for it in sure.remarks if it not in plain.remarks)
     assert sentence(remark) == ("its fill rate holds for its own law: no policy keeps it under 80% of the laws that "
-                                "its "
-                                "history allows")
+                                "its history allows")
 
 
 def test_an_item_without_a_policy_alone(prior: Prior, program: Path, monkeypatch: pytest.MonkeyPatch) -> None:

@@ -138,7 +138,7 @@ def test_gigabyte_without_a_line_end(tmp_path: Path) -> None:
         file.write(b"item,date,quantity\n" + b"A,2026-03-02,1\n" * 100_000 + b"A,2026-03-02,")
         file.truncate(1 << 30)
     words = ["catalogue", path, tmp_path / "items.csv", "--check", "--out", tmp_path / "plan"]
-    # A process of its own measures it, since what a process had before `exec` counts for the program.
+    # A small process starts and measures it: the memory that a process has before `exec` counts for the program too.
     told = subprocess.run([sys.executable, COST, "/dev/null", tmp_path / "errors", sys.executable, "-m", "crnplan",
                            *words], capture_output=True, text=True, check=True)
     _, kilobytes, status = told.stdout.split()

@@ -29,8 +29,7 @@ TAKEN = ("keep", "leave-out")
               help="A column, as demand.quantity=Menge. May be given several times.")
 @click.option("--unit", "units", metavar="FILE.ROLE=UNIT", multiple=True,
               help="What a column counts, as items.lead=day, items.holding=percent (of the price a year), "
-              "items.price=100, "
-              "demand.quantity=12. May be given several times.")
+              "items.price=100, demand.quantity=12. May be given several times.")
 @click.option("--factor", "factors", metavar="MEASURE=NUMBER", multiple=True,
               help="How many items one of a unit of measure is, as KAR=12. May be given several times.")
 @click.option("--every", type=click.Choice(EVERY), help="The period; by default week. Weeks are ISO weeks.")

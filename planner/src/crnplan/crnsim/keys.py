@@ -45,8 +45,7 @@ def keys_of(given: Sequence[Sequence[str]], count: int | None, own: Key) -> list
         raise Refused(f"{argument('count', str(count))}: there can be {least} to {MOST_KEYS} keys here")
     if own in keys:
         raise Refused(f"{argument('keys', ' '.join(own))} is the scenario's own key, with the same histories again; "
-                      f"give "
-                      "another one, or none to draw one")
+                      "give another one, or none to draw one")
     for place, key in enumerate(keys):
         if key in keys[:place]:
             raise Refused(f"{argument('keys', ' '.join(key))} is given twice, with the same histories again; give "

@@ -359,8 +359,7 @@ def _fewer_orders(items: Items, budget: Budget, first: Choice) -> Choice:
         if found is not None:
             return _between(low, high, choice_of, found, is_high=True)
     raise OffCurve(argument("orders", f"{budget.orders:g}"), f"with this stock or service there are {fewest:.4g} "
-                   f"orders a period or "
-                   "more", "name more")
+                   "orders a period or more", "name more")
 
 
 def _less_stock(items: Items, budget: Budget, first: Choice | None) -> Choice:

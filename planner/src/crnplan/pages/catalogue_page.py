@@ -156,8 +156,7 @@ def meaning(its: Contents) -> str:
             f"{its.every} "
             f"with today's policies, and {its.money(totals['cost_chosen'])} with the chosen ones{rounded}. The "
             f"difference is {its.money(totals['saving'])}, if demand keeps to the laws that were fitted to its "
-            f"history. "
-            f"{its.runs}{service(its)}")
+            f"history. {its.runs}{service(its)}")
 
 
 def service(its: Contents) -> str:

@@ -41,8 +41,7 @@ def catalogue_summary(its: PlannedFolder, done: Done) -> str:
     lines = [
         *counted_rows(its.counts["files"]),
         f"items: {items['named']:,} named = {totals.planned:,} planned + {items['left_out'] + totals.faults:,} left "
-        f"out "
-        f"({REJECTS} says why)",
+        f"out ({REJECTS} says why)",
         f"rows that stand twice: {items['twice']:,}; orders not yet received: {items['open_orders']:,}; items that "
         f"begin with their first movement: {items['late']:,}", "",
         f"verdicts: {verdicts or 'none'}",

@@ -138,8 +138,7 @@ class ItemPage:
         """Returns the differences from today's policy."""
         figure = "by crnsim's run" if self.answer.source == RUN else f"by theory, {self.words.exactness}"
         note = (f"A mark is the difference a {self.every} in the long run, {figure}. A line is the interval of "
-                f"crnsim's "
-                f"run, each at {100 * self.words.settings.level:g}% by itself. Left of 0 is cheaper.")
+                f"crnsim's run, each at {100 * self.words.settings.level:g}% by itself. Left of 0 is cheaper.")
         rows = [self._difference(it) for it in self.words.compared]
         return Ranges("Cost compared with today's policy, in the long run", f"difference from {TODAY}",
                       f"a {self.every}", note, rows)
@@ -211,8 +210,7 @@ class ItemPage:
                          name == self.depth.chosen)
         note = ("A mark is what a policy costs more than the best of all policies of this page under the same law, in "
                 f"the mean; a line ends where that stays under 90% of the laws. The {len(rows)} policies with the "
-                f"least "
-                "mean cost are shown.")
+                "least mean cost are shown.")
         return Ranges("Dearer than the best policy under the laws that the history allows", "dearer than the best, %",
                       "mean", note, [drawn(*it) for it in rows.items()])
 
@@ -229,8 +227,7 @@ class ItemPage:
         sure = self.words.settings.confidence is not None and self.item.fill is not None
         notes = [*found.remarks, *["best policies meet the fill rate by their law, without a confidence"] * sure]
         note = " ".join(["In each case one thing differs and all else is as it is. chosen: what the chosen policy "
-                         "costs "
-                         f"then, how much more than the best that is, and what it meets. {UNPROVED}",
+                         f"costs then, how much more than the best that is, and what it meets. {UNPROVED}",
                          *map(capital, notes)])
         return Grid("The best policy in each case, and what it costs to keep the chosen one", headings, cells, note)
 
@@ -253,8 +250,7 @@ class ItemPage:
         note = (f"A mark is the mean difference a {self.every} over the coming {periods:,} {self.every}s, from the "
                 f"stock "
                 f"of today, by {found.scenario.replications:,} replications of crnsim. A line is its interval; all "
-                f"hold "
-                f"together at {100 * self.words.settings.level:g}%.")
+                f"hold together at {100 * self.words.settings.level:g}%.")
         return Ranges(f"Cost compared with today's policy, over the coming {periods:,} {self.every}s",
                       f"difference from {TODAY}", f"a {self.every}", note, [*map(drawn, found.rows)])
 

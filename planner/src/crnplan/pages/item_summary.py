@@ -58,16 +58,14 @@ def coming_words(words: ItemWords) -> str:
         f"{chosen} can't be told apart from {TODAY}" if chosen != TODAY else
         f"{', '.join(better)} better than {TODAY}" if better else f"no policy is better than {TODAY}")
     return (f"Over the coming {scenario.periods:,} {words.every}s ({scenario.replications:,} replications, "
-            f"summary.html): "
-            f"{said}.")
+            f"summary.html): {said}.")
 
 
 def provenance(words: ItemWords) -> str:
     """Returns where the figures come from, and how exact they are."""
     by = "crnsim" if words.answer.source == RUN else "theory"
     return (f"All by {words.law}. Theory is of the long run, {words.exactness}, unproved; crnsim is a run, proved for "
-            f"its "
-            f"stream. Verdicts are by {by}.")
+            f"its stream. Verdicts are by {by}.")
 
 
 def item_summary(words: ItemWords) -> str:

@@ -144,8 +144,7 @@ class ItemWords:
             f"from {self.spoken(estimate.low)} to {self.spoken(estimate.high)} at {100 * self.settings.level:g}%")
         if answer.source == THEORY:
             return (f"In the long run the chosen policy costs {self.spoken(answer.saving)} a {self.every} than "
-                    f"today's, by "
-                    f"theory, {self.exactness}. By crnsim's run beside it ({self.run}) it is "
+                    f"today's, by theory, {self.exactness}. By crnsim's run beside it ({self.run}) it is "
                     f"{self.spoken(estimate.saving)}, {ends}.")
         return (f"In the long run, by crnsim ({self.run}), the chosen policy costs {self.spoken(answer.saving)} a "
                 f"{self.every} than today's, {ends}. Theory is {self.exactness}.")

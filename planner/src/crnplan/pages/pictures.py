@@ -1,7 +1,7 @@
 """Draws by matplotlib, which is loaded only if a picture is asked for, and saves pictures as PNG or SVG.
 
-A picture is a `Figure` of its own, so a notebook shows it, and nothing is changed of what else is drawn there. All
-pictures can be read in grey.
+Each picture is a new `Figure`. A notebook shows it, and other pictures there stay as they are. All pictures can be read
+in grey.
 """
 from __future__ import annotations
 

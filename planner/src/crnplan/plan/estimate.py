@@ -35,8 +35,7 @@ class Disagreement(Failed):
         """Keeps what differs."""
         its = fault.facts
         super().__init__(f"{its['figure']}: crnsim gives {its['run']:g}, theory {its['theory']:g}, which differ by "
-                         f"more "
-                         f"than chance allows (standard error {its['error']:g}); please report it")
+                         f"more than chance allows (standard error {its['error']:g}); please report it")
         self.fault = fault
 
 

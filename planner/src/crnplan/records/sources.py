@@ -90,7 +90,7 @@ def stored(cell: Any) -> Cell:
         return str(cell).upper()
     if isinstance(cell, (float, Decimal)):
         return None if cell != cell else int(cell) if cell == int(cell) else float(cell)
-    # Only pandas' NA has no text of its own.
+    # pandas' NA stands for an empty cell.
     return cell if isinstance(cell, (int, datetime.date)) else None if repr(cell) == "<NA>" else str(cell)
 
 
