@@ -15,8 +15,7 @@ import numpy as np
 import pandas as pd
 
 from crnplan.plan.answer import Answer
-from crnplan.plan.folder import ANSWERS
-from crnplan.plan.learning import learned_of
+from crnplan.plan.catalogue import ANSWERS, learned_of
 from crnplan.plan.question import ALL, Question, Settings, question_of
 from crnplan.records.catalogue_reading import Words, read_alone
 from crnplan.records.catalogued import CATALOGUE, Catalogued

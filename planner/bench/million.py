@@ -20,7 +20,7 @@ from crnplan.curve.exchange import Items
 from crnplan.curve.gathering import CANDIDATES, gather
 from crnplan.pages.catalogue_tables import DECISIONS, EXACT, planned_of
 from crnplan.pages.exports import PAGE
-from crnplan.plan.folder import ANSWERS, PlannedFolder, planned_folder
+from crnplan.plan.catalogue import ANSWERS, PlannedFolder, planned_folder
 from crnplan.records.catalogued import CATALOGUE, READ
 from crnplan.files import own_folder
 from planner.bench.made import Made

@@ -11,7 +11,7 @@ from pathlib import Path
 from typing import Any
 
 from crnplan.plan.answer import Answer
-from crnplan.plan.folder import Planned
+from crnplan.plan.catalogue import Planned
 from crnplan.records.catalogue_reading import Words, open_sources
 from crnplan.records.catalogued import Catalogued
 from crnplan.records.columns import ROLES

@@ -21,7 +21,7 @@ from crnplan.decide.verdicts import table_of
 from crnplan.demand import checks_of
 from crnplan.decide.moves import moves_of
 from crnplan.plan.answer import CHOSEN, Answer
-from crnplan.plan.folder import planned_folder
+from crnplan.plan.catalogue import planned_folder
 from crnplan.plan.item import ItemPlan, planned, read_item
 from crnplan.records.catalogued import Catalogued
 from crnplan.records.item import Item

@@ -20,12 +20,10 @@ from .pages.item_summary import item_summary
 from .pages.item_tables import doubt_of, moves_of, policies_of
 from .pages.item_words import ItemWords, decimals_of
 from .pages.reasons import rejects_of
-from .plan.catalogue import Done, Lost, plan_into
+from .plan.catalogue import Done, Lost, Totals, plan_into, planned_folder
 from .plan.depth import Depth
-from .plan.folder import planned_folder
 from .plan.item import KIND, planned, read_item
 from .plan.question import Settings
-from .plan.totals import Totals
 from .records.catalogue_reading import Catalogue, Words, read_into
 from .records.catalogued import CATALOGUE, READ
 from .records.items import KEEP, LEAVE_OUT, Ways

@@ -50,7 +50,7 @@ PLAN: dict[str, Words] = {
                        "{theory:g} by theory, with a standard error of {error:g}", REPORT),
     "failed": Words("crnplan failed ({kind}: {what})", REPORT)}
 
-# Of what a catalogue has learned (plan/learning.py).
+# Of what a catalogue has learned (plan/catalogue.py).
 LEARNING: dict[str, Words] = {
     "own laws": Words(lambda it: "each item has the law of its own history" + f" "
                       f"({it['reason']})" * bool(it["reason"])),

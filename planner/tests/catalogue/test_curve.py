@@ -17,7 +17,7 @@ import crnplan as crn
 from crnplan.curve.exchange_curve import CURVE, LEFT_OUT, POLICIES, Drawn, draw_curve, points_of
 from crnplan.curve.exchange import Budget, chosen_by, with_more_orders
 from crnplan.curve.gathering import CANDIDATES
-from crnplan.plan.folder import ANSWERS, planned_folder
+from crnplan.plan.catalogue import ANSWERS, planned_folder
 from crnplan.plan.one import figures_of
 from crnplan.records.catalogued import READ
 from crnplan.words import advice, sentence

@@ -9,14 +9,13 @@ from typing import Any
 
 import numpy as np
 import pytest
-from hypothesis import given, settings
-from hypothesis import strategies as st
+from hypothesis import given, settings, strategies as st
 
 from crnplan.curve.candidates import (DEARER_ORDERS, DEARER_STOCK, PRICES, VARIANTS, Candidates, candidates_of,
                                       variants_of)
 from crnplan.curve.exchange import Budget, Dearer, Items, Ladder, Point, chosen_by, gap_of
 from crnplan.curve.hull import lower_hull, slopes
-from crnplan.plan.folder import planned_folder
+from crnplan.plan.catalogue import planned_folder
 from crnplan.errors import Refused
 
 NUMBERS = st.integers(0, 30)

@@ -16,13 +16,12 @@ from pathlib import Path
 
 import pytest
 
-from crnplan.curve.exchange_curve import exchange_curve
+from crnplan.curve.exchange_curve import CURVE, LEFT_OUT, POLICIES, draw_curve, exchange_curve
 from crnplan import plan
 from crnplan.records.catalogue_reading import read_catalogue
-from crnplan.curve.exchange_curve import CURVE, LEFT_OUT, POLICIES, draw_curve
 from crnplan.curve.exchange import Budget
 from crnplan.curve.gathering import CANDIDATES
-from crnplan.plan.folder import ANSWERS
+from crnplan.plan.catalogue import ANSWERS
 from crnplan.jobs import BATCH
 from crnplan.files import MARKER
 from planner.tests.catalogue.conftest import FILES, SETTINGS, TABLES, WORDS, leave_few

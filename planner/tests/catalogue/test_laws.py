@@ -11,11 +11,10 @@ import numpy as np
 import pytest
 
 import crnplan as crn
-from crnplan.plan import choice
+from crnplan.plan import one
 from crnplan.plan.answer import Answer
-from crnplan.plan.choice import allowed_by
-from crnplan.plan.learning import learned_of
-from crnplan.plan.one import plan_one
+from crnplan.plan.one import allowed_by, plan_one
+from crnplan.plan.catalogue import learned_of
 from crnplan.plan.question import ALL, CLASS, NONE, Question, Settings, question_of
 from crnplan.records.catalogued import CATALOGUE as FOLDER, Catalogued, Writer
 from crnplan.records.item import Item
@@ -205,7 +204,7 @@ def test_confidence_is_one_in_a_wanted_fill_rate(prior: Prior, program: Path) ->
 
 def test_a_promise_that_no_policy_keeps(program: Path, monkeypatch: pytest.MonkeyPatch) -> None:
     """Plans an item by its own law, and says so, if no policy keeps its fill rate under enough laws."""
-    monkeypatch.setattr(choice, "promised", lambda *_: NO_POLICY)
+    monkeypatch.setattr(one, "promised", lambda *_: NO_POLICY)
     item = replace(CATALOGUE["I-006"], fill=Fraction(9, 10), backlog=None)
     plain = answered(item, Settings(borrow=NONE, **SHORT), Prior(NONE), program)
     sure = answered(item, Settings(borrow=NONE, confidence=0.8, **SHORT), Prior(NONE), program)

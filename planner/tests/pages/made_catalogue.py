@@ -16,10 +16,8 @@ from crnplan.files import own_folder
 from crnplan.pages.exports import CATALOGUE_FILES, write_catalogue
 from crnplan.plan.answer import (CHEAPER, NO_INTERVAL, RUN, SAME, SERVICE, THEORY, UNDECIDED, UNLIKE, Answer, Estimate,
                                  Figures, LawFacts, Run)
-from crnplan.plan.catalogue import Done
-from crnplan.plan.folder import ANSWERS, Planned, PlannedFolder
+from crnplan.plan.catalogue import ANSWERS, Done, Planned, PlannedFolder, Totals
 from crnplan.plan.question import Settings
-from crnplan.plan.totals import Totals
 from crnplan.records.catalogued import CATALOGUE, READ, Catalogued, Reject, Writer
 from crnplan.records.item import Item
 from crnplan.remarks import Remark

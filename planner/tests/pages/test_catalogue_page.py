@@ -21,8 +21,7 @@ from pathlib import Path
 from urllib.parse import unquote
 
 import pytest
-from hypothesis import HealthCheck, given, settings
-from hypothesis import strategies as st
+from hypothesis import HealthCheck, given, settings, strategies as st
 
 import crnplan as crn
 from crnplan.files import own_folder
@@ -31,8 +30,7 @@ from crnplan.pages.catalogue_page import COLUMNS, LARGE, MEANING, NO_CURVE, OLD_
 from crnplan.pages.item_files import file_of
 from crnplan.pages.reasons import reasons_of
 from crnplan.plan.answer import CHEAPER, DEARER, SAME, SERVICE, UNDECIDED, Answer
-from crnplan.plan.folder import ANSWERS
-from crnplan.plan.totals import Totals
+from crnplan.plan.catalogue import ANSWERS, Totals
 from crnplan.records.catalogued import CATALOGUE, READ, Reject, Writer
 from crnplan.remarks import Remark
 from crnplan.stored import Store

@@ -10,7 +10,7 @@ import pytest
 
 from crnplan import plan
 from crnplan.plan.answer import Answer
-from crnplan.plan.folder import planned_folder
+from crnplan.plan.catalogue import planned_folder
 from crnplan.plan.item import planned, read_item
 from crnplan.records.catalogue_reading import read_catalogue
 from crnplan.records.item import Item

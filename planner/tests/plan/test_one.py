@@ -8,12 +8,10 @@ from typing import Any
 
 import pytest
 
-from crnplan.plan import one
-from crnplan.plan import question as questions
+from crnplan.plan import one, question as questions
 from crnplan.plan.answer import (CHEAPER, DISAGREES, NO_INTERVAL, NO_POLICY, RUN, SAME, SERVICE, THEORY, UNDECIDED,
                                  Answer)
-from crnplan.plan.estimate import Disagreement
-from crnplan.plan.one import plan_item, plan_one
+from crnplan.plan.one import Disagreement, plan_item, plan_one
 from crnplan.plan.question import Question, Settings, question_of
 from crnplan.demand.borrowing import Prior
 from crnplan.records.item import Item

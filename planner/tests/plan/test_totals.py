@@ -4,10 +4,9 @@ from __future__ import annotations
 import math
 from fractions import Fraction
 
-from hypothesis import given
-from hypothesis import strategies as some
+from hypothesis import given, strategies as some
 
-from crnplan.plan.totals import Sums
+from crnplan.plan.catalogue import Sums
 
 
 @given(some.lists(some.floats(-1e15, 1e15), max_size=50), some.integers(1, 100))

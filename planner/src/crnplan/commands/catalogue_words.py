@@ -12,7 +12,7 @@ from ..pages.catalogue_summary import counted_rows
 from ..pages.exports import CATALOGUE_FILES, FOUND
 from ..pages.reasons import reasons_of, rejects_of
 from ..plan.catalogue import Lost, plan_into
-from ..plan.config import CONFIG, read_config
+from ..plan.settings import CONFIG, read_config
 from ..plan.question import Settings
 from ..records.catalogue_reading import Catalogue, Words, kinds_of, read_into
 from ..records.catalogued import CATALOGUE

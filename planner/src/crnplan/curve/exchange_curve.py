@@ -9,7 +9,7 @@ from typing import TYPE_CHECKING
 
 from ..files import own_folder
 from ..plan.answer import CHOSEN, TODAY
-from ..plan.folder import planned_folder
+from ..plan.catalogue import planned_folder
 from ..records.catalogued import CATALOGUE
 from ..table import Cell, DataTable, MONEY, Result, aligned, number, text, whole
 from ..words import advice, sentence
@@ -17,8 +17,7 @@ from .candidates import PRICES
 from .confirming import Confirmed, confirmed
 from .exchange import NEAR, Budget, Choice, Ladder, OffCurve, Point, chosen_by, gap_of, judged, with_more_orders
 from .gathering import Gathered, gather
-from .kept import Point as KeptPoint
-from .kept import keep_curve
+from .kept import Point as KeptPoint, keep_curve
 
 if TYPE_CHECKING:
     import pandas as pd

@@ -14,7 +14,7 @@ from ..errors import Refused
 from ..files import Folder
 from ..jobs import Work, workers_of
 from ..plan.answer import CHOSEN, TODAY, Answer
-from ..plan.folder import PlannedFolder
+from ..plan.catalogue import PlannedFolder
 from ..records.item import Item
 from ..remarks import Remark
 from ..stored import Store, digest_of

@@ -6,7 +6,7 @@ from collections.abc import Iterable
 from typing import TypedDict
 
 from ..plan.answer import Answer
-from ..plan.folder import PlannedFolder
+from ..plan.catalogue import PlannedFolder
 from ..stored import Store, digest_of
 
 CURVE = "curve"  # the name of the fact

@@ -10,7 +10,7 @@ from itertools import groupby
 from ..curve.kept import Point
 from ..plan.answer import CHEAPER, CHOSEN, DEARER, SAME, SERVICE, TODAY, UNDECIDED, Answer
 from ..plan.question import Settings
-from ..plan.totals import Totals
+from ..plan.catalogue import Totals
 from ..records.catalogue_reading import FileCounts
 from ..records.item import Item
 from .page import UNITS, Scale, number, rendered

@@ -4,7 +4,7 @@ from __future__ import annotations
 from collections.abc import Iterator, Mapping
 from typing import TYPE_CHECKING
 
-from ..plan.folder import PlannedFolder
+from ..plan.catalogue import PlannedFolder
 from ..records.catalogue_reading import FileCounts
 from ..words import sentence
 from .catalogue_tables import REJECTS

@@ -6,7 +6,7 @@ from fractions import Fraction
 
 from ..files import Folder
 from ..plan.answer import RUN, THEORY, Answer, Figures
-from ..plan.folder import PlannedFolder
+from ..plan.catalogue import PlannedFolder
 from ..records.catalogued import Catalogued, Reject
 from ..records.item import Item
 from ..remarks import Remark

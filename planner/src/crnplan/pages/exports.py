@@ -11,8 +11,7 @@ from ..crnsim.program import find_program
 from ..curve.kept import kept_curve
 from ..files import Folder, own_folder
 from ..plan.depth import Depth
-from ..plan.folder import PlannedFolder, planned_folder
-from ..plan.totals import Totals
+from ..plan.catalogue import PlannedFolder, Totals, planned_folder
 from ..records.catalogue_reading import missing_of
 from ..records.catalogued import CATALOGUE, Catalogued
 from ..table import DataTable

@@ -3,26 +3,313 @@ from __future__ import annotations
 
 import contextlib
 import dataclasses
-from collections.abc import Sequence
-from dataclasses import dataclass
+import hashlib
+import heapq
+import json
+import math
+from collections import Counter, defaultdict
+from collections.abc import Iterable, Iterator, Sequence
+from dataclasses import dataclass, field
+from difflib import get_close_matches
 from pathlib import Path
+from statistics import NormalDist
+from typing import Any
+
+import numpy as np
 
 from ..crnsim.program import program_for
-from ..demand.borrowing import Prior
-from ..errors import Failed
+from ..demand.borrowing import Prior, learn
+from ..demand.borrowing.learning import LEAST_ITEMS, LEAST_ON_REQUEST
+from ..errors import Failed, Refused
 from ..files import Folder, faults_of
 from ..jobs import Work, program_digest, workers_of
 from ..records.catalogue_reading import missing_of
 from ..records.catalogued import READ, Catalogued
 from ..records.item import Item
 from ..remarks import Remark
-from ..stored import Store
-from .answer import Answer
-from .folder import ANSWERS, Planned, PlannedFolder
-from .learning import learned_of
+from ..stored import Damaged, Store
+from ..words import advice, sentence
+from .answer import CHOSEN, OURS, RUN, TODAY, Answer
 from .one import plan_item
-from .question import Settings
-from .totals import Totals
+from .question import ALL, CLASS, NONE, Question, Settings, question_of
+
+MOST_PARTS = 1_000
+
+
+class Sums(defaultdict[str, list[float]]):
+    """Sums of floats by name, without rounding but at the end (`math.fsum`)."""
+
+    def __init__(self) -> None:
+        """Begins with none."""
+        super().__init__(list)
+
+    def add(self, name: str, value: float) -> None:
+        """Adds a number. Many of them are replaced by their sum and what it lacks."""
+        parts = self[name]
+        parts.append(value)
+        if len(parts) > MOST_PARTS:
+            whole = math.fsum(parts)
+            self[name] = [whole, math.fsum([*parts, -whole])]
+
+    def total(self, name: str) -> float:
+        """Returns a sum."""
+        return math.fsum(self[name]) if name in self else 0.0
+
+
+@dataclass
+class Totals:
+    """What adds up over items.
+
+    Sums of money: `cost_today`, `cost_chosen` and `saving` of a period; `run_saving`, by runs, with its `run_variance`;
+    `value_today` and `value_chosen` of the mean stock; `confidence_cost` of a period; `saving VERDICT`; of items with a
+    price, the value of the demand of a period, `demand`, and `met_today` and `met_chosen` of it at once.
+
+    Counts of items: by verdict, those that are not planned (`faults`), those of them by a fault of ours (`broken`),
+    those with the run's figures (`by_run`), without an interval of the run, with a confidence in their fill rate
+    (`promised`), with a remark, and with a price.
+    """
+
+    sums: Sums = field(default_factory=Sums)
+    verdicts: Counter[str] = field(default_factory=Counter)
+    faults: int = 0
+    broken: int = 0
+    by_run: int = 0
+    without_interval: int = 0
+    promised: int = 0
+    remarked: int = 0
+    priced: int = 0
+
+    @classmethod
+    def of(cls, answers: Iterable[tuple[Item, Answer | Remark]]) -> Totals:
+        """Adds up items with their answers, or their faults."""
+        totals = cls()
+        for item, answer in answers:
+            totals.add(item, answer)
+        return totals
+
+    @property
+    def planned(self) -> int:
+        """Returns how many items are planned."""
+        return self.verdicts.total()
+
+    def __getitem__(self, name: str) -> float:
+        """Returns a sum of money."""
+        return self.sums.total(name)
+
+    def add(self, item: Item, answer: Answer | Remark) -> None:
+        """Adds an item."""
+        if isinstance(answer, Remark):
+            self.faults += 1
+            self.broken += answer.code in OURS
+            return
+        self.verdicts[answer.verdict] += 1
+        self.by_run += answer.source == RUN
+        self.remarked += bool(answer.remarks or item.remarks)
+        self.promised += answer.confidence_cost is not None
+        estimate = answer.run.estimate
+        self.without_interval += estimate.error is None
+        for name, value in (("cost_today", answer.cost_today), ("cost_chosen", answer.cost_chosen),
+                            ("saving", answer.saving), (f"saving {answer.verdict}", answer.saving),
+                            ("run_saving", estimate.saving), ("run_variance", (estimate.error or 0.0)**2),
+                            ("confidence_cost", answer.confidence_cost or 0.0)):
+            self.sums.add(name, value)
+        if item.price:
+            self._add_values(float(item.price), answer)
+
+    def _add_values(self, price: float, answer: Answer) -> None:
+        """Adds the values of an item with a price."""
+        self.priced += 1
+        asked = price * answer.law.mean
+        self.sums.add("demand", asked)
+        for name, figures in ((TODAY, answer.today), (CHOSEN, answer.chosen)):
+            self.sums.add(f"value_{name}", price * figures.stock)
+            self.sums.add(f"met_{name}", asked * figures.fill)
+
+    def fill(self, policy: str) -> float | None:
+        """Returns the share of demand by value that is met at once; None if no item has a price."""
+        asked = self["demand"]
+        return self[f"met_{policy}"] / asked if asked else None
+
+    def half_width(self, level: float) -> float:
+        """Returns half the width of the interval of all savings by runs. Those of different items are independent."""
+        return NormalDist().inv_cdf((1 + level) / 2) * math.sqrt(self["run_variance"])
+
+
+ANSWERS = "answers.sqlite"
+PLANNED, PRIOR = "planned", "prior"  # facts of the store
+
+
+@dataclass(frozen=True)
+class Planned:
+    """How items were planned: the settings, what was learned, and the text that all digests of answers have."""
+
+    settings: Settings
+    prior: Prior
+    common: str
+
+    def keep(self, answers: Store[Answer]) -> None:
+        """Keeps it beside the answers."""
+        tree = {"settings": dataclasses.asdict(self.settings), "borrow": self.prior.borrow, "common": self.common}
+        answers.keep_facts({PLANNED: json.dumps(tree)})
+
+    @classmethod
+    def of(cls, answers: Store[Answer]) -> Planned | None:
+        """Returns what is kept beside answers; None if nothing is. Raises Damaged."""
+        text = answers.fact(PLANNED)
+        if text is None:
+            return None
+        try:
+            tree = json.loads(text)
+            prior = Prior(NONE) if tree["borrow"] == NONE else Prior.parse(answers.fact(PRIOR) or "", str(answers.path))
+            return cls(Settings(**tree["settings"]), prior, str(tree["common"]))
+        except (ValueError, LookupError, TypeError) as fault:
+            raise Damaged(answers.path, f"what was planned is not as it was kept ({fault})") from fault
+
+
+class PlannedFolder:
+    """A folder whose items are all answered, as their rows are now. `planned_folder` opens it."""
+
+    def __init__(self, path: Path, read: Catalogued, answers: Store[Answer], planned: Planned) -> None:
+        """Takes what is open. Raises Refused if an item is not planned as its rows are now."""
+        self.path, self.read, self.store, self.planned = path, read, answers, planned
+        self.settings = planned.settings
+        self.every, self.decimals, self.counts = (read.fact(name) for name in ("every", "decimals", "counts"))
+
+    def check(self) -> None:
+        """Raises Refused if an item is not planned as its rows are now."""
+        kept = self.store.digests()
+        if any(kept.get(name) != digest for name, digest in self.read.digests(self.planned.common)):
+            raise Refused(f"{self.path}: its plan is not as the rows that were read last", "run crnplan catalogue "
+                          "again")
+
+    def answers(self) -> Iterator[tuple[Item, Answer | Remark]]:
+        """Yields the items in order of their names, each with its answer, or with the fault for which it has none."""
+        kept = self.store.answers()
+        for item in self.read.items():
+            yield item, next(answer for name, _, answer in kept if name == item.name)
+
+    def item(self, name: str) -> tuple[Item, Answer]:
+        """Returns an item with its answer. Raises Refused if it is not there, left out, or not planned as its rows are
+        now."""
+        item = self.read.item(name)
+        if item is None:
+            raise self._why_not(name)
+        digest = self.read.digest(name, self.planned.common)
+        if self.store.digest(name) != digest:
+            raise Refused(f"{self.path}: item {name!r}: it is not planned as its rows are now",
+                          "run crnplan catalogue again")
+        answer = self.store.answer(name)
+        if isinstance(answer, Remark):
+            raise Refused(f"{self.path}: item {name!r}: it could not be planned: {sentence(answer)}", advice(answer))
+        return item, answer
+
+    def question(self, item: Item) -> Question:
+        """Returns the question that an item was planned by."""
+        return question_of(item, self.settings, self.planned.prior)
+
+    def _why_not(self, name: str) -> Refused:
+        """Returns why an item has no plan: it is left out, or there is none of this name."""
+        left = next((it for it in self.read.rejects() if it.kind == "item" and it.item == name), None)
+        if left:
+            where = f"{left.file}:{left.line}" if left.line else left.file
+            return Refused(f"{self.path}: item {name!r} is left out: {where}: {sentence(left.remark)}",
+                           advice(left.remark))
+        close = get_close_matches(name, self.read.names(), 1)
+        return Refused(f"{self.path}: there is no item {name!r}",
+                       f"did you mean {close[0]!r}?" if close else "decisions.csv has all items")
+
+
+@contextlib.contextmanager
+def planned_folder(path: Path) -> Iterator[PlannedFolder]:
+    """Opens a folder of `crnplan catalogue`. Raises Refused if no plan is in it, and Damaged."""
+    advice = f"run crnplan catalogue DEMAND.csv ITEMS.csv --out {path} first"
+    if not (path / READ).is_file() or not (path / ANSWERS).is_file():
+        raise Refused(f"{path}: no plan is in it", advice)
+    with (contextlib.closing(Catalogued(path / READ)) as read,
+          contextlib.closing(Store(path / ANSWERS, Answer)) as answers):
+        planned = Planned.of(answers)
+        if planned is None:
+            raise Refused(f"{path}: no plan is in it", advice)
+        yield PlannedFolder(path, read, answers, planned)
+
+
+# Items whose histories are looked at for the law of a whole catalogue: it is estimated on 3,000 of them.
+MOST_READ = 10_000
+# Codes of remarks on what was learned, each with the names of its facts.
+OWN_LAWS = "own laws"  # reason: `fit`, `borrow`, or why too few items are there
+LEARNED = "learned"  # items, classes, and whether in an `earlier` run
+OTHERWISE = "masters say otherwise"  # items
+
+
+@dataclass(frozen=True)
+class Learned:
+    """What items learn from one another, from whom an item learns if its master does not say that, and remarks."""
+
+    prior: Prior
+    usual: str
+    remarks: tuple[Remark, ...]
+
+
+def drawn_names(read: Catalogued, most: int | None) -> frozenset[str]:
+    """Returns the names of so many items, or of all: those with the least digests, which is as good as at random."""
+    if most is None:
+        return frozenset(read.names())
+    return frozenset(heapq.nsmallest(most, read.names(), key=lambda name: hashlib.sha256(name.encode()).digest()))
+
+
+def items_of(read: Catalogued, most: int | None = None) -> Iterator[Item]:
+    """Yields so many items, or all, but for those counted in boxes."""
+    drawn = drawn_names(read, most)
+    yield from (item for item in read.items() if item.name in drawn and item.box == 1)
+
+
+def learned_of(answers: Store[Answer], read: Catalogued, settings: Settings, again: bool) -> Learned:
+    """Returns what the items of a catalogue learn from one another.
+
+    With `settings.borrow` None an item learns from all if there are 100 items. What was learned before in this way is
+    kept, unless it is to be learned `again`. Raises Refused if fewer than 30 items are to learn.
+    """
+    if settings.fit != "auto":
+        return Learned(Prior(NONE), NONE, (Remark(OWN_LAWS, {"reason": f"fit = {settings.fit}"}),))
+    said = Counter(item.borrow for item in read.items())
+    asked = {settings.borrow, *said} & {ALL, CLASS}
+    if settings.borrow == NONE and not asked:
+        return Learned(Prior(NONE), NONE, (Remark(OWN_LAWS, {"reason": f"borrow = {NONE}"}),))
+    way, least = CLASS if CLASS in asked else ALL, LEAST_ON_REQUEST if asked else LEAST_ITEMS
+    try:
+        prior, remark = _kept(answers, read, way, least, again)
+    except Refused as few:
+        if asked:
+            raise
+        return Learned(Prior(NONE), NONE, (Remark(OWN_LAWS, {"reason": few.what}),))
+    usual = settings.borrow or (ALL if prior.items - prior.outside >= LEAST_ITEMS else NONE)
+    others = sum(count for word, count in said.items() if word not in ("", usual))
+    own = [Remark(OWN_LAWS, {"reason": ""})] if usual == NONE else []
+    otherwise = [Remark(OTHERWISE, {"items": others})] if others else []
+    return Learned(prior, usual, (*own, remark, *otherwise))
+
+
+def _kept(answers: Store[Answer], read: Catalogued, way: str, least: int, again: bool) -> tuple[Prior, Remark]:
+    """Returns what was learned in an earlier run, or is learned now, and a remark on it. Raises Refused if there are
+    fewer than `least` items."""
+    text = None if again else answers.fact(PRIOR)
+    if text is not None:
+        prior = Prior.parse(text, str(answers.path))
+        if prior.borrow == way and prior.items - prior.outside >= least:
+            return prior, _remark(prior, True)
+    histories, groups = list[Any](), list[str]()
+    for item in items_of(read, None if way == CLASS else MOST_READ):
+        histories.append(np.array(item.counts, np.uint32))
+        groups.append(item.group)
+    prior = learn(histories, groups if way == CLASS else None, way, least=least)
+    answers.keep_facts({PRIOR: prior.text})
+    return prior, _remark(prior, False)
+
+
+def _remark(prior: Prior, earlier: bool) -> Remark:
+    """Returns from how many items something was learned."""
+    return Remark(LEARNED, {"items": prior.items - prior.outside, "classes": len(prior.classes or {}),
+                            "earlier": earlier})
 
 
 class Lost(Failed):

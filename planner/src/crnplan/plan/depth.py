@@ -27,10 +27,8 @@ from ..theory.long_run import Candidate, Figures as TheoryFigures, LongRun
 from ..theory.many_laws import figures_of_laws
 from ..theory.suggestions import FILLS, Chosen, add_fills, chosen_policies
 from .answer import ALONE, CHOSEN, THEORY, TODAY, Answer, Figures
-from .choice import LAWS, allowed_by, choice_of, learns
-from .estimate import Sample, interval, quantile, sample_of
+from .one import LAWS, Sample, allowed_by, choice_of, figures_of, interval, learns, quantile, sample_of
 from ..decide.moves import Case, Found, Moves, moves_of
-from .one import figures_of
 from .question import Levels, Question
 
 MOST_PERIODS = 104  # of a trajectory
