@@ -219,4 +219,4 @@ def test_units_of_lead_times(heading: str, every: str | None, leads: tuple[int, 
     """Lead times of one item are converted too. An order of ten days is there after one week or two, by its day."""
     (tmp_path / "leads.csv").write_text(f"{heading}\n14\n10\n", "utf-8")
     read = read_lead_times(tmp_path / "leads.csv", lead=heading, every=every)
-    assert read.counts == leads and (said in " ".join(read.notes) if said else not read.notes)
+    assert read.counts == leads and (said in " ".join(map(str, read.notes)) if said else not read.notes)

@@ -90,7 +90,7 @@ class Attempts:
         """Starts with nothing."""
         self.read: list[Observed] = []
         self.faults: list[Fault] = []
-        self.notes: list[str] = []
+        self.notes: list[Fault] = []
 
     def made(self, make: Callable[[], Any]) -> Any:
         """Returns what a function makes, or None if it finds faults."""
@@ -115,7 +115,7 @@ class Attempts:
 
     def say(self, more: Iterable[str]) -> None:
         """Prints on standard error which rows were left out, what is to be said of the files, and more lines."""
-        for line in [*printed(self.left_out), *(line for its in self.read for line in its.notes), *more]:
+        for line in [*printed(self.left_out), *(it.message for its in self.read for it in its.notes), *more]:
             note(line)
 
 

@@ -89,7 +89,7 @@ def write_item(folder: Folder, plan: ItemPlan, told: Callable[[str], None]) -> s
     """Writes all that was computed of an item that is planned alone, and returns the summary. `told` is called with the
     name of each file before what it needs is computed."""
     facts = plan.facts
-    words = ItemWords(plan.depth, facts.period, decimals_of(facts.item), plan.coming, [*facts.notes])
+    words = ItemWords(plan.depth, facts.period, decimals_of(facts.item), plan.coming, facts.notes)
     texts: dict[str, Callable[[], str]] = {
         "scenario.toml": lambda: scenario_text(words), "notes.txt": lambda: "".join(f"{it}\n" for it in words.notes),
         SUMMARY: lambda: item_summary(words), ITEM_PAGE: lambda: ItemPage(words).text}

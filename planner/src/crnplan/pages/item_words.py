@@ -2,18 +2,23 @@
 from __future__ import annotations
 
 from collections.abc import Mapping, Sequence
+from dataclasses import replace
 from fractions import Fraction
 from functools import cached_property
+from pathlib import Path
 
 from ..crnsim.trajectory import Period
 from ..decide.doubt import WITHIN
 from ..decide.intervals import Compared as ComparedRow
 from ..demand import fit_remarks
+from ..errors import Fault, worded
 from ..plan.answer import CHEAPER, CHOSEN, DEARER, SAME, SERVICE, THEORY, UNDECIDED, Figures
 from ..plan.depth import Coming, Compared, Depth
+from ..plan.settings import as_setting
 from ..decide.moves import Moves
 from ..records.item import Item
 from ..records.dates import EVERY, period_name
+from ..remarks import Remark
 from ..theory.long_run import exactness_of
 from ..words import advised, sentence
 from .laws import law_words
@@ -40,12 +45,19 @@ def capital(text: str) -> str:
     return f"{text[:1].upper()}{text[1:]}."
 
 
+def heard_words(heard: Fault | Remark) -> str:
+    """Returns what is said of a file: by its name without folders, with the keys of the settings for arguments."""
+    if isinstance(heard, Remark):
+        return advised(heard)
+    return worded(replace(heard, file=Path(heard.file).name).message, as_setting)
+
+
 class ItemWords:
     """The words on an item. A period is a day, week, month or period (`every`); money has so many decimals. `coming`
-    are the policies over coming periods, if they were asked for. `heard` is what is said of the files."""
+    are the policies over coming periods, if they were asked for. `heard` is what is to be said of the files."""
 
     def __init__(self, depth: Depth, every: str, decimals: int, coming: Coming | None = None,
-                 heard: Sequence[str] = ()) -> None:
+                 heard: Sequence[Fault | Remark] = ()) -> None:
         """Takes what was computed of the item."""
         self.depth, self.every, self.decimals, self.coming, self.heard = depth, every, decimals, coming, heard
         self.question, self.answer = depth.question, depth.answer
@@ -192,5 +204,5 @@ class ItemWords:
     @property
     def notes(self) -> list[str]:
         """Returns what is to be said of the history, and of how its law was fitted."""
-        return [capital(it) for it in (*self.heard, *map(sentence, self.item.remarks),
+        return [capital(it) for it in (*map(heard_words, self.heard), *map(sentence, self.item.remarks),
                                        *map(advised, fit_remarks(self.question.demand)))]

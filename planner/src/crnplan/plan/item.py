@@ -12,14 +12,14 @@ from typing import Any
 
 from ..crnsim.program import find_program
 from ..demand import Checks, checks_of
-from ..errors import worded
+from ..errors import Fault
 from ..files import own_folder
 from ..records import History, LeadTimes, read_history, read_lead_times
 from ..records.item import Item
-from ..words import advised
+from ..remarks import Remark
 from .answer import Answer
 from .depth import Coming, Depth
-from .settings import ItemSettings, as_setting, read_settings
+from .settings import ItemSettings, read_settings
 from .one import plan_one
 from .question import NONE, Question, Settings, question_of
 
@@ -44,12 +44,9 @@ class Facts:
         return str(self.settings["history"]["every"] or "period")
 
     @property
-    def notes(self) -> list[str]:
+    def notes(self) -> list[Fault | Remark]:
         """Returns what is to be said of the files, and what the checks of the history do not see."""
-        return [worded(line.replace(str(path), path.name) if path else line, as_setting)
-                for path, lines in ((self.path, self.history.notes),
-                                    (self.settings.lead_path, self.leads.notes if self.leads else ()),
-                                    (None, map(advised, self.checks.unknown))) for line in lines]
+        return [*self.history.notes, *(self.leads.notes if self.leads else ()), *self.checks.unknown]
 
     @cached_property
     def checks(self) -> Checks:

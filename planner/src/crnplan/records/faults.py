@@ -84,7 +84,7 @@ def printed(faults: Sequence[Fault]) -> Iterator[str]:
 class RefusedFiles(RefusedFaults):
     """Files with faults, and the notes that were due before: so one pass says all."""
 
-    def __init__(self, faults: Sequence[Fault], notes: Sequence[str] = ()) -> None:
+    def __init__(self, faults: Sequence[Fault], notes: Sequence[Fault] = ()) -> None:
         """Keeps all faults, and makes a text of the first ones."""
         lines = list(printed(faults))
         if len(faults) > 1:
@@ -93,7 +93,7 @@ class RefusedFiles(RefusedFaults):
             advice = "; correct them, or say --leave-out to go on without bad rows" if has_rows else ""
             lines.append(f"{len(faults):,} faults in {rows:,} rows{advice}")
         self.notes = tuple(notes)
-        super().__init__(faults, "\n".join([*lines, *notes]))
+        super().__init__(faults, "\n".join([*lines, *map(str, notes)]))
 
 
 REJECTS = (text("file", "name of the file"), whole("line", "", "line of the fault, 0 if there is none"),

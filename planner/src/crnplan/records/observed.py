@@ -16,12 +16,12 @@ if TYPE_CHECKING:
 class Observed:
     """Whole numbers read from a file. A number has its place, or None if no row says it.
 
-    `notes` are the lines to be said of the file, `faults` those of rows that were left out.
+    `notes` are what is to be said of the file, with its place; `faults` are those of rows that were left out.
     """
 
     counts: tuple[int, ...]
     places: tuple[Place | None, ...] = field(repr=False, compare=False)
-    notes: tuple[str, ...] = field(repr=False, compare=False)
+    notes: tuple[Fault, ...] = field(repr=False, compare=False)
     faults: tuple[Fault, ...] = field(repr=False, compare=False)
 
 

@@ -49,11 +49,10 @@ class Reading:
         except RefusedFaults as refused:
             # What else is wrong may come from the encoding.
             raise RefusedFaults([self.fault] if self.fault else refused.faults) from refused
-        self.notes: list[str] = []
         # What is wrong with a cell, or is to be said of it: its row, its place in the row and a text.
         self.found: list[tuple[int, int, str]] = []
-        self._said: list[str | tuple[int, str, str]] = [*(f"{self.source.sheet.name}: {it}"
-                                                          for it in title_note(self.source.titles))]
+        self._said: list[Fault | tuple[int, str, str]] = [Fault(it, self.source.sheet.name)
+                                                          for it in title_note(self.source.titles)]
         rows = self._item_rows()
         self.long = {row: self.wide[row] for row in rows if row in self.wide}
         self.rows = [row for row in rows if row not in self.long]
@@ -124,7 +123,7 @@ class Reading:
 
     def note(self, what: str) -> None:
         """Adds a note on the file."""
-        self._said.append(f"{self.source.sheet.name}: {what}")
+        self._said.append(Fault(what, self.source.sheet.name))
 
     def note_cell(self, row: int, name: str, what: str) -> None:
         """Adds a note on a cell."""
@@ -171,16 +170,16 @@ class Reading:
         """Returns the error of a cell for which the whole file is refused."""
         return RefusedFaults(self.rejects([(row, self.source.heading.index(name), f"column {name!r}: {reason}")]))
 
-    def finish(self) -> tuple[tuple[str, ...], tuple[Fault, ...]]:
+    def finish(self) -> tuple[tuple[Fault, ...], tuple[Fault, ...]]:
         """Returns all notes, and the faults of the rows that were left out."""
         cells = [(row, self.source.heading.index(name), f"column {name!r}: {what}") for row, name, what in (
-            it for it in self._said if not isinstance(it, str))]
+            it for it in self._said if not isinstance(it, Fault))]
         texts = self.source.sheet.texts({self.lines[row] for row, _, _ in cells})
         placed = (Fault(what, self.source.sheet.name,
                         *self.source.sheet.place(texts.get(self.lines[row], ""), self.lines[row], place))
                   for row, place, what in cells)
-        return tuple(it if isinstance(it, str) else str(next(placed))
-                     for it in self._said), tuple(self.rejects(self.found))
+        notes = tuple(it if isinstance(it, Fault) else next(placed) for it in self._said)
+        return notes, tuple(self.rejects(self.found))
 
     def kept(self, columns: Mapping[str, Sequence[Any]]) -> tuple[list[int], dict[str, list[Any]]]:
         """Returns the rows in which each of these columns was read, and their values.
@@ -240,9 +239,8 @@ class Reading:
             more = named_lines([self.lines[it] for it in again[1:]])
             others = f", and {len(again) - 1} more as others above them ({more})" if again[1:] else ""
             first = self.lines[self.twice[again[0]]]
-            self._said.append(str(Fault(f"the row is the same as that of line {first}{others}; if they "
-                                        "were exported twice, remove them", self.source.sheet.name,
-                                        self.lines[again[0]])))
+            self._said.append(Fault(f"the row is the same as that of line {first}{others}; if they were exported "
+                                    "twice, remove them", self.source.sheet.name, self.lines[again[0]]))
 
     def note_forms(self, name: str, rows: Sequence[int], dates: Sequence[tuple[datetime.date, str]],
                    reader: DateReader) -> None:
