@@ -26,8 +26,7 @@ from .plan.item import KIND, planned, read_item
 from .plan.question import Settings
 from .records.catalogue_reading import Catalogue, Words, read_into
 from .records.catalogued import CATALOGUE, READ
-from .records.items import KEEP, LEAVE_OUT, Ways
-from .records.texts import Rules
+from .records.items import KEEP, LEAVE_OUT
 from .remarks import Remark
 from .table import DataTable, Result
 
@@ -223,9 +222,10 @@ def plan(sales: str | Path | pd.DataFrame | Catalogue, masters: str | Path | pd.
     Raises Refused (a ValueError) for what can't be read or meant, ProgramError, and Lost if counts do not add up.
     """
     settings = Settings(str(seed), fit, borrow, confidence, level, periods, replications)
-    rules = Rules(delimiter, encoding, decimal, tuple(date_formats))
-    words = Words(every, columns or {}, units or {}, {}, rules, start, end, Ways(net, twice, far, least, factors or {}),
-                  today or datetime.date.today())
+    words = Words(every=every, columns=columns or {}, units=units or {}, start=start, end=end,
+                  today=today or datetime.date.today(), net=net, twice=twice, far=far, least=least,
+                  factors=factors or {}, delimiter=delimiter, encoding=encoding, decimal=decimal,
+                  date_formats=tuple(date_formats))
     if not isinstance(sales, Catalogue) and masters is None:
         raise Refused(f"{argument('masters')} is missing", "give a table with a row for each item")
     room = tempfile.TemporaryDirectory(prefix="crnplan-") if out is None else None

@@ -3,6 +3,7 @@ from __future__ import annotations
 
 import tempfile
 from collections.abc import Callable, Iterator, Mapping, Sequence
+from dataclasses import fields
 from pathlib import Path
 from typing import Any
 
@@ -17,30 +18,27 @@ from ..plan.question import Settings
 from ..records.catalogue_reading import Catalogue, Words, kinds_of, read_into
 from ..records.catalogued import CATALOGUE
 from ..records.columns import ROLES
-from ..records.items import KEEP, LEAVE_OUT, Ways
-from ..records.texts import Rules
 
 # So many reasons are named on the terminal.
 MOST_REASONS = 10
 KINDS = {"row": "rows left out", "item": "items left out", "suspicious": "named, and kept"}
-SETTINGS = ("seed", "fit", "borrow", "confidence", "level", "periods", "replications")
-RULES = ("delimiter", "encoding", "decimal", "date_formats")
 
 
 def words_of(asked: Mapping[str, Any], config: Mapping[str, Any]) -> tuple[Words, Settings]:
     """Returns how files are read and how items are planned: by the command's words, else by the configuration."""
     named = kinds_of(asked["columns"], "--column", "NAME, as demand.quantity=Menge")
-    columns = {kind: {**config.get(kind, {}), **named.get(kind, {})} for kind in {*named, *ROLES}}
-    units = {**_by_kind(config.get("units", {})), **kinds_of(asked["units"], "--unit", "UNIT, as items.lead=day")}
-    config = {**config, "start": config.get("from"), "end": config.get("to")}
-    its = {name: config.get(name) if asked.get(name) in (None, ()) else asked[name]
-           for name in ("every", "start", "end", "net", "twice", "far", "least", *RULES, *SETTINGS)}
-    rules = Rules(its["delimiter"], its["encoding"], its["decimal"], tuple(its["date_formats"] or ()))
-    ways = Ways(bool(its["net"]), its["twice"] or KEEP, its["far"] or LEAVE_OUT, its["least"] or Ways().least,
-                factors_of(asked["factors"]) or config.get("factors", {}))
-    settings = Settings(**{name: its[name] for name in SETTINGS if its[name] is not None})
-    return Words(its["every"] or "week", columns, units, _by_kind(config.get("names", {})), rules, its["start"],
-                 its["end"], ways), settings
+    stated: dict[str, Any] = {
+        **config, "start": config.get("from"), "end": config.get("to"),
+        **{name: value for name, value in asked.items() if value not in (None, ())},
+        "columns": {kind: {**config.get(kind, {}), **named.get(kind, {})} for kind in {*named, *ROLES}},
+        "units": {**_by_kind(config.get("units", {})), **kinds_of(asked["units"], "--unit", "UNIT, as items.lead=day")},
+        "names": _by_kind(config.get("names", {})), "factors": factors_of(asked["factors"]) or config.get("factors"),
+        "date_formats": tuple(asked["date_formats"] or config.get("date_formats", ()))}
+
+    def given(kind: type) -> dict[str, Any]:
+        """Returns the stated fields of a record."""
+        return {it.name: stated[it.name] for it in fields(kind) if stated.get(it.name) is not None}
+    return Words(**given(Words)), Settings(**given(Settings))
 
 
 def factors_of(words: Sequence[str]) -> dict[str, int]:

@@ -53,25 +53,24 @@ class Counts(TypedDict):
 
 
 @dataclass(frozen=True)
-class Words:
-    """How the files of a catalogue are read: periods, columns with their units and usual names by file and role, ways
-    of writing, the ends of the record, and how rows are taken. Raises Refused for what can't be meant."""
+class Words(Ways, Rules):
+    """How the files of a catalogue are read: periods, columns with their units and usual names by file and role, the
+    ends of the record, how rows are taken, and how files are written. Raises Refused for what can't be meant."""
 
     every: str = "week"
     columns: Mapping[str, Mapping[str, str]] = field(default_factory=dict)
     units: Mapping[str, Mapping[str, str]] = field(default_factory=dict)
     names: Mapping[str, Mapping[str, Sequence[str]]] = field(default_factory=dict)
-    rules: Rules = field(default_factory=Rules)
     start: Day | str | None = None
     end: Day | str | None = None
-    ways: Ways = field(default_factory=Ways)
     today: Day = field(default_factory=datetime.date.today)
 
     def __post_init__(self) -> None:
         """Checks the words one by one."""
+        super().__post_init__()
         if self.every not in EVERY:
             raise Refused(f"--every {self.every!r} is not one of {', '.join(EVERY)}")
-        for name, value in (("--twice", self.ways.twice), ("--far", self.ways.far)):
+        for name, value in (("--twice", self.twice), ("--far", self.far)):
             if value not in (KEEP, LEAVE_OUT):
                 raise Refused(f"{name} {value!r} is not {KEEP} or {LEAVE_OUT}")
         for option, table in (("--column", self.columns), ("--unit", self.units), ("names of", self.names)):
@@ -180,9 +179,10 @@ def read_catalogue(demand: Table, items: Table, orders: Table | None = None, *,
 
     Raises Refused and RefusedFaults for files that can't be read. Rows and items with faults are in `rejects`.
     """
-    rules, ways = Rules(delimiter, encoding, decimal, tuple(date_formats)), Ways(net, twice, far, least, factors or {})
-    words = Words(every, columns or {}, units or {}, names or {}, rules, start, end, ways,
-                  today or datetime.date.today())
+    words = Words(every=every, columns=columns or {}, units=units or {}, names=names or {}, start=start, end=end,
+                  today=today or datetime.date.today(), net=net, twice=twice, far=far, least=least,
+                  factors=factors or {}, delimiter=delimiter, encoding=encoding, decimal=decimal,
+                  date_formats=tuple(date_formats))
     room = tempfile.TemporaryDirectory(prefix="crnplan-")
     path = read_alone(Path(room.name), {"demand": demand, "items": items, "orders": orders}, words)
     return Catalogue(path, room)
@@ -200,7 +200,7 @@ def open_sources(paths: Mapping[str, Given], words: Words) -> dict[str, Source]:
     faults: list[Fault] = []
     for kind, path in paths.items():
         try:
-            sources[kind] = open_source(kind, path, words.rules, words.stated(kind), words.every)
+            sources[kind] = open_source(kind, path, words, words.stated(kind), words.every)
         except RefusedFaults as refused:
             faults += refused.faults
     if faults:
@@ -254,14 +254,13 @@ def _read(sources: Mapping[str, Source], words: Words, writer: Writer) -> dict[s
             writer.reject(Reject("row", source.name, line, "", column, on_one_line(text), Remark(code, facts),
                                  int(source.kind == "demand")))
         return rejected
-    patterns = words.rules.date_formats
-    rows = read_rows(sources, ROLES, bool(patterns), reject)
+    rows = read_rows(sources, ROLES, bool(words.date_formats), reject)
     dates = {kind: DateReader([cell for role in DATES if role in its.columns for cell in its.columns[role].distinct],
-                              patterns)
+                              words.date_formats)
              for kind, its in rows.items()}
     record = record_of(days_of(rows["demand"], dates["demand"]), words.every, start, end, words.today)
-    amounts = readers_of(rows, words.rules.decimal)
-    reader = Reader(rows, dates, amounts, record, words.ways, writer)
+    amounts = readers_of(rows, words.decimal)
+    reader = Reader(rows, dates, amounts, record, words, writer)
     reader.read()
     return {"counts": counts_of(rows, reader), "every": words.every, "decimals": reader.counts.decimals,
             "periods": [record.periods.start, record.periods.stop], "found": found_text(rows, dates, amounts, record),
