@@ -5,8 +5,10 @@ A message is one line for each thing that is wrong. It says where, what, and wha
 """
 from __future__ import annotations
 
+import contextlib
 import re
-from collections.abc import Callable, Sequence
+from collections.abc import Callable, Iterator, Sequence
+from contextvars import ContextVar
 from dataclasses import dataclass
 from typing import Any, ClassVar
 
@@ -31,13 +33,33 @@ def argument(name: str, value: str = "") -> str:
 
 
 def as_python(name: str, value: str) -> str:
-    """Returns an argument as a call of Python has it."""
+    """Returns an argument as a call of Python has it. KEY=TEXT and FILE.ROLE=TEXT are entries of its table."""
+    place, sign, text = value.partition("=")
+    kind, _, role = place.partition(".")
+    entry = text if text.isdecimal() else f'"{text}"'
+    if sign:
+        value = f'{{"{kind}": {{"{role}": {entry}}}}}' if role else f'{{"{place}": {entry}}}'
     return f"{name}={value}" if value else name
 
 
-def worded(message: str, spell: Callable[[str, str], str] = as_python) -> str:
-    """Returns a message with its arguments spelt by a function of name and value (empty if there is none)."""
-    parts = message.split(MARK)
+Spell = Callable[[str, str], str]
+_spelling: ContextVar[Spell] = ContextVar("spelling", default=as_python)
+
+
+@contextlib.contextmanager
+def spelt(spell: Spell) -> Iterator[None]:
+    """Spells arguments by a function of name and value within the block, as a command does by its options."""
+    token = _spelling.set(spell)
+    try:
+        yield
+    finally:
+        _spelling.reset(token)
+
+
+def worded(message: str, spell: Spell | None = None) -> str:
+    """Returns a message with its arguments spelt by a function of name and value (empty if there is none), by default
+    by that of the block `spelt`."""
+    parts, spell = message.split(MARK), spell or _spelling.get()
     parts[1::2] = [spell(name, value) for name, _, value in (part.partition(VALUE) for part in parts[1::2])]
     return "".join(parts)
 

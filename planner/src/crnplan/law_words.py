@@ -8,6 +8,8 @@ import math
 from collections.abc import Callable, Mapping, Sequence
 from typing import Any
 
+from .errors import argument
+
 Facts = Mapping[str, Any]
 Say = str | Callable[[Facts], str]
 
@@ -52,11 +54,11 @@ FOUND: dict[str, Callable[[Facts], str]] = {
         "" if it["lag"] == 1 else f", {it['at_lag']:.2f} at lag {it['lag']}")}
 # What a warning says of each test, before the words for what was found, and what to do.
 TESTS = {
-    "trend": ("demand has a trend", "Plan from the part of the record that is like what you expect (--from, or fewer "
-              "rows)"),
+    "trend": ("demand has a trend", "Plan from the part of the record that is like what you expect "
+              f"({argument('start')}, or fewer rows)"),
     "shift": ("the level of demand has changed", "If that is for good, plan from the record since then ({})"),
     "season": ("demand has a season", "Plan each part of the season from its own periods, with levels of its own"),
-    "weekday": ("demand follows the weekdays", "Take weeks (--every week)"),
+    "weekday": ("demand follows the weekdays", f"Take weeks ({argument('every', 'week')})"),
     "autocorrelation": ("periods are not independent", "Ask what comes in runs (projects, campaigns, one customer), "
                         "and plan that apart")}
 
@@ -74,7 +76,7 @@ def _heeded(name: str) -> Callable[[Facts], str]:
             return ("What the other warnings say may be why" if facts["beside"] else "High and low periods take turns, "
                     "so a plan from the table holds too much; ask who orders in turns")
         since, period = facts.get("since"), facts.get("name")
-        words = TESTS[name][1].format(f"--from {since}" if since else f"leave out the rows before {period}")
+        words = TESTS[name][1].format(argument("start", since) if since else f"leave out the rows before {period}")
         return f"{words}. {_lost(facts)}"
     return advised
 
@@ -117,7 +119,7 @@ CHECKS: dict[str, tuple[Say, Say]] = {
     **{f"found {name}": (found, "") for name, found in FOUND.items()},
     **{name: (_warned(name), _heeded(name)) for name in TESTS},
     "no demand": ("no period has demand", ""),
-    "packs": ("all demands are multiples of {pack}; with --box {pack} the tables count in packs", ""),
+    "packs": ("all demands are multiples of {pack}; with " + argument("box", "{pack}") + " the tables count in packs", ""),
     "no recent demand": ("the last {periods:,} periods, after {last}, have no demand; by luck as many come with chance "
                          "{chance:.3f}", "Ask whether the item is still sold"),
     "few demands in record": (lambda it: f"{it['demands']} of {it['periods']} periods have demand, fewer than "
@@ -129,8 +131,8 @@ CHECKS: dict[str, tuple[Say, Say]] = {
                         "the result; plan with and without it", ""),
     "few periods": ("{periods} periods are too few to test whether they are independent and of one law", ""),
     "silent tests": (_silent, ""),
-    "season untested without dates": ("no season was tested, as the periods have no dates; say --season with its "
-                                      "number of periods (52 if they are weeks, 12 if months)", ""),
+    "season untested without dates": (f"no season was tested, as the periods have no dates; say {argument('season')} "
+                                      "with its number of periods (52 if they are weeks, 12 if months)", ""),
     "season untested": (lambda it: f"{'weekdays are' if it['season'] == 'weekday' else 'a season is'} tested from "
                         f"{it['periods']} {it['unit']}s on", "")}
 

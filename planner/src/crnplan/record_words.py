@@ -7,6 +7,8 @@ from __future__ import annotations
 from collections.abc import Callable, Mapping
 from typing import Any
 
+from .errors import argument
+
 Facts = Mapping[str, Any]
 Say = str | Callable[[Facts], str]
 
@@ -19,7 +21,14 @@ def _lines(it: Facts, one: str, many: str) -> str:
 def _other_sign(it: Facts) -> str:
     """Returns what to do about a text that is no number."""
     other = it.get("other")
-    return "write digits, as 12" + (f", or say --decimal {other} if the decimal sign is {other!r}" if other else "")
+    return "write digits, as 12" + (f", or say {argument('decimal', other)} if the decimal sign is {other!r}" if other else "")
+
+
+def _share(it: Facts) -> str:
+    """Returns what to do about a number that may be in percent or a share."""
+    percent = argument("units", f"items.{it['role']}=percent")
+    return f"say {argument('units', 'items.fill=share')} or {percent}" if it["role"] == "fill" else (
+        f"say {percent}, or write a share below 1")
 
 
 def _each(it: Facts) -> list[tuple[str, Facts]]:
@@ -39,7 +48,8 @@ def _several(which: int) -> Say:
     return said
 
 
-DECIDE = "say --decimal . or --decimal ,"
+DECIDE = f"say {argument('decimal', '.')} or {argument('decimal', ',')}"
+FORMAT, START, END = map(argument, ("date_formats", "start", "end"))
 LEADS = "write whole periods, as 3 or 2 3 3 4"
 # Of cells, rows and items that are left out or named (records/).
 RECORDS: dict[str, tuple[Say, Say]] = {
@@ -54,41 +64,40 @@ RECORDS: dict[str, tuple[Say, Say]] = {
         DECIDE),
     "currencies": ("amounts of money are in several currencies, as {texts}", "convert them into one"),
     "not whole": ("{text!r} is not a whole number",
-                  "count in a smaller unit, as grams for kilograms, and then in boxes of "
-                       "many (--box)"),
+                  f"count in a smaller unit, as grams for kilograms, and then in boxes of many ({argument('box')})"),
     "below 0": ("{text!r} is below 0", "write 0 or more"),
-    "negative": ("{text!r} is negative", "correct it, or say --net to take it off the sale that it undoes"),
+    "negative": ("{text!r} is negative", f"correct it, or say {argument('net')} to take it off the sale that it undoes"),
     "decimals": ("{text!r} has more than {decimals} decimals", "round it"),
     "zero": ("it is 0, so that stock, or being short, costs nothing", "write an amount above 0"),
     "no share": ("{text!r} is no share between 0 and 1", "write it as 0.95 or 95%"),
-    "small percent": ("{text!r} may be {text}% or {text} as a share", "say {unit}"),
+    "small percent": ("{text!r} may be {text}% or {text} as a share", _share),
     "no whole items": ("{text!r} is not a whole number from 0", "correct it"),
     # Dates.
     "no date": ("the cell is empty", "write the date, or leave the row out"),
     "year": ("{text!r}: the year is not from {first} to {last}", "correct it, or leave the row out"),
-    "two patterns": ("{text!r} may be {dates} by the patterns of --date-format",
+    "two patterns": ("{text!r} may be {dates} by the patterns of " + FORMAT,
                      "say one, or write the date as 2026-03-31"),
-    "other pattern": ("{text!r} is no date of the form {patterns} that --date-format says",
-                      "correct it, or say another "
-                           "pattern"),
+    "other pattern": ("{text!r} is no date of the form {patterns} that " + FORMAT + " says",
+                      "correct it, or say another pattern"),
     "no form": ("{text!r} is no date as 2026-03-31, 31.03.2026 or 31/03/2026",
-                lambda it: "write it so, or say --date-format with its pattern" + (
+                lambda it: f"write it so, or say {FORMAT} with its pattern" + (
                     " (a spreadsheet's number of a day: format the column as a date)" if it["is_number"] else "")),
     "no day": ("{text!r} is no day of the calendar", "correct it, or leave the row out"),
     "day or month": (lambda it: f"{it['text']!r} may have the day or the month first, and " + (
         f"the dates here have both, as {it['sides']}" if it["sides"] else "no date here decides it"), lambda it: (
-        "write it as 2026-03-31, or " if it["sides"] else "") + "say --date-format %d/%m/%Y or --date-format %m/%d/%Y"),
-    "before start": ("{day} is before --from", "change --from if it is to count"),
-    "far before": ("{day} is more than a year before nearly all other dates", "correct it, or say --from"),
-    "after end": ("{day} is after --to", "change --to if it is to count"),
-    "late date": ("{day} is after {last}, the record's end", "correct it, or say --to"),
+        "write it as 2026-03-31, or " if it["sides"] else "")
+        + f"say {argument('date_formats', '%d/%m/%Y')} or {argument('date_formats', '%m/%d/%Y')}"),
+    "before start": ("{day} is before " + START, f"change {START} if it is to count"),
+    "far before": ("{day} is more than a year before nearly all other dates", f"correct it, or say {START}"),
+    "after end": ("{day} is after " + END, f"change {END} if it is to count"),
+    "late date": ("{day} is after {last}, the record's end", f"correct it, or say {END}"),
     # Masters.
     "no lead time": ("{text!r} is no lead time", LEADS),
     "unit of lead": ("{text!r} is no lead time", "write {word!r} as days, weeks, months or years"),
     "lead range": ("the lead time {lead} is not from 1 to {most} periods",
-                   "correct it, or take longer periods (--every)"),
+                   f"correct it, or take longer periods ({argument('every')})"),
     "no borrow": ("{text!r} is not {known}", "write one of them, or nothing"),
-    "is share": ("{text!r} is a share", "say --unit items.holding=percent if it is one of the price a year"),
+    "is share": ("{text!r} is a share", f"say {argument('units', 'items.holding=percent')} if it is one of the price a year"),
     "no price for share": ("it is a share of the price, and there is no price", "write one"),
     "no goal": ("there is neither a backlog cost nor a wanted fill rate", "write one of them"),
     "nothing of leads": ("there is no lead time, and no received order", "write one in periods"),
@@ -105,16 +114,16 @@ RECORDS: dict[str, tuple[Say, Say]] = {
                                     f"{it['count']:,} rows are the same as others above them ({it['lines']})"),
                   lambda it: _lines(it, "if it was exported twice, remove it",
                                     "if they were exported twice, remove them")
-                  + ", or say --twice leave-out"),
+                  + f", or say {argument('twice', 'leave-out')}"),
     "before order": ("it is before the order of {ordered!r}", "correct one of the dates, or leave the row out"),
     # Items.
     "no master": ("there is no master of this item", "add its row to the masters"),
     "several masters": ("there are {masters} masters that differ, in {lines}", "leave one"),
     "no rows": ("there is no row of demand in the record", "nothing can be said without one"),
     "measures": ("rows are in several units of measure, {measures}",
-                 "say how many items one is, as --factor {text}=12"),
-    "far": ("{lines}: {times:,} times {next:,}, the next largest of the item", "correct the row, or say --far keep"),
-    "short": ("a history of {periods} {every}s is short", "wait, or say --least {periods}"),
+                 "say how many items one is, as " + argument("factors", "{text}=12")),
+    "far": ("{lines}: {times:,} times {next:,}, the next largest of the item", f"correct the row, or say {argument('far', 'keep')}"),
+    "short": ("a history of {periods} {every}s is short", "wait, or say " + argument("least", "{periods}")),
     "unmet return": ("{amount:,} came back by {period}, and less was asked for before",
                      "correct the row, or leave it out"),
     "nothing asked": ("nothing was asked for", "nothing can be said without demand"),

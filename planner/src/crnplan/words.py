@@ -8,6 +8,7 @@ from __future__ import annotations
 from collections.abc import Callable, Mapping
 from dataclasses import dataclass
 
+from .errors import worded
 from .formats import MOST_ITEMS
 from .law_words import LAWS
 from .record_words import RECORDS
@@ -69,7 +70,7 @@ WORDS = {**PLAN, **LEARNING, **CURVE, **{code: Words(*said) for code, said in (*
 
 def _said(say: Say, facts: Facts) -> str:
     """Returns the words for facts."""
-    return say.format_map(facts) if isinstance(say, str) else say(facts)
+    return worded(say.format_map(facts) if isinstance(say, str) else say(facts))
 
 
 def sentence(remark: Remark) -> str:
@@ -93,7 +94,7 @@ def pattern(remark: Remark) -> str:
     """Returns what is said of all remarks with this code: facts are left out. Words that a function makes, or that are
     a fact alone, are those of this remark."""
     say = WORDS[remark.code].text
-    text = say.format_map(dict.fromkeys(remark.facts, _Blank())) if isinstance(say, str) else ""
+    text = worded(say.format_map(dict.fromkeys(remark.facts, _Blank()))) if isinstance(say, str) else ""
     return text if any(map(str.isalpha, text)) else sentence(remark)
 
 

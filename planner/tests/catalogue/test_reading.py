@@ -211,7 +211,7 @@ ROWS = "".join(f"A,2026-{month:02}-15,3\n" for month in range(1, 11))
 
 
 @pytest.mark.parametrize("demand, masters, said", [
-    ("item,date\n" + ROWS, "", "demand.csv:1: no column looks like the quantity; say --column demand.quantity=NAME"),
+    ("item,date\n" + ROWS, "", "demand.csv:1: no column looks like the quantity; say columns={\"demand\": {\"quantity\": \"NAME\"}}"),
     ("item,date,quantity,Menge\n" + ROWS, "", "the columns 'quantity' and 'Menge' may both be the quantity; say"),
     ("item,date,quantity\n", "", "no row of demand has a date"), ("", "", "there is no row below the heading"),
     ("item,date,quantity\nA,soon,3\n", "", "no row of demand has a date"),
@@ -236,7 +236,7 @@ def test_bytes_that_are_no_text_far_down(tmp_path: Path) -> None:
     lines = ["item,date,quantity", *(f"A,2026-03-{1 + it % 28:02},{it % 7}" for it in range(80_000))]
     path.write_bytes("\n".join(lines).encode() + b"\nB\xfcrste,2026-03-02,1\n")
     (tmp_path / "items.csv").write_text("item,setup,holding,backlog,lead,s,S\nA,10,0.5,5,2,3,9\n")
-    with pytest.raises(RefusedFaults, match=r"demand.csv:80002:2: the byte 0xfc is not UTF-8; say --encoding latin-1"):
+    with pytest.raises(RefusedFaults, match=r"demand.csv:80002:2: the byte 0xfc is not UTF-8; say encoding=latin-1"):
         read_catalogue(path, tmp_path / "items.csv", today=TODAY)
 
 
@@ -267,10 +267,10 @@ def test_decimal_sign_is_never_guessed(tmp_path: Path, holdings: list[str], deci
 
 def test_unused_words_are_refused(tmp_path: Path) -> None:
     """Refuses words that can't be meant."""
-    for words, said in (({"every": "year"}, "--every 'year'"), ({"far": "drop"}, "--far 'drop'"),
-                        ({"columns": {"demand": {"amount": "x"}}}, "demand.amount: there is no such column"),
-                        ({"start": "2026-05-01", "end": "2026-01-01"}, "is after --to"),
-                        ({"start": "soon"}, "--from:")):
+    for words, said in (({"every": "year"}, "every=year is not one of"), ({"far": "drop"}, "far=drop is not keep"),
+                        ({"columns": {"demand": {"amount": "x"}}}, "columns: there is no column demand.amount"),
+                        ({"start": "2026-05-01", "end": "2026-01-01"}, "start=2026-05-01 is after end=2026-01-01"),
+                        ({"start": "soon"}, "start:")):
         with pytest.raises(Refused, match=said):
             read_text(tmp_path, "item,date,quantity\n" + ROWS, **words)
 
@@ -281,5 +281,5 @@ def test_record_from_and_to(tmp_path: Path) -> None:
                     units={"items": dict.fromkeys(("lead", "holding", "backlog"), "month")})
     item = items_of(its)["A"]
     assert item.counts == (3,) * 8 and item.rows == 8
-    assert list(its.rejects.reason) == ["2026-01-15 is before --from", "2026-10-15 is after --to"]
+    assert list(its.rejects.reason) == ["2026-01-15 is before start", "2026-10-15 is after end"]
     assert json.loads(json.dumps(its.counts)) == its.counts and its.missing == []

@@ -257,7 +257,7 @@ def test_outside_the_grid(mixed: dict[str, list[int]]) -> None:
     boxes = law_of(prior, large["larger"], box=10)
     assert boxes == fit_demand(large["larger"], method="auto", box=10)
     assert reason(boxes) == "demand is counted in boxes of 10"
-    with pytest.raises(RefusedFaults, match="is above 10,000; count in larger boxes: --box 2 or more"):
+    with pytest.raises(RefusedFaults, match="is above 10,000; count in larger boxes: box=2 or more"):
         law_of(prior, large["larger"])
 
 

@@ -26,6 +26,8 @@ from crnplan.demand.checks.power import Tilted, autocorrelation_seen, least_seen
 from crnplan.demand.checks.seasons import Season, seasons_of
 from crnplan.demand.checks.study import LAWS, loss_of, losses
 from crnplan.errors import Refused
+from crnplan.commands.output import as_option
+from crnplan.errors import spelt
 from crnplan.records.dates import period_of
 from crnplan.remarks import Remark
 from crnplan.words import advised, sentence
@@ -128,7 +130,7 @@ def test_shift_with_dates(tmp_path: Path) -> None:
     """With dates, the period has its name and the advice the option with its first day."""
     checks = checks_of(history_of([3] * 40 + [9, 8] * 10, date(2025, 1, 6), "week", tmp_path))
     assert "from 2025-W42 on the mean is 183% above that before" in said(checks.warnings)[0]
-    assert "(--from 2025-10-13)" in said(checks.warnings)[0]
+    assert "(start=2025-10-13)" in said(checks.warnings)[0]
     assert said(checks.unknown)[-1] == "a season is tested from 104 weeks on"
     nothing = checks_of([0] * 30 + [4, 5] * 15)
     assert "there is no demand before period 31" in said(nothing.warnings)[0]
@@ -171,7 +173,7 @@ def test_weekdays(tmp_path: Path) -> None:
     numbers = [0 if it % 7 > 4 else 5 + it % 3 for it in range(70)]
     checks = checks_of(history_of(numbers, date(2025, 1, 6), "day", tmp_path))
     assert said(checks.warnings)[0].startswith("demand follows the weekdays: 1.4 times the mean on ")
-    assert "0 times on Sat" in said(checks.warnings)[0] and "Take weeks (--every week)" in said(checks.warnings)[0]
+    assert "0 times on Sat" in said(checks.warnings)[0] and "Take weeks (every=week)" in said(checks.warnings)[0]
     assert said(checks.unknown)[-1] == "a season is tested from 730 days on" and named(checks, "weekday").p < 0.002
     weekday, season = seasons(800, date(2024, 1, 1), "day")
     assert (weekday.name, weekday.length, season.name, season.length) == ("weekday", 7, "season", 365)
@@ -275,7 +277,7 @@ def test_remarks_of_a_catalogue(data: st.DataObject) -> None:
     ([0] * 40 + [2, 0, 7, 1], [
         "3 of 44 periods have demand, fewer than 10: the largest (7 in period 43) decides what a high service costs; "
         "take a longer record if there is one"]),
-    ([6, 12, 0, 6, 18] * 6, ["all demands are multiples of 6; with --box 6 the tables count in packs"]),
+    ([6, 12, 0, 6, 18] * 6, ["all demands are multiples of 6; with box=6 the tables count in packs"]),
     ([4, 5, 6, 5] * 10 + [90], [
         "far above all others (the next is 6): 90 in period 41; if that is a mistake or will not come again, correct "
         "it or leave it out, else keep it",
@@ -389,7 +391,9 @@ def test_command(tmp_path: Path, crnplan: Command) -> None:
     words = ["history", tmp_path / "demand.csv", "--demand", "n", "--fit", "empirical"]
     for more, season in (([], None), (["--season", 52], 52)):
         told = crnplan(*words, *more)
-        assert told.errors == "".join(f"crnplan: {it}\n" for it in lines_of(checks_of(SEASONAL, season=season)))
+        with spelt(as_option):
+            lines = lines_of(checks_of(SEASONAL, season=season))
+        assert told.errors == "".join(f"crnplan: {it}\n" for it in lines)
         assert told.status == 0 and told.output.startswith("\n[demand]\n")
     assert crnplan(*words, "--season", 1).status == 2
 

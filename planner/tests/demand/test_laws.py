@@ -65,8 +65,8 @@ def test_range_of_demand(tmp_path: Path) -> None:
     with pytest.raises(RefusedFaults) as refused:
         fit_demand([10_001, 3, 70_001, -1], box=1)
     assert [str(it) for it in refused.value.faults] == [
-        "column 'demand': entry 1, 10001, is above 10,000; count in larger boxes: --box 8 or more",
-        "column 'demand': entry 3, 70001, is above 10,000; count in larger boxes: --box 8 or more",
+        "column 'demand': entry 1, 10001, is above 10,000; count in larger boxes: box=8 or more",
+        "column 'demand': entry 3, 70001, is above 10,000; count in larger boxes: box=8 or more",
         "column 'demand': entry 4, -1, is below 0; correct it"]
     assert fit_demand([10_001, 3, 70_001], method="empirical", box=8).values == (1, 1251, 8751)
     (tmp_path / "file.csv").write_text("at,n\n2026-03-02,9000\n2026-03-03,9000\n")

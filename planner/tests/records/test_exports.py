@@ -190,7 +190,7 @@ def test_units_of_masters(heading: str, cells: str, role: str, value: Any, check
     (MASTERS, ("--every", "month"), "the column 'lead' names no unit, and may count months or weeks"),
     (MASTERS, ("--every", "month"), "the column 'holding' names no unit, and may count months or weeks"),
     (MASTERS, ("--unit", "items.lead=fortnight"), "'fortnight' is none of its units: period, day, week, month, year"),
-    (MASTERS, ("--unit", "items.cost=day"), "there is no such column")])
+    (MASTERS, ("--unit", "items.cost=day"), "there is no column items.cost; they are demand.item,")])
 def test_units_that_cannot_be_converted(heading: str, words: Sequence[str], said: str, check: Checked) -> None:
     """A unit that can't be converted is refused, with what to say."""
     cells = "A,45,1,10,2,3,9" + ",4" * (heading.count(",") - 6)

@@ -16,7 +16,7 @@ from typing import Any
 import click
 
 from .. import __version__
-from ..errors import CrnplanError, Failed, Refused
+from ..errors import CrnplanError, Failed, Refused, spelt
 from .streams import shown_safely
 
 # The threads of linear algebra gain nothing here. Beside other work they wait for one another, busily.
@@ -85,10 +85,16 @@ def group() -> None:
     """
 
 
+def _as_option(name: str, value: str) -> str:
+    """Returns an argument of the library as the option of the command that was asked for."""
+    from .output import as_option
+    return as_option(name, value)
+
+
 def main() -> None:
     """Runs the command. Ends with status 0; 1 if the answer is no; 2 if an input or a word is refused; 3 if no input is
     to blame; 130 if interrupted."""
-    with shown_safely():
+    with shown_safely(), spelt(_as_option):
         try:
             result: Any = group.main(prog_name="crnplan", standalone_mode=False)
             print(end="", flush=True)

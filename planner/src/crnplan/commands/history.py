@@ -71,7 +71,7 @@ def command(**asked: Any) -> int:
         with whole_table(asked["file"], "history") as given:
             names = ", ".join(column_names(given, Rules(**rules))) or "none"
         raise Refused(f"{asked['file']}: say --demand with the name of a column; the columns are: {names}")
-    with rejects_in(asked["rejects"]) as attempts:
+    with rejects_in(asked["faults"]) as attempts:
         laws = laws_of(asked, attempts)
     checked = (line for its in attempts.read if isinstance(its, History)
                for line in lines_of(checks_of(its, season=asked["season"])))

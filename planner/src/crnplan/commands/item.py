@@ -5,7 +5,7 @@ import sys
 
 import click
 
-from ..errors import CrnplanError
+from ..errors import CrnplanError, spelt
 from .output import note
 
 
@@ -41,9 +41,10 @@ def command(history: str, settings: str, out: str, program: str | None) -> int:
         if sys.stderr.isatty():
             print(f"{part} ..", file=sys.stderr)
 
-    try:
-        print(plan_item(history, settings, out, program=program, told=told).summary, end="")
-    except CrnplanError as fault:
-        note(fault.message, as_setting)
-        return fault.status
+    with spelt(as_setting):
+        try:
+            print(plan_item(history, settings, out, program=program, told=told).summary, end="")
+        except CrnplanError as fault:
+            note(fault.message)
+            return fault.status
     return 0

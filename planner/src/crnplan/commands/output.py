@@ -26,10 +26,10 @@ def as_option(name: str, value: str) -> str:
     return options.get(name, f"--{name.replace('_', '-')}") + f" {value}" * bool(value)
 
 
-def note(message: str, spell: Callable[[str, str], str] = as_option) -> None:
-    """Prints the lines of a message on standard error, with the options of a command, or whatever `spell` gives, for
-    the arguments of the library."""
-    for line in worded(message, spell).splitlines():
+def note(message: str) -> None:
+    """Prints the lines of a message on standard error, with the options of the command for the arguments of the
+    library, or whatever stands for them in the block `errors.spelt`."""
+    for line in worded(message).splitlines():
         click.echo(f"crnplan: {line}", err=True)
 
 

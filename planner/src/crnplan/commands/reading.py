@@ -70,7 +70,7 @@ file_options = together(
     click.option("--date-format", "date_formats", metavar="PATTERN", multiple=True,
                  help="A pattern as %d/%m/%y in place of the usual forms. May be given several times."),
     click.option("--leave-out", is_flag=True, help="Go on without rows that have a fault."),
-    click.option("--rejects", type=click.Path(dir_okay=False, path_type=Path), metavar="FILE",
+    click.option("--rejects", "faults", type=click.Path(dir_okay=False, path_type=Path), metavar="FILE",
                  help="Write all faults as CSV."))
 
 

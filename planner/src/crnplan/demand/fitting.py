@@ -11,7 +11,7 @@ from dataclasses import dataclass, field, replace
 from typing import TYPE_CHECKING
 
 from ..money import Number
-from ..errors import Refused
+from ..errors import Refused, argument
 from ..formats import MOST_DEMAND
 from ..law import Law
 from ..records.observed import Observed
@@ -169,7 +169,7 @@ def fit_demand(observed: Observed | Iterable[Number], *, method: str = "auto", b
         raise Refused(f"{box} is no number of items in a box; it is at least 1")
     numbers, places = numbers_of(observed, "demand")
     boxes = [-(-it // box) for it in numbers]
-    larger = f"count in larger boxes: --box {-(-max(numbers) // MOST_DEMAND)} or more"
+    larger = f"count in larger boxes: {argument('box', str(-(-max(numbers) // MOST_DEMAND)))} or more"
     reason = f"is above {MOST_DEMAND:,}{f' in boxes of {box}' if box > 1 else ''}; {larger}"
     check(boxes, places, lambda it: reason if it > MOST_DEMAND else "is below 0; correct it" if it < 0 else None)
     if method != EMPIRICAL:

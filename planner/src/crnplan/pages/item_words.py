@@ -11,7 +11,7 @@ from ..crnsim.trajectory import Period
 from ..decide.doubt import WITHIN
 from ..decide.intervals import Compared as ComparedRow
 from ..demand import fit_remarks
-from ..errors import Fault, worded
+from ..errors import Fault, spelt, worded
 from ..plan.answer import CHEAPER, CHOSEN, DEARER, SAME, SERVICE, THEORY, UNDECIDED, Figures
 from ..plan.depth import Coming, Compared, Depth
 from ..plan.settings import as_setting
@@ -47,9 +47,10 @@ def capital(text: str) -> str:
 
 def heard_words(heard: Fault | Remark) -> str:
     """Returns what is said of a file: by its name without folders, with the keys of the settings for arguments."""
-    if isinstance(heard, Remark):
-        return advised(heard)
-    return worded(replace(heard, file=Path(heard.file).name).message, as_setting)
+    with spelt(as_setting):
+        if isinstance(heard, Remark):
+            return advised(heard)
+        return worded(replace(heard, file=Path(heard.file).name).message)
 
 
 class ItemWords:

@@ -181,8 +181,7 @@ class AmountReader:
         has_sign = isinstance(cell, str) and cell.endswith("%")
         number = self.number(cell.rstrip("% ") if isinstance(cell, str) else cell)
         if in_percent and not has_sign and 0 < number < 1:
-            raise Unreadable("small percent", text=shown(str(cell)),
-                             unit="--unit items.fill=share or --unit items.fill=percent")
+            raise Unreadable("small percent", text=shown(str(cell)), role="fill")
         if has_sign or in_percent:
             number /= 100
         if not 0 < number < 1:

@@ -10,7 +10,7 @@ from dataclasses import asdict, dataclass, field
 from pathlib import Path
 from typing import TYPE_CHECKING, Any, TypedDict
 
-from ..errors import Fault, Refused, RefusedFaults
+from ..errors import Fault, Refused, RefusedFaults, argument
 from ..files import Folder, faults_of, own_folder
 from ..remarks import Remark, Value
 from ..table import Json
@@ -69,21 +69,20 @@ class Words(Ways, Rules):
         """Checks the words one by one."""
         super().__post_init__()
         if self.every not in EVERY:
-            raise Refused(f"--every {self.every!r} is not one of {', '.join(EVERY)}")
-        for name, value in (("--twice", self.twice), ("--far", self.far)):
+            raise Refused(f"{argument('every', self.every)} is not one of {', '.join(EVERY)}")
+        for name, value in (("twice", self.twice), ("far", self.far)):
             if value not in (KEEP, LEAVE_OUT):
-                raise Refused(f"{name} {value!r} is not {KEEP} or {LEAVE_OUT}")
-        for option, table in (("--column", self.columns), ("--unit", self.units), ("names of", self.names)):
+                raise Refused(f"{argument(name, value)} is not {KEEP} or {LEAVE_OUT}")
+        for name, table in (("columns", self.columns), ("units", self.units), ("names", self.names)):
             for kind, roles in table.items():
                 wrong = next((role for role in roles if role not in ROLES.get(kind, ())), None)
                 if kind not in ROLES or wrong is not None:
                     known = ", ".join(f"{kind}.{role}" for kind in ROLES for role in ROLES[kind])
-                    raise Refused(f"{option} {kind}{f'.{wrong}' if wrong else ''}: there is no such column; they are "
-                                  f"{known}")
+                    raise Refused(f"{argument(name)}: there is no column {kind}{f'.{wrong}' if wrong else ''}; they are {known}")
         for kind, units in self.units.items():
             for role, unit in units.items():
                 if reason := unit_fault(role, unit):
-                    raise Refused(f"--unit {kind}.{role}={unit}: {reason}")
+                    raise Refused(f"{argument('units', f'{kind}.{role}={unit}')}: {reason}")
 
     def stated(self, kind: str) -> Stated:
         """Returns what is stated of the columns of a file."""

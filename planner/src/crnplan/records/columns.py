@@ -11,6 +11,7 @@ from collections.abc import Callable, Mapping, Sequence
 from dataclasses import dataclass, field
 from pathlib import Path
 
+from ..errors import argument
 from .units import ROLE_UNITS, is_doubtful, unit_fault
 
 NAMES = tomllib.loads(Path(__file__).with_name("headings.toml").read_text("utf-8"))
@@ -120,13 +121,21 @@ class Finder:
             places = self._places(role)
             if len(places) > 1:
                 both = " and ".join(repr(self.heading[it]) for it in places)
-                self.wrong.append(f"the columns {both} may both be the {role}; say --column {self.kind}.{role}=NAME")
+                self.wrong.append(f"the columns {both} may both be the {role}; say {self._column(role)}")
             elif places:
                 self._add(role, places[0], True)
             elif role in NEEDED:
-                self.wrong.append(f"no column looks like the {role}; say --column {self.kind}.{role}=NAME; the "
-                                  f"columns are: {_listed(self.heading)}")
+                self.wrong.append(f"no column looks like the {role}; say {self._column(role)}; the columns are: "
+                                  f"{_listed(self.heading)}")
         return self.found, self.wrong
+
+    def _column(self, role: str) -> str:
+        """Returns the argument that names the column of a role."""
+        return argument("columns", f"{self.kind}.{role}=NAME")
+
+    def _unit(self, role: str, unit: str) -> str:
+        """Returns the argument that states the unit of a role."""
+        return argument("units", f"{self.kind}.{role}={unit}")
 
     def _take(self, role: str, places: Sequence[int], name: str) -> None:
         """Takes the column that is stated for a role."""
@@ -158,10 +167,10 @@ class Finder:
         reason = unit_fault(role, unit) if unit else None
         if reason:
             origin = "is stated" if stated else f"is the unit in the heading {heading!r}"
-            self.wrong.append(f"{unit!r} {origin}, and {reason}; say --unit {self.kind}.{role}=UNIT, or convert its "
+            self.wrong.append(f"{unit!r} {origin}, and {reason}; say {self._unit(role, 'UNIT')}, or convert its "
                               "numbers")
         if is_doubtful(role, unit, self.every):
-            self.wrong.append(f"the column {heading!r} names no unit, and may count {self.every}s or weeks; say --unit "
-                              f"{self.kind}.{role}={self.every} or --unit {self.kind}.{role}=week")
+            self.wrong.append(f"the column {heading!r} names no unit, and may count {self.every}s or weeks; say "
+                              f"{self._unit(role, self.every)} or {self._unit(role, 'week')}")
         own = {"item", "period", "order", self.every, *["share"] * (role == "fill")}
         self.found[role] = Column(heading, place, is_guess, "" if unit in own else unit)

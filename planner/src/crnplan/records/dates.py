@@ -8,12 +8,13 @@ import datetime
 import re
 from collections.abc import Iterable, Sequence
 
-from ..errors import Refused
+from ..errors import Refused, argument
 from .amounts import Cell
 from .faults import Unreadable, shown
 
 EVERY = ("day", "week", "month")
-NEED_PERIOD = "--date and --orders need the period: say --every day, --every week or --every month"
+NEED_PERIOD = ("dates of movements and of orders need the period: say "
+               + ", ".join(argument("every", every) for every in EVERY[:-1]) + f" or {argument('every', EVERY[-1])}")
 FIRST_YEAR, LAST_YEAR = 1980, 2199
 # The forms, each as a date of its kind is written. A year of two digits is from 1969 to 2068, as in POSIX.
 YEAR = "(?P<year>[0-9]{4}|[0-9]{2})"
@@ -32,7 +33,7 @@ def checked_format(pattern: str) -> str:
     except (ValueError, re.error):
         whole = False
     if not whole:
-        raise Refused(f"--date-format {pattern!r}: this is no pattern of a whole date; write one such as %d.%m.%Y (%d "
+        raise Refused(f"{argument('date_formats', pattern)}: this is no pattern of a whole date; write one such as %d.%m.%Y (%d "
                       "is the day, %m the month, %Y the year, %y its last two digits)")
     return pattern
 

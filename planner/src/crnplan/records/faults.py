@@ -7,7 +7,7 @@ from dataclasses import dataclass
 from pathlib import Path
 from typing import NamedTuple
 
-from ..errors import Fault, RefusedFaults
+from ..errors import Fault, RefusedFaults, argument
 from ..files import faults_of, new_file
 from ..table import Cell, DataTable, text, whole
 from ..remarks import Remark, Value
@@ -76,9 +76,9 @@ def named_lines(lines: Sequence[int]) -> str:
 
 def printed(faults: Sequence[Fault]) -> Iterator[str]:
     """Yields the first faults as lines, and one line that says how many more there are."""
-    yield from map(str, faults[:MOST_PRINTED])
+    yield from (it.message for it in faults[:MOST_PRINTED])
     if len(faults) > MOST_PRINTED:
-        yield f"and {len(faults) - MOST_PRINTED:,} more faults; --rejects FILE lists all"
+        yield f"and {len(faults) - MOST_PRINTED:,} more faults; {argument('faults')} has all"
 
 
 class RefusedFiles(RefusedFaults):
@@ -90,7 +90,7 @@ class RefusedFiles(RefusedFaults):
         if len(faults) > 1:
             rows = len({(it.file, it.line) for it in faults})
             has_rows = any(isinstance(it, Reject) for it in faults)
-            advice = "; correct them, or say --leave-out to go on without bad rows" if has_rows else ""
+            advice = f"; correct them, or say {argument('leave_out')} to go on without bad rows" if has_rows else ""
             lines.append(f"{len(faults):,} faults in {rows:,} rows{advice}")
         self.notes = tuple(notes)
         super().__init__(faults, "\n".join([*lines, *map(str, notes)]))

@@ -9,7 +9,7 @@ from dataclasses import dataclass
 from itertools import compress
 from typing import Any
 
-from ..errors import Fault, Refused, RefusedFaults
+from ..errors import Fault, Refused, RefusedFaults, argument
 from ..formats import MOST_WEIGHT
 from .dates import EVERY, NEED_PERIOD, DateReader, first_day, period_name, period_of
 from .faults import RefusedFiles, Unreadable, named_lines
@@ -17,7 +17,7 @@ from .observed import History
 from .reading import Reading
 from .returned import net_of
 from .sources import Table, whole_table
-from .span import ends_of
+from .span import CHANGE, ends_of
 from .texts import Rules
 
 Day = datetime.date
@@ -43,8 +43,7 @@ def read_history(table: Table, *, demand: str, returns: str | None = None, date:
     rule = Rules(delimiter, encoding, decimal, tuple(date_formats), item or {}, leave_out)
     names = [demand] if returns is None else [demand, returns]
     if date is None:
-        _check_undated({"--every needs": every, "--net and --whole need": net or whole,
-                        "--from and --to need": start or end})
+        _check_undated({("every",): every, ("net", "whole"): net or whole, ("start", "end"): start or end})
         with whole_table(table, "history") as given:
             return _undated(Reading(given, names, rule), names)
     if every not in EVERY:
@@ -58,17 +57,19 @@ def read_history(table: Table, *, demand: str, returns: str | None = None, date:
         return _summed(movements, periods)
 
 
-def _check_undated(given: Mapping[str, object]) -> None:
-    """Rejects options that say nothing without dates."""
-    for option in (it for it in given if given[it]):
-        more = "" if option.startswith("--every") else ", and --every"
-        raise Refused(f"{option} dates: say --date with the name of their column{more}")
+def _check_undated(given: Mapping[tuple[str, ...], object]) -> None:
+    """Rejects arguments that say nothing without dates."""
+    for names in (it for it in given if given[it]):
+        verb, more = ("needs", "") if len(names) == 1 else ("need", f", and {argument('every')}")
+        raise Refused(f"{' and '.join(map(argument, names))} {verb} dates: say {argument('date')} with the name of their "
+                      f"column{more}")
 
 
 def _undated(reading: Reading, names: Sequence[str]) -> History:
     """Returns the history of a file in which each row is a period."""
     reading.check_rows(names[0])
-    below = "is negative; correct it (--net takes it off its period, if each row has a date: --date and --every)"
+    below = (f"is negative; correct it ({argument('net')} takes it off its period, if each row has a date: "
+             f"{argument('date')} and {argument('every')})")
     columns = {name: reading.amounts(name, below, 0) for name in names}
     rows, numbers = reading.kept(columns)
     reading.note_twins(rows, names)
@@ -105,18 +106,17 @@ class _Movements:
 
     def cut(self, start: Day | None, end: Day | None) -> None:
         """Takes movements before the start or after the end out, with notes."""
-        for option, bound, sign in (("before --from", start, 1), ("after --to", end, -1)):
+        for where, name, bound, sign in (("before", "start", start, 1), ("after", "end", end, -1)):
             if bound is None:
                 continue
             inside = [sign * (day - bound).days >= 0 for day, _ in self.dates]
             lines = [self.reading.lines[row] for row, is_in in zip(self.rows, inside) if not is_in]
             if lines:
-                self.reading.note(f"rows {option} {bound} left out: {len(lines):,} ({named_lines(lines)})")
+                self.reading.note(f"rows {where} {argument(name, str(bound))} left out: {len(lines):,} ({named_lines(lines)})")
             self.rows, self.dates = list(compress(self.rows, inside)), list(compress(self.dates, inside))
             self.amounts = {name: list(compress(its, inside)) for name, its in self.amounts.items()}
         if not self.rows:
-            raise self.refused_span(f"no row is from {start or 'the beginning'} to {end or 'the end'}; change --from "
-                                    "or --to")
+            raise self.refused_span(f"no row is from {start or 'the beginning'} to {end or 'the end'}; {CHANGE}")
 
     def refused_span(self, reason: str, row: int | None = None) -> RefusedFaults:
         """Returns the error of a record whose ends can't be meant, at the date of a row if there is one."""
@@ -136,8 +136,8 @@ def _movements(reading: Reading, names: Sequence[str], date: str, every: str, ne
     """Reads the movements of a file. Raises RefusedFaults."""
     reading.skip_blank()
     reader = DateReader(reading.columns[date].distinct, reading.rules.date_formats)
-    below = (f"is negative; say --net to take it off its {every}, or write items that came back into a column of their "
-             "own (--returns)")
+    below = (f"is negative; say {argument('net')} to take it off its {every}, or write items that came back into a "
+             f"column of their own ({argument('returns')})")
     columns: dict[str, list[Any]] = {date: reading.read(date, reader.read, reading.rows)}
     columns |= {name: reading.amounts(name, below, None if net else 0) for name in names}
     _name_total(reading, date, columns[date], columns[names[0]])
@@ -164,13 +164,13 @@ def _spanned(movements: _Movements, start: Day | None, end: Day | None, whole: b
                end is None or first_day(last + 1, every) - datetime.timedelta(days=1) != end]
     periods = range(first + (whole and partial[0]), last + 1 - (whole and partial[1]))
     if not periods:
-        raise movements.refused_span(f"there is no {every} between the first and the last one; leave --whole out",
+        raise movements.refused_span(f"there is no {every} between the first and the last one; leave {argument('whole')} out",
                                      movements.rows[0])
     if len(periods) > MOST_WEIGHT:
         last_row = next((row for row, (day, _) in zip(movements.rows, movements.dates) if day == ends[1]), None)
-        advice = "change --from or --to" if start or end else "correct the first or the last date"
+        advice = CHANGE if start or end else "correct the first or the last date"
         raise movements.refused_span(f"{len(periods):,} {every}s are more than {MOST_WEIGHT:,}; {advice}, or take "
-                                     "longer periods (--every)", None if start or end else last_row)
+                                     f"longer periods ({argument('every')})", None if start or end else last_row)
     filled = len(set(periods) - {period_of(it, every) for it in {day for day, _ in movements.dates}})
     movements.reading.note(f"{every}s from {period_name(periods[0], every)} to {period_name(periods[-1], every)}: "
                            f"{len(periods)}, filled with 0: {filled}; {_ends_text(partial, whole)}")
@@ -183,7 +183,7 @@ def _ends_text(partial: Sequence[bool], whole: bool) -> str:
     verb, pronoun = ("are", "them") if all(partial) else ("is", "it")
     if not named:
         return "all are whole"
-    return f"{named} one {verb} left out" if whole else f"{named} one may be partial (--whole leaves {pronoun} out)"
+    return f"{named} one {verb} left out" if whole else f"{named} one may be partial ({argument('whole')} leaves {pronoun} out)"
 
 
 def _summed(movements: _Movements, periods: range) -> History:

@@ -121,8 +121,7 @@ class Masters:
                 raise Unreadable("is share", text=shown(text))
             number = reader.positive(text.rstrip("% ") if is_percent else cell)
             if self.share == "share" and number >= 1 and not is_percent:
-                raise Unreadable("small percent", text=shown(text),
-                                 unit="--unit items.holding=percent, or write a share below 1")
+                raise Unreadable("small percent", text=shown(text), role="holding")
             return number / 100 if is_percent and self.share == "share" else number
         return holding
 

@@ -7,7 +7,7 @@ from array import array
 from collections.abc import Callable, Iterable, Mapping, Sequence
 from typing import Any, TypeVar
 
-from ..errors import Fault, Refused, RefusedFaults
+from ..errors import Fault, Refused, RefusedFaults, argument
 from ..formats import MOST_WEIGHT
 from .amounts import AmountReader, Cell, other_reading
 from .columns import Stated
@@ -253,7 +253,7 @@ class Reading:
                               f"{reader.read(self.text(name, row))[0]}" for row in first_rows.values())
             self.note_cell(max(first_rows.values()), name,
                            f"the dates have {len(first_rows)} forms: {named}; if one is wrong, "
-                           "say --date-format")
+                           f"say {argument('date_formats')}")
 
     def places(self, cells: Sequence[tuple[int, str, str] | None]) -> tuple[Place | None, ...]:
         """Returns the places of numbers, each a row, a column and how a message names the number."""

@@ -5,7 +5,7 @@ import datetime
 from collections.abc import Mapping, Sequence
 from dataclasses import dataclass
 
-from ..errors import Refused
+from ..errors import Refused, argument
 from ..formats import MOST_WEIGHT
 from .dates import DateReader, period_name, period_of
 from .faults import Unreadable
@@ -14,6 +14,7 @@ Day = datetime.date
 # A row so many days away from the rest, if at most one row in so many is, has a wrong date.
 FAR_DAYS, RARE = 366, 1_000
 # An item that is first seen after so many periods begins at its first movement.
+CHANGE = f"change {argument('start')} or {argument('end')}"
 HALF_YEAR = {"day": 183, "week": 26, "month": 6}
 
 
@@ -50,14 +51,14 @@ class Record:
 def ends_of(start: Day | str | None, end: Day | str | None) -> tuple[Day | None, Day | None]:
     """Returns the stated ends of a record. Raises Refused."""
     ends: list[Day | None] = []
-    for option, day in (("--from", start), ("--to", end)):
+    for name, day in (("start", start), ("end", end)):
         try:
             ends.append(DateReader([day]).read(day)[0] if isinstance(day, str) else day)
         except Unreadable as fault:
-            raise Refused(f"{option}: {fault}") from fault
+            raise Refused(f"{argument(name)}: {fault}") from fault
     first, last = ends
     if first and last and first > last:
-        raise Refused(f"--from {first} is after --to {last}; change one of them")
+        raise Refused(f"{argument('start', str(first))} is after {argument('end', str(last))}; change one of them")
     return first, last
 
 
@@ -83,10 +84,10 @@ def record_of(counts: Mapping[Day, int], every: str, start: Day | None, end: Day
     latest = end or today
     days = sorted(day for day in counts if day <= latest and (start is None or day >= start))
     if not days:
-        raise Refused(f"no row of demand has a date from {start or 'the beginning'} to {latest}; change --from or --to")
+        raise Refused(f"no row of demand has a date from {start or 'the beginning'} to {latest}; {CHANGE}")
     first, last = start or _near(days, counts), end or _near(days[::-1], counts)
     record = Record(every, first, last, "before start" if start else "far before", "after end" if end else "late date")
     if len(record.periods) > MOST_WEIGHT:
-        raise Refused(f"{len(record.periods):,} {every}s are more than {MOST_WEIGHT:,}; change --from or --to, or take "
-                      "longer periods (--every)")
+        raise Refused(f"{len(record.periods):,} {every}s are more than {MOST_WEIGHT:,}; {CHANGE}, or take longer periods "
+                      f"({argument('every')})")
     return record

@@ -4,6 +4,7 @@ from __future__ import annotations
 import json
 from collections.abc import Iterator, Mapping
 
+from ..errors import argument, worded
 from .amounts import NAMES, AmountReader
 from .columns import ROLES
 from .dates import DateReader
@@ -22,7 +23,7 @@ def found_text(rows: Mapping[str, Rows], dates: Mapping[str, DateReader], amount
     for kind, its in rows.items():
         lines += ["", f"[catalogue.{kind}]", *_file_lines(its.source, len(its) + its.rejected, its.blank),
                   *_date_lines(its, dates[kind]), *_amount_lines({role: amounts[role] for role in AMOUNTS[kind]})]
-    return "\n".join(lines) + "\n"
+    return worded("\n".join(lines)) + "\n"
 
 
 def _file_lines(source: Source, rows: int, blank: int) -> Iterator[str]:
@@ -61,7 +62,7 @@ def _date_lines(rows: Rows, reader: DateReader) -> Iterator[str]:
         first, before = forms.get(form, (text_of(cell), 0))
         forms[form] = first, before + count
     if reader.patterns:
-        yield f"# dates by --date-format: {sum(count for _, count in forms.values()):,}"
+        yield f"# dates by {argument('date_formats')}: {sum(count for _, count in forms.values()):,}"
         return
     for form, (text, count) in sorted(forms.items()):
         yield f"# dates as {form}: {count:,}, such as {text}"
@@ -70,7 +71,7 @@ def _date_lines(rows: Rows, reader: DateReader) -> Iterator[str]:
                              for side, text in sorted(reader.sides.items()))
         yield f"# of dates with slashes, {first}"
     if unclear:
-        yield f"# dates that may have the day or the month first: {unclear:,}; say --date-format"
+        yield f"# dates that may have the day or the month first: {unclear:,}; say {argument('date_formats')}"
 
 
 def _amount_lines(amounts: Mapping[str, AmountReader]) -> Iterator[str]:

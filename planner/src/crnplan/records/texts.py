@@ -20,7 +20,7 @@ from collections.abc import Callable, Iterable, Iterator, Mapping, Sequence
 from dataclasses import dataclass, field
 from pathlib import Path
 
-from ..errors import Fault, Refused, RefusedFaults
+from ..errors import Fault, Refused, RefusedFaults, argument
 from .amounts import DECIMALS
 from .dates import checked_format
 from .faults import named_lines, shown
@@ -52,13 +52,13 @@ class Rules:
     def __post_init__(self) -> None:
         """Checks the rules one by one."""
         if self.delimiter is not None and self.delimiter not in DELIMITERS:
-            raise Refused(f"--delimiter {self.delimiter!r} is not one of , and ; (in quotes) and tab")
+            raise Refused(f"{argument('delimiter', self.delimiter)} is not one of , and ; (in quotes) and tab")
         if self.decimal is not None and self.decimal not in DECIMALS:
-            raise Refused(f"--decimal {self.decimal!r} is not one of . and ,")
+            raise Refused(f"{argument('decimal', self.decimal)} is not one of . and ,")
         try:
             b"a".decode(self.encoding or "utf-8", "replace")
         except (LookupError, ValueError) as fault:
-            raise Refused(f"--encoding {self.encoding!r} is no encoding of texts; say utf-8, latin-1 or "
+            raise Refused(f"{argument('encoding', str(self.encoding))} is no encoding of texts; say utf-8, latin-1 or "
                           "cp1252") from fault
         for pattern in self.date_formats:
             checked_format(pattern)
@@ -117,7 +117,7 @@ def byte_fault(name: str, data: bytes, fault: UnicodeError, encoding: str, line:
     start = getattr(fault, "start", 0)
     before = data[:start].decode(encoding, "replace")
     is_utf_8 = encoding[:5] == "utf-8"
-    advice = f"--encoding {likely_encoding(data)}" if is_utf_8 else "another --encoding"
+    advice = argument("encoding", likely_encoding(data)) if is_utf_8 else f"another {argument('encoding')}"
     above, column = place_of(before, len(before))
     return Fault(f"the byte 0x{data[start:start + 1].hex()} is not {'UTF-8' if is_utf_8 else encoding}; say {advice}, "
                  f"{EXPORT}", name, line + above - 1, column)
@@ -126,8 +126,8 @@ def byte_fault(name: str, data: bytes, fault: UnicodeError, encoding: str, line:
 def nul_fault(name: str, data: bytes, text: str, line: int = 1) -> Fault:
     """Returns the fault of a text with a NUL character."""
     above, column = place_of(text, text.index("\0"))
-    return Fault(f"there is a NUL character, as in UTF-16; say --encoding {wide_encoding(data)}, {EXPORT}", name,
-                 line + above - 1, column)
+    encoding = argument("encoding", str(wide_encoding(data)))
+    return Fault(f"there is a NUL character, as in UTF-16; say {encoding}, {EXPORT}", name, line + above - 1, column)
 
 
 def head_of(path: Path, name: str, rules: Rules) -> tuple[str, str, Fault | None]:
@@ -200,7 +200,7 @@ def rows_of_lines(name: str, lines: Iterable[str], delimiter: str) -> Iterator[t
             yield line, texts
             line = reader.line_num + 1
     except csv.Error as fault:
-        advice = "check the quotes and the length of the cells in this row, or say --delimiter"
+        advice = f"check the quotes and the length of the cells in this row, or say {argument('delimiter')}"
         raise RefusedFaults([Fault(f"{fault}; {advice}", name, line)]) from fault
 
 
@@ -251,8 +251,8 @@ def delimiter_of(name: str, text: str, wanted: Iterable[str], role_of: RoleOf = 
     fitting = [delimiter for delimiter, fit in fits.items() if fit == best]
     if len(fitting) > 1 and best[2]:
         named = [word for word, sign in DELIMITERS.items() if sign in fitting and word != "\t"]
-        raise RefusedFaults([Fault(f"{' and '.join(named)} may both be the delimiter; say --delimiter {named[0]} or "
-                                   f"--delimiter {named[1]}", name, 1)])
+        raise RefusedFaults([Fault(f"{' and '.join(named)} may both be the delimiter; say "
+                                   + " or ".join(argument("delimiter", sign) for sign in named[:2]), name, 1)])
     return fitting[0]
 
 

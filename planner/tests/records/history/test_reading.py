@@ -30,7 +30,7 @@ def test_all_faults_in_one_pass(file: Files, answer: Answers, tmp_path: Path) ->
     lines = errors.splitlines()
     assert (status, output, len(lines)) == (2, "", 22)
     assert lines[0] == f"crnplan: {path}:2:12: column 'n': 'x' is not a number; write digits, as 12"
-    assert lines[20:] == ["crnplan: and 13 more faults; --rejects FILE lists all",
+    assert lines[20:] == ["crnplan: and 13 more faults; --rejects has all",
                           "crnplan: 33 faults in 32 rows; correct them, or say --leave-out to go on without bad rows"]
     rows = list(csv.reader(io.StringIO((tmp_path / "rejects.csv").read_text("utf-8"))))
     assert rows[0] == ["file", "line", "column", "what", "row"]
@@ -329,7 +329,7 @@ def test_rules_of_the_interface(file: Files) -> None:
     for words in wrong:
         with pytest.raises(Refused):
             read_history(path, demand="n", **words)
-    with pytest.raises(Refused, match="--date and --orders need the period"):
+    with pytest.raises(Refused, match="dates of movements and of orders need the period: say every=day"):
         read_lead_times(path, ordered="at", received="at")
     leads = read_lead_times(path, ordered="at", received="at", every="day", leave_out=True)
     assert (leads.counts, leads.every) == ((1,), "day")
