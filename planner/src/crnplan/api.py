@@ -94,7 +94,7 @@ class PlannedItem(Result):
 
     def plot(self) -> Figure:
         """Returns a picture of stock, position and orders of today's and the chosen policy in one run."""
-        from .pages.trajectory_pictures import trajectories_picture
+        from .pages.pictures import trajectories_picture
         found = self.words.periods
         policies = [it for it in self.words.depth.policies if it.name in found]
         start = next(iter(found.values()))[0]

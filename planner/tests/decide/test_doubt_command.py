@@ -13,8 +13,7 @@ import pytest
 import crnplan as crn
 from crnplan.decide.doubt import Doubt
 from crnplan.demand.posterior import AllowedLaws
-from crnplan.pages.doubt_pictures import regrets_picture
-from crnplan.pages.pictures import save
+from crnplan.pages.pictures import regrets_picture, save
 from crnplan.scenario import Policy
 from crnplan.theory.many_laws import LawFigures
 from planner.tests.conftest import Command

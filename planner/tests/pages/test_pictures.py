@@ -9,8 +9,6 @@ from pathlib import Path
 
 import pytest
 
-from crnplan.errors import Refused
-from crnplan.pages.pictures import picture_path
 from planner.tests.conftest import Command
 
 PNG = b"\x89PNG\r\n\x1a\n"
@@ -83,6 +81,7 @@ def test_texts_of_a_map(crnplan: Command, tmp_path: Path, top: Path) -> None:
 def test_no_matplotlib(crnplan: Command, option: str, tmp_path: Path, monkeypatch: pytest.MonkeyPatch) -> None:
     """Without matplotlib a picture is refused in one line that says how to get it."""
     monkeypatch.setitem(sys.modules, "matplotlib", None)
+    monkeypatch.delitem(sys.modules, "crnplan.pages.pictures", raising=False)
     status, output, errors = crnplan("decide", *REPORTS["few"], option, tmp_path / "none.svg")
     assert (status, output, errors.count("\n")) == (2, "", 1) and "apt-get install python3-matplotlib" in errors
     assert not (tmp_path / "none.svg").exists()
@@ -95,10 +94,10 @@ def test_no_folder(crnplan: Command, tmp_path: Path) -> None:
 
 
 @pytest.mark.parametrize("name", ["it.pdf", "it", "svg", "it.svg.gz"])
-def test_other_kind(name: str) -> None:
+def test_other_kind(crnplan: Command, name: str) -> None:
     """A file's name must end with a kind of picture."""
-    with pytest.raises(Refused, match="does not end with .png or .svg"):
-        picture_path(name)
+    status, output, errors = crnplan("decide", *REPORTS["few"], "--plot", name)
+    assert (status, output, errors) == (2, "", f"crnplan: '{name}' does not end with .png or .svg\n")
 
 
 def test_nothing_else_is_changed(crnplan: Command, tmp_path: Path) -> None:

@@ -5,7 +5,6 @@ from pathlib import Path
 
 import click
 
-from ..pages.pictures import save
 from .output import Picture
 
 
@@ -42,6 +41,6 @@ def command(folder: Path, value: float | None, fill: float | None, orders: float
     drawn = draw_curve(folder, Budget(value, fill, orders), jobs=jobs, address=cluster, program=program,
                        confirm=confirm, shown=True)
     if plot:
-        from ..pages.curve_pictures import exchange_picture
+        from ..pages.pictures import exchange_picture, save
         save(exchange_picture(drawn.curve, drawn.named), plot)
     click.echo(drawn.table.csv if is_csv else drawn.text, nl=False)

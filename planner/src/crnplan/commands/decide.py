@@ -9,14 +9,13 @@ import click
 from ..decide.reports import check_policies, read_report
 from ..decide.verdicts import Decision, decided
 from ..errors import Refused
-from ..pages.pictures import save
 from ..scenario import Scenario
 from .output import Picture, form_options, show
 
 
 def draw(found: Decision, plot: Path | None, of_costs: Path | None) -> None:
     """Draws the pictures that are asked for."""
-    from ..pages.decision_pictures import differences_picture, map_picture
+    from ..pages.pictures import differences_picture, map_picture, save
     for path, picture_of in ((plot, differences_picture), (of_costs, map_picture)):
         if path:
             save(picture_of(found), path)

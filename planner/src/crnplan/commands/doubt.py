@@ -8,7 +8,6 @@ import click
 from ..decide.doubt import TIMES, WITHIN, Doubt, doubt
 from ..toml.lines import places_of
 from ..errors import Fault, RefusedFaults
-from ..pages.pictures import save
 from ..scenario import Scenario
 from .output import Picture, form_options, show
 from .reading import Attempts, demand_option, file_options, read_files, record_options, rejects_in, rules_of
@@ -73,7 +72,7 @@ def command(**asked: Any) -> int:
         found = doubt_of(scenario, asked, attempts)
     attempts.say(())
     if asked["plot"]:
-        from ..pages.doubt_pictures import regrets_picture
+        from ..pages.pictures import regrets_picture, save
         save(regrets_picture(found), asked["plot"])
     show(found, asked["form"])
     return 0

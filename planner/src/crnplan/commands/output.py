@@ -10,10 +10,11 @@ from typing import Any, TypeVar
 import click
 
 from ..crnsim.report import Report
-from ..errors import worded
+from ..errors import Refused, worded
 from ..table import Result
 
 Command = TypeVar("Command", bound=Callable[..., Any])
+KINDS = (".png", ".svg")  # of pictures
 
 
 # The command that was asked for. Its options have the names of the arguments that they are for.
@@ -40,8 +41,9 @@ class Picture(click.ParamType):
 
     def convert(self, value: Any, param: click.Parameter | None, ctx: click.Context | None) -> Path:
         """Returns the path. Raises Refused for another ending."""
-        from ..pages.pictures import picture_path
-        return picture_path(value)
+        if not value.lower().endswith(KINDS):
+            raise Refused(f"{value!r} does not end with {' or '.join(KINDS)}")
+        return Path(value)
 
 
 def form_options(command: Command) -> Command:

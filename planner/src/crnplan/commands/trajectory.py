@@ -7,7 +7,6 @@ from pathlib import Path
 import click
 
 from ..crnsim.trajectory import MOST_DRAWN, chosen, shown_periods, table_of, trajectories
-from ..pages.pictures import save
 from ..scenario import Scenario
 from .output import Picture, form_options
 
@@ -31,7 +30,7 @@ def command(scenario: str, names: tuple[str, ...], periods: int | None, program:
     policies, count = chosen(read, names), shown_periods(read, periods, out is not None)
     found = trajectories(read.with_policies(policies), count, program=program)
     if out:
-        from ..pages.trajectory_pictures import trajectories_picture
+        from ..pages.pictures import save, trajectories_picture
         save(trajectories_picture(policies, found, read.initial), out)
     table = table_of(policies, found)
     if form:

@@ -1,25 +1,41 @@
-"""Draws by matplotlib, which is loaded only if a picture is asked for, and saves pictures as PNG or SVG.
+"""Draws pictures by matplotlib, and saves them as PNG or SVG. It is imported only if a picture is asked for.
 
 Each picture is a new `Figure`. A notebook shows it, and other pictures there stay as they are. All pictures can be read
 in grey.
 """
 from __future__ import annotations
 
-import functools
-from collections.abc import Callable
+import contextlib
+import itertools
+import math
+from collections.abc import Iterable, Iterator, Mapping, Sequence
 from pathlib import Path
-from typing import TYPE_CHECKING, ParamSpec
+from typing import Any
 
+import numpy as np
+
+from ..chances import Floats
+from ..crnsim.report import Row
+from ..crnsim.trajectory import Period
+from ..curve.exchange import Point
+from ..decide.doubt import MOST, Doubt
+from ..decide.intervals import Compared
+from ..decide.verdicts import Decision, listed
 from ..errors import Refused
+from ..scenario import Policy
 
-if TYPE_CHECKING:
+try:
+    import matplotlib
+    from matplotlib import cm, colors, ticker
+    from matplotlib.artist import Artist
     from matplotlib.axes import Axes
     from matplotlib.figure import Figure
+    from matplotlib.lines import Line2D
+    from matplotlib.patches import Rectangle
+except ImportError as missing:
+    raise Refused("a picture needs matplotlib, which is missing here",
+                  "install it (on Debian: apt-get install python3-matplotlib)") from missing
 
-Words = ParamSpec("Words")
-KINDS = (".png", ".svg")
-MISSING = ("a picture needs matplotlib, which is missing here; install it (on Debian: apt-get install "
-           "python3-matplotlib)")
 SETTINGS = {"svg.fonttype": "none", "svg.hashsalt": "crnsim", "axes.spines.top": False, "axes.spines.right": False,
             "font.size": 10, "axes.titlesize": 12, "axes.titlelocation": "left"}
 # A legend between the title and the axes, at the left.
@@ -27,43 +43,298 @@ ABOVE = {"loc": "lower left", "bbox_to_anchor": (0, 1), "borderaxespad": 0.2, "b
 TITLE = {"x": 0.01, "ha": "left", "fontsize": 12}
 NUMBER = "{x:,.10g}"
 BLUE, ORANGE, GREY = "#08458c", "#e8862e", "#777777"
+# Colour, marker and filling of each verdict, and of the named points of a curve in their order. They differ in
+# brightness and form.
+VERDICTS = {"better": (BLUE, "o", True), "undecided": (GREY, "D", False), "worse": (ORANGE, "s", True),
+            "base": ("black", "|", True)}
+POINTS = ((ORANGE, "o", True), (GREY, "D", False), (BLUE, "^", True), (BLUE, "s", True), ("black", "*", True))
+NARROW_CELLS = 14  # More cells in a row have no room for figures.
+# The axis of stock ends so many times beyond the greatest named point. The end of the curve is far away.
+ROOM = 1.35
+# The axis of service begins so far below the least named point, in percent.
+BELOW = 4.0
+NEAR, OWED = "#e6ecf4", "#dcdcdc"  # the grounds of policies near the best, and of periods with items owed
+SPREAD = 0.28  # of the dots of a row, up and down
+TICKS = (0.2, 1, 2, 5, 10, 20, 50, 100, 200, 500, 1000, 2000, 5000, 10_000)  # percent
+CLOSEST = 0.055  # of the axis between two ticks
 
 
-def picture_path(text: str) -> Path:
-    """Returns the path of a picture, whose ending says its kind. Raises Refused for another ending."""
-    if not text.lower().endswith(KINDS):
-        raise Refused(f"{text!r} does not end with {' or '.join(KINDS)}")
-    return Path(text)
-
-
-def picture(draw: Callable[Words, Figure]) -> Callable[Words, Figure]:
-    """Returns a function that draws with the settings of the package. It raises Refused if matplotlib is missing."""
-    @functools.wraps(draw)
-    def drawn(*words: Words.args, **named: Words.kwargs) -> Figure:
-        """Draws."""
-        try:
-            import matplotlib
-        except ImportError as fault:
-            raise Refused(MISSING) from fault
-        with matplotlib.rc_context(SETTINGS):
-            return draw(*words, **named)
-    return drawn
+@contextlib.contextmanager
+def settings() -> Iterator[None]:
+    """Draws with the settings of the package."""
+    with matplotlib.rc_context(SETTINGS):
+        yield
 
 
 def blank(width: float, height: float, rows: int = 1) -> tuple[Figure, list[Axes]]:
     """Returns an empty picture of a size in inches, with so many axes below one another that share what is across."""
-    from matplotlib.figure import Figure
     figure = Figure(figsize=(width, height), layout="constrained")
     return figure, [*figure.subplots(rows, sharex=True, squeeze=False)[:, 0]]
 
 
+@settings()
 def save(figure: Figure, path: str | Path) -> None:
     """Writes a picture. The same picture gives the same bytes. Raises Refused if the file cannot be written."""
-    import matplotlib
     kind = Path(path).suffix[1:].lower()
-    metadata = {"Date": None} if kind == "svg" else {"Software": None}
     try:
-        with matplotlib.rc_context(SETTINGS):
-            figure.savefig(path, format=kind, dpi=150, metadata=metadata)
+        figure.savefig(path, format=kind, dpi=150, metadata={"Date": None} if kind == "svg" else {"Software": None})
     except OSError as fault:
         raise Refused(f"{path}: {fault.strerror or fault}") from fault
+
+
+def marker_of(colour: str, form: str, is_filled: bool) -> dict[str, Any]:
+    """Returns the look of a marker."""
+    return {"color": colour, "marker": form, "markerfacecolor": colour if is_filled else "white",
+            "markeredgewidth": 1.5, "linestyle": "none"}
+
+
+def name_right(axes: Axes, names: Sequence[str]) -> None:
+    """Writes a text at the right of each row."""
+    right = axes.secondary_yaxis("right")
+    right.set_yticks(range(len(names)), names)
+    right.tick_params(length=0)
+    right.spines["right"].set_visible(False)
+
+
+def label_of(row: Row) -> str:
+    """Returns a policy's name with its levels."""
+    return f"{row.policy} ({row.s}, {row.S})"
+
+
+def base_of(decision: Decision) -> Compared:
+    """Returns the policy that the others are compared with."""
+    return next(row for row in decision.rows if row.verdict == "base")
+
+
+@settings()
+def differences_picture(decision: Decision) -> Figure:
+    """Returns a picture of `diff_mean` of each listed policy with its interval."""
+    rows, base = listed(decision.rows), base_of(decision)
+    figure, (axes,) = blank(9, 2.3 + 0.3 * len(rows))
+    axes.axvline(0, color="black", linewidth=0.8)
+    for place, row in enumerate(rows):
+        style = marker_of(*VERDICTS[row.verdict])
+        if row.low is not None:
+            axes.plot([row.low, row.high], [place, place], color=style["color"], linewidth=2, solid_capstyle="butt")
+        axes.plot(float(row.diff_mean), place, markersize=12 if row.verdict == "base" else 7, **style)
+    axes.set_yticks(range(len(rows)), [label_of(row) for row in rows])
+    axes.set_ylim(len(rows) - 0.4, -0.6)
+    axes.grid(axis="y", color="#dddddd", linewidth=0.6)
+    axes.set_axisbelow(True)
+    axes.ticklabel_format(axis="x", style="plain", useOffset=False)
+    axes.xaxis.set_major_formatter(NUMBER)
+    axes.locator_params(axis="x", nbins=7)
+    if base.total:
+        name_right(axes, ["" if row.percent is None else f"{float(row.percent):+.2f}%" for row in rows])
+    is_single, most = decision.replications == 1, len(decision.rows)
+    spread = "one replication: no intervals" if is_single else f"joint level {100 * decision.level:g}%"
+    axes.set_xlabel(f"cost of a replication less that of {base.policy}\nin the scenario's money; {spread}")
+    counted = "1 replication" if is_single else f"{decision.replications} replications"
+    left_out = "" if most == len(rows) else f", {len(rows)} of {most} policies shown"
+    figure.suptitle(f"Policies compared with {label_of(base)}\n{counted}{left_out}", **TITLE)
+    used = [verdict for verdict in VERDICTS if any(row.verdict == verdict for row in rows)]
+    marks = [Line2D([], [], markersize=7, **marker_of(*VERDICTS[verdict])) for verdict in used]
+    axes.legend(marks, used, ncol=len(used), **ABOVE)
+    return figure
+
+
+def least_step(levels: Iterable[int]) -> int:
+    """Returns the least distance of two levels, 1 if there is one level."""
+    return min((high - low for low, high in itertools.pairwise(sorted({*levels}))), default=1)
+
+
+def draw_cells(axes: Axes, rows: Sequence[Row], widths: tuple[int, int], shades: cm.ScalarMappable) -> None:
+    """Draws a cell for each pair of s and S, with its cost if there is room."""
+    across = max(row.s for row in rows) - min(row.s for row in rows)
+    down = max(row.S for row in rows) - min(row.S for row in rows)
+    has_room = across / widths[0] < NARROW_CELLS and down / widths[1] < 2 * NARROW_CELLS
+    for row in rows:
+        cost = float(row.per_period)
+        colour = shades.to_rgba(cost)
+        axes.add_patch(Rectangle((row.s - widths[0] / 2, row.S - widths[1] / 2), *widths, facecolor=colour,
+                                 edgecolor="white", linewidth=0.4))
+        if has_room:
+            grey = 0.3 * colour[0] + 0.59 * colour[1] + 0.11 * colour[2]
+            digits = 0 if cost >= 10_000 else 1 if cost >= 1_000 else 2
+            axes.text(row.s, row.S, f"{cost:,.{digits}f}", ha="center", va="center", fontsize=7,
+                      color="black" if grey > 0.5 else "white")
+
+
+def draw_frames(axes: Axes, best: Row, base: Row, widths: tuple[int, int]) -> None:
+    """Frames the best pair and the base, and names both above the axes."""
+    handles, names = [], []
+    for row, style, name in ((best, "solid", "best"), (base, "dashed", "base")):
+        frame = {"fill": False, "edgecolor": "black", "linewidth": 2.2, "linestyle": style, "zorder": 5}
+        corner = row.s - widths[0] / 2, row.S - widths[1] / 2
+        axes.add_patch(Rectangle(corner, *widths, **frame | {"edgecolor": "white", "linewidth": 5,
+                                                             "linestyle": "solid"}))
+        axes.add_patch(Rectangle(corner, *widths, **frame))
+        handles.append(Rectangle((0, 0), 1, 1, **frame))
+        names.append(f"{name}: {label_of(row)}, {float(row.per_period):,.3f} a period")
+    axes.legend(handles, names, **ABOVE)
+
+
+@settings()
+def map_picture(decision: Decision) -> Figure:
+    """Returns a picture of the cost per period over reorder point and order-up-to level."""
+    rows, base = decision.rows, base_of(decision)
+    costs = [float(row.per_period) for row in rows]
+    figure, (axes,) = blank(9, 7)
+    norm = colors.PowerNorm(0.5, min(costs), max(max(costs), min(costs) + 1e-9))
+    shades = cm.ScalarMappable(norm, "cividis")
+    # The base may lie off a grid: it is drawn first, and its frame last.
+    others = [row for row in rows if row.verdict != "base"]
+    widths = least_step(row.s for row in others or rows), least_step(row.S for row in others or rows)
+    draw_cells(axes, [base, *others], widths, shades)
+    draw_frames(axes, rows[0], base, widths)
+    for levels, width, limit, axis in (([row.s for row in rows], widths[0], axes.set_xlim, axes.xaxis),
+                                       ([row.S for row in rows], widths[1], axes.set_ylim, axes.yaxis)):
+        limit(min(levels) - 0.8 * width, max(levels) + 0.8 * width)
+        axis.set_major_locator(ticker.MaxNLocator(8, integer=True, min_n_ticks=1))
+        axis.set_major_formatter(NUMBER)
+    axes.set_xlabel("reorder point s, in items")
+    axes.set_ylabel("order-up-to level S, in items")
+    figure.suptitle("Cost per period over reorder point and order-up-to level", **TITLE)
+    bar = figure.colorbar(shades, ax=axes, label="cost per period, in the scenario's money (dark is cheap)")
+    bar.set_ticks([tick for tick in bar.get_ticks() if norm.vmin <= tick <= norm.vmax], minor=False)
+    bar.ax.yaxis.set_major_formatter(NUMBER)
+    return figure
+
+
+@settings()
+def exchange_picture(curve: Sequence[tuple[float, Point]], named: Mapping[str, Point]) -> Figure:
+    """Returns a picture of an exchange curve, the value of the stock against the share of demand met at once: its line,
+    by price and point, with named points."""
+    figure, (axes,) = blank(8, 5.5)
+    axes.plot([point.value for _, point in curve], [100 * point.fill for _, point in curve], color=BLUE, linewidth=2,
+              label="one price for all items", zorder=2)
+    for (name, point), style in zip(named.items(), POINTS):
+        axes.plot([point.value], [100 * point.fill], markersize=13 if style[1] == "*" else 9, zorder=4,
+                  label=f"{name}: {point.value:,.0f}, {point.fill:.2%}", **marker_of(*style))
+    bottom = max(0.0, min(100 * point.fill for point in named.values()) - BELOW)
+    axes.set_xlim(0, ROOM * max(point.value for point in named.values()))
+    axes.set_ylim(bottom, 100 + 0.06 * (100 - bottom))
+    axes.xaxis.set_major_formatter(NUMBER)
+    axes.yaxis.set_major_formatter("{x:g}%")
+    axes.set_xlabel("value of the mean stock, by theory")
+    axes.set_ylabel("demand met at once, by value")
+    axes.grid(alpha=0.3)
+    axes.set_axisbelow(True)
+    axes.legend(ncol=2, **ABOVE)
+    figure.suptitle("How much service the stock can give for its value", **TITLE)
+    return figure
+
+
+def draw_regrets(axes: Axes, place: int, regrets: Floats) -> None:
+    """Draws the regrets of a policy as dots, in percent, with a bar at the mean and one at the quantile."""
+    # Dots of equal regrets lie beside one another in the same order in each picture.
+    heights = place + SPREAD * np.modf(np.arange(len(regrets)) * 0.618034)[0] * 2 - SPREAD
+    axes.plot(regrets, heights, ".", color=BLUE, markersize=5.5, markeredgewidth=0, alpha=0.45)
+    axes.plot([np.mean(regrets)], [place], "D", color="white", markeredgecolor="black", markersize=6, zorder=4)
+    bound = np.quantile(regrets, MOST)
+    axes.plot([bound, bound], [place - 0.34, place + 0.34], color=ORANGE, linewidth=2.5, solid_capstyle="butt",
+              zorder=3)
+
+
+def set_scale(axes: Axes, most: float) -> None:
+    """Sets the axis of regrets, in percent: the square root leaves room to small ones."""
+    axes.set_xscale("function", functions=(lambda values: np.sign(values) * np.sqrt(np.abs(values)),
+                                           lambda values: np.sign(values) * np.square(values)))
+    axes.set_xlim(-0.0006 * most, 1.05 * most)
+    ticks = [0.0]
+    for tick in TICKS:
+        if tick <= most and math.sqrt(tick) - math.sqrt(ticks[-1]) >= CLOSEST * math.sqrt(most):
+            ticks.append(tick)
+    axes.set_xticks(ticks, [f"{tick:,g}%" for tick in ticks])
+    axes.minorticks_off()
+
+
+@settings()
+def regrets_picture(doubt: Doubt) -> Figure:
+    """Returns a picture of how much more than the best each policy costs under the laws that a history allows: a dot
+    for each law, the cheapest policy first."""
+    policies, within = [doubt.policies[place] for place in doubt.order], 100 * doubt.within
+    percent, rows = 100 * doubt.regrets_shown, len(policies)
+    figure, (axes,) = blank(9, 2.2 + 0.34 * rows)
+    axes.axvspan(-1, within, color=NEAR, zorder=0, linewidth=0)
+    for place in range(rows):
+        draw_regrets(axes, place, percent[:, place])
+    axes.set_yticks(range(rows), [f"{policy.name} ({policy.s}, {policy.S})" for policy in policies])
+    axes.set_ylim(rows - 0.45, -0.55)
+    axes.tick_params(axis="y", length=0)
+    set_scale(axes, max(float(percent.max()), within, 1.0))
+    name_right(axes, [f"{share:.0%}" for share in (percent <= within).mean(axis=0)])
+    axes.annotate(f"within {within:g}%", (1, 1), (4, 4), xycoords="axes fraction", textcoords="offset points")
+    best = "of these policies" if rows > 1 else "under the law"
+    axes.set_xlabel(f"regret: how much more it costs in the long run than the best {best}")
+    figure.suptitle(f"{'Policies' if rows > 1 else 'The policy'} under {len(percent)} laws that the history allows: "
+                    f"regret, and share of laws within {within:g}%", **TITLE)
+    marks = [Line2D([], [], linestyle="none", marker=".", color=BLUE, markersize=7),
+             Line2D([], [], linestyle="none", marker="D", color="white", markeredgecolor="black", markersize=6),
+             Line2D([], [], color=ORANGE, linewidth=2.5)]
+    axes.legend(marks, ["a law", "mean", f"not exceeded under {MOST:.0%} of the laws"], ncol=3, **ABOVE)
+    return figure
+
+
+def draw_position(axes: Axes, periods: Sequence[Period], initial: int) -> None:
+    """Draws the position from review to review, and a marker at each review that orders."""
+    times, heights, position = [], [], initial
+    for number, period in enumerate(periods):
+        times += [number, number]
+        heights += [position, position + period.ordered]
+        position = period.position
+    axes.plot([*times, len(periods)], [*heights, position], color=ORANGE, linewidth=1, label="inventory position")
+    orders = [number for number, period in enumerate(periods) if period.ordered]
+    axes.plot(orders, [heights[2 * number] for number in orders], "^", color="black", markersize=6, linestyle="none",
+              label="an order is placed", zorder=4, clip_on=False)
+
+
+def draw_policy(axes: Axes, policy: Policy, periods: Sequence[Period], initial: int) -> None:
+    """Draws one policy, with s and S named at the right."""
+    stocks = [period.stock for period in periods]
+    owed = [number for number, stock in enumerate(stocks) if stock < 0]
+    for number in owed:
+        axes.axvspan(number, number + 1, color=OWED, linewidth=0, zorder=0,
+                     label="items are owed" if number == owed[0] else "")
+    axes.axhline(0, color="black", linewidth=0.8)
+    axes.stairs(stocks, range(len(stocks) + 1), color=BLUE, linewidth=1.8, baseline=None,
+                label="stock at the end of the period")
+    draw_position(axes, periods, initial)
+    levels = {f"s = {policy.s}": policy.s, f"S = {policy.S}": policy.S}
+    for words, level in levels.items() if policy.s < policy.S else [(f"s = S = {policy.S}", policy.S)]:
+        axes.axhline(level, color="black", linewidth=0.8, linestyle=(0, (4, 3)))
+        axes.annotate(words, (1, level), xycoords=("axes fraction", "data"), xytext=(5, 0),
+                      textcoords="offset points", va="center", fontsize=9)
+    axes.set_xlim(0, len(periods))
+    axes.set_ylabel("items")
+    axes.set_title(f"{policy.name} ({policy.s}, {policy.S})", fontsize=10)
+
+
+def move_apart(axes: Axes, policy: Policy) -> None:
+    """Moves the names of s and S apart if they are too near."""
+    low, high = axes.get_ylim()
+    points = axes.get_window_extent().height / axes.figure.dpi * 72
+    near = (policy.S - policy.s) / (high - low) * points
+    if 0 < near < 11:
+        for text, side in zip(axes.texts, (-1, 1)):
+            text.xyann = 5, side * (11 - near) / 2
+
+
+@settings()
+def trajectories_picture(policies: Sequence[Policy], periods: Sequence[Sequence[Period]], initial: int) -> Figure:
+    """Returns a picture of the periods of each policy, one below another. `initial` is the stock before the first
+    period."""
+    figure, parts = blank(11, 1.6 + 2.2 * len(policies), len(policies))
+    handles: dict[str, Artist] = {}
+    for axes, policy, own in zip(parts, policies, periods):
+        draw_policy(axes, policy, own, initial)
+        handles |= dict(zip(*reversed(axes.get_legend_handles_labels())))
+    parts[-1].set_xlabel("period, numbered from 0")
+    parts[-1].xaxis.get_major_locator().set_params(integer=True)
+    parts[0].legend(handles.values(), handles.keys(), ncol=2 if len(handles) > 3 else 3,
+                    **ABOVE | {"bbox_to_anchor": (0, 1.12), "borderaxespad": 0.0})
+    figure.suptitle("Replication 0: stock, inventory position and orders", **TITLE)
+    figure.canvas.draw()
+    for axes, policy in zip(parts, policies):
+        move_apart(axes, policy)
+    return figure
