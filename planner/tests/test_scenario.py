@@ -19,7 +19,7 @@ from hypothesis import given
 from hypothesis import strategies as st
 
 from crnplan import formats
-from crnplan.toml.faults import faults_of
+from crnplan.toml.scenarios import faults_of
 from crnplan.errors import ProgramError, Refused, ScenarioError
 from crnplan.demand import fit_demand
 from crnplan.law import Law

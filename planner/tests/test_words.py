@@ -20,9 +20,9 @@ ALLOWED = {
     ("commands/__init__.py", "message.endswith(('?', '.'))"): "click's message",
     ("errors.py", "message.split(MARK)"): "marks about the arguments of a message, which a user never sees",
     ("formats.py", "re.sub(' [0-9]+$', '', fault)"): "the number of a fault of the program, in a table of formats.toml",
-    ("toml/causes.py", "message.startswith(start)"): "a message of tomllib",
-    ("toml/causes.py", "message.startswith('Cannot declare')"): "a message of tomllib",
-    ("toml/reading.py", "str(fault).rpartition(' (at ')"): "a message of tomllib"}
+    ("toml/texts.py", "message.startswith(beginning)"): "a message of tomllib",
+    ("toml/texts.py", "message.startswith('Cannot declare')"): "a message of tomllib",
+    ("toml/documents.py", "str(fault).rpartition(' (at ')"): "a message of tomllib"}
 
 
 def names_in(node: ast.AST) -> Iterator[str]:

@@ -6,7 +6,8 @@ from pathlib import Path
 from typing import NamedTuple
 
 import pytest
-from crnplan import toml as document, formats
+from crnplan import formats
+from crnplan.toml.scenarios import read_scenario
 
 from tests.documents.page_folder import Folder
 from tests.hostile import second_reader
@@ -46,7 +47,7 @@ def judge(ask: Ask) -> Callable[[str, int], bool | str]:
         of_program = answer.errors.removeprefix("crnsim: scenario ").strip() or "0"
         if answer.status != (formats.STATUSES["scenario"] if number else 0) or answer.errors and answer.output:
             of_program = f"status {answer.status}, {answer.errors!r}"
-        found = document.read_scenario(data)[1]
+        found = read_scenario(data)[1]
         told = {"crnsim": of_program, "crnplan why": str(found[0].rule if found else 0),
                 "tests/hostile/second_reader.py": str(second_reader.scenario_of(data)[0])}
         wrong = [f"{who} says {it}" for who, it in told.items() if it != str(number)]

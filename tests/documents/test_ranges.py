@@ -11,7 +11,8 @@ from collections.abc import Callable, Iterator
 from typing import Any
 
 import pytest
-from crnplan import toml as document, formats
+from crnplan import formats
+from crnplan.toml.scenarios import read_scenario
 from crnplan.formats import Key
 
 from tests.documents.conftest import Ask
@@ -165,7 +166,7 @@ def test_deepest_list(ask: Ask, more: int, number: int) -> None:
     levels = formats.MOST_LEVELS + more
     text = f"{scenario_of()}deep = {'[' * levels}{']' * levels}\n"
     assert ask("leg 0", text).errors == f"crnsim: scenario {number}\n"
-    assert document.read_scenario(text.encode())[1][0].rule == number
+    assert read_scenario(text.encode())[1][0].rule == number
 
 
 @pytest.mark.parametrize("call, status", [

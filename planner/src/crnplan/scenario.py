@@ -17,8 +17,9 @@ from pathlib import Path
 from typing import TYPE_CHECKING, Any
 
 from . import formats
-from .toml import reading
-from .toml.values import shown
+from .toml.documents import check_size, read_bytes, text_of_document
+from .toml.scenarios import checked_tree, error_of, read_scenario
+from .toml.texts import shown
 from .toml.writing import toml_text
 from .errors import Refused
 from .law import Law
@@ -109,16 +110,16 @@ class Scenario:
 
         Raises Refused if it cannot be read, and ScenarioError with all faults and their places.
         """
-        return cls.parse(reading.read_bytes(path), "" if str(path) == "-" else str(path))
+        return cls.parse(read_bytes(path), "" if str(path) == "-" else str(path))
 
     @classmethod
     def parse(cls, data: bytes | str, name: str = "") -> Scenario:
         """Reads and checks a text. `name` stands before each fault. Raises as `read` does."""
-        data = reading.check_size(data.encode() if isinstance(data, str) else data, name)
-        tree, found = reading.read_scenario(data)
-        if found:
-            raise reading.error_of(found, name)
-        return cls.of_tree(tree, reading.text_of_document(data))
+        data = check_size(data.encode() if isinstance(data, str) else data, name)
+        tree, faults = read_scenario(data)
+        if faults:
+            raise error_of(faults, name)
+        return cls.of_tree(tree, text_of_document(data))
 
     @classmethod
     def of(cls, demand: Chances, lead: Chances, *, setup: Amount, holding: Amount, backlog: Amount, unit: Amount = 0,
@@ -142,7 +143,7 @@ class Scenario:
                 "costs": costs, "demand": _table(demand, "demand").tree, "lead": _table(lead, "lead").tree,
                 **({} if returns is None else {"returns": _table(returns, "returns").tree}),
                 "policy": [{"name": "today", "s": low, "S": high}]}
-        return dataclasses.replace(cls.of_tree(reading.checked_tree(tree)), scale=scale)
+        return dataclasses.replace(cls.of_tree(checked_tree(tree)), scale=scale)
 
     def changed(self, **changes: object) -> Scenario:
         """Returns the scenario with changed fields, checked. Raises Refused, and ScenarioError with all faults.
@@ -170,7 +171,7 @@ class Scenario:
             tree.pop("returns", None)
         if "returns" in changes and "version" not in changes:
             tree["version"] = formats.version_with(tree)
-        return dataclasses.replace(Scenario.of_tree(reading.checked_tree(tree), self.source), scale=self.scale)
+        return dataclasses.replace(Scenario.of_tree(checked_tree(tree), self.source), scale=self.scale)
 
     def with_policies(self, policies: Iterable[Policy]) -> Scenario:
         """Returns the scenario with these policies in place of its own, unchecked."""
@@ -272,7 +273,7 @@ def read_policies(word: str) -> list[Policy]:
         return [Policy.of_levels(int(pair[1]), int(pair[2]))]
     if word.endswith(".toml"):
         return list(Scenario.read(word).policies)
-    data = reading.read_bytes(word)
+    data = read_bytes(word)
     try:
         rows = csv.DictReader(io.StringIO(data.decode("utf-8-sig"), newline=""))
         missing = [name for name in "sS" if name not in (rows.fieldnames or [])]

@@ -11,9 +11,8 @@ from typing import Any
 
 import pytest
 
-from crnplan.toml import read_document, reported_faults
-from crnplan.toml.lines import places_of
-from crnplan.toml.reading import text_of_document
+from crnplan.toml.documents import places_of, read_document, text_of_document
+from crnplan.toml.scenarios import read_scenario
 from planner.tests.conftest import Command
 
 EDITS: dict[str, dict[str, Any]] = tomllib.loads(Path(__file__).with_name("edits.toml").read_text("utf-8"))
@@ -39,7 +38,7 @@ def test_number_is_that_of_the_program(example: str, case: list[Any], top: Path,
     data = text.encode("latin-1")
     ran = subprocess.run([program], input=data, capture_output=True, timeout=60)
     assert (ran.returncode, ran.stderr) == ((3, b"crnsim: scenario %d\n" % number) if number else (0, b""))
-    said = (reported_faults(data) or ["no fault"])[0]
+    said = ([fault.text for fault in read_scenario(data)[1]] or ["no fault"])[0]
     assert said.startswith(f"fault {number}: " if number else "no fault")
     assert number == 1 or PLACED.match(said)
 
@@ -49,7 +48,8 @@ def test_messages(part: str, case: list[Any], two_policies: str) -> None:
     """Compares each line on an edited scenario."""
     old, new, *wanted = case
     assert old in two_policies
-    said = reported_faults(two_policies.replace(old, new, 1).encode()) or ["no fault"]
+    faults = read_scenario(two_policies.replace(old, new, 1).encode())[1]
+    said = [fault.text for fault in faults] or ["no fault"]
     assert len(said) == len(wanted)
     for line, (start, *parts) in zip(said, wanted):
         assert line.startswith(start) and all(part in line for part in parts)
@@ -63,7 +63,7 @@ def test_lines_in_many_spellings(name: str) -> None:
     tree, faults = read_document(text.encode())
     found = places_of(text_of_document(text.encode()), tree)
     assert not faults
-    assert sorted(f"{'/'.join(map(str, path))} {place.line}" for path, place in found.items()) == sorted(wanted)
+    assert sorted(f"{'/'.join(map(str, path))} {line}" for path, (line, _) in found.items()) == sorted(wanted)
     assert places_of(text_of_document(text.replace("\n", "\r\n").encode()), tree) == found
     assert places_of(text, {**tree, "other": 1}) == {}
 
@@ -72,8 +72,8 @@ def test_columns(two_policies: str) -> None:
     """Checks that the text of a key or an entry is in the column of its path."""
     tree, _ = read_document(two_policies.encode())
     lines = two_policies.splitlines()
-    for path, place in places_of(two_policies, tree).items():
-        rest, last = lines[place.line - 1][place.column - 1:], path[-1]
+    for path, (line, column) in places_of(two_policies, tree).items():
+        rest, last = lines[line - 1][column - 1:], path[-1]
         if isinstance(last, str):
             assert rest.startswith((last, f"[{last}]", f"[[{last}]]"))
         elif path[0] != "policy":

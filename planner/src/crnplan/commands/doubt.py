@@ -6,7 +6,7 @@ from typing import Any
 import click
 
 from ..decide.doubt import TIMES, WITHIN, Doubt, doubt
-from ..toml.lines import places_of
+from ..toml.documents import places_of
 from ..errors import Fault, RefusedFaults
 from ..scenario import Scenario
 from .output import Picture, form_options, show

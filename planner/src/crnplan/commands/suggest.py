@@ -7,7 +7,7 @@ from typing import TYPE_CHECKING, Any
 import click
 from click.core import ParameterSource
 
-from ..toml.lines import places_of
+from ..toml.documents import places_of
 from ..errors import Fault, RefusedFaults
 from ..law import Law
 from ..scenario import Scenario

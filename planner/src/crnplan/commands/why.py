@@ -5,7 +5,8 @@ import json
 
 import click
 
-from ..toml.reading import read_bytes, read_scenario
+from ..toml.documents import read_bytes
+from ..toml.scenarios import read_scenario
 
 
 @click.command(epilog="Example: crnplan why scenario.toml")
@@ -23,9 +24,9 @@ def command(scenario: str, as_json: bool) -> int:
 
     This command is not proved; which scenarios crnsim takes, and the number that it reports, are.
     """
-    found = read_scenario(read_bytes(scenario))[1]
+    faults = read_scenario(read_bytes(scenario))[1]
     if as_json:
-        print(json.dumps([it.record for it in found], indent=2))
+        print(json.dumps([fault.record for fault in faults], indent=2))
     else:
-        print("\n".join(it.line for it in found) or "no fault")
-    return 1 if found else 0
+        print("\n".join(fault.text for fault in faults) or "no fault")
+    return 1 if faults else 0

@@ -23,7 +23,7 @@ from typing import TYPE_CHECKING, NamedTuple
 import numpy as np
 
 from .. import formats
-from ..toml.reading import checked_tree
+from ..toml.scenarios import checked_tree
 from ..toml.writing import plain_text
 from ..errors import ProgramError, Refused, argument
 from ..law import Law

@@ -14,8 +14,9 @@ from pathlib import Path
 from typing import TYPE_CHECKING, Any
 
 from .. import formats
-from ..toml.reading import checked_tree
-from ..toml.values import name_faults, shown
+from ..toml.scenarios import checked_tree
+from ..toml.scenarios import name_faults
+from ..toml.texts import shown
 from ..toml.writing import plain_text
 from ..errors import Fault, ProgramError, Refused, argument
 from ..table import DataTable, Json, Result, exact, text, whole

@@ -14,7 +14,7 @@ from ..money import Number, whole
 from ..remarks import Remark
 from ..scenario import Policy, Scenario
 from ..stored import Store, digest_of
-from ..toml.reading import checked_tree
+from ..toml.scenarios import checked_tree
 from ..toml.writing import plain_text
 from .program import program_for, run_program
 from .report import Report, Row, rows_of

@@ -19,7 +19,7 @@ from functools import cached_property
 from pathlib import Path
 from typing import TYPE_CHECKING
 
-from ..toml.reading import checked_tree
+from ..toml.scenarios import checked_tree
 from ..crnsim.report import report_of
 from ..errors import Refused, argument
 from ..records.observed import Observed

@@ -25,10 +25,11 @@ from ..records.items import KEEP, LEAVE_OUT
 from ..records.masters import BORROW
 from ..records.texts import DELIMITERS
 from ..records.units import unit_fault
-from ..toml.reading import read_tables
-from ..toml.rules import MISSING, Key, Table
-from ..toml.values import (RANGE, Path as Place, TreeFault, choice, date, flag, money, number, numbers, share, shown,
-                           text, texts)
+from ..toml.rules import read_tables
+from ..toml.rules import Key, MISSING, Table
+from ..toml.documents import Path as Place, TreeFault
+from ..toml.rules import choice, date, flag, money, number, numbers, RANGE, share, text, texts
+from ..toml.texts import shown
 
 TEXT, NO, DATE = Key(text), Key(flag, default=False), Key(date)
 ITEMS = Key(number(*formats.limits("policy", "S")), needed=True)

@@ -10,7 +10,7 @@ import math
 from collections.abc import Iterable, Sequence
 from dataclasses import dataclass
 
-from ..toml import read_document
+from ..toml.documents import read_document
 from ..toml.writing import head_of, plain_text
 from ..formats import MOST_ITEMS, POLICIES
 from ..law import Law

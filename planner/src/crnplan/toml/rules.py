@@ -5,18 +5,44 @@ wrong, and what to do.
 """
 from __future__ import annotations
 
-from collections.abc import Callable, Container, Mapping
+import datetime
+import re
+from collections import Counter
+from collections.abc import Callable, Container, Hashable, Iterable, Mapping, Sequence
 from dataclasses import dataclass, field
 from difflib import get_close_matches
+from pathlib import Path as FilePath
 from typing import Any
 
-from .characters import odd_advice
-from .values import Check, Path, TreeFault, wrong_kind
+from .. import formats
+from ..errors import Fault, RefusedFaults
+from ..table import names_of
+from .documents import DOCUMENT, Path, Tree, TreeFault, places_of, read_bytes, read_document, text_of_document
+from .texts import odd_advice, shown
 
-# Rules of scenarios for keys: one that should not be there, one that is missing.
-UNKNOWN, MISSING = 3, 4
+# A check of a value at a path: it returns its faults.
+Check = Callable[[Path, Any], list[TreeFault]]
 # A check of the keys of a table beside each other, given its path, the table, and which keys have no fault themselves.
 JointCheck = Callable[[Path, Mapping[str, Any], Container[str]], list[TreeFault]]
+# Rules of scenarios: a key that should not be there, one that is missing, a value of a wrong kind, and one that is out
+# of its range or not of its form.
+UNKNOWN, MISSING, KIND, RANGE = (formats.RULES[name] for name in ("UnknownKey", "MissingKey", "Kind", "Range"))
+MOST_NAMED = 3  # of the texts that may stand at a key
+KINDS = {bool: "true or false", int: "a whole number", float: "a number with a point", str: "a text", list: "a list",
+         dict: "a table"}
+# What to do about a value of the wrong kind, by what should stand there.
+WRITE = {"a whole number": "write digits alone, as 60", "a text": 'write it in double quotes, as "A"',
+         "a list of whole numbers": "write [ ] around it, as [1]", "a list of four texts": "write four texts in [ ]",
+         "a text of 16 digits of 0-9a-f": "write it in double quotes",
+         "a table": "write the keys of this table below a line with its name in [ ]",
+         "a list of tables": "begin each policy with a line [[policy]]", "true or false": "write it without quotes",
+         "a list of texts": 'write it as ["A", "B"]', "a date": "write it as 2026-03-31",
+         "a number": "write it with a point and without quotes, as 12.50"}
+# What to do about a number above its range, by its key.
+LESS = {"replications": "make more runs, each with another key", "periods": "take longer periods, or more replications",
+        "weights": "divide all weights by the same number",
+        **dict.fromkeys(formats.COSTS, "take a larger coin for all costs"),
+        **dict.fromkeys(("initial", "stock", "values", "s", "S"), "count in boxes of several items")}
 
 
 @dataclass(frozen=True)
@@ -51,40 +77,141 @@ class Table:
             for name, rule in self.keys.items()}
 
 
+def kind_of(value: Any) -> str:
+    """Returns the kind of a value in words."""
+    return "a number with a point" if isinstance(value, float) else KINDS.get(type(value), "a date or a time")
+
+
+def wrong_kind(path: Path, value: Any, wanted: str) -> list[TreeFault]:
+    """Returns the fault of a value of the wrong kind."""
+    kind, advice = kind_of(value), WRITE[wanted]
+    kind = "empty" if value in ("", [], {}) and wanted.startswith(kind) else kind
+    if "whole number" in wanted and isinstance(value, float):
+        spelt = getattr(value, "spelt", "")
+        thousands = re.fullmatch(r"[+-]?[1-9][0-9]{0,2}\.[0-9]{3}", spelt)
+        either = f"write {spelt.replace('.', '')} for thousands; else " if thousands else ""
+        advice = f"{either}count in a smaller unit, cents for example, or round"
+    elif wanted == "a whole number" and isinstance(value, str):
+        advice = odd_advice(value) or "write it without the quotes" * value.strip().isdigit() or advice
+    elif wanted == "a list of tables" and isinstance(value, dict):
+        advice = "write [[policy]] in place of [policy]"
+    return [TreeFault(KIND, path, f"{shown(value)} is {kind}; {wanted} should stand here", advice)]
+
+
+def once_each(faults: Sequence[TreeFault], kinds: Iterable[Hashable]) -> list[TreeFault]:
+    """Returns the first fault of each kind in a list, with how many others there are. `kinds` has the kind of each."""
+    each = list(zip(faults, kinds, strict=True))
+    counts = Counter(kind for _, kind in each)
+    firsts = {kind: fault for fault, kind in reversed(each)}
+    return [firsts[kind]._replace(more=count - 1) for kind, count in counts.items()]
+
+
+def number(least: int, most: int) -> Check:
+    """Returns the check of a whole number in a range."""
+    def check(path: Path, value: Any) -> list[TreeFault]:
+        if type(value) is not int:
+            return wrong_kind(path, value, "a whole number")
+        if least <= value <= most:
+            return []
+        less = LESS.get(next(str(part) for part in reversed(path) if isinstance(part, str)), f"write {most:,} or less")
+        if path[:2] == ("lead", "values"):
+            less = f"an order arrives after {most} periods at most: take longer periods"
+        return [TreeFault(RANGE, path, f"{shown(value)} is not from {least:,} to {most:,}",
+                          less if value > most else f"write {least} or more")]
+    return check
+
+
+def numbers(least: int, most: int) -> Check:
+    """Returns the check of a list of whole numbers in a range: it returns each kind of fault once."""
+    one = number(least, most)
+
+    def check(path: Path, value: Any) -> list[TreeFault]:
+        if not isinstance(value, list):
+            return wrong_kind(path, value, "a list of whole numbers")
+        if not value:
+            return [TreeFault(RANGE, path, "the list is empty", "write at least one number")]
+        faults = [(fault, entry < least if type(entry) is int else kind_of(entry))
+                  for place, entry in enumerate(value, 1) for fault in one((*path, place), entry)]
+        return once_each([fault for fault, _ in faults], [kind for _, kind in faults])
+    return check
+
+
+def _has_kind(kind: str, is_good: Callable[[Any], bool]) -> Check:
+    """Returns the check of a value of a kind, by a function that says whether it is of it."""
+    return lambda path, value: [] if is_good(value) else wrong_kind(path, value, kind)
+
+
+def _is_text(value: Any) -> bool:
+    """Returns whether a value is a text with a character at least."""
+    return isinstance(value, str) and bool(value)
+
+
+text = _has_kind("a text", _is_text)
+texts = _has_kind("a list of texts", lambda value: isinstance(value, list) and all(map(_is_text, value)))
+flag = _has_kind("true or false", lambda value: isinstance(value, bool))
+date = _has_kind("a date", lambda value: _is_text(value) or type(value) is datetime.date)
+any_number = _has_kind("a number", lambda value: type(value) is int or isinstance(value, float))
+
+
+def money(path: Path, value: Any) -> list[TreeFault]:
+    """Returns the faults of an amount of money: a number that is not below 0."""
+    faults = any_number(path, value)
+    if faults or 0 <= value < float("inf"):
+        return faults
+    return [TreeFault(RANGE, path, f"{shown(value)} is no cost", "write 0 or more")]
+
+
+def share(example: str) -> Check:
+    """Returns the check of a share between 0 and 1. `example` says what to write for what."""
+    def check(path: Path, value: Any) -> list[TreeFault]:
+        is_share = isinstance(value, float) and 0 < value < 1
+        return [] if is_share else [TreeFault(RANGE, path, f"{shown(value)} is not between 0 and 1",
+                                              f"write {example}")]
+    return check
+
+
+def choice(*values: str) -> Check:
+    """Returns the check of one of some texts. If they are many, the first ones are named."""
+    def check(path: Path, value: Any) -> list[TreeFault]:
+        if value in values:
+            return []
+        close = get_close_matches(str(value), values, 1)
+        advice = " or ".join(f'"{one}"' for one in close or values[:MOST_NAMED])
+        return [TreeFault(RANGE, path, f"{shown(value)} is none of {names_of(values, MOST_NAMED)}", f"write {advice}")]
+    return check
+
+
 def meant(name: str, known: Mapping[str, Any]) -> str:
     """Returns the known name that is spelt like this one; the empty text if none is."""
     same = [one for one in known if one.lower() == name.lower()]
     return next(iter(same or get_close_matches(name.lower(), known, 1)), "")
 
 
-def _homes(rules: Table) -> dict[str, str]:
-    """Returns where each key of a document belongs, in words."""
-    homes: dict[str, list[str]] = {}
-    for name, rule in rules.keys.items():
-        if isinstance(rule, Key):
-            homes[name] = ["the document, above its first table"]
-            continue
-        for key in rule.keys:
-            homes.setdefault(key, []).append(f"[[{name}]]" if rule.is_list else f"[{name}]")
-    return {key: " or ".join(filter(None, [", ".join(tables[:-1]), tables[-1]])) for key, tables in homes.items()}
-
-
 class Judge:
-    """Judges a document by the rules of its outermost table.
+    """Judges a document by the rules of its outermost table. `newest` are those of the newest version: they say where
+    a key belongs.
 
     A key that is missing is no fault beside an unknown one that is spelt like it, unless `says_both`.
     """
 
     def __init__(self, rules: Table, newest: Table | None = None, says_both: bool = False) -> None:
-        """Takes the rules, and those of the newest version: they say where a key belongs."""
-        self.rules, self.says_both = rules, says_both
-        self.homes, self.tables = _homes(newest or rules), (newest or rules).keys
+        """Notes where each key of a document belongs, in words."""
+        self.rules, self.says_both, self.tables = rules, says_both, (newest or rules).keys
+        homes: dict[str, list[str]] = {}
+        for name, rule in self.tables.items():
+            if isinstance(rule, Key):
+                homes[name] = [f"{DOCUMENT}, above its first table"]
+            else:
+                for key in rule.keys:
+                    homes.setdefault(key, []).append(f"[[{name}]]" if rule.is_list else f"[{name}]")
+        self.homes = {key: " or ".join(filter(None, [", ".join(tables[:-1]), tables[-1]]))
+                      for key, tables in homes.items()}
 
     def faults(self, tree: Mapping[str, Any]) -> list[TreeFault]:
         """Returns all faults of a document."""
         return self._of_table((), tree, self.rules)
 
-    def _advice_on_key(self, key: str, rules: Table) -> str:
+    def _advice_on_unknown(self, key: str, rules: Table) -> str:
         """Returns what to do about a key that should not be there."""
         if key in rules.elsewhere:
             return rules.elsewhere[key]
@@ -95,29 +222,21 @@ class Judge:
         others = "" if self.says_both else f"; the keys here are {', '.join(rules.keys)}"
         return odd_advice(key) or (f"write {close}" if close else f"remove it{others}")
 
-    def _of_keys(self, path: Path, table: Mapping[str, Any], rules: Table) -> list[TreeFault]:
-        """Returns the faults of keys that should not be there, and of those that are missing."""
-        unknown = [] if rules.other else [key for key in table if key not in rules.keys]
-        instead = set() if self.says_both else {meant(key, rules.keys) for key in unknown}
-        faults = [TreeFault(UNKNOWN, (*path, key), "there should be no such key",
-                            self._advice_on_key(key, rules)) for key in unknown]
-        for key, rule in rules.keys.items():
-            if rule.needed and key not in table and key not in instead:
-                faults.append(TreeFault(MISSING, path, f"the key {key} is missing", _advice_on_missing(path, key,
-                                                                                                       rule)))
-        return faults
-
     def _of_table(self, path: Path, table: Any, rules: Table) -> list[TreeFault]:
-        """Returns the faults of a table: of its keys, of their values, and of those beside each other."""
+        """Returns the faults of a table: keys that should not be there, keys that are missing, values, and what stands
+        beside each other."""
         if not isinstance(table, dict):
             return wrong_kind(path, table, "a table")
-        faults = self._of_keys(path, table, rules)
-        for key, rule in rules.keys.items():
+        unknown = [] if rules.other else [key for key in table if key not in rules.keys]
+        instead = set() if self.says_both else {meant(key, rules.keys) for key in unknown}
+        faults = [TreeFault(UNKNOWN, (*path, key), "there should be no such key", self._advice_on_unknown(key, rules))
+                  for key in unknown]
+        faults += [TreeFault(MISSING, path, f"the key {key} is missing", _advice_on_missing(path, key, rule))
+                   for key, rule in rules.keys.items() if rule.needed and key not in table and key not in instead]
+        others = {} if rules.other is None else {key: rules.other for key in table if key not in rules.keys}
+        for key, rule in (*rules.keys.items(), *others.items()):
             if key in table:
                 faults += self._of_value((*path, key), table[key], rule)
-        if rules.other:
-            faults += [fault for key in table if key not in rules.keys
-                       for fault in self._of_value((*path, key), table[key], rules.other)]
         spoilt = {fault.path[len(path)] for fault in faults if len(fault.path) > len(path)}
         return faults + rules.joint(path, table, table.keys() - spoilt)
 
@@ -129,9 +248,8 @@ class Judge:
             return self._of_table(path, value, rule)
         if not isinstance(value, list):
             return wrong_kind(path, value, "a list of tables")
-        tables = [fault for entry, table in enumerate(value, 1) for fault in self._of_table((*path, entry), table,
-                                                                                            rule)]
-        return rule.joint_of_list(path, value) + tables
+        tables = (self._of_table((*path, entry), table, rule) for entry, table in enumerate(value, 1))
+        return [*rule.joint_of_list(path, value), *(fault for faults in tables for fault in faults)]
 
 
 def _advice_on_missing(path: Path, key: str, rule: Key | Table) -> str:
@@ -142,3 +260,36 @@ def _advice_on_missing(path: Path, key: str, rule: Key | Table) -> str:
     if rule.is_list:
         return f"write [[{key}]], and below it {', '.join(needed[:-1])} and {needed[-1]}"
     return f"write a table [{'.'.join(map(str, (*path, key)))}]"
+
+
+def _place_text(path: Path, rules: Table) -> str:
+    """Returns a path in words, as [TABLE.TABLE] KEY."""
+    tables = list[str]()
+    rule: Key | Table | None = rules
+    for part in path:
+        rule = rule.keys.get(str(part), rule.other) if isinstance(rule, Table) else None
+        if not isinstance(rule, Table):
+            break
+        tables.append(str(part))
+    rest = [f"entry {part}" if isinstance(part, int) else part for part in path[len(tables):]]
+    if not path:
+        return DOCUMENT
+    return " ".join([f"[{'.'.join(tables)}]", ", ".join(rest)]).strip() if tables else f"[{rest[0]}]"
+
+
+def read_tables(path: str | FilePath, rules: Table) -> Tree:
+    """Returns the tree of a file that has no fault by the rules of its tables.
+
+    Raises Refused if it can't be read, and RefusedFaults with all that is wrong with it, by line.
+    """
+    data = read_bytes(path)
+    tree, unread = read_document(data)
+    faults = [Fault(f"this is no TOML document: {fault.reason}", str(path), fault.line, fault.column)
+              for fault in unread]
+    troubles = [] if unread else Judge(rules).faults(tree)
+    places = places_of(text_of_document(data), tree) if troubles else {}
+    faults += [Fault(f"{_place_text(fault.path, rules)}: {fault.what}; {fault.advice}", str(path),
+                     *places.get(fault.path, (0, 0))) for fault in troubles]
+    if faults:
+        raise RefusedFaults(sorted(faults, key=lambda fault: (fault.line, fault.column)))
+    return tree

@@ -8,9 +8,9 @@ import re
 import tomllib
 from typing import Any
 
-from .newer import older_text
+from .documents import Tree
+from .texts import older_text
 
-Tree = dict[str, Any]
 # Comment lines behind an empty line at the end of a text. They are about the table that followed.
 COMMENT_AT_END = re.compile(r"\n\n(#[^\n]*\n)+\Z")
 
@@ -22,23 +22,23 @@ def value_text(value: int | str | list[Any]) -> str:
     return json.dumps(value, ensure_ascii=False)
 
 
-def _lines(table: Tree) -> list[str]:
-    """Returns the lines of a table's keys."""
-    return [f"{key} = {value_text(value)}" for key, value in table.items()]
+def _table_text(table: Tree, heading: str = "") -> str:
+    """Returns the keys of a table, below a heading if it has one."""
+    lines = ["", heading] * bool(heading) + [f"{key} = {value_text(value)}" for key, value in table.items()]
+    return "".join(f"{line}\n" for line in lines)
 
 
 def _policies_text(tree: Tree) -> str:
     """Returns the policies of a tree."""
-    return "".join("\n".join(["", "[[policy]]", *_lines(policy)]) + "\n" for policy in tree["policy"])
+    return "".join(_table_text(policy, "[[policy]]") for policy in tree["policy"])
 
 
 def plain_text(tree: Tree) -> str:
     """Returns a tree without comments: the keys of the document, its tables, its policies."""
-    tables = [key for key, value in tree.items() if isinstance(value, dict)]
-    lines = _lines({key: value for key, value in tree.items() if key not in [*tables, "policy"]})
-    for name in tables:
-        lines += ["", f"[{name}]", *_lines(tree[name])]
-    return "\n".join(lines) + "\n" + _policies_text(tree)
+    tables = {key: value for key, value in tree.items() if isinstance(value, dict)}
+    document = {key: value for key, value in tree.items() if key not in (*tables, "policy")}
+    texts = (_table_text(table, f"[{name}]") for name, table in tables.items())
+    return "".join([_table_text(document), *texts, _policies_text(tree)])
 
 
 def head_of(source: str) -> str:
@@ -48,14 +48,12 @@ def head_of(source: str) -> str:
 
 def _merge(old: Any, tree: Tree) -> None:
     """Changes the table of a document to what a tree has. What is equal keeps its spelling and its comments."""
-    for key in [it for it in old if it not in tree]:
+    for key in [key for key in old if key not in tree]:
         del old[key]
     for key, value in tree.items():
-        if key in old and old[key] == value:
-            continue
         if isinstance(value, dict) and isinstance(old.get(key), dict):
             _merge(old[key], value)
-        else:
+        elif key not in old or old[key] != value:
             old[key] = value
 
 
@@ -67,7 +65,7 @@ def _merged_text(source: str, tree: Tree) -> str:
     import tomlkit
     document: Any = tomlkit.parse(source)
     others = {key: value for key, value in tree.items() if key != "policy"}
-    if [it["name"] for it in document["policy"]] == [it["name"] for it in tree["policy"]]:
+    if [policy["name"] for policy in document["policy"]] == [policy["name"] for policy in tree["policy"]]:
         for table, policy in zip(document["policy"], tree["policy"]):
             _merge(table, policy)
         _merge(document, {**others, "policy": document["policy"]})

@@ -1,0 +1,211 @@
+"""Reads scenarios, and finds all their faults: the keys of the tables, and what stands beside each other.
+
+Which scenarios crnsim takes, and which number it reports, is proved of the program; this module is not.
+"""
+from __future__ import annotations
+
+from collections.abc import Container, Mapping
+from typing import Any, TypeGuard
+
+from .. import formats
+from ..errors import ScenarioError
+from .documents import DOCUMENT, Path, Tree, TreeFault, places_of, read_document, text_of_document
+from .rules import RANGE, Check, Judge, Key, Table, number, numbers, once_each, wrong_kind
+from .texts import odd_advice, shown
+
+VERSION, LENGTHS, ORDER, SUM, LEVELS, NAME, RING, COUNT = (
+    formats.RULES[name] for name in ("Version", "Lengths", "Order", "WeightSum", "Levels", "Name", "RingSize",
+                                     "PolicyCount"))
+LONGEST_NAME = 20
+# So many faults are in the text of an error. Its `faults` has all.
+MOST_SHOWN = 20
+
+
+def _word_faults(path: Path, word: Any) -> list[TreeFault]:
+    """Returns the faults of one word of the key."""
+    if not isinstance(word, str):
+        return wrong_kind(path, word, "a text of 16 digits of 0-9a-f")
+    if formats.WORD.fullmatch(word):
+        return []
+    advice = "write a-f in lower case" if formats.WORD.fullmatch(word.lower()) else odd_advice(word)
+    advice = advice or (f"it has {len(word)} characters" if len(word) != 16 else "write digits of 0-9a-f alone")
+    return [TreeFault(RANGE, path, f"{shown(word)} is not 16 digits of 0-9a-f", advice)]
+
+
+def _key_faults(path: Path, value: Any) -> list[TreeFault]:
+    """Returns the faults of the key of the random stream, each kind of fault once."""
+    if not isinstance(value, list):
+        return wrong_kind(path, value, "a list of four texts")
+    count = [] if len(value) == formats.WORDS_OF_KEY else [
+        TreeFault(RANGE, path, f"there are {len(value)} texts, not 4", "write four, each of 16 digits")]
+    faults = [fault for place, word in enumerate(value, 1) for fault in _word_faults((*path, place), word)]
+    return count + once_each(faults, [fault.advice if fault.rule == RANGE else fault.rule for fault in faults])
+
+
+def _ring_faults(path: Path, value: Any) -> list[TreeFault]:
+    """Returns the faults of the size of the ring."""
+    if type(value) is not int:
+        return wrong_kind(path, value, "a whole number")
+    sizes = formats.RING_SIZES
+    what = f"{shown(value)} is not one of {', '.join(map(str, sizes[:4]))}, .., {sizes[-1]:,}"
+    return [] if value in sizes else [TreeFault(RING, path, what, f"write ring = {sizes[-1]}")]
+
+
+def name_faults(path: Path, value: Any) -> list[TreeFault]:
+    """Returns the faults of a policy's name by itself."""
+    if not isinstance(value, str):
+        return wrong_kind(path, value, "a text")
+    if formats.NAME.fullmatch(value):
+        return []
+    least, most = formats.limits("policy", "name")
+    advice = odd_advice(value) or (f"it has {len(value)} characters: write {least} to {most}"
+                                   if not least <= len(value) <= most else "write letters, digits, _ and - alone")
+    return [TreeFault(NAME, path, f"{shown(value)} is not {least} to {most} of A-Z a-z 0-9 _ -", advice)]
+
+
+def _are_whole(values: Any) -> TypeGuard[list[int]]:
+    """Returns whether this is a list of whole numbers."""
+    return isinstance(values, list) and all(type(value) is int for value in values)
+
+
+def _draws_faults(path: Path, table: Mapping[str, Any], _good: Container[str]) -> list[TreeFault]:
+    """Returns the faults of values and weights beside each other: their numbers, values that do not rise, the sum."""
+    values, weights, faults = table.get("values"), table.get("weights"), list[TreeFault]()
+    if isinstance(values, list) and isinstance(weights, list) and len(values) != len(weights):
+        faults.append(TreeFault(LENGTHS, path, f"there are {len(values)} values and {len(weights)} weights",
+                                "write one weight for each value"))
+    if _are_whole(values):
+        falls = [TreeFault(ORDER, (*path, "values", entry), f"{shown(high)} is not above the {shown(low)} before it",
+                           "write each value once, rising, with its weight")
+                 for entry, (low, high) in enumerate(zip(values, values[1:]), 2) if low >= high]
+        faults += once_each(falls, [ORDER] * len(falls))
+    least, most = formats.WEIGHT_SUMS
+    if _are_whole(weights) and not least <= sum(weights) <= most:
+        advice = "divide all weights by the same number" if sum(weights) > 0 else "give some value a weight above 0"
+        faults.append(TreeFault(SUM, (*path, "weights"), f"they come to {shown(sum(weights))}, which is not from "
+                                f"{least:,} to {most:,}", advice))
+    return faults
+
+
+def _levels_faults(path: Path, policy: Mapping[str, Any], _good: Container[str]) -> list[TreeFault]:
+    """Returns the fault of a policy whose reorder point is above its order-up-to level."""
+    point, level = policy.get("s"), policy.get("S")
+    if type(point) is not int or type(level) is not int or point <= level:
+        return []
+    return [TreeFault(LEVELS, path, f"the reorder point s = {shown(point)} is above the order-up-to level S = "
+                      f"{shown(level)}", "interchange them, or raise S")]
+
+
+def _policies_faults(path: Path, policies: list[Any]) -> list[TreeFault]:
+    """Returns the faults of policies beside each other: their number, and names that stand twice."""
+    faults, seen, (least, most) = list[TreeFault](), dict[str, int](), formats.POLICIES
+    if not least <= len(policies) <= most:
+        advice = "split them over several scenarios, with the same first policy" if policies else "write one at least"
+        faults.append(TreeFault(COUNT, path, f"there are {len(policies)} policies, not {least} to {most}", advice))
+    for entry, policy in enumerate(policies, 1):
+        name = policy.get("name") if isinstance(policy, dict) else None
+        if isinstance(name, str) and seen.setdefault(name, entry) != entry:
+            faults.append(TreeFault(NAME, (*path, entry, "name"), f"{shown(name)} is the name of policy {seen[name]} "
+                                    "too", "write another name"))
+    return faults
+
+
+# The version is judged by itself: with another one, the rest is judged as the version that fits it.
+CHECKS: dict[str, Check] = {"version": lambda path, value: [], "key": _key_faults, "ring": _ring_faults,
+                            "name": name_faults}
+
+
+def _rule(kind: str, *more: Any) -> Key | Table:
+    """Returns what may stand at a key of a kind, given its range, or its shape if it is a table."""
+    if kind in CHECKS:
+        return Key(CHECKS[kind], needed=kind != "version")
+    if kind in ("number", "numbers"):
+        return Key((number if kind == "number" else numbers)(*more), needed=True)
+    keys = {name: _rule(*shape) for name, shape in more[0].items()}
+    if kind == "policies":
+        return Table(keys, True, is_list=True, joint=_levels_faults, joint_of_list=_policies_faults)
+    return Table(keys, True, joint=_draws_faults) if kind == "draws" else Table(keys, True)
+
+
+def _rules(version: int) -> Table:
+    """Returns the rules of a version's scenarios."""
+    shape, newest = formats.SHAPES[version], formats.SHAPES[formats.VERSIONS[-1]]
+    newer = {key: f"write version = {formats.version_with([key])}, which has {key}" for key in newest.keys() - shape}
+    return Table({key: _rule(*kind) for key, kind in shape.items()}, elsewhere=newer)
+
+
+NEWEST = _rules(formats.VERSIONS[-1])
+JUDGES = {version: Judge(_rules(version), NEWEST, says_both=True) for version in formats.VERSIONS}
+
+
+def _advice_on_version() -> str:
+    """Returns what to write as the version, with the tables that each adds."""
+    ways, before = list[str](), formats.SHAPES[formats.VERSIONS[0]]
+    for version in formats.VERSIONS:
+        added = [key for key in formats.SHAPES[version] if key not in before]
+        ways.append(f"version = {version}" + (f" with a table {' and '.join(added)}" if added else ""))
+        before = formats.SHAPES[version]
+    return f"write {', or '.join(ways)}, above the first table"
+
+
+def _place_text(path: Path, tree: Any) -> str:
+    """Returns a path in words; a policy has its name beside its number, where the tree has one."""
+    if not path:
+        return DOCUMENT
+    is_table = isinstance(NEWEST.keys.get(str(path[0])), Table)
+    home, rest = (f"table {path[0]}", path[1:]) if is_table else (DOCUMENT, path)
+    if path[0] == "policy" and rest and isinstance(rest[0], int) and isinstance(tree["policy"], list):
+        policy = tree["policy"][rest[0] - 1]
+        name = policy.get("name") if isinstance(policy, dict) else None
+        home, rest = f"policy {rest[0]}", rest[1:]
+        if isinstance(name, str):
+            text = ascii(name)[1:-1]
+            home += f' ("{text}")' if len(text) <= LONGEST_NAME else f' ("{text[:LONGEST_NAME]}...")'
+    parts = [f"entry {part}" if isinstance(part, int) else f"key {part if part.isascii() else ascii(part)[1:-1]}"
+             for part in rest]
+    return ", ".join([home, *parts])
+
+
+def faults_of(tree: dict[str, Any]) -> list[TreeFault]:
+    """Returns all faults of a scenario's tree, the least number first, without their lines and columns."""
+    faults: list[TreeFault] = []
+    version, known = tree.get("version"), formats.VERSIONS
+    if "version" not in tree:
+        faults.append(TreeFault(VERSION, (), "the key version is missing", _advice_on_version()))
+    elif type(version) is not int or version not in known:
+        either = " or ".join(map(str, known))
+        faults.append(TreeFault(VERSION, ("version",), f"{shown(version)} is not {either}", _advice_on_version()))
+    if type(version) is not int or faults:
+        version = formats.version_with(tree)
+    return [fault._replace(where=_place_text(fault.path, tree))
+            for fault in sorted(faults + JUDGES[version].faults(tree), key=lambda fault: fault.rule)]
+
+
+def read_scenario(data: bytes) -> tuple[Tree, list[TreeFault]]:
+    """Returns the tree of a scenario's bytes, and all its faults, the least number first."""
+    tree, faults = read_document(data)
+    if faults:
+        return tree, faults
+    faults = faults_of(tree)
+    places = places_of(text_of_document(data), tree) if faults else {}
+    nowhere = 0, 0
+    return tree, [fault._replace(line=line, column=column)
+                  for fault in faults for line, column in [places.get(fault.path, nowhere)]]
+
+
+def error_of(faults: list[TreeFault], file: str = "") -> ScenarioError:
+    """Returns the error with these faults of a file. Its text has the first 20."""
+    named = [fault.fault(file) for fault in faults]
+    lines, more = [str(fault) for fault in named[:MOST_SHOWN]], len(faults) - MOST_SHOWN
+    return ScenarioError(named, "\n".join(lines + [f"and {more} more faults; crnplan why says all"] * (more > 0)))
+
+
+def checked_tree(tree: Tree, any_number: bool = False) -> Tree:
+    """Returns a tree that is made, not read, if it has no fault. Raises ScenarioError with all faults.
+
+    With `any_number` it may have more policies than the program takes in one run.
+    """
+    faults = [fault for fault in faults_of(tree) if not any_number or fault.rule != COUNT or not tree["policy"]]
+    if faults:
+        raise error_of(faults)
+    return tree
