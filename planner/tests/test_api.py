@@ -11,13 +11,14 @@ from collections.abc import Iterator
 from pathlib import Path
 from types import ModuleType
 
+import click
 import numpy
 import pandas
 import pytest
 from matplotlib.figure import Figure
 
 import crnplan as crn
-from crnplan.commands import COMMANDS
+from crnplan.commands import COMMANDS, group
 from planner.tests.conftest import Command
 
 PLANNER = Path(__file__).parents[1]
@@ -47,7 +48,7 @@ def test_no_other_name() -> None:
 
 @pytest.mark.parametrize("code", [
     "import crnplan", "import crnplan.commands", "import crnplan.formats", "from crnplan import Scenario, find_program",
-    "import crnplan.commands.why", "import crnplan.commands.run", "import crnplan.commands.where"])
+    "import crnplan.commands.scenarios"])
 def test_imports_no_heavy_library(code: str) -> None:
     """Checks that the light parts import none of the libraries that take long."""
     loaded = python(f"{code}; import sys; print(*sys.modules)").split()
@@ -68,8 +69,8 @@ def test_version_is_fast() -> None:
 @pytest.mark.parametrize("name", COMMANDS)
 def test_command(name: str) -> None:
     """Checks that each command has a help with an example."""
-    command = importlib.import_module(f"crnplan.commands.{name}").command
-    assert command.help and command.epilog.startswith(f"Example: crnplan {name}")
+    command = group.get_command(click.Context(group), name)
+    assert command and command.help and (command.epilog or "").startswith(f"Example: crnplan {name}")
 
 
 def names_of_types() -> dict[str, object]:

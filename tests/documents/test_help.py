@@ -58,6 +58,8 @@ def test_help_of_all_commands() -> None:
 
 
 def test_modules_are_commands() -> None:
-    """Each command among the modules of crnplan.commands is in the list."""
+    """Each command of the modules of crnplan.commands is in the list, with its module."""
     modules = (TOP / "planner/src/crnplan/commands").glob("[a-z]*.py")
-    assert sorted(it.stem for it in modules if "@click.command" in it.read_text("utf-8")) == sorted(COMMANDS)
+    made = {name: it.stem for it in modules
+            for name in re.findall(r"^@click.command(?:[^\n]|\n(?!\n))*?\ndef (\w+)", it.read_text("utf-8"), re.MULTILINE)}
+    assert made == {name: module for name, (module, _) in COMMANDS.items()}

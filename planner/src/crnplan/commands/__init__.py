@@ -1,51 +1,54 @@
-"""The command crnplan. Each subcommand is a small module of this folder, imported only if it is asked for.
+"""The command crnplan. Subcommands are in the modules of this folder, each imported only if it is asked for.
 
-The module `NAME` has a click command `command`. There is no arithmetic in a command: it reads its words, calls the
-package and prints.
+There is no arithmetic in a command: it reads its words, calls the package and prints.
 """
 from __future__ import annotations
 
+import contextlib
 import difflib
 import importlib
+import io
 import os
 import sys
 import traceback
+from collections.abc import Iterator
 from pathlib import Path
-from typing import Any
+from typing import Any, TextIO, cast
 
 import click
 
 from .. import __version__
-from ..errors import CrnplanError, Failed, Refused, spelt
-from .streams import shown_safely
+from ..errors import CrnplanError, Failed, Refused, escaped, spelt, worded
 
 # The threads of linear algebra gain nothing here. Beside other work they wait for one another, busily.
 for _threads in ("OMP_NUM_THREADS", "OPENBLAS_NUM_THREADS"):
     os.environ.setdefault(_threads, "1")
 
 INTERRUPTED = 130
-# The subcommands in the order in which a planner meets them, with one line for the list of `--help`.
+# The subcommands in the order in which a planner meets them: the module of each, and its line in the list of `--help`.
 COMMANDS = {
-    "item": "Plan one item: from a history and settings to a decision.",
-    "catalogue": "Plan all items: from two tables to a decision for each.",
-    "curve": "Show how much service the whole stock can give for its value.",
-    "report": "Write the page of a planned catalogue, and of single items.",
-    "history": "Make tables of a scenario from a history.",
-    "why": "Say all that is wrong with a scenario, with line and advice.",
-    "suggest": "Suggest policies from exact long-run theory.",
-    "doubt": "Say how sure a choice is under the laws that a history allows.",
-    "run": "Run a scenario on any number of policies.",
-    "decide": "Rank a report's policies with intervals and verdicts.",
-    "check": "Run a winner again on new keys.",
-    "sensitivity": "Rank policies again if a cost or a law differs.",
-    "trajectory": "Show stock and orders period by period.",
-    "sweep": "Run a grid of policies and levels.",
-    "where": "Say which program crnsim is used, and try it.",
+    "item": ("catalogues", "Plan one item: from a history and settings to a decision."),
+    "catalogue": ("catalogues", "Plan all items: from two tables to a decision for each."),
+    "curve": ("catalogues", "Show how much service the whole stock can give for its value."),
+    "report": ("catalogues", "Write the page of a planned catalogue, and of single items."),
+    "history": ("histories", "Make tables of a scenario from a history."),
+    "why": ("scenarios", "Say all that is wrong with a scenario, with line and advice."),
+    "suggest": ("histories", "Suggest policies from exact long-run theory."),
+    "doubt": ("histories", "Say how sure a choice is under the laws that a history allows."),
+    "run": ("scenarios", "Run a scenario on any number of policies."),
+    "decide": ("scenarios", "Rank a report's policies with intervals and verdicts."),
+    "check": ("scenarios", "Run a winner again on new keys."),
+    "sensitivity": ("scenarios", "Rank policies again if a cost or a law differs."),
+    "trajectory": ("scenarios", "Show stock and orders period by period."),
+    "sweep": ("scenarios", "Run a grid of policies and levels."),
+    "where": ("scenarios", "Say which program crnsim is used, and try it."),
 }
 
 
 class Group(click.Group):
-    """A group whose subcommands are imported when they are asked for."""
+    """A group whose subcommands are imported when they are asked for. `asked` is the one that was asked for last."""
+
+    asked: click.Command | None = None
 
     def list_commands(self, ctx: click.Context) -> list[str]:
         """Returns the names of the subcommands, in order."""
@@ -53,12 +56,11 @@ class Group(click.Group):
 
     def get_command(self, ctx: click.Context, cmd_name: str) -> click.Command | None:
         """Imports a subcommand."""
-        if cmd_name not in COMMANDS:
-            return None
-        from .output import asked
-        command: click.Command = importlib.import_module(f"{__name__}.{cmd_name}").command
-        asked[:] = [command]
-        return command
+        if cmd_name in COMMANDS:
+            module = importlib.import_module(f"{__name__}.{COMMANDS[cmd_name][0]}")
+            self.asked = getattr(module, cmd_name)
+            return self.asked
+        return None
 
     def resolve_command(
             self, ctx: click.Context, args: list[str]) -> tuple[str | None, click.Command | None, list[str]]:
@@ -72,7 +74,13 @@ class Group(click.Group):
     def format_commands(self, ctx: click.Context, formatter: click.HelpFormatter) -> None:
         """Lists the subcommands without importing them."""
         with formatter.section("Commands"):
-            formatter.write_dl(list(COMMANDS.items()))
+            formatter.write_dl([(name, line) for name, (_, line) in COMMANDS.items()])
+
+    def as_option(self, name: str, value: str) -> str:
+        """Returns an argument of the library as the option of the subcommand, which has its name."""
+        parameters = self.asked.params if self.asked else ()
+        options = {option.name: option.opts[0] for option in parameters if isinstance(option, click.Option)}
+        return options.get(name, f"--{name.replace('_', '-')}") + f" {value}" * bool(value)
 
 
 @click.group(cls=Group, context_settings={"help_option_names": ["-h", "--help"], "max_content_width": 100},
@@ -85,16 +93,18 @@ def group() -> None:
     """
 
 
-def _as_option(name: str, value: str) -> str:
-    """Returns an argument of the library as the option of the command that was asked for."""
-    from .output import as_option
-    return as_option(name, value)
+def note(message: str) -> None:
+    """Prints the lines of a message on standard error, with the options of the command for the arguments of the
+    library, or whatever stands for them in the block `errors.spelt`."""
+    for line in worded(message).splitlines():
+        click.echo(f"crnplan: {line}", err=True)
 
 
 def main() -> None:
     """Runs the command. Ends with status 0; 1 if the answer is no; 2 if an input or a word is refused; 3 if no input is
     to blame; 130 if interrupted."""
-    with shown_safely(), spelt(_as_option):
+    assert isinstance(group, Group)
+    with _shown_safely(), spelt(group.as_option):
         try:
             result: Any = group.main(prog_name="crnplan", standalone_mode=False)
             print(end="", flush=True)
@@ -107,28 +117,70 @@ def main() -> None:
 def _told(fault: BaseException) -> int:
     """Says what was raised in a line, and returns the exit status."""
     from ..files import faults_of
-    from .output import note
     try:
         with faults_of(Path("crnplan")):
             raise fault
-    except click.UsageError as its:
-        message = its.format_message()
+    except click.ClickException as refusal:
+        message, context = refusal.format_message(), getattr(refusal, "ctx", None)
         end = "" if message.endswith(("?", ".")) else "."
-        note(f"{message}{end} {its.ctx.command_path} --help shows the words." if its.ctx else message)
+        note(f"{message}{end} {context.command_path} --help shows the words." if context else message)
         return Refused.status
-    except click.ClickException as its:
-        note(its.format_message())
-        return Refused.status
-    except CrnplanError as its:
-        note(its.message)
-        return its.status
+    except CrnplanError as refusal:
+        note(refusal.message)
+        return refusal.status
     except (KeyboardInterrupt, click.Abort):
         note("interrupted")
         return INTERRUPTED
     except MemoryError:
         note("out of memory; close other programs, or use a machine with more")
-    except Exception as its:
-        place = traceback.extract_tb(its.__traceback__)[-1]
-        note(f"a fault of crnplan itself: {type(its).__name__}: {its} ({Path(place.filename).name}:{place.lineno}); "
-             "please report this line")
+    except Exception as crash:
+        last = traceback.extract_tb(crash.__traceback__)[-1]
+        place = f"{Path(last.filename).name}:{last.lineno}"
+        note(f"a fault of crnplan itself: {type(crash).__name__}: {crash} ({place}); please report this line")
     return Failed.status
+
+
+class _Shown:
+    """A standard stream on which texts of others may be shown: control characters are escaped. That its reader has gone
+    is no fault: what is left is dropped, and the command goes on."""
+
+    def __init__(self, stream: TextIO) -> None:
+        """Takes the stream."""
+        self.stream = stream
+
+    def __getattr__(self, name: str) -> Any:
+        """Returns what the stream has."""
+        return getattr(self.stream, name)
+
+    def write(self, text: str) -> int:
+        """Writes a text."""
+        with self._dropped():
+            self.stream.write(escaped(text))
+        return len(text)
+
+    def flush(self) -> None:
+        """Writes what waits."""
+        with self._dropped():
+            self.stream.flush()
+
+    @contextlib.contextmanager
+    def _dropped(self) -> Iterator[None]:
+        """Lets nothing be written any more if there is no reader."""
+        try:
+            yield
+        except BrokenPipeError:
+            os.dup2(os.open(os.devnull, os.O_WRONLY), self.stream.fileno())
+
+
+@contextlib.contextmanager
+def _shown_safely() -> Iterator[None]:
+    """Shows all that a command writes on its standard streams as `_Shown` does. Raises OSError if a stream is full."""
+    streams = sys.stdout, sys.stderr
+    for stream in streams:
+        if isinstance(stream, io.TextIOWrapper):
+            stream.reconfigure(errors="backslashreplace")
+    sys.stdout, sys.stderr = (stream and cast(TextIO, _Shown(stream)) for stream in streams)
+    try:
+        yield
+    finally:
+        sys.stdout, sys.stderr = streams

@@ -1,0 +1,364 @@
+"""The commands that read a history of demand: history, suggest and doubt. All read files in the same way."""
+from __future__ import annotations
+
+import contextlib
+import sys
+from collections.abc import Callable, Iterable, Iterator
+from functools import partial
+from pathlib import Path
+from typing import Any, TypeVar
+
+import click
+from click.core import ParameterSource
+
+from ..decide.doubt import TIMES, WITHIN, doubt as doubt_of
+from ..demand import FittedLaw, checks_of, fit_demand, fit_lead, lines_of, notes_of
+from ..demand.families import FAMILIES
+from ..demand.fitting import METHODS
+from ..errors import Fault, Refused, RefusedFaults
+from ..law import Law
+from ..records import History, read_history, read_lead_times
+from ..records.amounts import DECIMALS
+from ..records.dates import EVERY
+from ..records.faults import RefusedFiles, printed, write_rejects
+from ..records.observed import LeadTimes, Observed
+from ..records.reading import column_names
+from ..records.sources import whole_table
+from ..records.texts import Rules
+from ..scenario import Scenario
+from ..toml.documents import places_of
+from . import note
+from .words import Picture, form_options, program_option, scenario_argument, show, together, usage_error
+
+Made = TypeVar("Made")
+VERSION = "# A scenario with the table [returns] has version = 2.\n"
+# The words of `crnplan suggest` that need no history.
+OWN = ("scenario", "initial", "unit_zero", "file", "form")
+
+
+def stripped(context: click.Context, option: click.Parameter, text: str | None) -> str | None:
+    """Returns the name of a column without blanks around it."""
+    return text and text.strip()
+
+
+def item_of(context: click.Context, option: click.Parameter, words: tuple[str, ...]) -> dict[str, str]:
+    """Returns the columns and texts of `COLUMN=VALUE`."""
+    pairs = [word.partition("=") for word in words]
+    wrong = next((word for word, pair in zip(words, pairs) if not pair[0].strip() or not pair[1]), None)
+    if wrong is not None:
+        raise click.BadParameter(f"'{wrong}' is not COLUMN=VALUE, as part=A-17", context, option)
+    return {name.strip(): text.strip() for name, _, text in pairs}
+
+
+demand_option = click.option("--demand", metavar="COLUMN", callback=stripped, help="What customers asked for.")
+record_options = together(
+    click.option("--date", metavar="COLUMN", callback=stripped, help="Each row is a movement at this date."),
+    click.option("--every", type=click.Choice(EVERY),
+                 help="The period of --date and --orders. Weeks are ISO weeks, from Monday."),
+    click.option("--from", "start", metavar="DATE",
+                 help="The first day of the record. Periods without demand from then on count 0."),
+    click.option("--to", "end", metavar="DATE", help="The last day of the record."),
+    click.option("--net", is_flag=True, help="Take amounts below 0 off their period."),
+    click.option("--whole", is_flag=True, help="Leave out the first and the last period if they may be partial."),
+    click.option("--item", metavar="COLUMN=VALUE", multiple=True, callback=item_of,
+                 help="Read only rows with this text; the record is that of all rows. May be given several times."),
+    click.option("--box", type=click.IntRange(1), default=1, metavar="N",
+                 help="Count each period in boxes of N items, rounded up."))
+writing_options = together(
+    click.option("--delimiter", metavar="SIGN", help="One of , ; tab. It is found from the heading and the rows."),
+    click.option("--encoding", metavar="NAME",
+                 help="For example cp1252; without it that of the byte order mark, or UTF-8."),
+    click.option("--date-format", "date_formats", metavar="PATTERN", multiple=True,
+                 help="A pattern as %d/%m/%y in place of the usual forms. May be given several times."))
+file_options = together(
+    click.option("--lead", type=(str, str), metavar="FILE.csv COLUMN", help="Lead times, in periods."),
+    click.option("--orders", metavar="FILE.csv",
+                 help="Dates of orders and of their receipts. Open orders are left out."),
+    click.option("--ordered", metavar="COLUMN", default="ordered", show_default=True, callback=stripped),
+    click.option("--received", metavar="COLUMN", default="received", show_default=True, callback=stripped),
+    writing_options,
+    click.option("--decimal", type=click.Choice(DECIMALS), help="The decimal sign; without it the point."),
+    click.option("--leave-out", is_flag=True, help="Go on without rows that have a fault."),
+    click.option("--rejects", "faults", type=click.Path(dir_okay=False, path_type=Path), metavar="FILE",
+                 help="Write all faults as CSV."))
+
+
+def rules_of(asked: dict[str, Any]) -> dict[str, Any]:
+    """Returns how cells are read. Raises Refused if the words name files that can't be read together."""
+    if asked["lead"] and asked["orders"]:
+        raise Refused("say --lead or --orders, not both")
+    if [asked.get("scenario"), asked["file"], asked["orders"], asked["lead"] and asked["lead"][0]].count("-") > 1:
+        raise Refused("standard input (-) can be one file only; name the others")
+    return {name: asked[name] for name in ("delimiter", "encoding", "decimal", "date_formats", "item", "leave_out")}
+
+
+class Attempts:
+    """Reads files and fits laws one by one, and keeps what was read and the faults of all."""
+
+    def __init__(self) -> None:
+        """Starts with nothing."""
+        self.read: list[Observed] = []
+        self.faults: list[Fault] = []
+        self.notes: list[Fault] = []
+
+    def made(self, make: Callable[[], Made]) -> Made | None:
+        """Returns what a function makes, or None if it finds faults."""
+        try:
+            made = make()
+        except RefusedFaults as fault:
+            self.faults.extend(fault.faults)
+            self.notes.extend(fault.notes if isinstance(fault, RefusedFiles) else ())
+            return None
+        self.read.extend([made] if isinstance(made, Observed) else [])
+        return made
+
+    def files(self, asked: dict[str, Any]) -> tuple[History | None, LeadTimes | None]:
+        """Reads the history and the lead times that are asked for; None for a file with faults, or without a file."""
+        rules = rules_of(asked)
+        words = {name: asked[name] for name in ("demand", "returns", "date", "net", "whole", "start", "end")
+                 if name in asked}
+        every = asked["every"] if asked["date"] or not asked["orders"] else None
+        history = self.made(lambda: read_history(asked["file"], every=every, **words, **rules))
+        leads: LeadTimes | None = None
+        if asked["lead"]:
+            leads = self.made(lambda: read_lead_times(asked["lead"][0], lead=asked["lead"][1].strip(), every=every,
+                                                      **rules))
+        if asked["orders"]:
+            orders = {name: asked[name] for name in ("every", "ordered", "received")}
+            leads = self.made(lambda: read_lead_times(asked["orders"], **orders, **rules))
+        return history, leads
+
+    def sound_files(self, asked: dict[str, Any]) -> tuple[History, LeadTimes | None]:
+        """Reads the same, with the demand in the column `demand` if no other is named. Raises the faults of all."""
+        history, leads = self.files(asked | {"demand": asked["demand"] or "demand"})
+        self.end()
+        assert history is not None
+        return history, leads
+
+    def end(self) -> None:
+        """Raises the faults of all together, if there are any."""
+        if self.faults:
+            raise RefusedFiles(self.faults, self.notes)
+
+    @property
+    def left_out(self) -> list[Fault]:
+        """Returns the faults of all rows that were left out."""
+        return [fault for made in self.read for fault in made.faults]
+
+    def say(self, more: Iterable[str] = ()) -> None:
+        """Prints on standard error which rows were left out, what is to be said of the files, and more lines."""
+        said = (fault.message for made in self.read for fault in made.notes)
+        for line in [*printed(self.left_out), *said, *more]:
+            note(line)
+
+
+@contextlib.contextmanager
+def attempts_of(asked: dict[str, Any]) -> Iterator[Attempts]:
+    """Gives attempts, and writes all their faults to the file of --rejects if there is one, also those that are
+    raised."""
+    attempts, path = Attempts(), asked["faults"]
+    try:
+        yield attempts
+    except RefusedFaults as fault:
+        if path:
+            write_rejects(path, [*attempts.left_out, *fault.faults])
+        raise
+    if path:
+        write_rejects(path, attempts.left_out)
+
+
+@contextlib.contextmanager
+def theory_of(scenario: Scenario, path: str) -> Iterator[None]:
+    """Raises RefusedFaults with the place in a scenario for what theory can't compute."""
+    from ..theory.lattice import NoTheory
+    try:
+        yield
+    except NoTheory as fault:
+        place = places_of(scenario.source or "", scenario.tree).get(fault.path, (0, 0))
+        raise RefusedFaults([Fault(str(fault), path.removeprefix("-"), *place)]) from None
+
+
+def laws_of(asked: dict[str, Any], attempts: Attempts) -> dict[str, FittedLaw]:
+    """Returns the laws of all tables that are asked for. Raises the faults of all files and fits together."""
+    history, leads = attempts.files(asked)
+    tables = {"demand": history, "lead": leads, "returns": history and history.returns}
+    method = "empirical" if asked["fit"] == "empirical" else "auto"
+
+    def fitted(name: str, observed: Observed) -> FittedLaw:
+        """Returns the law of a table."""
+        if name == "lead":
+            return fit_lead(observed, method=method)
+        return fit_demand(observed, method=asked["fit"], box=asked["box"])
+    laws = {name: attempts.made(partial(fitted, name, observed)) for name, observed in tables.items() if observed}
+    attempts.end()
+    return {name: law for name, law in laws.items() if law}
+
+
+@click.command(epilog="Example: crnplan history sales.csv --demand Menge --date Datum --every week --decimal , --net")
+@click.argument("file", metavar="HISTORY.csv", type=click.Path())
+@demand_option
+@click.option("--returns", metavar="COLUMN", callback=stripped,
+              help="What customers gave back, for a scenario of version 2.")
+@record_options
+@click.option("--fit", type=click.Choice(METHODS), metavar="METHOD", default="auto", show_default=True,
+              help="How demand and returns are fitted: auto, predictive, empirical, or by the name of a family: "
+                   f"{', '.join(FAMILIES)}.")
+@click.option("--season", type=click.IntRange(2), metavar="N",
+              help="How many periods a season has that is looked for; without it as the dates say.")
+@file_options
+def history(**asked: Any) -> None:
+    """Turn a history of demand into the tables [demand], [lead] and [returns] of a scenario.
+
+    HISTORY.csv (- is standard input) has a heading and one row for each period. With --date each row is a movement.
+    The movements of a period are summed, and periods without one count 0. The tables go to standard output. Notes go
+    to standard error. All faults of the files are found in one pass.
+
+    By default (--fit auto) the predictive laws of all families that look like the history are mixed, without demands
+    above two to three times the largest one seen, and with what was observed if that speaks against them. --fit
+    predictive takes the law of the family with the least BIC. If no family looks like the history, both take what was
+    observed. Both blur 2 to 19 lead times. With --fit empirical the weight of a value is how often it was observed.
+
+    Notes warn of demand that is not independent from period to period, or not of one law: a table forgets the order.
+    They say what to do, and which effects the tests would have missed. False alarms come in less than 5% of histories.
+
+    --lead has one row for each lead time, in periods. --orders has one row for each order. An order that was placed on
+    any day of period t and received on any day of period t + L has lead time L, and 1 if both fell in one period. If
+    you place orders only at the beginning of a period, these lead times are half a period too short on average: then
+    take shorter periods.
+
+    Dates are 2026-03-31, 31.03.2026, 31.03.26, 31/03/2026 or 03/31/2026, with or without a time of day. A date with a
+    number over 12 decides whether the day or the month comes first. These options hold for all files.
+    """
+    rules = rules_of(asked)
+    if asked["demand"] is None:
+        with whole_table(asked["file"], "history") as given:
+            names = ", ".join(column_names(given, Rules(**rules))) or "none"
+        raise Refused(f"{asked['file']}: say --demand with the name of a column; the columns are: {names}")
+    with attempts_of(asked) as attempts:
+        laws = laws_of(asked, attempts)
+    checked = (line for made in attempts.read if isinstance(made, History)
+               for line in lines_of(checks_of(made, season=asked["season"])))
+    attempts.say([*checked, *(line for name, law in laws.items() for line in notes_of(law, name))])
+    for name, law in laws.items():
+        click.echo(f"\n{VERSION if name == 'returns' else ''}{law.toml(name)}", nl=False)
+
+
+@click.command(epilog="Example: crnplan suggest my/scenario.toml > my/suggested.toml 2> my/suggested.txt")
+@scenario_argument
+@click.option("--initial", is_flag=True, help="Write the proposed initial.")
+@click.option("--unit-zero", is_flag=True, help="Write unit = 0.")
+@form_options
+@click.option("--history", "file", metavar="FILE.csv", type=click.Path(),
+              help="The history of demand: add policies that keep a fill rate under most laws that it allows.")
+@click.option("--confidence", type=click.FloatRange(0, 1, min_open=True), metavar="C",
+              help="With --history: the share of these laws.  [default: 0.8]")
+@demand_option
+@record_options
+@file_options
+def suggest(**asked: Any) -> None:
+    """Suggest policies for a scenario: the best (s,S) by theory, and good alternatives, beside today's. `-` is standard
+    input.
+
+    The first policy of SCENARIO.toml is today's. The same scenario goes to standard output with today's policy and up
+    to 15 others, each with its reason as a comment: the best; today's s with its best S, and today's S with its best s;
+    the cheapest that meet at least 95, 98, 99 and 99.5% of demand at once; fewer and more orders; neighbours of the
+    best. Of policies that behave alike one is listed. A table goes to standard error: of each policy the cost a period,
+    the share of demand that is met at once (fill), the share of periods that end with items owed (short), the mean
+    stock at the end of a period, and the orders a period.
+
+    The figures are those of the long run: all demand is met in the end, and the demands, returns and lead times of the
+    periods are independent and each of one law, as in crnsim. They are exact but for rounding, also if orders overtake
+    one another. If numbers are so large that they are rounded to steps of some items, the table says by how much that
+    may matter. Each policy is the best of all pairs with s >= 0 that its reason allows. If there are several lead times
+    and large numbers it is what a search over S - s finds, and the table says how good that is. The cost unit is left
+    out: in the long run it adds unit times the mean net demand to every policy. What crnsim computes from the stock
+    initial over some periods is a sample that begins elsewhere: so run the suggested scenario.
+
+    All figures are by the scenario's law of demand, and customers may ask for more. With --history, 100 laws are drawn
+    that the history allows. Beside each policy with a fill rate then stands the cheapest found that has it under at
+    least 80% of these laws (--confidence) and by the scenario's law too, and how much more it costs. FILE.csv has a row
+    for each period with the demand in the column demand, as crnplan item writes it, unless --demand names another
+    column. All words about files are those of crnplan history. Without --lead or --orders the scenario's lead times
+    hold.
+
+    Two lines on standard error are about the run. A start far from the long run biases costs by an amount that falls
+    only as 1 over periods: the mean inventory position of the best policy at the beginning of a period is proposed as
+    initial, since nothing is on order then. And unit charges the items that are left at the end too, which favours
+    policies that end with little stock. With --initial and --unit-zero the scenario is written with this initial, and
+    with unit = 0; else both stay as they are.
+
+    Nothing of this is proved; crnsim's figures are.
+    """
+    from ..demand.posterior import allowed_laws, allowed_leads
+    from ..theory.confidence import CONFIDENCE
+    from ..theory.suggestions import suggestions_of
+    context, laws, leads = click.get_current_context(), tuple[Law, ...](), tuple[Law, ...]()
+    of_history = [option.opts[0] for option in context.command.params if option.name and option.name not in OWN
+                  and context.get_parameter_source(option.name) is not ParameterSource.DEFAULT]
+    if asked["file"] is None and of_history:
+        raise usage_error(f"{of_history[0]} is that of --history: give the history of demand too")
+    rules_of(asked)
+    scenario = Scenario.read(asked["scenario"])
+    with attempts_of(asked) as attempts:
+        if asked["file"]:
+            demand, lead_times = attempts.sound_files(asked)
+            laws = allowed_laws(demand, box=asked["box"]).laws
+            leads = allowed_leads(lead_times).laws if lead_times else ()
+    attempts.say()
+    with theory_of(scenario, asked["scenario"]):
+        suggested = suggestions_of(scenario, laws, leads, asked["confidence"] or CONFIDENCE)
+    if asked["form"]:
+        show(suggested, asked["form"])
+    else:
+        print(suggested.text, end="", file=sys.stderr)
+        print(suggested.toml(initial=asked["initial"], unit_zero=asked["unit_zero"]), end="")
+
+
+@click.command(epilog="Example: crnplan doubt plan/suggested.toml plan/demand.csv --plot plan/doubt.png")
+@scenario_argument
+@click.argument("file", metavar="HISTORY.csv", type=click.Path())
+@demand_option
+@record_options
+@file_options
+@click.option("--times", type=click.IntRange(*TIMES), default=100, show_default=True, metavar="N",
+              help="How many laws are drawn.")
+@click.option("--within", type=float, default=WITHIN, show_default=True, metavar="P",
+              help="The share by which a policy may cost more than the best and still be near it.")
+@click.option("--seed", type=click.IntRange(0), default=1, show_default=True, metavar="N",
+              help="The same seed draws the same laws.")
+@click.option("--runs", is_flag=True, help="Run crnsim under each law too, for the coming periods.")
+@program_option
+@click.option("--plot", type=Picture(), metavar="FILE", help="Draw the regrets, as .png or .svg.")
+@form_options
+def doubt(**asked: Any) -> None:
+    """Say how sure a choice among the policies of a scenario is, if the demand is known from a short history alone.
+
+    HISTORY.csv is the history from which the scenario's law of demand was fitted. It has a row for each period, with
+    the demand in the column demand, as crnplan item writes it, unless --demand names another column. All words about
+    files are those of crnplan history. Without --lead or --orders the scenario's lead times hold.
+
+    Laws are drawn that the history allows, and the long run of each policy is computed under each of them. Columns:
+    cost, the mean cost of a period over the laws, which is the cost to promise, without unit; regret, how much more
+    than the best of these policies a policy costs, in the mean; regret_90, what its regret does not exceed under 90% of
+    the laws; within, the share of laws under which its regret is at most --within; is_best, the share under which it is
+    the best. own_ are the same against the best of all policies under each law. fill is the mean fill rate, fill_10
+    what it reaches under 90% of the laws. The policies are ranked by cost.
+
+    With --runs, crnsim runs the scenario under each law with the scenario's key, stock and periods. run_cost is the
+    mean cost of a period, law_spread its standard deviation over the laws, luck_spread that of one replication under
+    one law: what the coming periods will cost is as uncertain as both together.
+
+    Theory's figures are rounded and unproved; crnsim's are exact and proved for its stream, and then rounded here.
+    """
+    rules_of(asked)
+    scenario = Scenario.read(asked["scenario"])
+    words = {name: asked[name] for name in ("times", "within", "seed", "box", "runs", "program")}
+    with attempts_of(asked) as attempts:
+        demand, leads = attempts.sound_files(asked)
+        with theory_of(scenario, asked["scenario"]):
+            doubted = doubt_of(scenario, demand, leads, **words)
+    attempts.say()
+    if asked["plot"]:
+        from ..pages.pictures import regrets_picture, save
+        save(regrets_picture(doubted), asked["plot"])
+    show(doubted, asked["form"])

@@ -1,0 +1,95 @@
+"""Options that several commands share, and how their results are printed."""
+from __future__ import annotations
+
+import json
+import sys
+from collections.abc import Callable
+from pathlib import Path
+from typing import Any
+
+import click
+
+from ..crnsim.report import Report
+from ..decide.verdicts import horizon_of
+from ..errors import Refused
+from ..scenario import Scenario
+from ..table import Result
+
+Decorator = Callable[[Callable[..., Any]], Callable[..., Any]]
+PICTURES = (".png", ".svg")
+
+
+class Picture(click.ParamType):
+    """The path of a picture, whose ending says its kind."""
+
+    name = "picture"
+
+    def convert(self, value: Any, param: click.Parameter | None, ctx: click.Context | None) -> Path:
+        """Returns the path. Raises Refused for another ending."""
+        if not value.lower().endswith(PICTURES):
+            raise Refused(f"{value!r} does not end with {' or '.join(PICTURES)}")
+        return Path(value)
+
+
+def together(*options: Decorator) -> Decorator:
+    """Returns a decorator that adds options to a command, in this order."""
+    def decorated(command: Callable[..., Any]) -> Callable[..., Any]:
+        """Adds the options."""
+        for option in reversed(options):
+            command = option(command)
+        return command
+    return decorated
+
+
+scenario_argument = click.argument("scenario", metavar="SCENARIO.toml", type=click.Path())
+program_option = click.option("--program", metavar="PATH", help="The program crnsim.")
+worker_options = together(
+    click.option("--jobs", type=click.IntRange(min=1), metavar="N",
+                 help="Processes at a time; by default one for each processor."),
+    click.option("--cluster", metavar="ADDRESS",
+                 help="A Dask scheduler, as tcp://host:8786. Its workers need crnplan."),
+    program_option)
+level_option = click.option("--level", type=float, default=0.95, show_default=True,
+                            help="The joint level of the intervals.")
+form_options = together(
+    click.option("--csv", "form", flag_value="csv", help="Print the table as CSV."),
+    click.option("--json", "form", flag_value="json", help="Print JSON, unrounded."))
+horizon_options = together(
+    click.option("--horizon", type=int, metavar="P", help="Run the coming P periods, not the scenario's."),
+    click.option("--stock", type=int, metavar="N", help="Start from this stock, not from `initial`."),
+    click.option("--long-run", is_flag=True, help="Compare costs of the long run, without the effect of the start."))
+
+
+def usage_error(what: str) -> click.UsageError:
+    """Returns the error of words that do not go together."""
+    return click.UsageError(what, click.get_current_context())
+
+
+def read_for(path: str, horizon: int | None, stock: int | None, long_run: bool, is_table: bool) -> Scenario:
+    """Reads a scenario for its horizon. If that is named by periods or stock, a line on standard error says it, unless
+    the output is a table for a reader: which says it in its heading."""
+    if long_run and (horizon, stock) != (None, None):
+        raise usage_error("--long-run has no --horizon and no --stock: give one or the other")
+    asked = Scenario.read(path)
+    if (horizon, stock) != (None, None):
+        asked = asked.changed(periods=asked.periods if horizon is None else horizon,
+                              initial=asked.initial if stock is None else stock)
+        if not is_table:
+            print(f"The {horizon_of(asked)}", file=sys.stderr)
+    return asked
+
+
+def show(result: Result, form: str | None) -> None:
+    """Prints a result as text, or as `csv` or `json`. With CSV the notes go to standard error."""
+    if form == "csv":
+        print(result.table.csv, end="")
+        print(result.notes.lstrip("\n"), end="", file=sys.stderr)
+    elif form == "json":
+        print(json.dumps(result.tree, indent=2))
+    else:
+        print(result.text, end="")
+
+
+def show_report(report: Report, form: str | None) -> None:
+    """Prints a report as the program writes it, or its rows as `json`, with fractions as texts."""
+    print(json.dumps(report.table.records, indent=2) + "\n" if form == "json" else report.text, end="")
