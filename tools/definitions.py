@@ -1,13 +1,19 @@
 #!/usr/bin/env python3
 """Which definitions public contracts state: tools/definitions.py reached [CRATE::FUNCTION ..], `kinds` for all, or
-`page`.
+`pages`.
 
 `reached` prints what the contracts of the named functions reach of `specs/`, through definitions, types of signatures
 and ghost parts of types; with no name, what any public function or type reaches. `kinds` sorts all: "stated" is reached
 so, "kept" only from the `ghost invariant` of such a type, of which callers learn nothing, "private" only from private
-functions, types, closures and the clauses of loops, "proof" only from proofs and tactics, "unused" from nowhere. `page`
-prints docs/DEFINITIONS.md: what the contracts of CHAIN reach, in the order in which they reach it, each definition with
-its meaning, which is the comment above it.
+functions, types, closures and the clauses of loops, "proof" only from proofs and tactics, "unused" from nowhere.
+
+`pages` writes anew what stands in docs/DEFINITIONS.md and docs/PROOFS.md between `<!-- MARK -->` and `<!-- end -->`:
+
+    reached by CONTRACT   the definitions that it reaches and none above has reached, in the order in which it reaches
+                          them. A statement or a type has its meaning, which is the comment above it, unless the page
+                          has its name in bold and in code; a function is only named
+    kept                  those that only invariants reach from the contracts of CHAIN
+    ensures CONTRACT      its `ensures` clauses, as they stand in the source
 
 It goes by names and scopes, not by types: what a binder hides, or stands behind a dot, is no definition. In doubt it
 counts as stated: all fields of a type, private ones too, and each type that a signature names. Public is what the root
@@ -22,17 +28,10 @@ import sys
 from rattle_text import CLAUSE, definitions_of, free_names, items_of, members_of, names_of, tokens_of, uses_of
 
 SORTS, MARKS = ("stated", "kept", "private", "proof", "unused"), {"stated": "", "kept": " (by an invariant alone)"}
-# The contracts from which docs/READING.md goes down, with what each is about.
-CHAIN = {
-    "crn_engines::simulate": "what was read and written, and the report of a scenario",
-    "crn_run::run_all": "the runs of all policies",
-    "crn_run::run_policy": "the run of one policy, on its own thread",
-    "crn_ring::Reader::take_batch": "what a reader is given",
-    "crn_ring::laws::steps_are_a_run": "the running table, and the ring's moves",
-    "crn_proto::laws::every_schedule": "what holds of every run",
-    "crn_cipher::block": "the words of a block",
-    "crn_proto::laws::progress": "that the ring cannot stick, and when it ends",
-}
+# The contracts from which docs/READING.md goes down.
+CHAIN = ("crn_engines::simulate", "crn_run::run_all", "crn_run::run_policy", "crn_ring::Reader::take_batch",
+         "crn_ring::laws::steps_are_a_run", "crn_proto::laws::every_schedule", "crn_cipher::block",
+         "crn_proto::laws::progress")
 IMPL = re.compile(r"impl\s*(?:<(?:[^<>]|<[^<>]*>)*>)?\s*(?:(\S+?)(?:<.*>)?\s+for\s+)?[&\s]*([\w:]+)", re.DOTALL)
 
 
@@ -42,6 +41,7 @@ class Repository:
     def __init__(self, top=pathlib.Path(__file__).resolve().parent.parent):
         self.top, self.definitions, self.exports, self.local, self.imports = pathlib.Path(top), {}, {}, {}, {}
         self.edges, self.methods, self.calls = (collections.defaultdict(set) for _ in range(3))
+        self.traits = set()
         specs = self.files("specs/**/*.antt")
         for key, text in specs.items():
             self.exports[key] = {here: (path, name) for path, name, here, public in uses_of(text) if public}
@@ -120,6 +120,7 @@ class Repository:
             elif it.kind in ("impl", "trait"):
                 of, name = IMPL.match(it.head).groups() if it.kind == "impl" else (it.name, it.name)
                 inner = self.item_at(key, name.split("::")) or self.item_at(key, (of or "").split("::")) or node
+                self.traits.update([node] if it.kind == "trait" else [])
                 self.read_items(key, items_of(it.body), look, inner, bool(of))
             elif it.kind == "fn":
                 node = "function", *key, f"{owner[3]}::{it.name}" if owner else it.name
@@ -127,6 +128,9 @@ class Repository:
                 self.add(node, key, it.head, it.clauses, look, bound)
                 self.add(("private", *node[1:]), key, "", CLAUSE.findall(it.body), look)
                 self.edges[node].update([owner] if owner else [])
+                if owner in self.traits:
+                    # A clause may name what a bound's trait shows, and a body may call it.
+                    self.edges[owner].add(node)
                 self.methods[owner].update([node] if it.public or trait else [])
                 called = re.findall(r"([A-Za-z_][\w:]*)\s*\(", it.body if not it.clauses else "")
                 self.calls[node].update(self.item_at(key, path.split("::")) for path in called)
@@ -193,48 +197,69 @@ def place_of(node):
     return f"crates/{node[1]}/specs/{node[2].replace('.', '/')}.antt"
 
 
-PAGE = """# Definitions
-
-What the contracts of [READING](READING.md) state, from the first contract down: {stated} of {all} definitions in `specs/`, each
-with its meaning. A mistake in one of these could change what the sentence at the head of [README](../README.md) says, and in
-one of the last contract what README says of progress; a mistake in another can only make a proof fail.
-`tools/definitions.py page` writes this page.
-"""
-KEPT = """
-## By invariants alone
-
-Only the `ghost invariant` of a model reaches these. Callers learn nothing of it, so a mistake in one changes nothing that the
-contracts say.
-"""
+# The pages with parts that `pages` writes, and such a part: its mark, what it is of, and what stands there.
+PAGES = ("docs/DEFINITIONS.md", "docs/PROOFS.md")
+PART = re.compile(r"^<!-- (reached by|kept|ensures) ?(\S*) -->\n(.*?)^<!-- end -->$", re.MULTILINE | re.DOTALL)
 
 
-def lines_of(repository, nodes):
-    """The lines of a section of the page: the files in the order in which they are reached, in each its definitions."""
+def is_statement(name):
+    """Whether a definition is a statement or a type, and no function: it begins with a capital letter."""
+    return name.lstrip("◌")[:1].isupper()
+
+
+def lines_of(repository, nodes, told):
+    """The lines of a list: the files in the order in which they are reached, in each its definitions."""
     for place in dict.fromkeys(place_of(it) for it in nodes):
         here = sorted((it for it in nodes if place_of(it) == place), key=lambda it: repository.definitions[it].line)
-        yield f"\n[`{here[0][1]}`, {here[0][2]}](../{place})\n"
-        yield from (f"- `{it[3]}`: {repository.meaning(it)}" for it in here)
+        named = [it for it in here if not is_statement(it[3]) or it[3] in told]
+        yield f"\n[`{here[0][1]}`, {here[0][2]}](../{place})"
+        yield from ["", *(f"- `{it[3]}`: {repository.meaning(it)}" for it in here if it not in named)]
+        yield from [f"- {', '.join(f'`{it[3]}`' for it in named)}"] if named else []
 
 
-def page(repository):
-    """The text of docs/DEFINITIONS.md."""
-    public = dict(repository.public())
-    sorts, shown, lines = repository.sorts([public[it] for it in CHAIN]), set(), []
-    for contract, about in CHAIN.items():
-        nodes = [it for it in repository.levels([public[contract]]) if it not in shown]
-        shown.update(nodes)
-        lines += [f"\n## {about[0].upper()}{about[1:]}: `{contract}`", *lines_of(repository, nodes)] if nodes else []
-    kept = sorted((it for it in sorts if sorts[it] == "kept"), key=lambda it: (*it[1:3],
-                                                                               repository.definitions[it].line))
-    head = PAGE.format(stated=len(shown), all=len(sorts))
-    return head + "\n".join(lines) + "\n" + KEPT + "\n".join(lines_of(repository, kept)) + "\n"
+def clauses_of(repository, node):
+    """The `ensures` clauses of a function, as they stand in the source, without what they are indented by."""
+    crate, module, (*owner, name) = *node[1:3], node[3].split("::")
+    paths = [f"crates/{crate}/src/{it}.rt" for it in ([module.replace(".", "/")] if module else ["lib", "main"])]
+    text = next((repository.top / it).read_text(encoding="utf-8") for it in paths if (repository.top / it).exists())
+    if owner:
+        text = "\n".join(re.findall(rf"^impl\b[^\n]*\b{owner[0]}\b.*?^}}", text, re.MULTILINE | re.DOTALL))
+    head = re.search(rf"^( *)pub fn {name}\b.*?^\1{{", text, re.MULTILINE | re.DOTALL)[0]
+    clauses = re.findall(r"^( *)(ensures\b.*?)(?=^ *(?:requires\b|ensures\b|ghost\b|\{$|\{\}$))", head + "\n{\n",
+                         re.MULTILINE | re.DOTALL)
+    return [line.removeprefix(indent) for indent, clause in clauses for line in clause.rstrip().split("\n")]
+
+
+def filled(repository, text):
+    """The text of a page in which each part is written anew."""
+    public, shown = dict(repository.public()), set()
+    sorts = repository.sorts([public[it] for it in CHAIN])
+    told = set(re.findall(r"\*\*`([^`]+)`\*\*", PART.sub("", text)))
+
+    def part(found):
+        mark, path = found[1], found[2]
+        if mark == "ensures":
+            lines = ["```", *clauses_of(repository, public[path]), "```"]
+        elif mark == "kept":
+            kept = [it for it in repository.definitions if sorts[it] == "kept"]
+            kept.sort(key=lambda it: (*it[1:3], repository.definitions[it].line))
+            lines = lines_of(repository, kept, told)
+        else:
+            nodes = [it for it in repository.levels([public[path]]) if it not in shown]
+            shown.update(nodes)
+            lines = lines_of(repository, nodes, told)
+        return "\n".join([f"<!-- {' '.join([mark, path]).strip()} -->", *lines, "<!-- end -->"])
+
+    return PART.sub(part, text)
 
 
 def main(command, *paths):
     """Prints what is reached by the named functions or by all that is public, or all definitions by their sorts."""
     repository, files = Repository(), collections.defaultdict(set)
-    if command == "page":
-        print(page(repository), end="")
+    if command == "pages":
+        for name in PAGES:
+            text = (repository.top / name).read_text(encoding="utf-8")
+            (repository.top / name).write_text(filled(repository, text), encoding="utf-8")
         return
     public, definitions = repository.public(), repository.definitions
     if set(paths) - {path for path, _ in public}:
@@ -256,4 +281,4 @@ def main(command, *paths):
 
 
 if __name__ == "__main__":
-    main(*sys.argv[1:]) if sys.argv[1:2] == ["reached"] or sys.argv[1:] in (["kinds"], ["page"]) else sys.exit(__doc__)
+    main(*sys.argv[1:]) if sys.argv[1:2] == ["reached"] or sys.argv[1:] in (["kinds"], ["pages"]) else sys.exit(__doc__)

@@ -22,20 +22,26 @@ from tests.documents.page_folder import RUNNERS, Folder, commands_of
 from tests.runs import TOP
 
 Case = tuple[str, object]
-RUN = ["README.md", "docs/GUIDE.md", "docs/FORMATS.md", "examples/README.md"]
+RUN = ["README.md", "docs/GUIDE.md", "docs/FORMATS.md", "docs/PROVING.md", "examples/README.md"]
 # Commands that are never run, and why. The last pattern is for those that have no reason yet: there must be none.
 NOT_RUN = {
     r"\.ci/run": "it is the gate, of which this is a part",
     r"tools/(setup|install)\b.*": "tests/tools runs them, in folders of their own",
+    r"(\(cd crates/crn_pair && )?rt (check|fmt|lemma)\b.*": "they need the sources of a crate, which the page changes",
+    r"tools/(measure|rounds)\.py .*": "they prove for minutes",
     r"dask-(scheduler|worker) .* &": "they do not end",
     r".* --cluster \S+( .*)?": "planner/tests runs a cluster of its own",
     r".*\b(rt|apt|apt-get|pip|pip3|git|sbatch|srun|curl|wget|sudo|ssh)\b.*": "",
 }
 # Blocks without a kind that no command prints: a page and how the block begins, and what it is.
 NOT_PRINTED = {("docs/FORMATS.md", "period  t  "): "a drawing",
-               ("docs/FORMATS.md", "policy,s,S,"): "the header of a report, which is compared by itself"}
+               ("docs/FORMATS.md", "policy,s,S,"): "the header of a report, which is compared by itself",
+               ("docs/PROVING.md", "fn of_words("): "a quote, as the next two: test_names.py compares them",
+               ("docs/PROVING.md", "invariant-loop-y l = "): "a quote",
+               ("docs/PROVING.md", "loop-y-preserved c g h = "): "a quote"}
 # Blocks of other kinds, and what is done with them.
-OTHER_KINDS = {"toml": "they are compared with the examples", "cpp": "not run, as it needs the headers of Random123"}
+OTHER_KINDS = {"toml": "they are compared with the examples", "cpp": "not run, as it needs the headers of Random123",
+               "text": "what the prover prints, and an edit", "rust": "code of a change", "antt": "a proof of a change"}
 # A span is a command if it begins with one of these and goes on, unless it only names a command's words.
 COMMAND = re.compile(r"\.ci/run|(crnsim|crnplan|(tools|crates/crnsim/out)/\w+|apt-get|awk|cat|cd|cmp|cp|cut|diff|echo"
                      r"|git|grep|head|ls|mkdir|pip|printf|python3|rt|sed|seq|sh|sort|tail|tr|xargs) .*")

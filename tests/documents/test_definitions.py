@@ -1,8 +1,12 @@
-"""docs/DEFINITIONS.md lists what the contracts of READING reach, and specs/Inner what no public contract states."""
+"""docs/DEFINITIONS.md lists what the contracts of READING reach, and specs/Inner what no public contract states.
+
+The parts of pages that tools/definitions.py writes are as it writes them, and it finds definitions that are planted.
+"""
 from __future__ import annotations
 
 import importlib
 import re
+import tomllib
 from pathlib import Path
 from typing import Any
 
@@ -46,9 +50,20 @@ def test_each_definition_has_its_meaning(repository: Any, sorts: dict[Any, str],
               for node in sorts if sorts[node] in ("stated", "kept"))
 
 
-def test_page_is_generated(definitions: Any, repository: Any) -> None:
-    """The page is what `tools/definitions.py page` writes."""
-    assert text_of("docs/DEFINITIONS.md") == definitions.page(repository)
+@pytest.mark.parametrize("page", ["docs/DEFINITIONS.md", "docs/PROOFS.md"])
+def test_parts_are_generated(definitions: Any, repository: Any, page: str) -> None:
+    """What stands between marks is what `tools/definitions.py pages` writes from the sources."""
+    assert text_of(page) == definitions.filled(repository, text_of(page))
+
+
+def test_pages_have_their_parts(definitions: Any) -> None:
+    """DEFINITIONS has a list for each contract of the chain, in order. PROOFS quotes those of README, and some more."""
+    marks = {page: definitions.PART.findall(text_of(page)) for page in definitions.PAGES}
+    lists, quotes = marks["docs/DEFINITIONS.md"], [contract for _, contract, _ in marks["docs/PROOFS.md"]]
+    assert [(mark, contract) for mark, contract, _ in lists] == [*(("reached by", it) for it in definitions.CHAIN),
+                                                                 ("kept", "")]
+    assert set(definitions.CHAIN) <= set(quotes) and len(quotes) == len(set(quotes))
+    assert all(re.search("^ensures ", body, re.MULTILINE) for _, _, body in marks["docs/PROOFS.md"])
 
 
 def test_reading_counts_definitions(sorts: dict[Any, str]) -> None:
@@ -68,3 +83,22 @@ def test_inner_definitions(repository: Any, check_all: Any) -> None:
 
     modules = sorted({node[1:3] for node in sorts})
     check_all((f"crates/{crate}/specs {module}", not (its := wrong(crate, module)) or its) for crate, module in modules)
+
+
+# ---- planted definitions
+
+WAYS = tomllib.loads(text_of("tests/documents/planted_definitions.toml"))
+PLANTED = WAYS.pop("planted")
+
+
+@pytest.mark.parametrize("way", WAYS)
+def test_planted_definition(definitions: Any, tmp_path: Path, way: str) -> None:
+    """A definition that a public contract states is found, however it is hidden; one that none states is not."""
+    is_stated, files = WAYS[way]["is_stated"], {it: text for it, text in WAYS[way].items() if it != "is_stated"}
+    for name, text in {"specs/Planted.antt": PLANTED, **files}.items():
+        path = tmp_path / "crates/crn_planted" / name
+        path.parent.mkdir(parents=True, exist_ok=True)
+        path.write_text(text, "utf-8")
+    planted = definitions.Repository(tmp_path)
+    sorts = planted.sorts([it for _, it in planted.public()])
+    assert (sorts["definition", "crn_planted", "Planted", "IsPlanted"] == "stated") == is_stated

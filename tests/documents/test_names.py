@@ -18,8 +18,9 @@ ROWS = dict(re.findall(r"^\| `((?:crn|tests_|uses)[a-z_]*)` \|[^|]*\|([^|]*)\|",
 # What the program gives out. Each is defined in a crate below it, so main.rt compiles only if it is there.
 PROGRAM_NAMES = {"simulate", "leg", "resume", "migrate", "replay_run", "read_words", "Command", "Fault"}
 # Names in pages that stand for any of their kind.
-STANDING_FOR_ANY = {"crn_x", "tests_x", "tests_ring_tests", "what_it_does_wrong"}
-ENGINEERS = ["crates/uses/README.md", "docs/ARCHITECTURE.md", "docs/PROOFS.md", "docs/READING.md", "CONTRIBUTING.md"]
+STANDING_FOR_ANY = {"crn_x", "tests_x", "tests_ring_tests", "two_for_one", "what_it_does_wrong"}
+ENGINEERS = ["crates/uses/README.md", "docs/ARCHITECTURE.md", "docs/DEFINITIONS.md", "docs/PROOFS.md", "docs/PROVING.md",
+             "docs/READING.md", "CONTRIBUTING.md"]
 EDITS = [it for crate in crates() for folder in FOLDERS for it in edits_of(crate, folder)]
 SENTENCES = Counter(it.what for it in EDITS)
 
@@ -48,7 +49,8 @@ def quotes() -> dict[str, tuple[str, list[str]]]:
     reading = text_of("docs/READING.md")
     chain = reading[reading.index("## The chain"):reading.index("## What must be believed")]
     found: dict[str, tuple[str, list[str]]] = {}
-    for page, text in (("READING", chain), ("uses", text_of("crates/uses/README.md"))):
+    proving = re.sub(r"^```\w+\n.*?^```$", "", text_of("docs/PROVING.md"), flags=re.MULTILINE | re.DOTALL)
+    for page, text in (("READING", chain), ("PROVING", proving), ("uses", text_of("crates/uses/README.md"))):
         for before, block in re.findall(r"((?:^(?!```)[^\n]*\n)+)^```\n(.*?)^```$", text, re.MULTILINE | re.DOTALL):
             files = re.findall(r"`(crates/[^`]*\.(?:rt|antt))`", before)
             found |= {f"{page}: {line.strip()}": (line, files) for line in block.splitlines()}

@@ -5,8 +5,9 @@
     python -m tests.program.oracle old V N SCENARIO       the same in version V of the format, if that can hold it
     python -m tests.program.oracle words K0 K1 K2 K3 N    the words of block N
 
-It is written from docs/PROOFS.md and docs/FORMATS.md: it carries no stock on, but adds up all earlier orders, demands
-and returned items anew in each period, and draws from the spread-out list. Scenarios are taken to be without a fault.
+It is written from docs/DEFINITIONS.md and docs/FORMATS.md: it carries no stock on, but adds up all earlier orders,
+demands and returned items anew in each period, and draws from the spread-out list. Scenarios are taken to be without a
+fault.
 The time for that grows with the square of the periods; long_runs.py is for long runs.
 """
 from __future__ import annotations
