@@ -22,7 +22,7 @@ from crnplan.records.catalogued import CATALOGUE, Catalogued
 from crnplan.records.item import Item
 from crnplan.stored import Store
 from crnplan.jobs import processes
-from crnplan.demand.borrowing import Prior
+from crnplan.demand.learning import Prior
 from crnplan.files import own_folder
 from crnplan.law import Law
 from planner.bench.made import make

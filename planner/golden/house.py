@@ -18,7 +18,7 @@ from crnplan.curve.candidates import Candidates
 from crnplan.decide.intervals import with_intervals
 from crnplan.decide.long_run import check_long_run, corrected_decision, long_run_decision
 from crnplan.decide.verdicts import table_of
-from crnplan.demand import checks_of
+from crnplan.demand.checks import check_history
 from crnplan.decide.moves import moves_of
 from crnplan.plan.answer import CHOSEN, Answer
 from crnplan.plan.catalogue import planned_folder
@@ -57,7 +57,7 @@ def law_figures(law: Any) -> Figures:
 
 def fitted(counts: Any, leads: Any) -> Figures:
     """Returns the laws of a history by each method, and what its checks find."""
-    checks = checks_of(counts)
+    checks = check_history(counts)
     tests = {it.name: {"p": it.p, "size": it.size, "least_seen": it.least_seen} for it in checks.tests}
     laws = {method: law_figures(crn.fit_demand(counts, method=method)) for method in ("auto", "empirical",
                                                                                       "predictive")}

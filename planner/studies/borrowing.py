@@ -33,8 +33,10 @@ import pandas as pd
 from tqdm import tqdm
 
 from crnplan.chances import Floats, in_items
-from crnplan.demand import FittedLaw, fit_demand
-from crnplan.demand.borrowing import Borrowed, Prior, law_of, learn
+from crnplan.demand.fitted import FittedLaw
+from crnplan.demand.fitting import fit_demand
+from crnplan.demand.borrowing import Borrowed, law_of
+from crnplan.demand.learning import Prior, learn
 from crnplan.demand.families import predictive_of
 from crnplan.demand.sample import Sample
 from crnplan.law import Law

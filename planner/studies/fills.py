@@ -23,7 +23,7 @@ import click
 import numpy as np
 import pandas as pd
 
-from crnplan.demand import fit_demand
+from crnplan.demand.fitting import fit_demand
 from crnplan.demand.posterior import allowed_laws
 from crnplan.law import Law
 from crnplan.scenario import Costs, Policy, Scenario

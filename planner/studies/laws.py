@@ -29,7 +29,8 @@ import pandas as pd
 from scipy import stats
 
 from crnplan.chances import Floats
-from crnplan.demand import FittedLaw, fit_demand
+from crnplan.demand.fitted import FittedLaw
+from crnplan.demand.fitting import fit_demand
 from crnplan.theory.wiener_hopf import renewal_sequence
 from crnplan.theory.lattice_law import LatticeLaw, power_of
 from planner.studies.page import markdown

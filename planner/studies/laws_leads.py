@@ -23,7 +23,7 @@ import click
 import numpy as np
 import pandas as pd
 
-from crnplan.demand import fit_lead
+from crnplan.demand.fitting import fit_lead
 from crnplan.law import Law
 from crnplan.scenario import Scenario
 from crnplan.theory.lattice import theories_of

@@ -20,7 +20,7 @@ from typing import Any
 import click
 import pandas as pd
 
-from crnplan.demand import fit_demand
+from crnplan.demand.fitting import fit_demand
 from crnplan.law import Law
 from crnplan.theory.lattice import theories_of
 from crnplan.theory.long_run import Candidate, LongRun, search

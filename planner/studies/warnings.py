@@ -31,10 +31,8 @@ import numpy as np
 import numpy.typing as npt
 import pandas as pd
 
-from crnplan.demand.checks.facts import FALSE_ALARMS, Facts, Tested
-from crnplan.demand.checks.outliers import outliers_of
-from crnplan.demand.checks.permutation import Orders, p_value, statistics_of
-from crnplan.demand.checks.seasons import seasons_of
+from crnplan.demand.checks import FALSE_ALARMS, Facts, outliers_of, seasons_of, tests_of
+from crnplan.demand.permutation import Orders, p_value, statistics_of
 from crnplan.demand.sample import Sample
 from planner.studies import dependence, laws
 from planner.studies.dependence import effect_of
@@ -145,7 +143,7 @@ def stated(law: str, kind: str, periods: int, count: int) -> dict[str, Any]:
     said, seen = [], []
     for numbers in itertools.islice(histories(lambda: independent(law, random, periods)), count):
         facts = Facts(numbers, seasons_of(None, 1, periods, YEAR)[0])
-        size = next(it.least_seen for it in Tested(facts).checks(True) if it.name == kind)
+        size = next(it.least_seen for it in tests_of(facts) if it.name == kind)
         said.append(size)
         if size is not None and size != math.inf:
             seen.append(kind in warned(p_values(next(histories(lambda: drawn(law, kind, size, random, periods))))))

@@ -21,7 +21,7 @@ from hypothesis import strategies as st
 from crnplan import formats
 from crnplan.toml.scenarios import faults_of
 from crnplan.errors import ProgramError, Refused, ScenarioError
-from crnplan.demand import fit_demand
+from crnplan.demand.fitting import fit_demand
 from crnplan.law import Law
 from crnplan.scenario import Costs, Policy, Scenario, policies_of, read_policies
 from planner.tests.conftest import Command

@@ -29,13 +29,13 @@ _HOMES = {
     "History": "records",
     "read_history": "records",
     "read_lead_times": "records",
-    "Checks": "demand",
-    "check_history": "demand",
-    "FittedLaw": "demand",
-    "fit_demand": "demand",
-    "fit_lead": "demand",
-    "Prior": "demand.borrowing",
-    "learn": "demand.borrowing",
+    "Checks": "demand.checks",
+    "check_history": "demand.checks",
+    "FittedLaw": "demand.fitted",
+    "fit_demand": "demand.fitting",
+    "fit_lead": "demand.fitting",
+    "Prior": "demand.learning",
+    "learn": "demand.learning",
     "check_keys": "decide.keys",
     "doubt": "decide.doubt",
     "sensitivity": "decide.sensitivity",
@@ -62,8 +62,10 @@ if TYPE_CHECKING:
     from .decide.doubt import doubt
     from .decide.keys import check_keys
     from .decide.sensitivity import sensitivity
-    from .demand import Checks, FittedLaw, check_history, fit_demand, fit_lead
-    from .demand.borrowing import Prior, learn
+    from .demand.checks import Checks, check_history
+    from .demand.fitted import FittedLaw
+    from .demand.fitting import fit_demand, fit_lead
+    from .demand.learning import Prior, learn
     from .crnsim.program import find_program
     from .crnsim.long_run import LongRunReport
     from .crnsim.report import Report

@@ -13,7 +13,7 @@ from .errors import argument
 Facts = Mapping[str, Any]
 Say = str | Callable[[Facts], str]
 
-# The checks of a history (demand/checks).
+# The checks of a history (demand/checks.py).
 STUDIED = {"steady": "Poisson, mean 10", "erratic": "negative binomial, mean 3, variance 9"}
 WEEKDAYS = ("Monday", "Tuesday", "Wednesday", "Thursday", "Friday", "Saturday", "Sunday")
 QUARTERS = ("January to March", "April to June", "July to September", "October to December")
@@ -136,7 +136,7 @@ CHECKS: dict[str, tuple[Say, Say]] = {
     "season untested": (lambda it: f"{'weekdays are' if it['season'] == 'weekday' else 'a season is'} tested from "
                         f"{it['periods']} {it['unit']}s on", "")}
 
-# How a law was fitted (demand/fit_remarks.py).
+# How a law was fitted (demand/fitted.py).
 ALONE = {"nothing borrowed": "nothing is borrowed", "demand in boxes": "demand is counted in boxes of {box}",
          "packs of few others": "all demands are packs of {pack}, as those of few others",
          "large sizes": "the mean size of a demand is above {most:g}",

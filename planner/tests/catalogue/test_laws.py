@@ -20,7 +20,8 @@ from crnplan.records.catalogued import CATALOGUE as FOLDER, Catalogued, Writer
 from crnplan.records.item import Item
 from crnplan.stored import Store
 from crnplan.words import sentence
-from crnplan.demand.borrowing import Prior, law_of
+from crnplan.demand.borrowing import law_of
+from crnplan.demand.learning import Prior
 from crnplan.files import own_folder
 from crnplan.theory.long_run import NO_POLICY
 from planner.tests.theory.long_run_costs import fills_of, shortfall_of

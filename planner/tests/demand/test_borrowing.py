@@ -17,12 +17,12 @@ from scipy import special, stats
 
 import crnplan as crn
 from crnplan.chances import Floats
-from crnplan.demand import FittedLaw, fit_demand, notes_of
-from crnplan.demand.borrowing import Borrowed, Prior, borrowed_laws, em, grid, law_of, learn, learning
-from crnplan.demand.borrowing.likelihoods import Cells, chunks_of, marginal
-from crnplan.demand.borrowing.posterior import Posterior
-from crnplan.demand.borrowing.prior import Learned
-from crnplan.demand.fitting import share_of
+from crnplan.demand import grid, learning
+from crnplan.demand.borrowing import Borrowed, Posterior, borrowed_laws, law_of
+from crnplan.demand.fitted import FittedLaw, notes_of
+from crnplan.demand.fitting import fit_demand, share_of
+from crnplan.demand.grid import Cells, chunks_of, marginal
+from crnplan.demand.learning import Learned, Prior, learn
 from crnplan.demand.posterior import allowed_laws
 from crnplan.demand.sample import Sample
 from crnplan.errors import Refused, RefusedFaults
@@ -58,6 +58,11 @@ def borrowed(law: FittedLaw) -> Borrowed:
     return found
 
 
+def one_step(chunks: Sequence[Cells], prior: Floats, pull: Floats) -> Floats:
+    """Returns the mean of the posterior laws of all histories, and of items that have the flat prior."""
+    return grid.estimated(chunks, prior, pull, steps=1, blur=0)
+
+
 def reason(law: FittedLaw) -> str:
     """Returns in words why the law of an item alone is taken; empty if it is not."""
     alone = borrowed(law).alone
@@ -66,12 +71,12 @@ def reason(law: FittedLaw) -> str:
 
 def test_learned_prior(mixed: dict[str, list[int]]) -> None:
     """The prior is that of a hundred steps from the flat one, each blurred by 5%, with the flat prior as one item."""
-    chunks, prior = chunks_of(Sample.of(it) for it in mixed.values()), em.FLAT
+    chunks, prior = chunks_of(Sample.of(it) for it in mixed.values()), grid.FLAT
     for _ in range(100):
-        prior = em.blurred(em.step(chunks, prior, em.FLAT), 0.05)
+        prior = grid.blurred(one_step(chunks, prior, grid.FLAT), 0.05)
     whole = learn(mixed).whole
     assert whole and np.allclose(whole.chances, prior, rtol=1e-5, atol=1e-9)
-    gains = np.log10(marginal(chunks, prior) / marginal(chunks, em.FLAT))
+    gains = np.log10(marginal(chunks, prior) / marginal(chunks, grid.FLAT))
     assert whole.gain == pytest.approx(gains.mean(), abs=1e-5)
 
 
@@ -80,7 +85,7 @@ def test_cells_of_histories_in_groups() -> None:
     samples = [Sample.of(it) for it in ([0, 3, 1], [2, 0, 0, 7], [5, 0, 1], [0, 0, 0], [4, 0, 0, 1])]
     cells, = chunks_of(samples)
     assert cells.starts.tolist() == [0, 1, 3] and cells.groups.tolist() == [0, 1, 1, 2, 2] and len(cells.shares) == 3
-    prior = np.random.default_rng(3).dirichlet(np.ones(em.FLAT.size)).reshape(em.FLAT.shape)
+    prior = np.random.default_rng(3).dirichlet(np.ones(grid.FLAT.size)).reshape(grid.FLAT.shape)
     alone = [float(Cells.of([samples[place]]).marginal(prior)[0]) for place in (3, 0, 2, 1, 4)]
     assert cells.marginal(prior) == pytest.approx(alone)
 
@@ -89,18 +94,18 @@ def test_many_histories_in_chunks(monkeypatch: pytest.MonkeyPatch, mixed: dict[s
     """Likelihoods and steps are the same however many histories are computed with at once."""
     samples = [Sample.of(it) for it in mixed.values()]
     whole = chunks_of(samples)
-    monkeypatch.setattr("crnplan.demand.borrowing.likelihoods.CHUNK", 7)
+    monkeypatch.setattr("crnplan.demand.grid.CHUNK", 7)
     parts = chunks_of(samples)
     assert (len(whole), len(parts)) == (1, 19)
-    prior = em.step(whole, em.FLAT, em.FLAT)
-    assert np.allclose(em.step(parts, em.FLAT, em.FLAT), prior, rtol=1e-9, atol=0)
+    prior = one_step(whole, grid.FLAT, grid.FLAT)
+    assert np.allclose(one_step(parts, grid.FLAT, grid.FLAT), prior, rtol=1e-9, atol=0)
     assert marginal(parts, prior) == pytest.approx(marginal(whole, prior))
 
 
 @pytest.mark.parametrize(("seed", "numbers"), [(1, RARE), (2, [0] * 20), (3, [0, 4] + [0] * 10), (4, [3, 8, 1, 2, 9])])
 def test_posterior_on_few_cells(seed: int, numbers: list[int]) -> None:
     """Predictive law and Bayes factor are those of sums over all points of all cells, by scipy's laws."""
-    random, prior = np.random.default_rng(seed), np.zeros(em.FLAT.shape)
+    random, prior = np.random.default_rng(seed), np.zeros(grid.FLAT.shape)
     prior[np.ix_(random.choice(24, 3, replace=False), random.choice(192, 4, replace=False))] = random.random((3, 4))
     prior /= prior.sum()
     likelihoods = np.exp(logarithms(numbers))
@@ -293,7 +298,7 @@ def expected_law(numbers: Sequence[int], prior: Floats) -> tuple[float, float, F
     sample, likelihoods = Sample.of(numbers), np.exp(logarithms(numbers))
     weights = np.kron(prior, np.ones((grid.SHARE_POINTS, grid.MEAN_POINTS)) / 80) * likelihoods
     odds = weights.sum() / likelihoods.mean()
-    base, flat = (Posterior.of(sample, it).predictive for it in (prior, em.FLAT))
+    base, flat = (Posterior.of(sample, it).predictive for it in (prior, grid.FLAT))
     times = math.log(300) / math.log(np.count_nonzero(numbers) + 1)
     flat = flat[:math.ceil(min(max(times, 2), 3) * max(numbers)) + 1]
     seen, alike = np.bincount(numbers) / len(numbers), odds / (1 + odds)
@@ -361,7 +366,7 @@ def test_items_in_packs(packed: dict[str, list[int]]) -> None:
     pulled = [Sample.of(it // (90 if name == "packs 0" else 6) for it in numbers)
               for name, numbers in packed.items() if name.startswith("packs")]
     assert prior.whole
-    expected = em.estimated(chunks_of(pulled), prior.whole.chances, 30 * prior.whole.chances)
+    expected = grid.estimated(chunks_of(pulled), prior.whole.chances, 30 * prior.whole.chances)
     assert np.allclose(prior.packs.chances, expected, rtol=1e-5, atol=1e-9)
     few = learn({name: its for name, its in packed.items() if name not in ("packs 1", "packs 2")})
     assert few.packs is None and "as those of few others" in reason(law_of(few, packed["packs 4"]))
@@ -397,7 +402,7 @@ def test_classes(monkeypatch: pytest.MonkeyPatch, mixed: dict[str, list[int]]) -
     np.random.default_rng(2).shuffle(order)
     assert learn([mixed[it] for it in order], [classes[it] for it in order], "class").text == prior.text
     group = [Sample.of(mixed[name]) for name in mixed if classes[name] == "b"]
-    pulled = em.estimated(chunks_of(group), prior.whole.chances, 30 * prior.whole.chances)
+    pulled = grid.estimated(chunks_of(group), prior.whole.chances, 30 * prior.whole.chances)
     assert np.allclose(prior.classes["b"].chances, pulled, rtol=1e-5, atol=1e-9)
     names = {it: borrowed(law_of(prior, RARE, it, beside=False)).prior for it in ("a", "b", "c", None)}
     assert names == {"a": "a", "b": "b", "c": "all", None: "all"}
@@ -449,7 +454,7 @@ def test_share_and_sizes_are_drawn_apart(known: Prior) -> None:
 
 def test_units() -> None:
     """A prior is kept in whole units, none of which is 0, so that no law is impossible."""
-    chances = np.zeros(em.FLAT.shape)
+    chances = np.zeros(grid.FLAT.shape)
     chances[3, 5] = 1.0
     its = Learned.of(chances, 1, 1, 0.1234567)
     assert its.units.min() == 1 and its.units.max() == 2**40 and its.gain == 0.123457

@@ -9,8 +9,8 @@ from hypothesis import given, settings
 from hypothesis import strategies as st
 from scipy import special, stats
 
-from crnplan.demand.borrowing import em, grid
-from crnplan.demand.borrowing.likelihoods import Sums, chunks_of, marginal, of_shares, of_sizes
+from crnplan.demand import grid
+from crnplan.demand.grid import chunks_of, marginal
 from crnplan.demand.sample import Sample
 from planner.tests.demand.made import logarithms
 
@@ -21,8 +21,8 @@ HISTORIES = st.lists(st.lists(st.integers(0, 60), min_size=1, max_size=30), min_
 @given(numbers=st.lists(st.integers(0, 300), min_size=1, max_size=60))
 def test_likelihoods(numbers: list[int]) -> None:
     """The likelihoods at all points are those of scipy's laws, but for a factor."""
-    sums, expected = Sums.of([Sample.of(numbers)]), logarithms(numbers)
-    found = np.outer(of_shares(sums)[0], of_sizes(sums)[0])
+    samples, expected = [Sample.of(numbers)], logarithms(numbers)
+    found = np.outer(grid.share_likelihoods(samples)[0], grid.size_likelihoods(samples)[0])
     assert found.max() == 1 and np.allclose(found, np.exp(expected - expected.max()), rtol=1e-6, atol=1e-12)
 
 
@@ -48,15 +48,15 @@ def test_size_laws(cell: int) -> None:
 @settings(max_examples=25)
 @given(histories=HISTORIES, flat=st.sampled_from([0.0, 1.0]))
 def test_each_step_raises_the_likelihood(histories: list[list[int]], flat: float) -> None:
-    """Without a blur no step makes the histories less likely, with the flat items that count beside them."""
+    """Without a blur no step makes the histories less likely, with the flat items that count beside thgrid."""
     chunks = chunks_of(Sample.of(it) for it in histories)
-    prior, last = em.FLAT, -math.inf
+    prior, last = grid.FLAT, -math.inf
     for _ in range(15):
         likelihood = float(np.log(marginal(chunks, prior)).sum())
         if flat:
-            likelihood += float(flat * (em.FLAT * np.log(prior)).sum())
+            likelihood += float(flat * (grid.FLAT * np.log(prior)).sum())
         assert likelihood >= last - 1e-9
-        prior, last = em.estimated(chunks, prior, flat * em.FLAT, steps=1, blur=0), likelihood
+        prior, last = grid.estimated(chunks, prior, flat * grid.FLAT, steps=1, blur=0), likelihood
     assert prior.sum() == pytest.approx(1) and prior.min() >= 0
 
 
@@ -64,7 +64,7 @@ def test_each_step_raises_the_likelihood(histories: list[list[int]], flat: float
 @given(seed=st.integers(0, 1000), part=st.floats(0, 0.3))
 def test_blur(seed: int, part: float) -> None:
     """The blur is a random walk by one cell on each axis, which stays where it would leave the grid."""
-    prior = np.random.default_rng(seed).dirichlet(np.full(em.FLAT.size, 0.01)).reshape(em.FLAT.shape)
+    prior = np.random.default_rng(seed).dirichlet(np.full(grid.FLAT.size, 0.01)).reshape(grid.FLAT.shape)
     walks = []
     for cells in grid.SHAPE:
         walk = np.diag(np.full(cells, 1 - 2 * part)) + part * (np.eye(cells, k=1) + np.eye(cells, k=-1))
@@ -72,4 +72,4 @@ def test_blur(seed: int, part: float) -> None:
         walk[-1, -1] += part
         walks.append(walk)
     expected = np.einsum("abc,ai,bj,ck->ijk", prior.reshape(grid.SHAPE), *walks, optimize=True)
-    assert np.allclose(em.blurred(prior, part).reshape(grid.SHAPE), expected, rtol=0, atol=1e-14)
+    assert np.allclose(grid.blurred(prior, part).reshape(grid.SHAPE), expected, rtol=0, atol=1e-14)

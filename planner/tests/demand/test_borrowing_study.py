@@ -7,7 +7,8 @@ import numpy as np
 import pytest
 from scipy import stats
 
-from crnplan.demand import FittedLaw, fit_demand
+from crnplan.demand.fitted import FittedLaw
+from crnplan.demand.fitting import fit_demand
 from crnplan.demand.fitted import Diagnostics
 from crnplan.law import Law
 from planner.studies import borrowing, laws

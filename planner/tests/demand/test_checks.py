@@ -16,18 +16,11 @@ from hypothesis import strategies as st
 from scipy import optimize, stats
 
 import crnplan as crn
-from crnplan.demand import Checks, checks_of, lines_of
-from crnplan.demand.checks import remarks_of
-from crnplan.demand.checks.facts import Check
-from crnplan.demand.checks.outliers import bound_of, outliers_of
-from crnplan.demand.checks.permutation import Orders, drawn_orders, p_value, statistics_of
-from crnplan.demand.checks.permutation import bound_of as bound_of_orders
-from crnplan.demand.checks.power import Tilted, autocorrelation_seen, least_seen, season_seen, trend_seen
-from crnplan.demand.checks.seasons import Season, seasons_of
-from crnplan.demand.checks.study import LAWS, loss_of, losses
-from crnplan.errors import Refused
-from crnplan.commands.output import as_option
-from crnplan.errors import spelt
+from crnplan.demand.checks import (STUDIED, Check, Checks, Season, check_history, loss_of, losses, outliers_of,
+                                   remarks_of, rosner_bound, seasons_of)
+from crnplan.demand.permutation import (Orders, Tilted, autocorrelation_seen, bound_of, drawn_orders, least_seen, p_value,
+                                        season_seen, statistics_of, trend_seen)
+from crnplan.errors import Refused, spelt
 from crnplan.records.dates import period_of
 from crnplan.remarks import Remark
 from crnplan.words import advised, sentence
@@ -82,10 +75,10 @@ def seasons(length: int, first: date, every: str) -> list[Season]:
 
 def test_quiet_history() -> None:
     """A history of independent periods of one law has no warning, and says what would have been seen."""
-    checks = checks_of(STEADY, season=52)
+    checks = check_history(STEADY, season=52)
     assert (checks.warnings, checks.notes, checks.warned) == ((), (), ())
     assert (checks.periods, checks.demands, checks.level) == (208, 208, 0.0125)
-    line, = lines_of(checks)
+    line, = checks.lines
     sizes = [named(checks, it).least_seen for it in ("autocorrelation", "trend", "season")]
     assert line == ("demand: no warning is no proof: in 8 of 10 such histories the tests see an autocorrelation of "
                     f"{sizes[0]}, a trend from {1 - sizes[1]:.0%} to {1 + sizes[1]:.0%} of the mean and a season of "
@@ -101,21 +94,21 @@ def test_level() -> None:
 
 def test_trend() -> None:
     """A planted trend is named by the means of the thirds, and by its slope."""
-    checks = checks_of(RISING)
+    checks = check_history(RISING)
     ratio = np.mean(RISING[-34:]) / np.mean(RISING[:34])
     words = f"the mean of the last third is {ratio - 1:.0%} above that of the first"
     assert said(checks.warnings)[0].startswith(f"demand has a trend: {words} (p 0.001). Plan from the part of the ")
     assert "shift" in checks.warned and not any(it.code == "shift" for it in checks.warnings)
     slope = np.polyfit(range(104), RISING, 1)[0]
     assert named(checks, "trend").size == pytest.approx(slope * 103 / 2 / np.mean(RISING))
-    falling = checks_of(RISING[::-1])
+    falling = check_history(RISING[::-1])
     text, = said(falling.warnings)[:1]
     assert f"{1 - 1 / ratio:.0%} below that of the first" in text and "trend -50%" in text
 
 
 def test_shift() -> None:
     """A planted shift is named by its first period, and by how to read the record since then."""
-    checks = checks_of(RAISED)
+    checks = check_history(RAISED)
     after = max(range(11, 94), key=lambda it: abs(stats.ttest_ind(RAISED[:it], RAISED[it:]).statistic))
     ratio = np.mean(RAISED[after:]) / np.mean(RAISED[:after])
     assert abs(after - 78) < 5 and named(checks, "shift").size == pytest.approx(ratio - 1)
@@ -128,18 +121,18 @@ def test_shift() -> None:
 
 def test_shift_with_dates(tmp_path: Path) -> None:
     """With dates, the period has its name and the advice the option with its first day."""
-    checks = checks_of(history_of([3] * 40 + [9, 8] * 10, date(2025, 1, 6), "week", tmp_path))
+    checks = check_history(history_of([3] * 40 + [9, 8] * 10, date(2025, 1, 6), "week", tmp_path))
     assert "from 2025-W42 on the mean is 183% above that before" in said(checks.warnings)[0]
     assert "(start=2025-10-13)" in said(checks.warnings)[0]
     assert said(checks.unknown)[-1] == "a season is tested from 104 weeks on"
-    nothing = checks_of([0] * 30 + [4, 5] * 15)
+    nothing = check_history([0] * 30 + [4, 5] * 15)
     assert "there is no demand before period 31" in said(nothing.warnings)[0]
     assert sentence(Remark("found trend", named(nothing, "trend").facts)) == "the first third has no demand"
 
 
 def test_season() -> None:
     """A planted season is named by its fullest and its emptiest part, and its amplitude is about the true one."""
-    checks = checks_of(SEASONAL, season=52)
+    checks = check_history(SEASONAL, season=52)
     means = [np.mean([it for place, it in enumerate(SEASONAL) if place % 52 // 13 == part]) for part in range(4)]
     first, last = (sorted(range(4), key=means.__getitem__)[it] * 13 for it in (-1, 0))
     assert (f"{max(means) / np.mean(SEASONAL):.2g} times the mean in periods {first + 1} to {first + 13} of 52, "
@@ -149,20 +142,20 @@ def test_season() -> None:
     # The season raises and lowers the level within a year, but that is no shift.
     assert checks.warned == ("autocorrelation", "season") and len(checks.warnings) == 2
     assert said(checks.warnings)[1].endswith("What the other warnings say may be why")
-    assert "no season was tested" in said(checks_of(SEASONAL).unknown)[-1]
+    assert "no season was tested" in said(check_history(SEASONAL).unknown)[-1]
 
 
 def test_trend_beside_a_season() -> None:
     """A trend is named beside a season."""
     both = RANDOM.poisson(10 * (1 + 0.6 * SINE) * np.linspace(0.6, 1.4, 208)).tolist()
-    assert {"trend", "season"} <= {*checks_of(both, season=52).warned}
+    assert {"trend", "season"} <= {*check_history(both, season=52).warned}
 
 
 def test_quarters_of_months(tmp_path: Path) -> None:
     """Months are divided by the quarters of the calendar, whichever month comes first."""
     numbers = [30 if month % 12 in (9, 10, 11) else 10 for month in range(2, 38)]
     numbers = [it + place % 3 for place, it in enumerate(numbers)]
-    checks = checks_of(history_of(numbers, date(2023, 3, 1), "month", tmp_path))
+    checks = check_history(history_of(numbers, date(2023, 3, 1), "month", tmp_path))
     assert "times the mean from October to December, " in said(checks.warnings)[0]
     parts = seasons(36, date(2023, 3, 1), "month")[0].parts
     assert parts[:11] == (0, 1, 1, 1, 2, 2, 2, 3, 3, 3, 0)
@@ -171,7 +164,7 @@ def test_quarters_of_months(tmp_path: Path) -> None:
 def test_weekdays(tmp_path: Path) -> None:
     """Days are divided by weekdays from two weeks on, and by quarters from two years on."""
     numbers = [0 if it % 7 > 4 else 5 + it % 3 for it in range(70)]
-    checks = checks_of(history_of(numbers, date(2025, 1, 6), "day", tmp_path))
+    checks = check_history(history_of(numbers, date(2025, 1, 6), "day", tmp_path))
     assert said(checks.warnings)[0].startswith("demand follows the weekdays: 1.4 times the mean on ")
     assert "0 times on Sat" in said(checks.warnings)[0] and "Take weeks (every=week)" in said(checks.warnings)[0]
     assert said(checks.unknown)[-1] == "a season is tested from 730 days on" and named(checks, "weekday").p < 0.002
@@ -191,32 +184,32 @@ def test_weeks_belong_to_the_quarter_of_their_thursday() -> None:
 def test_season_of_a_named_length(tmp_path: Path) -> None:
     """A named length takes the place of the calendar's, counts from the first period, and needs two seasons."""
     history = history_of([4, 1, 1, 1, 1] * 8, date(2025, 1, 6), "week", tmp_path)
-    checks = checks_of(history, season=5)
+    checks = check_history(history, season=5)
     assert checks.warned[-1] == "season" and "2.5 times the mean in period 1 of 5" in said(checks.warnings)[0]
-    assert said(checks_of([1, 2] * 10, season=11).unknown)[-1] == "a season is tested from 22 periods on"
-    assert "season" in [it.name for it in checks_of([1, 2] * 11, season=11).tests]
+    assert said(check_history([1, 2] * 10, season=11).unknown)[-1] == "a season is tested from 22 periods on"
+    assert "season" in [it.name for it in check_history([1, 2] * 11, season=11).tests]
     for wrong, message in ((1, "a season of 1 periods is none; say 2 or more"), (2.5, "season: 2.5 ")):
         with pytest.raises(Refused, match=message):
-            checks_of([1, 2] * 10, season=wrong)  # type: ignore[arg-type]
+            check_history([1, 2] * 10, season=wrong)  # type: ignore[arg-type]
 
 
 def test_autocorrelation() -> None:
     """A planted dependence is named, with advice and with what is lost by those who do not see it."""
-    checks = checks_of(CHAINED)
+    checks = check_history(CHAINED)
     one, other = np.array(CHAINED[1:]) - np.mean(CHAINED), np.array(CHAINED[:-1]) - np.mean(CHAINED)
     found = one @ other / (np.var(CHAINED) * 104)
     assert named(checks, "autocorrelation").size == pytest.approx(found)
     text = said(checks.warnings)[-1]
     assert text.startswith(f"periods are not independent: autocorrelation {found:.2f} at lag 1 (p 0.001). Ask what ")
     assert "In a study (Poisson, mean 10; autocorrelation 0.6) such a plan cost " in text
-    turns = checks_of(([2, 9, 3, 8, 1, 9] * 12)[:70])
+    turns = check_history(([2, 9, 3, 8, 1, 9] * 12)[:70])
     assert "High and low periods take turns" in said(turns.warnings)[0] and "study" not in said(turns.warnings)[0]
 
 
 def test_losses() -> None:
     """The figure that is cited is the nearest by law, length of a season, and size."""
     kinds = ("autocorrelation", "trend", "shift", "season")
-    assert {(it.kind, it.law) for it in losses()} == {(kind, law) for kind in kinds for law in LAWS}
+    assert {(it.kind, it.law) for it in losses()} == {(kind, law) for kind in kinds for law in STUDIED}
     for kind, size, variation, length, expected in (
             ("autocorrelation", 0.33, 0.3, 0, ("steady", 30, 0)), ("autocorrelation", 0.9, 1.5, 0, ("erratic", 60, 0)),
             ("trend", -0.4, 0.5, 0, ("steady", -50, 0)), ("shift", math.inf, 3, 0, ("erratic", 100, 0)),
@@ -252,13 +245,13 @@ def test_words_of_losses() -> None:
 def test_no_recent_demand(counts: list[int], periods: int, chance: float) -> None:
     """Periods without demand at the end are named with the chance that scipy's hypergeometric law gives, if as many are
     unlikely by luck."""
-    note, = (it for it in checks_of(counts).notes if it.code == "no recent demand")
+    note, = (it for it in check_history(counts).notes if it.code == "no recent demand")
     demands, last = sum(it > 0 for it in counts), f"period {len(counts) - periods}"
     assert note.facts["periods"] == periods and note.facts["last"] == last
     assert note.facts["chance"] == pytest.approx(stats.hypergeom(len(counts), demands, periods).pmf(0))
     assert note.facts["chance"] == pytest.approx(chance, rel=0.01)
     shorter = counts[:len(counts) - periods] + [0] * (periods // 4)
-    assert not any(it.code == "no recent demand" for it in checks_of(shorter).notes)
+    assert not any(it.code == "no recent demand" for it in check_history(shorter).notes)
 
 
 @settings(max_examples=40)
@@ -268,7 +261,7 @@ def test_remarks_of_a_catalogue(data: st.DataObject) -> None:
     numbers = data.draw(st.lists(st.integers(0, 9), min_size=1, max_size=30) | st.sampled_from(
         [STEADY, RISING, RAISED, SEASONAL, CHAINED, RARE[:60], [0] * 40 + [5, 9] * 6, [3, 4] * 20]))
     season = data.draw(st.sampled_from([None, 4, 52]))
-    checks = checks_of(numbers, season=season)
+    checks = check_history(numbers, season=season)
     assert remarks_of(numbers, season=season) == (*checks.warnings, *checks.notes)
 
 
@@ -288,14 +281,14 @@ def test_remarks_of_a_catalogue(data: st.DataObject) -> None:
     ([1, 1, 1, 2, 1, 3, 0, 1, 1, 1, 1, 2, 1, 1], [])], ids=["none", "few", "packs", "far", "two far", "ones"])
 def test_notes(numbers: list[int], notes: list[str]) -> None:
     """Few demands, packs, demands far above all others and one that decides are named."""
-    assert [it for it in said(checks_of(numbers).notes) if "one period" not in it or it in notes] == notes
+    assert [it for it in said(check_history(numbers).notes) if "one period" not in it or it in notes] == notes
 
 
 def test_outlier_bounds() -> None:
     """The bounds are those of the NIST/SEMATECH e-Handbook of Statistical Methods, section 1.3.5.17.3, of two sides."""
     published = {0: 3.158794, 1: 3.151430, 2: 3.143890}
     for above, value in published.items():
-        assert bound_of(54, above, 0.05 / 2) == pytest.approx(value, abs=2e-6)
+        assert rosner_bound(54, above, 0.05 / 2) == pytest.approx(value, abs=2e-6)
 
 
 def test_outliers() -> None:
@@ -328,7 +321,7 @@ def test_the_least_outlier(seed: int) -> None:
 @pytest.mark.parametrize("numbers", [[5], [0, 1], [3] * 30, [0] * 30], ids=["one", "two", "constant", "zeros"])
 def test_nothing_to_test(numbers: list[int]) -> None:
     """Without order there are no tests; a short history says so."""
-    checks = checks_of(numbers)
+    checks = check_history(numbers)
     assert checks.tests == checks.warnings == () and checks.level == 0.05 and len(checks.frame) == 0
     few = f"{len(numbers)} periods are too few to test whether they are independent and of one law"
     assert said(checks.unknown) == ([few] if len(numbers) < 8 else [])
@@ -339,10 +332,10 @@ def test_nothing_to_test(numbers: list[int]) -> None:
        season=st.none() | st.integers(2, 30))
 def test_any_history(numbers: list[int], season: int | None) -> None:
     """Each history has checks, always the same, with p values of 1 to 1,200 of 1,200."""
-    checks = checks_of(numbers, season=season)
-    assert checks == checks_of(iter(numbers), season=season)
+    checks = check_history(numbers, season=season)
+    assert checks == check_history(iter(numbers), season=season)
     assert all(it.p * 1200 == pytest.approx(round(it.p * 1200)) and 0 < it.p <= 1 for it in checks.tests)
-    assert all(it.startswith("demand: ") and "nan" not in it for it in lines_of(checks))
+    assert all(it.startswith("demand: ") and "nan" not in it for it in checks.lines)
     assert not checks.tests or len(checks.tests) == 3 + (season is not None and 2 * season <= len(numbers))
 
 
@@ -363,7 +356,7 @@ def test_power(kind: str, size: float, numbers: list[int]) -> None:
     """The chance that an effect is seen is the share of drawn histories whose own p value is at most the level."""
     count, parts = len(numbers), np.arange(104) % 52 // 13
     orders, kinds, level = Orders(numbers), statistics_of({"season": parts}), 0.0125
-    law, bound = Tilted(orders), bound_of_orders(orders.statistics({kind: kinds[kind]})[kind], level)
+    law, bound = Tilted(orders), bound_of(orders.statistics({kind: kinds[kind]})[kind], level)
     stated = trend_seen(law, count, bound, size) if kind == "trend" else season_seen(law, count, 52, 4, bound, size)
     effect = np.linspace(-1, 1, count) if kind == "trend" else np.sin(2 * np.pi * (np.arange(count) + 0.5) / 52)
     factors, places = np.unique(np.round(1 + size * effect, 3), return_inverse=True)
@@ -391,8 +384,8 @@ def test_command(tmp_path: Path, crnplan: Command) -> None:
     words = ["history", tmp_path / "demand.csv", "--demand", "n", "--fit", "empirical"]
     for more, season in (([], None), (["--season", 52], 52)):
         told = crnplan(*words, *more)
-        with spelt(as_option):
-            lines = lines_of(checks_of(SEASONAL, season=season))
+        with spelt(lambda name, value: f"--{name} {value}".strip()):
+            lines = check_history(SEASONAL, season=season).lines
         assert told.errors == "".join(f"crnplan: {it}\n" for it in lines)
         assert told.status == 0 and told.output.startswith("\n[demand]\n")
     assert crnplan(*words, "--season", 1).status == 2
@@ -401,7 +394,7 @@ def test_command(tmp_path: Path, crnplan: Command) -> None:
 def test_public_name() -> None:
     """The function of the public interface is the same, and its table has a row for each test."""
     checks = crn.check_history(SEASONAL, season=52)
-    assert checks == checks_of(SEASONAL, season=52)
+    assert checks == check_history(SEASONAL, season=52)
     frame = checks.frame
     assert [*frame.index] == ["autocorrelation", "trend", "shift", "season"] and frame["warns"]["season"]
     assert [*frame.columns] == ["p", "warns", "size", "least_seen", "words"]
@@ -414,6 +407,6 @@ def test_time() -> None:
     for _ in range(5):
         drawn_orders.cache_clear()
         start = time.process_time()
-        checks_of(STEADY, season=52)
+        check_history(STEADY, season=52)
         times.append(time.process_time() - start)
     assert min(times) <= 0.05

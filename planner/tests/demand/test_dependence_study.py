@@ -8,7 +8,7 @@ import numpy as np
 import pandas as pd
 import pytest
 
-from crnplan.demand.checks.study import LAWS, losses
+from crnplan.demand.checks import STUDIED, losses
 from planner.studies import dependence, laws
 from planner.studies.dependence import Case
 from planner.tests.demand.test_study import compare
@@ -78,7 +78,7 @@ def test_stored_figures(top: Path) -> None:
         assert loss[4:] == pytest.approx((row["regret"], row["promise"], row["level"]), abs=0.051)
     control = stored[stored["size"] == 0]
     assert (control["regret"].abs() <= 4 * control["regret_error"] + 0.05).all()
-    for name, variation in LAWS.items():
+    for name, variation in STUDIED.items():
         law = dependence.scaled_law(name, 1.0)
         mean = law @ np.arange(len(law))
         assert math.sqrt(law @ (np.arange(len(law)) - mean)**2) / mean == pytest.approx(variation, abs=0.001)

@@ -12,10 +12,9 @@ from hypothesis import strategies as st
 from scipy import integrate, optimize, special, stats
 
 from crnplan.chances import DEMANDS, Floats
-from crnplan.demand import fit_demand, fitting, guard
-from crnplan.demand.families import FAMILIES, fits_of, predictive_of
-from crnplan.demand.families.bulk import divided
-from crnplan.demand.families.numbers import beta_negative_binomial, greatest_mean
+from crnplan.demand import families, fitting, sample as guard
+from crnplan.demand.families import beta_negative_binomial, divided, fits_of, greatest_mean, predictive_of
+from crnplan.demand.fitting import fit_demand
 from crnplan.demand.posterior import allowed_laws
 from crnplan.demand.sample import Sample
 
@@ -35,7 +34,7 @@ def test_adding_a_family(monkeypatch: pytest.MonkeyPatch) -> None:
     numbers = [int(number) for number in np.random.default_rng(3).geometric(0.3, 60) - 1]
     before = fit_demand(numbers)
     assert "geometric" not in before.diagnostics.families
-    monkeypatch.setitem(FAMILIES, "geometric", ("numbers.Geometric",))
+    monkeypatch.setitem(families.REGISTRY, "geometric", families.Geometric())
     law = fit_demand(numbers, method="geometric")
     assert law.family == "geometric"
     assert law.weights[0] / 65_536 == pytest.approx(61 / (62 + sum(numbers)), abs=1e-5)
@@ -327,8 +326,8 @@ def test_guard_of_the_largest() -> None:
     data = Sample.of([3, 0, 12, 5, 9])
     law = stats.geom.pmf(np.arange(1, 200), 1 / 7)
     most = np.random.default_rng(4).geometric(1 / 7, (40_000, 5)).max(axis=1) - 1
-    assert guard.largest(data, law) == pytest.approx([np.mean(most <= 12), np.mean(most >= 12)], abs=0.01)
+    assert guard.shares_of(data, law)[3:] == pytest.approx([np.mean(most <= 12), np.mean(most >= 12)], abs=0.01)
     even = Sample.of(np.tile(np.arange(1, 13), 10).tolist())
-    low, high = guard.largest(even, stats.geom.pmf(np.arange(400) + 1, 1 / 7.5))
+    *_, low, high = guard.shares_of(even, stats.geom.pmf(np.arange(400) + 1, 1 / 7.5))
     assert low < 0.001 and high > 0.999
-    assert guard.largest(Sample.of([0, 0]), np.array([0.5, 0.5])) == pytest.approx((0.25, 1.0))
+    assert guard.shares_of(Sample.of([0, 0]), np.array([0.5, 0.5]))[3:] == pytest.approx((0.25, 1.0))

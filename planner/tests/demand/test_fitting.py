@@ -13,9 +13,12 @@ from hypothesis import strategies as st
 from scipy import stats
 
 from crnplan.chances import mixture
-from crnplan.demand import fit_demand, fit_lead, notes_of
-from crnplan.demand.families import FAMILIES, fits_of, predictive_of
-from crnplan.demand.fitting import METHODS, cap_of, share_of
+from crnplan.demand.fitted import notes_of
+from crnplan.demand.fitting import fit_demand, fit_lead
+from crnplan.demand import FAMILIES
+from crnplan.demand.families import fits_of, predictive_of
+from crnplan.demand import METHODS
+from crnplan.demand.fitting import cap_of, share_of
 from crnplan.demand.sample import Sample
 from crnplan.errors import Refused
 from crnplan.law import Law

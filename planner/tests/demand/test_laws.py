@@ -12,7 +12,7 @@ import pytest
 from hypothesis import given
 from hypothesis import strategies as st
 
-from crnplan.demand import fit_demand, fit_lead
+from crnplan.demand.fitting import fit_demand, fit_lead
 from crnplan.errors import Refused, RefusedFaults
 from crnplan.records import read_history, read_lead_times
 from crnplan.law import Law

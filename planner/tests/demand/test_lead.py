@@ -10,8 +10,8 @@ from hypothesis import given
 from hypothesis import strategies as st
 from scipy import integrate
 
-from crnplan.demand import fit_lead, notes_of
-from crnplan.demand.leads import blurred, side_of
+from crnplan.demand.fitted import notes_of
+from crnplan.demand.fitting import blurred, fit_lead
 
 LEADS = st.lists(st.integers(1, 32), min_size=2, max_size=19)
 
@@ -62,7 +62,7 @@ def test_fitted_share(numbers: Sequence[int]) -> None:
         return total
     mass, _ = integrate.quad(likelihood, 0, 0.3)
     first, _ = integrate.quad(lambda it: it * likelihood(it), 0, 0.3)
-    assert side_of(numbers) == pytest.approx(first / mass, abs=0.0002)
+    assert fit_lead(numbers).diagnostics.side == pytest.approx(first / mass, abs=0.0002)
 
 
 def test_order_does_not_matter() -> None:

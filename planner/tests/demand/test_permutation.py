@@ -12,8 +12,8 @@ from hypothesis import given, settings
 from hypothesis import strategies as st
 from scipy import stats
 
-from crnplan.demand.checks import permutation
-from crnplan.demand.checks.permutation import Orders, bound_of, centred, p_value, statistics_of
+from crnplan.demand import permutation
+from crnplan.demand.permutation import Orders, bound_of, centred, p_value, statistics_of
 
 ALL_ORDERS = [*itertools.permutations([0, 5, 2, 0, 9, 1])]
 KINDS = statistics_of({"season": np.array([0, 1, 0, 1, 0, 1])})
@@ -124,7 +124,7 @@ def test_orders_in_parts(monkeypatch: pytest.MonkeyPatch) -> None:
     """Each order has all numbers, no two parts of the orders are the same, and none is lost."""
     numbers = [*range(30)]
     monkeypatch.setattr(permutation, "MOST_CELLS", 100)
-    drawn = np.concatenate([*Orders(numbers).drawn()])
+    drawn = np.concatenate([np.rint(far + 14.5).astype(int) for far, _ in Orders(numbers).rows()])
     assert drawn.shape == (1200, 30) and (drawn[0] == numbers).all() and (np.sort(drawn, axis=1) == numbers).all()
     assert len(np.unique(drawn, axis=0)) == 1200
     # Each number comes to each place about as often: the statistic has 29^2 degrees of freedom.

@@ -8,8 +8,8 @@ import numpy as np
 import pandas as pd
 import pytest
 
-from crnplan.demand import fit_demand
-from crnplan.demand.leads import DOUBT
+from crnplan.demand.fitting import fit_demand
+from crnplan.demand.fitted import DOUBT
 from crnplan.scenario import Scenario
 from crnplan.theory.lattice import theories_of
 from planner.studies import laws, laws_leads

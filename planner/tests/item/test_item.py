@@ -13,7 +13,8 @@ import pytest
 
 from crnplan import Scenario
 from crnplan.decide.doubt import doubt
-from crnplan.demand import checks_of, fit_demand, fit_lead
+from crnplan.demand.checks import check_history
+from crnplan.demand.fitting import fit_demand, fit_lead
 from crnplan.plan.question import Question
 from crnplan.plan.settings import read_settings
 from crnplan.theory.suggestions import suggestions_of
@@ -165,7 +166,7 @@ def test_warnings_on_the_history(room: Path, plan: Plan) -> None:
     """What the checks of the history find is warned of on the page and in the summary, and the notes have the rest."""
     rows = [f"{week},{3 + week // 4 + week % 3}" for week in range(60)]
     (room / "history.csv").write_text("week,demand\n" + "\n".join(rows))
-    output, checks = plan().output, checks_of(counts_of(room))
+    output, checks = plan().output, check_history(counts_of(room))
     page, notes = (room / "plan/summary.html").read_text(), (room / "plan/notes.txt").read_text()
     assert checks.warnings and "\nWARNING: Demand has a trend" in output
     for remark in (*checks.warnings, *checks.notes):

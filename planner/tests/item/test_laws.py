@@ -5,7 +5,8 @@ from __future__ import annotations
 import numpy as np
 import pytest
 
-from crnplan.demand import FittedLaw, fit_demand
+from crnplan.demand.fitted import FittedLaw
+from crnplan.demand.fitting import fit_demand
 from crnplan.demand.fitted import Diagnostics
 from crnplan.law import Law
 from crnplan.pages.laws import LAW_COLUMNS, law_rows, law_words

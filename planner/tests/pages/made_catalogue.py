@@ -11,7 +11,7 @@ from pathlib import Path
 from typing import Any
 
 from crnplan.curve.kept import Point, keep_curve
-from crnplan.demand.borrowing import Prior
+from crnplan.demand.learning import Prior
 from crnplan.files import own_folder
 from crnplan.pages.exports import CATALOGUE_FILES, write_catalogue
 from crnplan.plan.answer import (CHEAPER, NO_INTERVAL, RUN, SAME, SERVICE, THEORY, UNDECIDED, UNLIKE, Answer, Estimate,

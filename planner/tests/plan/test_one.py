@@ -13,7 +13,7 @@ from crnplan.plan.answer import (CHEAPER, DISAGREES, NO_INTERVAL, NO_POLICY, RUN
                                  Answer)
 from crnplan.plan.one import Disagreement, plan_item, plan_one
 from crnplan.plan.question import Question, Settings, question_of
-from crnplan.demand.borrowing import Prior
+from crnplan.demand.learning import Prior
 from crnplan.records.item import Item
 from crnplan.remarks import Remark
 from crnplan.theory.long_run import LongRun

@@ -12,7 +12,7 @@ import click
 
 from ..curve.exchange import Budget
 from ..curve.exchange_curve import draw_curve
-from ..demand.fitting import METHODS
+from ..demand import METHODS
 from ..errors import CrnplanError, Refused, spelt
 from ..files import Folder, faults_of, new_file, own_folder
 from ..pages.catalogue_summary import counted_rows

@@ -6,15 +6,13 @@ import sys
 from collections.abc import Callable, Iterable, Iterator
 from functools import partial
 from pathlib import Path
-from typing import Any, TypeVar
+from typing import TYPE_CHECKING, Any, TypeVar
 
 import click
 from click.core import ParameterSource
 
 from ..decide.doubt import TIMES, WITHIN, doubt as doubt_of
-from ..demand import FittedLaw, checks_of, fit_demand, fit_lead, lines_of, notes_of
-from ..demand.families import FAMILIES
-from ..demand.fitting import METHODS
+from ..demand import FAMILIES, METHODS
 from ..errors import Fault, Refused, RefusedFaults
 from ..law import Law
 from ..records import History, read_history, read_lead_times
@@ -29,6 +27,9 @@ from ..scenario import Scenario
 from ..toml.documents import places_of
 from . import note
 from .words import Picture, form_options, program_option, scenario_argument, show, together, usage_error
+
+if TYPE_CHECKING:
+    from ..demand.fitted import FittedLaw
 
 Made = TypeVar("Made")
 VERSION = "# A scenario with the table [returns] has version = 2.\n"
@@ -180,6 +181,7 @@ def theory_of(scenario: Scenario, path: str) -> Iterator[None]:
 
 def laws_of(asked: dict[str, Any], attempts: Attempts) -> dict[str, FittedLaw]:
     """Returns the laws of all tables that are asked for. Raises the faults of all files and fits together."""
+    from ..demand.fitting import fit_demand, fit_lead
     history, leads = attempts.files(asked)
     tables = {"demand": history, "lead": leads, "returns": history and history.returns}
     method = "empirical" if asked["fit"] == "empirical" else "auto"
@@ -236,8 +238,10 @@ def history(**asked: Any) -> None:
         raise Refused(f"{asked['file']}: say --demand with the name of a column; the columns are: {names}")
     with attempts_of(asked) as attempts:
         laws = laws_of(asked, attempts)
+    from ..demand.checks import check_history
+    from ..demand.fitted import notes_of
     checked = (line for made in attempts.read if isinstance(made, History)
-               for line in lines_of(checks_of(made, season=asked["season"])))
+               for line in check_history(made, season=asked["season"]).lines)
     attempts.say([*checked, *(line for name, law in laws.items() for line in notes_of(law, name))])
     for name, law in laws.items():
         click.echo(f"\n{VERSION if name == 'returns' else ''}{law.toml(name)}", nl=False)

@@ -14,7 +14,7 @@ from typing import NamedTuple
 import numpy as np
 import numpy.typing as npt
 
-from ..demand.borrowing import Prior
+from ..demand.learning import Prior
 from ..formats import MOST_ITEMS
 from ..theory.long_run import LongRun, gap_grid
 from .hull import Floats, Whole, slopes, vertices

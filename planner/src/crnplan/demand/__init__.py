@@ -1,10 +1,7 @@
-"""Makes laws of demand and of lead times from what was observed, and checks it."""
-from .checks import Checks, checks_of, lines_of
-from .checks import checks_of as check_history
-from .fit_remarks import fit_remarks, notes_of
-from .fitted import FittedLaw
-from .fitting import fit_demand
-from .leads import fit_lead
-
-__all__ = ["Checks", "FittedLaw", "check_history", "checks_of", "fit_demand", "fit_lead", "fit_remarks", "lines_of",
-           "notes_of"]
+"""Makes laws of demand and of lead times from what was observed, and checks it. Here are the names of the methods."""
+EMPIRICAL = "empirical"  # the method, and the family of a law that is what was seen
+# The families of laws in `families`; here for the words of commands, which start fast.
+FAMILIES = ("poisson", "negative-binomial", "hurdle-geometric", "hurdle-poisson", "hurdle-negative-binomial",
+            "hurdle-lognormal", "bulk")
+METHODS = ("auto", "predictive", EMPIRICAL, *FAMILIES)
+LEAD_METHODS = ("auto", EMPIRICAL)

@@ -1,11 +1,13 @@
-"""Defines fitted laws: with what is known of the fit, and of what was observed."""
+"""Defines fitted laws: what is known of the fit and of what was observed, and what is to be said of it."""
 from __future__ import annotations
 
-from collections.abc import Callable, Iterable, Mapping
+from collections.abc import Callable, Iterable, Iterator, Mapping
 from dataclasses import dataclass, field
 from fractions import Fraction
 from functools import cached_property
 from typing import TYPE_CHECKING, Any, cast
+
+import numpy as np
 
 from ..errors import Fault, Refused
 from ..formats import MOST_WEIGHT
@@ -13,13 +15,19 @@ from ..law import Law
 from ..money import whole
 from ..records.faults import Place, RefusedFiles
 from ..records.observed import Observed
+from ..remarks import Remark
+from ..words import advised
+from . import EMPIRICAL
+from .sample import Shares
 
 if TYPE_CHECKING:
     from .borrowing import Borrowed
-    from .guard import Shares
 
 QUANTILES = (0.95, 0.99, 0.999)
-EMPIRICAL = "empirical"  # the family of a law that is what was seen
+LEAST_WEIGHT = 0.005  # of a family that is named
+# How much dearer than the best policy the chosen one is after so many lead times, in percent, if the demand is known:
+# the least and the most of the cases of the study planner/studies/laws_leads.py.
+DOUBT = {5: (2.3, 4.4), 10: (1.0, 3.0), 20: (0.5, 1.9)}
 
 
 @dataclass(frozen=True)
@@ -34,12 +42,12 @@ class Figures:
     @classmethod
     def of(cls, law: Law, *, is_sample: bool = False) -> Figures:
         """Computes the figures of a law. A sample has its unbiased variance."""
-        import numpy as np
         shares, below = np.array(law.weights) / law.size, np.cumsum(law.weights)
         mean = float(shares @ law.values)
         places = (int(np.searchsorted(below, np.ceil(share * below[-1] - 1e-6))) for share in QUANTILES)
         variance = _unbiased(law) if is_sample else float(shares @ (np.array(law.values) - mean)**2)
-        return cls(mean, variance, law.values[-1], {it: law.values[at] for it, at in zip(QUANTILES, places)})
+        quantiles = {share: law.values[place] for share, place in zip(QUANTILES, places)}
+        return cls(mean, variance, law.values[-1], quantiles)
 
 
 def _unbiased(law: Law) -> float | None:
@@ -128,16 +136,90 @@ def numbers_of(observed: Observed | Iterable[Any], what: str) -> tuple[list[int]
     """Returns numbers and their places. Whole numbers of any kind are taken, and floats that are whole."""
     if isinstance(observed, Observed):
         return list(observed.counts), observed.places
-    numbers = [whole(it, f"{what}: entry {place}") for place, it in enumerate(dense(observed, what), 1)]
+    numbers = [whole(number, f"{what}: entry {place}") for place, number in enumerate(dense(observed, what), 1)]
     if not 1 <= len(numbers) <= MOST_WEIGHT:
         raise Refused(f"there are {len(numbers):,} numbers of {what}; give 1 to {MOST_WEIGHT:,}")
-    return numbers, (Place("", 0, 0, what, f"entry {place}, {it},") for place, it in enumerate(numbers, 1))
+    return numbers, (Place("", 0, 0, what, f"entry {place}, {number},") for place, number in enumerate(numbers, 1))
 
 
 def check(numbers: Iterable[int], places: Iterable[Place | None], reason_of: Callable[[int], str | None]) -> None:
-    """Rejects all numbers that a scenario can't have."""
+    """Raises RefusedFiles for all numbers that a scenario can't have."""
     reasons = [*map(reason_of, numbers)]
     if any(reasons):
         faults: list[Fault] = [place.fault(reason) for place, reason in zip(places, reasons) if place and reason]
         if faults:
             raise RefusedFiles(faults)
+
+
+def fit_remarks(law: FittedLaw) -> Iterator[Remark]:
+    """Yields how a law was fitted; nothing of one that was asked for as it was seen."""
+    fit = law.diagnostics
+    if fit.method == EMPIRICAL:
+        return
+    if law.is_of_leads:
+        if fit.side:
+            yield Remark("blurred lead times", {"observed": fit.seen.size, "side": fit.side})
+        yield Remark("few lead times", {f"{end}_{count}": value for count, ends in DOUBT.items()
+                                        for end, value in zip(("least", "most"), ends)})
+        return
+    if fit.borrowed:
+        yield from _of_borrowed(fit.borrowed)
+    if fit.borrowed is None or fit.borrowed.alone:
+        yield from _of_families(law)
+
+
+def _of_borrowed(borrowed: Borrowed) -> Iterator[Remark]:
+    """Yields what is said of what an item has learned from its catalogue."""
+    if borrowed.alone:
+        yield Remark("alone", {"reason": borrowed.alone.code, **borrowed.alone.facts})
+    else:
+        yield Remark("learned law", {"prior": borrowed.prior, "demands": borrowed.demands, "seen": 1 - borrowed.share})
+        if borrowed.few:
+            yield Remark("law of the catalogue")
+    if borrowed.log10_bayes is not None:
+        yield Remark("likelier by the catalogue", {"log10_bayes": borrowed.log10_bayes, "unlike": int(borrowed.unlike)})
+    if borrowed.guard:
+        yield _guarded("what was learned", borrowed.guard, not borrowed.alone)
+
+
+def _of_families(law: FittedLaw) -> Iterator[Remark]:
+    """Yields what is said of the families of a law of demand."""
+    fit = law.diagnostics
+    if fit.pack > 1:
+        yield Remark("packs are fitted", {"pack": fit.pack})
+    if law.family == EMPIRICAL:
+        yield Remark("no family")
+    elif fit.families:
+        named = {family: weight for family, weight in fit.families.items() if weight >= LEAST_WEIGHT}
+        yield Remark("families", {**named, "seen": 1 - fit.share, "cap": fit.cap, "most": fit.history.most})
+        if fit.bulks and "bulk" in named:
+            yield Remark("bulks", {"count": fit.bulks[0], "least": fit.bulks[1]})
+    else:
+        yield Remark("family", {"family": law.family})
+    if fit.bic:
+        yield Remark("BIC", {family: value - min(fit.bic.values()) for family, value in fit.bic.items()})
+    # Of the families that pass, their weights say enough; `diagnostics` has the rest.
+    yield from (_guarded(family, shares, False) for family, shares in fit.guard.items() if not shares.passes)
+
+
+def _guarded(family: str, shares: Shares, passes: bool) -> Remark:
+    return Remark("guard", {"family": family, "passes": int(passes), **shares._asdict()})
+
+
+def _figure_remarks(law: FittedLaw) -> Iterator[Remark]:
+    """Yields the figures of what was seen, of the law, and of that of an item alone; nothing as `fit_remarks`."""
+    fit = law.diagnostics
+    if fit.method == EMPIRICAL:
+        return
+    rows = {"seen": fit.history} | ({} if law.family == EMPIRICAL else {"law": law.figures})
+    if fit.borrowed and fit.borrowed.single and not fit.borrowed.alone:
+        rows["law of the item alone"] = fit.borrowed.single.figures
+    for title, figures in rows.items():
+        quantiles = {f"{100 * share:g}%": value for share, value in figures.quantiles.items()}
+        yield Remark("figures of a law", {"title": title, "mean": figures.mean, "variance": figures.variance,
+                                          "most": figures.most, **quantiles})
+
+
+def notes_of(law: FittedLaw, name: str) -> list[str]:
+    """Returns how a law was fitted and its figures, in lines under the name of a table."""
+    return [f"{name}: {advised(remark)}" for remark in (*fit_remarks(law), *_figure_remarks(law))]

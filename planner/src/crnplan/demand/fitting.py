@@ -1,4 +1,4 @@
-"""Fits laws of demand to what was observed.
+"""Fits laws of demand and of lead times to what was observed.
 
 A table of what was seen promises too low a cost, since the largest demands of the future are not in it. So a law of
 demand may be the posterior predictive law of a family, if drawn histories of that family look like the real one.
@@ -6,65 +6,52 @@ demand may be the posterior predictive law of a family, if drawn histories of th
 from __future__ import annotations
 
 import math
+from collections import Counter
 from collections.abc import Iterable, Mapping, Sequence
-from dataclasses import dataclass, field, replace
+from dataclasses import replace
 from typing import TYPE_CHECKING
 
-from ..money import Number
+import numpy as np
+from scipy import special
+
+from ..chances import Floats, cut, in_items, mixture, scaled
 from ..errors import Refused, argument
-from ..formats import MOST_DEMAND
+from ..formats import MOST_DEMAND, MOST_LEAD
 from ..law import Law
+from ..money import Number
 from ..records.observed import Observed
-from .families import FAMILIES, fits_of, predictive_of
-from .fitted import EMPIRICAL, Diagnostics, FittedLaw, check, numbers_of
+from . import EMPIRICAL, LEAD_METHODS, METHODS
+from .families import REGISTRY, divided, fits_of, predictive_of
+from .fitted import Diagnostics, FittedLaw, check, numbers_of
+from .sample import Sample, shares_of
 
 if TYPE_CHECKING:
-    from .borrowing import Prior
-    from ..chances import Floats
-    from .families.family import Fit
-    from .guard import Shares
-    from .sample import Sample
-
-CHOOSING = ("auto", "predictive", EMPIRICAL)
-METHODS = (*CHOOSING, *FAMILIES)
+    from .learning import Prior
 
 DEMANDS_OF_CAP = 300
 LEAST_TIMES, MOST_TIMES = 2.0, 3.0  # the cap of `auto`, in largest demands seen
 WORSE = 10.0  # in BIC: families further behind the best are not looked at
 LEAST_DEMANDS = 2  # periods with demand, for a fit
 LIKELIHOOD_RATIO = 0.5  # of logarithms, by which the history must speak against a law to be mixed with it
+FEW = 20  # lead times: with so many, what was seen stays as it is
+LEAST_LEADS = 2  # one lead time is what a supplier says, not a sample
+SIDES = [(cell + 0.5) / 100 for cell in range(30)]  # the shares that the kernel may move to each neighbour
+ELSEWHERE = 0.05  # the chance, in the fit of the kernel, that a lead time is like none that was seen
 
 
-@dataclass(frozen=True)
-class Chosen:
-    """The families that a history allows: BIC, the least first, and the guard's shares of those not far behind."""
+def boxes_of(observed: Observed | Iterable[Number], box: int) -> list[int]:
+    """Returns demand by period in boxes of `box` items, rounded up.
 
-    bic: Mapping[str, float]
-    guard: Mapping[str, Shares] = field(default_factory=dict)
-
-    @property
-    def passing(self) -> list[str]:
-        """Returns the families that the guard lets pass, the least BIC first."""
-        return [name for name, shares in self.guard.items() if shares.passes]
-
-    @property
-    def weights(self) -> dict[str, float]:
-        """Returns the posterior chances of the passing families, all as likely beforehand.
-
-        Source: Raftery, Bayesian model selection in social research, 1995, section 4.1.
-        """
-        least = min(self.bic[name] for name in self.passing)
-        likely = {name: math.exp((least - self.bic[name]) / 2) for name in self.passing}
-        return {name: it / sum(likely.values()) for name, it in likely.items()}
-
-
-def guarded(sample: Sample, fits: Mapping[str, Fit]) -> Chosen:
-    """Looks at each family that is not far behind the best."""
-    from ..chances import cut
-    from .guard import shares_of
-    bic = {name: fit.bic(sample.size) for name, fit in fits.items()}
-    near = [name for name, value in bic.items() if value <= min(bic.values()) + WORSE]
-    return Chosen(bic, {name: shares_of(sample, cut(fits[name].chances)) for name in near})
+    Raises RefusedFaults with the place of each number that is too large for a scenario or below 0.
+    """
+    if box < 1:
+        raise Refused(f"{box} is no number of items in a box; it is at least 1")
+    numbers, places = numbers_of(observed, "demand")
+    boxes = [-(-it // box) for it in numbers]
+    larger = f"count in larger boxes: {argument('box', str(-(-max(numbers) // MOST_DEMAND)))} or more"
+    reason = f"is above {MOST_DEMAND:,}{f' in boxes of {box}' if box > 1 else ''}; {larger}"
+    check(boxes, places, lambda it: reason if it > MOST_DEMAND else "is below 0; correct it" if it < 0 else None)
+    return boxes
 
 
 def share_of(sample: Sample, base: Floats) -> float:
@@ -74,8 +61,6 @@ def share_of(sample: Sample, base: Floats) -> float:
     greatest (Antoniak, Mixtures of Dirichlet processes with applications to Bayesian nonparametric problems, 1974;
     Minka, Estimating a Dirichlet distribution, 2000).
     """
-    import numpy as np
-    from scipy import special
     chances = np.zeros(max(len(base), sample.most + 1))
     chances[:len(base)] = base
     seen = np.maximum(chances[sample.values], 1e-9)
@@ -95,50 +80,50 @@ def cap_of(sample: Sample) -> int:
     The largest of n sizes with an exponential tail grows as the logarithm of n (Gumbel, Statistics of Extremes, 1958,
     section 4.2), so after few demands larger ones are to be expected: as the largest of 300.
     """
-    demands = sample.size - sample.zeros
-    times = math.log(DEMANDS_OF_CAP) / math.log(demands + 1)
+    times = math.log(DEMANDS_OF_CAP) / math.log(sample.demands + 1)
     return math.ceil(min(max(times, LEAST_TIMES), MOST_TIMES) * sample.most)
 
 
-def _family_law(numbers: Sequence[int], method: str, box: int) -> FittedLaw:
+def weights_of(bic: Mapping[str, float], names: Sequence[str]) -> dict[str, float]:
+    """Returns the posterior chances of these families, all as likely beforehand.
+
+    Source: Raftery, Bayesian model selection in social research, 1995, section 4.1.
+    """
+    least = min(bic[name] for name in names)
+    likely = {name: math.exp((least - bic[name]) / 2) for name in names}
+    return {name: value / sum(likely.values()) for name, value in likely.items()}
+
+
+def family_law(boxes: Sequence[int], method: str, box: int = 1) -> FittedLaw:
     """Returns a law of families: of a named one, or of those that the guard lets pass."""
-    from ..chances import in_items, mixture
-    from .families.bulk import divided
-    from .sample import Sample
-    sample = Sample.of(numbers)
+    sample, seen = Sample.of(boxes), Law.of_numbers(boxes)
     pack = sample.pack
     packs = sample.in_packs(pack)
-    fits = fits_of(packs) if packs.size - packs.zeros >= LEAST_DEMANDS else {}
-    if method in FAMILIES and method not in fits:
+    fits = fits_of(packs) if packs.demands >= LEAST_DEMANDS else {}
+    if method in REGISTRY and method not in fits:
         raise Refused(f"the history does not allow the family {method}; it allows {', '.join(fits) or 'none'}")
-    chosen = guarded(packs, fits) if fits else Chosen({})
-    seen = Law.of_numbers(numbers)
-    found = Diagnostics(seen, method, pack, chosen.bic, chosen.guard)
-    names = [method] if method in FAMILIES else chosen.passing
+    bic = {name: fit.bic(packs.size) for name, fit in fits.items()}
+    guard = {name: shares_of(packs, cut(fits[name].chances)) for name, value in bic.items()
+             if value <= min(bic.values()) + WORSE}
+    diagnostics = Diagnostics(seen, method, pack, bic, guard)
+    names = [method] if method in REGISTRY else [name for name, shares in guard.items() if shares.passes]
     if not names:
-        return FittedLaw.made(seen, EMPIRICAL, found, box)
+        return FittedLaw.made(seen, EMPIRICAL, diagnostics, box)
     if method != "auto":
-        return FittedLaw.made(Law.of_chances(in_items(predictive_of(names[0], packs), pack)), names[0], found, box)
-    parts = divided(packs) if "bulk" in names else None
-    laws = ((weight, in_items(predictive_of(name, packs), pack)) for name, weight in chosen.weights.items())
-    law, cap, share = auto_law(sample, mixture(laws))
-    found = replace(found, families=chosen.weights, cap=cap, share=share,
-                    bulks=parts and (parts[1].size, pack * int(parts[1].values[0])))
-    return FittedLaw.made(Law.of_chances(law), names[0], found, box)
-
-
-def auto_law(sample: Sample, law: Floats) -> tuple[Floats, int, float]:
-    """Returns a law without demands above the cap, mixed with the sample, the cap, and its share in the mixture."""
-    from ..chances import mixture, scaled
-    cap = cap_of(sample)
+        law = in_items(predictive_of(names[0], packs), pack)
+        return FittedLaw.made(Law.of_chances(law), names[0], diagnostics, box)
+    weights, cap = weights_of(bic, names), cap_of(sample)
+    law = mixture((weight, in_items(predictive_of(name, packs), pack)) for name, weight in weights.items())
     law = scaled(law[:cap + 1])
-    share = share_of(sample, law)
-    return mixture([(share, law), (1 - share, sample.law)]), cap, share
+    share, parts = share_of(sample, law), divided(packs) if "bulk" in names else None
+    diagnostics = replace(diagnostics, families=weights, cap=cap, share=share,
+                          bulks=parts and (parts[1].size, pack * int(parts[1].values[0])))
+    law = mixture([(share, law), (1 - share, sample.law)])
+    return FittedLaw.made(Law.of_chances(law), names[0], diagnostics, box)
 
 
 def fit_demand(observed: Observed | Iterable[Number], *, method: str = "auto", box: int = 1,
-               borrow: Prior | None = None,
-               item_class: str | None = None) -> FittedLaw:
+               borrow: Prior | None = None, item_class: str | None = None) -> FittedLaw:
     """Fits the law of demand to a history, or to any whole numbers from 0, one for each period.
 
     `method` is one of these:
@@ -163,16 +148,74 @@ def fit_demand(observed: Observed | Iterable[Number], *, method: str = "auto", b
         if method != "auto":
             raise Refused(f"a law is either borrowed or fitted by the method {method!r}; leave one out")
         return law_of(borrow, observed, item_class, box=box)
-    if method not in CHOOSING and method not in FAMILIES:
+    if method not in METHODS and method not in REGISTRY:
         raise Refused(f"there is no method {method!r} to fit demand; say {', '.join(METHODS[:-1])} or {METHODS[-1]}")
-    if box < 1:
-        raise Refused(f"{box} is no number of items in a box; it is at least 1")
-    numbers, places = numbers_of(observed, "demand")
-    boxes = [-(-it // box) for it in numbers]
-    larger = f"count in larger boxes: {argument('box', str(-(-max(numbers) // MOST_DEMAND)))} or more"
-    reason = f"is above {MOST_DEMAND:,}{f' in boxes of {box}' if box > 1 else ''}; {larger}"
-    check(boxes, places, lambda it: reason if it > MOST_DEMAND else "is below 0; correct it" if it < 0 else None)
+    boxes = boxes_of(observed, box)
     if method != EMPIRICAL:
-        return _family_law(boxes, method, box)
+        return family_law(boxes, method, box)
     seen = Law.of_numbers(boxes)
     return FittedLaw.made(seen, EMPIRICAL, Diagnostics(seen, method), box)
+
+
+def leads_of(observed: Observed | Iterable[Number]) -> list[int]:
+    """Returns lead times in periods. Raises RefusedFaults with the place of each that is not from 1 to 32."""
+    numbers, places = numbers_of(observed, "lead time")
+    above = f"is above {MOST_LEAD}; take longer periods (weeks for days, months for weeks), for demands too"
+    below = "is below 1; write 1 if the order is there for the next period's demand"
+    check(numbers, places, lambda it: above if it > MOST_LEAD else below if it < 1 else None)
+    return numbers
+
+
+def blurred(counts: Mapping[int, float], side: float) -> dict[int, float]:
+    """Returns the law that has the share `side` of each lead time one period earlier, and as much one later.
+
+    What would be earlier than 1 or later than 32 stays where it is.
+    """
+    total = sum(counts.values())
+    law: dict[int, float] = {}
+    for lead, count in counts.items():
+        for value, share in ((lead - 1, side), (lead, 1 - 2 * side), (lead + 1, side)):
+            place = value if 1 <= value <= MOST_LEAD else lead
+            law[place] = law.get(place, 0.0) + share * count / total
+    return law
+
+
+def sides_of(numbers: Iterable[int]) -> dict[float, float]:
+    """Returns the chances of the shares that the kernel may move to each neighbour, by leave-one-out likelihoods.
+
+    Source: Stone, Cross-validatory choice and assessment of statistical predictions, 1974. All shares from 0 to 0.3 are
+    as likely beforehand. A lead time may be like none of the others with a small chance, so one outlier decides little.
+    """
+    counts = Counter(numbers)
+    likelihoods = dict.fromkeys(SIDES, 1.0)
+    for lead, count in counts.items():
+        others = counts - Counter([lead])
+        for side in SIDES:
+            chance = blurred(others, side).get(lead, 0.0)
+            likelihoods[side] *= ((1 - ELSEWHERE) * chance + ELSEWHERE / MOST_LEAD)**count
+    total = sum(likelihoods.values())
+    return {side: likelihood / total for side, likelihood in likelihoods.items()}
+
+
+def fit_lead(observed: Observed | Iterable[Number], *, method: str = "auto") -> FittedLaw:
+    """Fits the law of lead times to observed ones: whole numbers of periods, at least 1.
+
+    `empirical` has each lead time as often as it was seen. `auto` moves a part of 2 to 19 observed ones to the periods
+    beside them, since a short record has not seen all. Raises RefusedFaults.
+    """
+    if method not in LEAD_METHODS:
+        raise Refused(f"there is no method {method!r} to fit lead times; say {' or '.join(LEAD_METHODS)}")
+    numbers = leads_of(observed)
+    seen = Law.of_numbers(numbers)
+    if method == EMPIRICAL or not LEAST_LEADS <= len(numbers) < FEW:
+        return FittedLaw.made(seen, EMPIRICAL, Diagnostics(seen, method, side=0.0))
+    side = sum(side * chance for side, chance in sides_of(numbers).items())
+    return FittedLaw.made(lead_law(Counter(numbers), side), "blurred", Diagnostics(seen, method, side=side))
+
+
+def lead_law(weights: Mapping[int, float], side: float) -> Law:
+    """Returns the law of lead times with these weights, blurred."""
+    chances = np.zeros(MOST_LEAD + 1)
+    for lead, share in blurred(weights, side).items():
+        chances[lead] = share
+    return Law.of_chances(chances)

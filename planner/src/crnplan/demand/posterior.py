@@ -31,12 +31,10 @@ from scipy import special
 from ..chances import Floats, cut, in_items, scaled
 from ..errors import Refused
 from ..formats import MOST_WEIGHT
-from ..records.observed import Observed
 from ..law import Law
-from .families import family_of, fits_of
-from .families.family import UNIFORMS, Fit, Parameters
-from .fitting import LEAST_DEMANDS, WORSE, fit_demand
-from .leads import FEW, LEAST_LEADS, fit_lead, lead_law, sides_of
+from ..records.observed import Observed
+from .families import REGISTRY, UNIFORMS, Fit, Parameters, fits_of
+from .fitting import FEW, LEAST_DEMANDS, LEAST_LEADS, WORSE, boxes_of, lead_law, leads_of, sides_of
 from .sample import Sample
 
 FROM_HISTORY = "history"  # the name of the Bayesian bootstrap among the families
@@ -106,7 +104,7 @@ def members_of(name: str, fit: Fit, packs: Sample, random: np.random.Generator) 
     What is common to a family is approximated as in the Bayesian information criterion. Source of the weights: Rubin,
     Using the SIR algorithm to simulate posterior distributions, 1988.
     """
-    family = family_of(name)
+    family = REGISTRY[name]
     parameters = family.drawn(packs, stratified(random, UNIFORMS, MEMBERS), PROPOSED)
     seen = np.maximum(family.chances(parameters, packs.values), LEAST_SEEN)
     own = np.log(seen) @ packs.counts
@@ -122,7 +120,7 @@ def members_of(name: str, fit: Fit, packs: Sample, random: np.random.Generator) 
 
 def picked(members: Sequence[Members], times: int, random: np.random.Generator) -> Iterator[tuple[int, int, int]]:
     """Yields the places of a family, of a concentration and of a member for each law."""
-    likely = np.array([it.likely for it in members])
+    likely = np.array([its.likely for its in members])
     below = np.cumsum(np.exp(likely - likely.max()))
     places = np.searchsorted(below[:-1] / below[-1], (np.arange(times) + random.random()) / times)
     families, concentrations = np.unravel_index(random.permutation(places), likely.shape)
@@ -137,48 +135,45 @@ def end_of(sample: Sample) -> float:
     The largest of n sizes with an exponential tail grows as the logarithm of n (Gumbel, Statistics of Extremes, 1958,
     section 4.2), so after few demands the largest one possible may be many times the largest one seen.
     """
-    return max(math.log(DEMANDS_OF_END) / math.log(sample.size - sample.zeros + 1), LEAST_END)
+    return max(math.log(DEMANDS_OF_END) / math.log(sample.demands + 1), LEAST_END)
 
 
 def demand_laws(sample: Sample, times: int, random: np.random.Generator) -> tuple[dict[str, int], list[Floats]]:
     """Draws laws of demand: how many each family gave, and their chances."""
-    pack, nothing = sample.pack, np.zeros(1)
+    pack = sample.pack
     packs = sample.in_packs(pack)
-    fits = fits_of(packs) if packs.size - packs.zeros >= LEAST_DEMANDS else {}
+    fits = fits_of(packs) if packs.demands >= LEAST_DEMANDS else {}
     if not fits:
-        laws = (round_history(nothing, sample, 0.0, random, COUNTED) for _ in range(times))
+        laws = (round_history(np.zeros(1), sample, 0.0, random, COUNTED) for _ in range(times))
         return {FROM_HISTORY: times}, [*laws]
     bic = {name: fit.bic(packs.size) for name, fit in fits.items()}
-    members = [members_of(name, fits[name], packs, random) for name, its in bic.items()
-               if its <= min(bic.values()) + WORSE]
+    members = [members_of(name, fits[name], packs, random) for name, value in bic.items()
+               if value <= min(bic.values()) + WORSE]
     most = sample.most * end_of(sample)**stratified(random, 1, times)[0]
     counts: Counter[str] = Counter()
     drawn: list[Floats] = []
     for end, (family, periods, member) in zip(most, picked(members, times, random)):
-        its = members[family]
-        parameters = tuple(it[member:member + 1] for it in its.parameters)
-        base = in_items(cut(family_of(its.name).laws(parameters, packs.most)[0]), pack)
+        name, columns, *_ = members[family]
+        parameters = tuple(column[member:member + 1] for column in columns)
+        base = in_items(cut(REGISTRY[name].laws(parameters, packs.most)[0]), pack)
         drawn.append(round_history(scaled(base[:int(end) + 1]), sample, SHARES[periods], random, COUNTED))
-        counts[its.name] += 1
-    return {it.name: counts[it.name] for it in members if counts[it.name]}, drawn
+        counts[name] += 1
+    return {its.name: counts[its.name] for its in members if counts[its.name]}, drawn
 
 
-def sample_of(law: Law) -> Sample:
-    """Returns the sample of an empirical law: a weight is how often its value was seen."""
-    return Sample(np.array(law.values, np.int64), np.array(law.weights, np.int64))
-
-
-def check_times(times: int) -> None:
-    """Raises Refused if this is no number of laws."""
+def random_of(times: int, seed: int, *stream: int) -> np.random.Generator:
+    """Returns the generator of a seed for so many laws. Each stream is independent of the others."""
     if times < 1:
         raise Refused(f"{times} is no number of laws; it is at least 1")
-
-
-def random_of(seed: int, stream: int) -> np.random.Generator:
-    """Returns the generator of a seed. Each stream is independent of the others."""
     if seed < 0:
         raise Refused(f"{seed} is no seed; it is at least 0")
-    return np.random.default_rng([seed, stream])
+    return np.random.default_rng([seed, *stream])
+
+
+def law_of_chances(chances: Floats, most: int) -> Law:
+    """Returns the law of chances. If it has no demand, one unit of its weight goes to the largest demand seen."""
+    law = Law.of_chances(chances)
+    return Law((0, most), (MOST_WEIGHT - 1, 1)) if law.values == (0,) and most else law
 
 
 def allowed_laws(observed: Observed | Iterable[Any], *, times: int = 100, box: int = 1, seed: int = 1) -> AllowedLaws:
@@ -188,16 +183,9 @@ def allowed_laws(observed: Observed | Iterable[Any], *, times: int = 100, box: i
     largest one seen (`end_of`: 9 times after 2 demands, 4 after 12, 2 after 172), those above 10,000 count as 10,000,
     and what is less likely than 1 in 131,072 is left out. A law has at least one demand above 0, if the history has.
     """
-    check_times(times)
-    sample = sample_of(fit_demand(observed, method="empirical", box=box))
-    families, laws = demand_laws(sample, times, random_of(seed, 0))
+    random, sample = random_of(times, seed, 0), Sample.of(boxes_of(observed, box))
+    families, laws = demand_laws(sample, times, random)
     return AllowedLaws(families, tuple(law_of_chances(law, sample.most) for law in laws))
-
-
-def law_of_chances(chances: Floats, most: int) -> Law:
-    """Returns the law of chances. If it has no demand, one unit of its weight goes to the largest demand seen."""
-    law = Law.of_chances(chances)
-    return Law((0, most), (MOST_WEIGHT - 1, 1)) if law.values == (0,) and most else law
 
 
 def allowed_leads(observed: Observed | Iterable[Any], *, times: int = 100, seed: int = 1) -> AllowedLaws:
@@ -207,14 +195,12 @@ def allowed_leads(observed: Observed | Iterable[Any], *, times: int = 100, seed:
     times are blurred: how much is drawn too. A single lead time is what a supplier says, and stays as it is. Raises
     RefusedFaults.
     """
-    check_times(times)
-    sample = sample_of(fit_lead(observed, method="empirical"))
-    if sample.size < LEAST_LEADS:
-        return AllowedLaws({FROM_HISTORY: times}, (Law((sample.most,), (MOST_WEIGHT,)),) * times)
-    random = random_of(seed, 1)
-    sides, family = np.zeros(times), FROM_HISTORY
+    random, numbers = random_of(times, seed, 1), leads_of(observed)
+    if len(numbers) < LEAST_LEADS:
+        return AllowedLaws({FROM_HISTORY: times}, (Law(tuple(numbers), (MOST_WEIGHT,)),) * times)
+    sides, family, sample = np.zeros(times), FROM_HISTORY, Sample.of(numbers)
     if sample.size < FEW:
-        chances = sides_of([*Counter(dict(zip(sample.values.tolist(), sample.counts.tolist()))).elements()])
+        chances = sides_of(sorted(numbers))
         places = np.searchsorted(np.cumsum([*chances.values()])[:-1], stratified(random, 1, times)[0])
         sides, family = np.array([*chances])[places], "blurred"
     rows = random.standard_gamma(sample.counts, (times, len(sample.counts)))

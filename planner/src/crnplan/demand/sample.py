@@ -1,17 +1,27 @@
-"""Counts observed whole numbers: what laws are fitted to."""
+"""Counts observed whole numbers, what laws are fitted to, and checks whether they look like those of a law.
+
+A check of a fitted law by the histories that it would bring is a predictive check (Gelman and others, Bayesian Data
+Analysis, third edition, section 6.3). The law was fitted to the history itself, so the shares of a right law are far
+from the ends, and the bounds are higher than those of a test.
+"""
 from __future__ import annotations
 
+import functools
 import math
 from collections.abc import Iterable
 from dataclasses import dataclass
 from functools import cached_property
+from typing import NamedTuple
 
 import numpy as np
+import numpy.typing as npt
 
 from ..chances import Floats, Whole
 
 # A pack is recognised after so many demands above 0, if they all have its divisor by luck with a chance of 2^-8.
 PACKED, PACK_BITS = 3, 8.0
+TIMES, SEED = 199, 1  # of drawn histories
+ROUNDING = 1e-9  # Histories with the same counts are as far, however their sums are rounded.
 
 
 @dataclass(frozen=True, eq=False)
@@ -62,23 +72,22 @@ class Sample:
         """Returns how many numbers are 0."""
         return int(self.counts[0]) if self.values[0] == 0 else 0
 
-    @cached_property
-    def sizes(self) -> Sample:
-        """Returns the numbers above 0."""
-        above = self.values > 0
-        return Sample(self.values[above], self.counts[above])
-
     @property
+    def demands(self) -> int:
+        """Returns how many numbers are above 0."""
+        return self.size - self.zeros
+
+    @cached_property
     def excess(self) -> Sample:
         """Returns the numbers above 0, less 1."""
-        return Sample(self.sizes.values - 1, self.sizes.counts)
+        above = self.values > 0
+        return Sample(self.values[above] - 1, self.counts[above])
 
     @property
     def pack(self) -> int:
         """Returns the size of the pack of which all demands are multiples, if that is no luck; else 1."""
-        demands = self.size - self.zeros
-        divisor = int(np.gcd.reduce(self.sizes.values)) if demands >= PACKED else 1
-        return divisor if demands * math.log2(divisor) >= PACK_BITS else 1
+        divisor = int(np.gcd.reduce(self.values)) if self.demands >= PACKED else 1
+        return divisor if self.demands * math.log2(divisor) >= PACK_BITS else 1
 
     @property
     def law(self) -> Floats:
@@ -89,3 +98,70 @@ class Sample:
     def in_packs(self, pack: int) -> Sample:
         """Returns the numbers of packs."""
         return Sample(self.values // pack, self.counts)
+
+
+class Shares(NamedTuple):
+    """The shares of histories of a law that vary at least as much as the real one, at most as much, that are at least
+    as far from the law, and whose largest demand is at most the real one, and at least."""
+
+    as_much: float
+    as_little: float
+    as_far: float
+    as_low: float
+    as_high: float
+
+    @property
+    def passes(self) -> bool:
+        """Returns whether the history looks like one of the law."""
+        return all(share > least for share, least in zip(self, LEAST))
+
+
+LEAST = Shares(0.05, 0.05, 0.30, 0.10, 0.05)
+
+
+def distances(histories: Whole, chances: Floats) -> Floats:
+    """Returns how far histories are from a law, by Cramer and von Mises. Each row has the rising numbers of a history.
+
+    Source: Choulakian, Lockhart and Stephens, Cramer-von Mises statistics for discrete distributions, 1994. The sum
+    over all cells of the squared distance is split by the numbers, each of which counts from its cell on.
+    """
+    size, below = histories.shape[1], np.cumsum(chances)
+    tails, means = (np.cumsum((chances * below**power)[::-1])[::-1] for power in (0, 1))
+    weights = (2 * np.arange(size) + 1) / size
+    far: Floats = size * float(chances @ below**2) + tails[histories] @ weights - 2 * means[histories].sum(axis=1)
+    return far
+
+
+@functools.lru_cache(maxsize=8)
+def uniforms(size: int) -> Floats:
+    """Returns uniform numbers for drawn histories of a size, rising in each row."""
+    rows = np.sort(np.random.default_rng(SEED).random((TIMES, size)), axis=1)
+    rows.flags.writeable = False
+    return rows
+
+
+def variances_of(histories: Whole) -> Floats:
+    """Returns the unbiased variance of each row, without rounding before the last division."""
+    size = histories.shape[1]
+    sums, squares = histories.sum(axis=1), np.einsum("ij,ij->i", histories, histories)
+    variances: Floats = (size * squares - sums**2) / (size * (size - 1))
+    return variances
+
+
+def shares_of(sample: Sample, chances: Floats) -> Shares:
+    """Returns the shares of a sample under a law. The same sample and law have the same shares."""
+    law = np.zeros(max(len(chances), sample.most + 1))
+    law[:len(chances)] = chances / chances.sum()
+    below = np.cumsum(law)
+    drawn = np.minimum(np.searchsorted(below, uniforms(sample.size), side="right"), len(chances) - 1)
+    variances = variances_of(drawn)
+    far = distances(np.vstack([drawn, np.repeat(sample.values, sample.counts)]), law)
+
+    def share(holds: npt.NDArray[np.bool_]) -> float:
+        """Returns a share in which the history itself counts."""
+        return float((holds.sum() + 1) / (TIMES + 1))
+    before = below[sample.most - 1] if sample.most else 0.0
+    return Shares(share(variances >= sample.variance * (1 - ROUNDING)),
+                  share(variances <= sample.variance * (1 + ROUNDING)),
+                  share(far[:-1] >= far[-1] * (1 - ROUNDING)),
+                  float(below[sample.most]**sample.size), float(1 - before**sample.size))

@@ -10,7 +10,7 @@ from pathlib import Path
 from ..crnsim.trajectory import Period
 from ..decide.doubt import WITHIN
 from ..decide.intervals import Compared as ComparedRow
-from ..demand import fit_remarks
+from ..demand.fitted import fit_remarks
 from ..errors import Fault, spelt, worded
 from ..plan.answer import CHEAPER, CHOSEN, DEARER, SAME, SERVICE, THEORY, UNDECIDED, Figures
 from ..plan.depth import Coming, Compared, Depth

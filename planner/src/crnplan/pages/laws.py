@@ -4,7 +4,8 @@ from __future__ import annotations
 from collections.abc import Iterator
 from typing import TYPE_CHECKING
 
-from ..demand.fitted import EMPIRICAL, QUANTILES, FittedLaw
+from ..demand import EMPIRICAL
+from ..demand.fitted import FittedLaw, QUANTILES
 from ..plan.question import Question
 from ..table import Cell, number, text, whole
 
@@ -21,7 +22,7 @@ LAW_COLUMNS = (
 
 def learned_words(its: Borrowed) -> str:
     """Returns in words what a law is that an item has learned from others."""
-    from ..demand.borrowing.prior import ALL
+    from ..demand.learning import ALL
     source = "all items of the catalogue" if its.prior == ALL else f"the items of class {its.prior}"
     return f"the law learned from {source}" + f" ({1 - its.share:.0%} from what was seen)" * (its.share < 1)
 

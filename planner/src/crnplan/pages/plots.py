@@ -7,7 +7,7 @@ from collections import Counter
 from collections.abc import Mapping, Sequence
 from dataclasses import dataclass
 
-from ..demand.fitted import QUANTILES, Figures
+from ..demand.fitted import Figures, QUANTILES
 from ..law import Law
 from .page import UNITS, Chances, Scale, number, tick
 

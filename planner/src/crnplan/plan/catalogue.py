@@ -18,8 +18,7 @@ from typing import Any
 import numpy as np
 
 from ..crnsim.program import program_for
-from ..demand.borrowing import Prior, learn
-from ..demand.borrowing.learning import LEAST_ITEMS, LEAST_ON_REQUEST
+from ..demand.learning import LEAST_ITEMS, LEAST_ON_REQUEST, Prior, learn
 from ..errors import Failed, Refused
 from ..files import Folder, faults_of
 from ..jobs import Work, program_digest, workers_of

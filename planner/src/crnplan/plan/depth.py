@@ -15,7 +15,7 @@ from ..crnsim.report import report_of
 from ..crnsim.trajectory import Period, trajectories
 from ..decide.doubt import WITHIN, Doubt
 from ..decide.intervals import Compared as ComparedRow, Estimate, with_intervals
-from ..demand import FittedLaw
+from ..demand.fitted import FittedLaw
 from ..demand.posterior import AllowedLaws
 from ..errors import Refused
 from ..formats import MOST_ITEMS, POLICIES

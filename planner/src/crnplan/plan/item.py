@@ -11,7 +11,7 @@ from pathlib import Path
 from typing import Any
 
 from ..crnsim.program import find_program
-from ..demand import Checks, checks_of
+from ..demand.checks import Checks, check_history
 from ..errors import Fault
 from ..files import own_folder
 from ..records import History, LeadTimes, read_history, read_lead_times
@@ -51,7 +51,7 @@ class Facts:
     @cached_property
     def checks(self) -> Checks:
         """Returns the checks of the history."""
-        return checks_of(self.history, season=self.settings["history"]["season"])
+        return check_history(self.history, season=self.settings["history"]["season"])
 
 
 @dataclass(frozen=True)

@@ -18,9 +18,11 @@ import numpy as np
 
 from ..crnsim.report import Report, report_of
 from ..decide.intervals import Estimate as PolicyEstimate, estimates_of, t_quantile
-from ..demand.borrowing import Prior, borrowed_laws
+from ..demand.borrowing import borrowed_laws
+from ..demand.learning import Prior
 from ..demand.checks import remarks_of as checked
-from ..demand.fitted import EMPIRICAL, FittedLaw
+from ..demand import EMPIRICAL
+from ..demand.fitted import FittedLaw
 from ..demand.posterior import allowed_laws, allowed_leads
 from ..errors import Failed, Refused, worded
 from ..formats import MOST_ITEMS, MOST_REPLICATIONS

@@ -9,10 +9,11 @@ from dataclasses import dataclass, field
 from fractions import Fraction
 
 from .. import __version__
-from ..demand import FittedLaw, fit_demand, fit_lead
-from ..demand.borrowing import Borrowed, Prior, law_of
-from ..demand.fitting import METHODS
-from ..demand.leads import LEAD_METHODS
+from ..demand.fitted import FittedLaw
+from ..demand.fitting import fit_demand, fit_lead
+from ..demand.borrowing import Borrowed, law_of
+from ..demand.learning import Prior
+from ..demand import LEAD_METHODS, METHODS
 from ..errors import Refused, argument
 from ..formats import MOST_PERIODS, MOST_REPLICATIONS, limits
 from ..money import rounded_costs

@@ -14,8 +14,7 @@ from typing import Any
 
 from .. import formats
 from ..decide.doubt import TIMES
-from ..demand.fitting import METHODS
-from ..demand.leads import LEAD_METHODS
+from ..demand import LEAD_METHODS, METHODS
 from ..errors import Refused
 from ..formats import MOST_PERIODS, MOST_REPLICATIONS, MOST_WEIGHT
 from ..records.amounts import DECIMALS

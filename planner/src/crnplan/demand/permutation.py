@@ -1,4 +1,4 @@
-"""Tests by permutations whether the order of a history matters: dependence, trend, shift of level and season.
+"""Tests by permutations whether the order of a history matters, and computes what the tests would have seen.
 
 If periods are independent and of one law, all orders of a history are equally likely. So the share of drawn orders
 whose statistic is at least that of the history, which counts among them, is a p value. It holds whatever the law, with
@@ -6,8 +6,11 @@ ties and zeros (Good, Permutation, Parametric, and Bootstrap Tests of Hypotheses
 Davison and Hinkley, Bootstrap Methods and their Application, 1997, section 4.3).
 
 The statistics take arrays with a history in each row: the distances of its numbers, or of their ranks, from the mean
-of the row. They return one number for each row, which is 0 if all numbers of the row are equal. All figures are rounded
-and unproved.
+of the row. They return one number for each row, which is 0 if all numbers of the row are equal.
+
+A test that is silent on a noisy history says little. So each test has the least effect that it sees in 8 of 10 such
+histories. It is a large-sample approximation; the study planner/studies/warnings.py measures how often an effect of
+that size is seen. All figures are rounded and unproved.
 """
 from __future__ import annotations
 
@@ -16,8 +19,9 @@ import math
 from collections.abc import Callable, Iterator, Mapping, Sequence
 
 import numpy as np
+from scipy import special
 
-from ...chances import Floats, Whole
+from ..chances import Floats, Whole
 
 Statistic = Callable[[Floats, Floats], Floats]  # of the numbers' distances from their mean, and of their ranks'
 
@@ -29,6 +33,10 @@ MOST_CELLS = 1 << 18  # of the orders that are in memory at a time
 AT_ONCE = 150  # orders that are looked at before a test is left
 KEPT = 8  # such parts of the drawn orders, for further histories of as many periods
 ROUNDING = 1e-9  # Orders whose statistics differ by less are as suspicious.
+SEEN = 0.8
+SIZES = [step / 20 for step in range(1, 21)]  # of the effects that are tried
+# Within an equal block of time the mean stays: so many in the record, and at most so many in a part of a season.
+BLOCKS, BLOCKS_OF_PART = 104, 13
 
 
 def centred(rows: Floats) -> Floats:
@@ -57,9 +65,9 @@ def autocorrelations(far: Floats) -> Floats:
 
 def ljung_box(far: Floats) -> Floats:
     """Returns the statistic of Ljung and Box (On a measure of lack of fit in time series models, 1978, section 1)."""
-    size, found = far.shape[1], autocorrelations(far)
-    weights = size * (size + 2) / (size - 1 - np.arange(len(found)))
-    statistics: Floats = weights @ found**2
+    size, rows = far.shape[1], autocorrelations(far)
+    weights = size * (size + 2) / (size - 1 - np.arange(len(rows)))
+    statistics: Floats = weights @ rows**2
     return statistics
 
 
@@ -98,23 +106,21 @@ def shift(far: Floats) -> Floats:
     return shares(steps(far).max(axis=1), squares_of(far))
 
 
-def kruskal(ranks: Floats, parts: Whole) -> Floats:
+def kruskal(parts: Whole, far: Floats, ranks: Floats) -> Floats:
     """Returns the statistic of Kruskal and Wallis (Use of ranks in one-criterion variance analysis, 1952), with ties.
 
     `parts` has the part of the year of each period.
     """
     member = (parts[:, None] == np.unique(parts)).astype(float)
     between = (ranks @ member)**2 @ (1 / member.sum(axis=0))
-    return (ranks.shape[1] - 1) * shares(between, squares_of(ranks))
+    return (far.shape[1] - 1) * shares(between, squares_of(ranks))
 
 
 def statistics_of(seasons: Mapping[str, Whole]) -> dict[str, Statistic]:
     """Returns the statistics of all tests by name. A season has the part of each period."""
-    def of_season(parts: Whole) -> Statistic:
-        """Returns the statistic of a season."""
-        return lambda far, ranks: kruskal(ranks, parts)
     return {"autocorrelation": lambda far, ranks: ljung_box(far), "trend": lambda far, ranks: trend(ranks),
-            "shift": lambda far, ranks: shift(far), **{name: of_season(parts) for name, parts in seasons.items()}}
+            "shift": lambda far, ranks: shift(far),
+            **{name: functools.partial(kruskal, parts) for name, parts in seasons.items()}}
 
 
 class Drawn:
@@ -142,33 +148,29 @@ class Orders:
     def __init__(self, numbers: Sequence[int] | Floats) -> None:
         """Counts the numbers of the history."""
         self.values, self.codes, self.counts = np.unique(numbers, return_inverse=True, return_counts=True)
-        self.far = self.values - np.mean(numbers)
-        self.ranks = np.cumsum(self.counts) - self.counts / 2 - len(numbers) / 2
+        ranks = np.cumsum(self.counts) - self.counts / 2 - len(numbers) / 2
+        self.far, self.ranks = (self.values - np.mean(numbers))[self.codes], ranks[self.codes]
 
-    def drawn(self, at_once: int = TIMES) -> Iterator[Whole]:
-        """Yields the order of the history, and then drawn orders, so many in each array: places in the history."""
+    def rows(self, at_once: int = TIMES) -> Iterator[tuple[Floats, Floats]]:
+        """Yields the distances of the numbers from their mean, and of their ranks: in the order of the history, and
+        then in drawn orders, so many in each array."""
         size = len(self.codes)
-        yield np.arange(size)[None]
+        yield self.far[None], self.ranks[None]
         many = max(1, MOST_CELLS // size)
         for first in range(0, TIMES, many):
             count = min(many, TIMES - first)
             for start in range(0, count, at_once):
-                yield drawn_orders(size, first).orders(start, min(start + at_once, count))
-
-    def _rows(self, at_once: int = TIMES) -> Iterator[tuple[Floats, Floats]]:
-        """Yields the distances of the numbers from their mean, and of their ranks, in the orders of `drawn`."""
-        far, ranks = self.far[self.codes], self.ranks[self.codes]
-        for order in self.drawn(at_once):
-            yield far.take(order), ranks.take(order)
+                order = drawn_orders(size, first).orders(start, min(start + at_once, count))
+                yield self.far.take(order), self.ranks.take(order)
 
     def statistics(self, kinds: Mapping[str, Statistic]) -> dict[str, Floats]:
         """Returns each statistic of the history and, after it, of the drawn orders. The same history has the same."""
-        parts = [{name: kind(*rows) for name, kind in kinds.items()} for rows in self._rows()]
+        parts = [{name: kind(*rows) for name, kind in kinds.items()} for rows in self.rows()]
         return {name: np.concatenate([part[name] for part in parts]) for name in kinds}
 
     def seen(self, kinds: Mapping[str, Statistic], level: float) -> set[str]:
         """Returns the tests with a p value of at most a level. A test is left when enough orders are as suspicious."""
-        rows = self._rows(AT_ONCE)
+        rows = self.rows(AT_ONCE)
         history, left = next(rows), dict(kinds)
         least = {name: kind(*history)[0] * (1 - ROUNDING) for name, kind in kinds.items()}
         counts, most = dict.fromkeys(kinds, 1), most_of(level, TIMES + 1)
@@ -195,3 +197,86 @@ def bound_of(statistics: Floats, level: float) -> float:
     """Returns the number above which a statistic has a p value of at most a level; infinity if none has."""
     allowed = most_of(level, len(statistics))
     return float(np.sort(statistics[1:])[-allowed]) if allowed else math.inf
+
+
+class Tilted:
+    """The law of a history with other means: the chance of a value is tilted by a factor e^(rate * value).
+
+    This is how a law without a family gets another mean (Davison and Hinkley, Bootstrap Methods and their Application,
+    1997, section 4.4). It keeps Poisson and negative binomial laws in their families, and moves both the share of
+    periods with demand and the sizes.
+    """
+
+    def __init__(self, orders: Orders) -> None:
+        """Finds the means of many rates. The history has two values or more."""
+        self.values, self.logarithms = orders.values.astype(float), np.log(orders.counts)
+        size = len(orders.codes)
+        self.mean = float(self.values @ orders.counts / size)
+        deviation = math.sqrt(float((self.values - self.mean)**2 @ orders.counts / size))
+        self.rates = np.sinh(np.linspace(-8, 8, 401)) / deviation
+        self.means = self._chances(self.rates) @ self.values
+
+    def _chances(self, rates: Floats) -> Floats:
+        """Returns the chances of the values, a row for each rate."""
+        powers = self.logarithms + rates[:, None] * self.values
+        chances = np.exp(powers - powers.max(axis=1, keepdims=True))
+        rows: Floats = chances / chances.sum(axis=1, keepdims=True)
+        return rows
+
+    def scores(self, factors: Floats) -> tuple[Floats, Floats, float]:
+        """Returns the mean and the variance of a number's rank for each factor of the mean, which stays within the
+        values, and the variance of all ranks.
+
+        Ranks are shares of the periods, from their mean. As many periods have each factor.
+        """
+        chances = self._chances(np.interp(factors * self.mean, self.means, self.rates))
+        pooled = chances.mean(axis=0)
+        ranks = np.cumsum(pooled) - pooled / 2 - 0.5
+        means = chances @ ranks
+        return means, chances @ ranks**2 - means**2, float(pooled @ ranks**2)
+
+
+def trend_seen(law: Tilted, periods: int, bound: float, size: float) -> float:
+    """Returns the chance that the square of Spearman's rho is above a bound, if the mean rises steadily.
+
+    It goes from 1 - `size` times the mean of the history to 1 + `size` times. Rho is a sum over periods, and so about
+    normal (Lehmann, Nonparametrics, 1975, chapter 7).
+    """
+    time = centred(np.arange(BLOCKS) + 0.5) * 2 / BLOCKS
+    means, variances, variance = law.scores(1 + size * time)
+    whole = math.sqrt(time @ time * BLOCKS * variance)
+    mean, deviation = time @ means / whole, math.sqrt(time**2 @ variances * BLOCKS / periods) / whole
+    return float(special.ndtr((mean - math.sqrt(bound)) / deviation))
+
+
+def season_seen(law: Tilted, periods: int, length: int, parts: int, bound: float, size: float) -> float:
+    """Returns the chance that Kruskal and Wallis's statistic is above a bound, if the mean follows a sine.
+
+    It goes up and down by `size` times the mean of the history, once in `length` periods, which make equal parts. The
+    statistic has about a noncentral chi-squared law (Lehmann, Nonparametrics, 1975, appendix).
+    """
+    blocks = parts * min(BLOCKS_OF_PART, max(1, length // parts))
+    means, _, variance = law.scores(1 + size * np.sin(2 * math.pi * (np.arange(blocks) + 0.5) / blocks))
+    of_parts = means.reshape(parts, -1).mean(axis=1)
+    within = variance - float(of_parts @ of_parts) / parts
+    apart = periods * float(of_parts @ of_parts) / parts / within
+    return float(1 - special.chndtr(bound * variance / within, parts - 1, apart))
+
+
+def autocorrelation_seen(periods: int, level: float, size: float) -> float:
+    """Returns the chance of a p value at most at a level, if neighbours have this autocorrelation.
+
+    It falls with the lag as in a chain of the first order. Ljung and Box's statistic has about a noncentral chi-squared
+    law, whatever the law of demand is.
+    """
+    apart = periods * sum(size**(2 * lag) for lag in range(1, LAGS + 1))
+    return float(1 - special.chndtr(special.chdtri(LAGS, level), LAGS, apart))
+
+
+def least_seen(seen: Callable[[float], float]) -> float:
+    """Returns the least size of an effect with a chance of 80% to be seen, to 5%; infinity if there is none."""
+    low, high = -1, len(SIZES)
+    while high - low > 1:
+        middle = (low + high) // 2
+        low, high = (low, middle) if seen(SIZES[middle]) >= SEEN else (middle, high)
+    return SIZES[high] if high < len(SIZES) else math.inf

@@ -1,0 +1,244 @@
+"""Lets items with few orders learn their law of demand from the whole catalogue (empirical Bayes).
+
+Five orders in a year cannot show their law; thousands of items show which laws there are. `learning.learn` estimates
+from all histories a prior over the share of periods with demand, the mean size of a demand and its dispersion. `law_of`
+gives an item the law that this prior and its own history say (Robbins, An empirical Bayes approach to statistics, 1956).
+"""
+from __future__ import annotations
+
+from collections.abc import Iterable
+from dataclasses import dataclass, replace
+from functools import cached_property
+from typing import Any
+
+import numpy as np
+
+from ..chances import Floats, Whole, cut, in_items, mixture, scaled
+from ..formats import MOST_DEMAND
+from ..law import Law
+from ..records.observed import Observed
+from ..remarks import Remark
+from .fitted import Diagnostics, FittedLaw
+from .fitting import LEAST_DEMANDS, boxes_of, cap_of, family_law, share_of
+from .grid import FLAT, MOST_SIZE, SHARES, SIZE_CELLS, share_likelihoods, size_laws, size_likelihoods
+from .learning import NONE, Prior, is_outside
+from .posterior import AllowedLaws, allowed_laws, law_of_chances, random_of, round_history, stratified
+from .sample import Sample, Shares, shares_of
+
+FAMILY = "borrowed"
+LEVEL = 0.05  # Each share of the guard is above it, else the law of the single item is taken.
+ROWS = 4  # of uniform numbers for a drawn law; the last one chooses its part
+LEAST_CHANCE = 1e-12  # of a cell that counts in a predictive law
+ALIKE = 0.5  # beforehand, the chance that an item is one of those that the prior was learned from
+
+
+@dataclass(frozen=True)
+class Borrowed:
+    """What is known of an item's law, in its diagnostics.
+
+    `demands` are the periods with demand, `prior` is the name of the class whose prior it has, or "all". `alone` says
+    why the law of the item's own history is taken; None if the borrowed law is. `share` is that of what was
+    learned in the law of the item; the rest is from its own history. `guard` has the shares of drawn histories, None
+    with no or one demand; `log10_bayes` is the log10 of the Bayes factor for the learned prior against the flat one.
+    Both are None if nothing was learned for such an item. `single` is the law of the item's own history by
+    `fit_demand(method="auto")`, None if not asked for.
+    """
+
+    demands: int
+    prior: str
+    alone: Remark | None = None
+    share: float = 0.0
+    guard: Shares | None = None
+    log10_bayes: float | None = None
+    single: FittedLaw | None = None
+
+    @property
+    def unlike(self) -> bool:
+        """Returns whether the history is less likely under the learned prior than under the flat one: the item is
+        unlike the catalogue. Then at most half of its law is from what was learned."""
+        return self.log10_bayes is not None and self.log10_bayes < 0
+
+    @property
+    def few(self) -> bool:
+        """Returns whether the history has no or one demand: the law is then all but that of the catalogue."""
+        return self.demands < LEAST_DEMANDS
+
+
+@dataclass(frozen=True, eq=False)
+class Posterior:
+    """A prior (cells of the share, cells of sizes), and the likelihoods of one history (cells, points) of both."""
+
+    prior: Floats
+    shares: Floats
+    sizes: Floats
+
+    @classmethod
+    def of(cls, sample: Sample, prior: Floats) -> Posterior:
+        """Computes the likelihoods of a history."""
+        return cls(prior, share_likelihoods([sample])[0], size_likelihoods([sample])[0])
+
+    def likelihood(self, prior: Floats) -> float:
+        """Returns the likelihood of the history under a prior, but for a factor that all priors share."""
+        return float(self.shares.mean(axis=1) @ prior @ self.sizes.mean(axis=1))
+
+    @property
+    def log10_bayes(self) -> float:
+        """Returns the log10 of the Bayes factor for the prior against the flat one.
+
+        Source: Kass and Raftery, Bayes factors, 1995, section 2.
+        """
+        return float(np.log10(self.likelihood(self.prior) / self.likelihood(FLAT)))
+
+    @property
+    def alike(self) -> float:
+        """Returns the chance that the item is one of those that the prior was learned from, and not of the flat prior.
+
+        Source: Berger and Berliner, Robust Bayes and empirical Bayes analysis with epsilon-contaminated priors, 1986.
+        """
+        learned, flat = ALIKE * self.likelihood(self.prior), (1 - ALIKE) * self.likelihood(FLAT)
+        return learned / (learned + flat)
+
+    @cached_property
+    def predictive(self) -> Floats:
+        """Returns the posterior predictive law of the next period, without the end of its tail."""
+        means = self.sizes.mean(axis=1)
+        demand = (self.shares * SHARES).mean(axis=1) @ self.prior  # of each cell of sizes, with a demand next
+        share = float(demand @ means / (self.shares.mean(axis=1) @ self.prior @ means))
+        weights = demand[:, None] * self.sizes
+        weights /= weights.sum()
+        laws = size_laws()
+        cells = np.flatnonzero(weights.sum(axis=1) > LEAST_CHANCE)
+        chances = np.zeros(max(laws[cell].shape[1] for cell in cells))
+        for cell in cells:
+            chances[:laws[cell].shape[1]] += weights[cell] @ laws[cell]
+        return cut(np.concatenate([[1 - share], share * scaled(chances)]))
+
+    def drawn(self, uniform: Floats) -> list[Floats]:
+        """Draws laws of demand, one for each column of uniform numbers. Its three rows choose the cell, the point of
+        the share within it, and that of the sizes."""
+        cells = np.cumsum(self.prior * np.outer(self.shares.mean(axis=1), self.sizes.mean(axis=1)))
+        share_cells, size_cells = np.divmod(np.searchsorted(cells[:-1] / cells[-1], uniform[0]), SIZE_CELLS)
+        shares = SHARES[share_cells, places(self.shares[share_cells], uniform[1])]
+        points = places(self.sizes[size_cells], uniform[2])
+        sizes = (size_laws()[cell][point] for cell, point in zip(size_cells, points))
+        return [np.concatenate([[1 - share], share * law]) for share, law in zip(shares, sizes)]
+
+
+def places(weights: Floats, uniform: Floats) -> Whole:
+    """Draws a place in each row of weights by a uniform number."""
+    below = np.cumsum(weights, axis=1)
+    drawn: Whole = (below[:, :-1] <= uniform[:, None] * below[:, -1:]).sum(axis=1)
+    return drawn
+
+
+@dataclass(frozen=True, eq=False)
+class Part:
+    """A part of an item's law, with its weight: the posterior of the history, counted in packs. No demand is above
+    `most`."""
+
+    packs: Sample
+    posterior: Posterior
+    weight: float
+    most: int = MOST_DEMAND
+
+    @cached_property
+    def base(self) -> Floats:
+        """Returns the posterior predictive law."""
+        return scaled(self.posterior.predictive[:self.most + 1])
+
+    @cached_property
+    def share(self) -> float:
+        """Returns the share of that law in its mixture with the history."""
+        return share_of(self.packs, self.base)
+
+    @property
+    def law(self) -> Floats:
+        """Returns the mixture of both."""
+        return mixture([(self.share, self.base), (1 - self.share, self.packs.law)])
+
+    def drawn(self, uniform: Floats, random: np.random.Generator) -> list[Floats]:
+        """Draws laws round which the mixture lies, as many as there are columns of uniform numbers."""
+        return [round_history(scaled(law[:self.most + 1]), self.packs, self.share, random)
+                for law in self.posterior.drawn(uniform)]
+
+
+def why_alone(prior: Prior, sample: Sample, box: int) -> Remark | None:
+    """Returns why an item learns from no others, without a look at its law; None if it does."""
+    if prior.borrow == NONE:
+        return Remark("nothing borrowed")
+    if box > 1:
+        return Remark("demand in boxes", {"box": box})
+    if sample.pack > 1 and not prior.packs:
+        return Remark("packs of few others", {"pack": sample.pack})
+    if is_outside(sample.in_packs(sample.pack)):
+        return Remark("large sizes" + " in packs" * (sample.pack > 1), {"most": MOST_SIZE})
+    return None
+
+
+def looked_at(prior: Prior, sample: Sample, item_class: str | None, box: int) -> tuple[Borrowed, list[Part]]:
+    """Returns what is known of an item, and the parts of its law; none if the law of the item alone is to be taken.
+
+    A part is that of the learned prior, the other that of the flat one, each as likely as it is after the history.
+    Under the flat prior, demands are at most as large as in `fit_demand`.
+    """
+    name, learned = prior.of_item(item_class, sample.pack)
+    known = Borrowed(sample.demands, name, why_alone(prior, sample, box))
+    if known.alone or not learned:
+        return known, []
+    packs = sample.in_packs(sample.pack)
+    posterior = Posterior.of(packs, learned.chances)
+    guard = None if known.few else shares_of(packs, posterior.predictive)
+    known = replace(known, guard=guard, log10_bayes=posterior.log10_bayes)
+    if guard and min(guard) <= LEVEL:
+        return replace(known, alone=Remark("unlike histories")), []
+    parts = [Part(packs, posterior, 1.0)]
+    if not known.few:
+        alike, flat = posterior.alike, replace(posterior, prior=FLAT)
+        parts = [Part(packs, posterior, alike), Part(packs, flat, 1 - alike, cap_of(packs))]
+    return replace(known, share=parts[0].weight * parts[0].share), parts
+
+
+def law_of(prior: Prior, observed: Observed | Iterable[Any], item_class: str | None = None, *, box: int = 1,
+           beside: bool = True) -> FittedLaw:
+    """Fits the law of demand to a history with few orders, by what its catalogue has learned (`learn`).
+
+    It is the posterior predictive law under what the item's class, the catalogue, or all items in packs have learned,
+    mixed with the history as far as this speaks against it. The item may be like no other, so the law under a flat
+    prior has a part too. Both are as likely beforehand, and have the parts that they are likely with after the history.
+    Drawn histories of the learned law must look like the real one (`LEVEL`), else the law is that of the item alone:
+    `fit_demand(method="auto")`. So it is for boxes, for packs if few others have some, and for sizes outside the grid.
+    An item with no or one demand has the learned law in any case, since its history alone has none. What is known is in
+    `diagnostics.borrowed`, a `Borrowed`, with the law of the item alone if `beside`.
+
+    `observed` and `box` are as in `fit_demand`, and so is what is raised. Weights add up to 65,536.
+    """
+    boxes = boxes_of(observed, box)
+    sample = Sample.of(boxes)
+    known, parts = looked_at(prior, sample, item_class, box)
+    if beside or not parts:
+        known = replace(known, single=family_law(boxes, "auto", box))
+    if known.single and not parts:
+        return replace(known.single, diagnostics=replace(known.single.diagnostics, borrowed=known))
+    law = in_items(mixture((part.weight, part.law) for part in parts), sample.pack)
+    return FittedLaw.made(Law.of_chances(law), FAMILY, Diagnostics(Law.of_numbers(boxes), FAMILY, borrowed=known))
+
+
+def borrowed_laws(prior: Prior, observed: Observed | Iterable[Any], item_class: str | None = None, *, times: int = 100,
+                  box: int = 1, seed: int = 1) -> AllowedLaws:
+    """Draws laws of demand that an item's history and its catalogue allow. The same seed gives the same laws.
+
+    Their mean is the law of `law_of`, all but the end of its tail: each is drawn from the item's posterior under the
+    learned prior or the flat one, and then from a Dirichlet process round it as far as the history speaks against it.
+    If the law of the item alone is taken, so is its `allowed_laws`. Arguments are as in `law_of`, and so is what is
+    raised; `times` is the number of laws.
+    """
+    random, boxes = random_of(times, seed), boxes_of(observed, box)
+    sample = Sample.of(boxes)
+    _, parts = looked_at(prior, sample, item_class, box)
+    if not parts:
+        return allowed_laws(boxes, times=times, seed=seed)
+    *uniform, choice = stratified(random, ROWS, times)
+    chosen = np.searchsorted(np.cumsum([part.weight for part in parts])[:-1], choice, side="right")
+    laws = (law for place, part in enumerate(parts)
+            for law in part.drawn(np.array(uniform)[:, chosen == place], random))
+    return AllowedLaws({FAMILY: times}, tuple(law_of_chances(in_items(law, sample.pack), sample.most) for law in laws))

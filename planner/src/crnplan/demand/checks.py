@@ -1,0 +1,452 @@
+"""Checks whether a history is what a table takes it for: many independent periods of one law.
+
+What is found is said in codes with facts; words are made of them where they are shown.
+"""
+from __future__ import annotations
+
+import datetime
+import functools
+import math
+import tomllib
+from collections.abc import Callable, Iterable, Iterator, Sequence
+from dataclasses import dataclass, field, replace
+from functools import cached_property, partial
+from pathlib import Path
+from typing import TYPE_CHECKING, NamedTuple
+
+import numpy as np
+from scipy import special
+
+from ..chances import Floats
+from ..errors import Refused
+from ..money import Number, whole
+from ..records.dates import first_day, period_name
+from ..records.observed import History, Observed
+from ..remarks import Remark, Value
+from ..words import advised, sentence
+from .fitted import numbers_of
+from .permutation import (Orders, Tilted, autocorrelation_seen, autocorrelations, bound_of, centred, least_seen, p_value,
+                          places_of, season_seen, squares_of, statistics_of, steps, trend, trend_seen)
+from .sample import Sample
+
+if TYPE_CHECKING:
+    import pandas as pd
+
+FALSE_ALARMS = 0.05  # of all tests of a history together, at most
+LEAST_PERIODS = 8  # for the tests
+LEVELS = ("trend", "shift")
+DECISIVE = 0.5  # the share of the variance above which one period decides the result
+# So many periods without demand at the end of the record are named if as many come by luck with at most this chance.
+NO_DEMAND = 0.05
+# Demands far above all others: the chance to find one where there is none, how many are looked for, and among how many.
+OUTLIERS, MOST_OUTLIERS, LEAST_DEMANDS = 0.01, 3, 10
+# The seasons of dated periods: their names, with how many periods each has.
+CALENDAR = {"day": {"weekday": 7, "season": 365}, "week": {"season": 52}, "month": {"season": 12}}
+YEARS = 2  # of a season, before it is tested
+MOST_PARTS, PARTS = 7, 4  # A longer season is divided into so many parts.
+# The laws of demand of the study planner/studies/dependence.py, with their coefficients of variation.
+STUDIED = {"steady": 0.316, "erratic": 1.0}
+Effect = tuple[float, dict[str, Value]]  # its size, and the facts for its words
+
+
+@dataclass(frozen=True)
+class Season:
+    """A season of a history: its name, how many periods it has, the part of each period, and what each part is: its
+    first and its last weekday, quarter or place in the season, from 1 on. `unit` says which of these."""
+
+    name: str
+    length: int
+    parts: tuple[int, ...]
+    ends: tuple[tuple[int, int], ...]
+    unit: str
+
+
+def _by_place(length: int, size: int) -> Season:
+    """Returns a season of a named length, which begins with the first period."""
+    count = length if length <= MOST_PARTS else PARTS
+    parts = [place * count // length for place in range(length)]
+    ends = ((parts.index(part) + 1, length - parts[::-1].index(part)) for part in range(count))
+    return Season("season", length, tuple(parts[place % length] for place in range(size)), tuple(ends), "place")
+
+
+@functools.lru_cache(256)
+def _by_calendar(name: str, length: int, every: str, first: int, size: int) -> Season:
+    """Returns a season of the calendar. A week belongs to the quarter of its Thursday."""
+    middle = datetime.timedelta(3 if every == "week" else 0)
+    days = [first_day(first + place, every) + middle for place in range(size)]
+    parts = [day.weekday() if name == "weekday" else (day.month - 1) // 3 for day in days]
+    ends = ((part, part) for part in range(1, 8 if name == "weekday" else 5))
+    return Season(name, length, tuple(parts), tuple(ends), "weekday" if name == "weekday" else "quarter")
+
+
+def seasons_of(every: str | None, first: int, size: int, length: int | None) -> tuple[list[Season], list[Remark]]:
+    """Returns the seasons that so many periods are tested for, from the number of the first one on, and remarks on
+    those for which they are too few.
+
+    `every` is day, week or month, or None without dates. A season of a named length takes the place of those of the
+    calendar. Raises Refused for one of less than 2 periods.
+    """
+    if length is not None and length < 2:
+        raise Refused(f"a season of {length} periods is none; say 2 or more")
+    if length is None and every is None:
+        return [], [Remark("season untested without dates")]
+    lengths = CALENDAR[every] if length is None and every else {"season": length or 0}
+    short = [Remark("season untested", {"season": name, "periods": YEARS * own, "unit": every or "period"})
+             for name, own in lengths.items() if size < YEARS * own]
+    return [_by_calendar(name, own, every, first, size) if every and length is None else _by_place(own, size)
+            for name, own in lengths.items() if size >= YEARS * own], short
+
+
+@dataclass(frozen=True)
+class Check:
+    """A test of a history: its p value, the size of what it found, the facts of that, and what it would have seen.
+
+    The size of an autocorrelation is that of neighbours. That of a trend is half of the mean's change over the record,
+    as a share of the mean. That of a shift is the mean after it over that before, less 1. That of a season is its
+    amplitude, as a share of the mean. `least_seen` is the least size that is seen in 8 of 10 such histories: infinity
+    if there is none, None if it is not computed.
+    """
+
+    name: str
+    p: float
+    size: float
+    facts: dict[str, Value]
+    least_seen: float | None = None
+
+
+@dataclass(frozen=True)
+class Facts:
+    """What is checked: numbers, the period of each, and the seasons that they are many enough for.
+
+    `every` is day, week or month, or None without dates, and `first` the number of the first period. `taken` names the
+    seasons whose differences between parts are taken out of `rows`, which keeps the mean.
+    """
+
+    numbers: Sequence[int]
+    seasons: Sequence[Season]
+    every: str | None = None
+    first: int = 1
+    taken: tuple[str, ...] = ()
+
+    def name(self, place: int) -> str:
+        """Returns the name of a period: its date, or its number."""
+        return period_name(self.first + place, self.every) if self.every else f"period {self.first + place}"
+
+    @cached_property
+    def rows(self) -> Floats:
+        """Returns the numbers, without the seasons that are taken out, as the only row of an array."""
+        numbers = np.array(self.numbers, dtype=float)
+        mean = numbers.mean()
+        for season in (season for season in self.seasons if season.name in self.taken):
+            parts = np.array(season.parts)
+            numbers += mean - (np.bincount(parts, numbers) / np.maximum(np.bincount(parts), 1))[parts]
+        return np.round(numbers[None], 9)
+
+    @cached_property
+    def mean(self) -> float:
+        """Returns the mean."""
+        return float(self.rows.mean())
+
+    @cached_property
+    def squares(self) -> float:
+        """Returns the sum of the squared distances from the mean."""
+        return float(squares_of(centred(self.rows))[0])
+
+    @property
+    def variation(self) -> float:
+        """Returns the coefficient of variation. The mean is above 0."""
+        return math.sqrt(self.squares / len(self.numbers)) / self.mean
+
+    @cached_property
+    def explained(self) -> Floats:
+        """Returns the sums of squares that a step explains, by its place."""
+        explained: Floats = steps(centred(self.rows))[0]
+        return explained
+
+    @property
+    def is_step(self) -> bool:
+        """Returns whether the best step explains more than a straight line does."""
+        return float(self.explained.max()) / self.squares > float(trend(centred(self.rows))[0])
+
+
+def autocorrelation_of(facts: Facts) -> Effect:
+    """Returns the autocorrelation of neighbours. The facts have the largest one too, if it is of another lag."""
+    by_lag = autocorrelations(centred(facts.rows))[:, 0]
+    largest = int(np.argmax(np.abs(by_lag)))
+    return float(by_lag[0]), {"at_1": float(by_lag[0]), "lag": largest + 1, "at_lag": float(by_lag[largest])}
+
+
+def trend_of(facts: Facts) -> Effect:
+    """Returns half of the rise along the straight line through a history, as a share of the mean. The facts have by
+    what share the mean of the last third is above that of the first; None if the first third has no demand."""
+    numbers, time = facts.rows[0], centred(np.arange(len(facts.numbers), dtype=float))
+    third = len(numbers) // 3
+    first, last = float(numbers[:third].mean()), float(numbers[-third:].mean())
+    return (float(time @ numbers / (time @ time) * time[-1]) / facts.mean,
+            {"change": last / first - 1 if first > 0 else None})
+
+
+def shift_of(facts: Facts) -> Effect:
+    """Returns the mean after the step that explains most over the mean before it, less 1."""
+    numbers, place = facts.rows[0], places_of(len(facts.numbers)).start + int(np.argmax(facts.explained))
+    before, after = float(numbers[:place].mean()), float(numbers[place:].mean())
+    since = first_day(facts.first + place, facts.every).isoformat() if facts.every else None
+    change = after / before - 1 if before > 0 else None
+    return math.inf if change is None else change, {"change": change, "name": facts.name(place), "since": since}
+
+
+def season_of(facts: Facts, season: Season) -> Effect:
+    """Returns the amplitude of a sine whose means over the parts of a season vary as those of the history."""
+    parts = np.array(season.parts)
+    means = {part: float(facts.rows[0][parts == part].mean()) / facts.mean for part in np.unique(parts).tolist()}
+    width = math.pi / len(means)
+    averaged = math.sin(width) / width if season.length > len(season.ends) else 1.0  # a sine within a part
+    most, least = max(means, key=means.__getitem__), min(means, key=means.__getitem__)
+    ends = zip(("most_first", "most_last", "least_first", "least_last"), (*season.ends[most], *season.ends[least]))
+    return (math.sqrt(2 * np.var([*means.values()])) / averaged,
+            {"most": means[most], "least": means[least], **dict(ends), "unit": season.unit, "length": season.length})
+
+
+def tests_of(facts: Facts, in_full: bool = True) -> tuple[Check, ...]:
+    """Returns the tests of a history. It has none if it is short or all its numbers are equal.
+
+    Only `in_full` are there tests if none warns, and what each would have seen; else that takes a few milliseconds. If
+    a season is seen, a trend and a shift are looked for in what is left without it.
+    """
+    if len(facts.numbers) < LEAST_PERIODS or len({*facts.numbers}) == 1:
+        return ()
+    orders = Orders(facts.numbers)
+    kinds = statistics_of({season.name: np.array(season.parts) for season in facts.seasons})
+    level = FALSE_ALARMS / len(kinds)
+    if not in_full and not orders.seen(kinds, level):
+        return ()
+    statistics = orders.statistics(kinds)
+    p_values = {name: p_value(drawn) for name, drawn in statistics.items()}
+    rest = replace(facts, taken=tuple(season.name for season in facts.seasons if p_values[season.name] <= level))
+    if rest.taken:
+        left = Orders(rest.rows[0]).statistics({name: kinds[name] for name in LEVELS})
+        p_values |= {name: p_value(drawn) for name, drawn in left.items()}
+    effects = {"autocorrelation": autocorrelation_of(facts), "trend": trend_of(rest), "shift": shift_of(rest),
+               **{season.name: season_of(facts, season) for season in facts.seasons}}
+    least: dict[str, float] = {}
+    if in_full:
+        law, count = Tilted(orders), len(facts.numbers)
+        bounds = {name: bound_of(drawn, level) for name, drawn in statistics.items()}
+        seen: dict[str, Callable[[float], float]] = {
+            "autocorrelation": partial(autocorrelation_seen, count, level),
+            "trend": partial(trend_seen, law, count, bounds["trend"]),
+            **{season.name: partial(season_seen, law, count, season.length, len(season.ends), bounds[season.name])
+               for season in facts.seasons}}
+        least = {name: least_seen(chance) for name, chance in seen.items()}
+    return tuple(Check(name, p_values[name], *effects[name], least.get(name)) for name in kinds)
+
+
+@dataclass(frozen=True)
+class Checks:
+    """What is known of a history beside its table: tests of its order, warnings, notes, and what stays unknown.
+
+    Each test warns if its p value is at most `level`: 5% over the number of tests. So an independent history of one law
+    has a false alarm with a chance of at most 5% (Dunn, Multiple comparisons among means, 1961).
+    """
+
+    periods: int
+    demands: int
+    tests: tuple[Check, ...]
+    warnings: tuple[Remark, ...] = field(default=(), repr=False)
+    notes: tuple[Remark, ...] = field(default=(), repr=False)
+    unknown: tuple[Remark, ...] = field(default=(), repr=False)
+
+    @property
+    def level(self) -> float:
+        """Returns the p value up to which each test warns."""
+        return FALSE_ALARMS / max(len(self.tests), 1)
+
+    @property
+    def warned(self) -> tuple[str, ...]:
+        """Returns the names of the tests that warn."""
+        return tuple(test.name for test in self.tests if test.p <= self.level)
+
+    @property
+    def frame(self) -> pd.DataFrame:
+        """Returns a table with a row for each test, and the columns `p`, `warns`, `size`, `least_seen` and `words`."""
+        import pandas as pd
+        rows = [[test.p, test.name in self.warned, test.size, test.least_seen,
+                 sentence(Remark(f"found {test.name}", test.facts))] for test in self.tests]
+        return pd.DataFrame(rows, pd.Index([test.name for test in self.tests], name="test"),
+                            ["p", "warns", "size", "least_seen", "words"])
+
+    @property
+    def lines(self) -> list[str]:
+        """Returns what is to be said of the demand, in lines: warnings, notes, and what stays unknown."""
+        warnings = (f"warning: {advised(remark)}" for remark in self.warnings)
+        return [f"demand: {line}" for line in (*warnings, *map(advised, (*self.notes, *self.unknown)))]
+
+
+def check_history(observed: Observed | Iterable[Number], *, season: int | None = None) -> Checks:
+    """Checks a history of demand, or any whole numbers from 0, one for each period in their order.
+
+    Permutation tests look for autocorrelation (Ljung and Box), a trend (Spearman), a shift of the level, and a season
+    (Kruskal and Wallis) from two years on. With dates the calendar says the seasons: weekdays of days, and quarters of
+    a year. `season` is the number of periods of another season, from 2; without dates there is none unless it is given.
+    Notes name few periods with demand, a long time without any, packs, demands far above all others, and one that
+    decides the result.
+
+    The same history has the same checks. Raises RefusedFaults for numbers that are not whole, and Refused for a season
+    of less than 2 periods.
+    """
+    numbers, _ = numbers_of(observed, "demand")
+    every, first = (observed.every, observed.first) if isinstance(observed, History) else (None, 1)
+    return _checked(numbers, every, first, None if season is None else whole(season, "season"), True)
+
+
+def remarks_of(numbers: Sequence[int], every: str | None = None, first: int = 1,
+               season: int | None = None) -> tuple[Remark, ...]:
+    """Returns the warnings and the notes of `check_history` on whole numbers, which takes a few milliseconds.
+
+    `every` is day, week or month, and `first` the number of the first period (`records.dates.period_of`); without dates
+    it is None.
+    """
+    checks = _checked(numbers, every, first, season, False)
+    return *checks.warnings, *checks.notes
+
+
+def _checked(numbers: Sequence[int], every: str | None, first: int, season: int | None, in_full: bool) -> Checks:
+    """Returns the checks of a history; `in_full` as in `tests_of`."""
+    seasons, untested = seasons_of(every, first, len(numbers), season)
+    facts = Facts(numbers, seasons, every, first)
+    checks = Checks(len(numbers), sum(number > 0 for number in numbers), tests_of(facts, in_full))
+    return replace(checks, warnings=tuple(_warnings(facts, checks)), notes=tuple(_notes(facts)),
+                   unknown=tuple(_unknown(checks, untested)))
+
+
+def _warnings(facts: Facts, checks: Checks) -> Iterator[Remark]:
+    """Yields a warning for each test that warns. Of a trend and a shift, the one that explains more is named."""
+    kinds = {test.name: test for test in checks.tests if test.name in checks.warned}
+    if {*LEVELS} <= {*kinds}:
+        del kinds["trend" if replace(facts, taken=tuple(kinds)).is_step else "shift"]
+    for name in (*LEVELS, "season", "weekday", "autocorrelation"):
+        if name in kinds:
+            yield Remark(name, {"p": kinds[name].p, **kinds[name].facts, **_lost(facts, kinds[name], len(kinds) > 1)})
+
+
+class Loss(NamedTuple):
+    """What the study planner/studies/dependence.py measured, in percent, as means over twelve settings.
+
+    `size` is the effect; `length` is that of a season, in periods, else 0. `regret` is how much more the planned policy
+    costs than the best one, `promise` how much its promised cost is above the true one, and `level` how much higher S
+    is in the best policy.
+    """
+
+    kind: str
+    law: str
+    size: int
+    length: int
+    regret: float
+    promise: float
+    level: float
+
+
+@functools.cache
+def losses() -> tuple[Loss, ...]:
+    """Returns all that was measured."""
+    return tuple(Loss(*row) for row in tomllib.loads(Path(__file__).with_name("study.toml").read_text("utf-8"))["rows"])
+
+
+def loss_of(kind: str, size: float, variation: float, length: int = 0) -> Loss:
+    """Returns what was lost with the effect that is nearest to one of this kind and size, which may be infinite.
+
+    `variation` is the coefficient of variation of a period's demand.
+    """
+    law = min(STUDIED, key=lambda name: abs(math.log(max(variation, 1e-9) / STUDIED[name])))
+    near = [loss for loss in losses() if (loss.kind, loss.law) == (kind, law)]
+    of_length = min((loss.length for loss in near), key=lambda own: abs(math.log(max(own, 1) / max(length, 1))))
+    return min((loss for loss in near if loss.length == of_length),
+               key=lambda loss: abs(loss.size / 100 - min(size, 10.0)))
+
+
+def _lost(facts: Facts, test: Check, beside_others: bool) -> dict[str, Value]:
+    """Returns what was lost in a study by those who did not heed such a warning, as facts. Of an autocorrelation beside
+    other warnings, or below 0, nothing is known."""
+    if test.name == "autocorrelation" and (beside_others or test.size < 0):
+        return {"beside": int(beside_others), "study": None}
+    lengths = {season.name: season.length for season in facts.seasons}
+    kind = "season" if test.name in lengths else test.name
+    loss = loss_of(kind, test.size, facts.variation, lengths.get(test.name, 0))
+    return {"beside": int(beside_others), "study": loss.law, "effect": loss.kind, "effect_size": loss.size,
+            "effect_length": loss.length, "regret": loss.regret, "promise": loss.promise, "level": loss.level}
+
+
+def _notes(facts: Facts) -> Iterator[Remark]:
+    """Yields notes on packs, few demands, a long time without one, demands far above all others, and one that decides
+    the result."""
+    numbers, demands = facts.numbers, sorted((number for number in facts.numbers if number), reverse=True)
+    if not demands:
+        yield Remark("no demand")
+        return
+    pack = Sample.of(numbers).pack
+    if pack > 1:
+        yield Remark("packs", {"pack": pack})
+    # If all orders of the periods are as likely, the chance that all demands fall into the first ones is that of
+    # drawing these periods without putting one back (Feller, An Introduction to Probability Theory and Its
+    # Applications, volume I, section II.6).
+    last = max(place for place, number in enumerate(numbers) if number)
+    chance = math.comb(last + 1, len(demands)) / math.comb(len(numbers), len(demands))
+    if chance <= NO_DEMAND:
+        yield Remark("no recent demand", {"periods": len(numbers) - 1 - last, "last": facts.name(last),
+                                          "chance": chance})
+    if len(demands) < LEAST_DEMANDS:
+        yield Remark("few demands in record", {"demands": len(demands), "periods": len(numbers),
+                                               "least": LEAST_DEMANDS, **_largest(facts, 1)})
+        return
+    if far := len(outliers_of(demands, pack)):
+        yield Remark("far demands", {"next": demands[far], **_largest(facts, far)})
+    share = (demands[0] - facts.mean)**2 / max(facts.squares, 1)
+    if share > DECISIVE:
+        yield Remark("decisive demand", {"share": share, **_largest(facts, 1)})
+
+
+def _largest(facts: Facts, count: int) -> dict[str, Value]:
+    """Returns the largest demands with their periods, as facts."""
+    places = sorted(range(len(facts.numbers)), key=lambda place: -facts.numbers[place])[:count]
+    demands: dict[str, Value] = {f"demand_{rank}": facts.numbers[place] for rank, place in enumerate(places, 1)}
+    return demands | {f"period_{rank}": facts.name(place) for rank, place in enumerate(places, 1)}
+
+
+def _unknown(checks: Checks, untested: Sequence[Remark]) -> Iterator[Remark]:
+    """Yields what silent tests would have seen, and what was not tested."""
+    if checks.periods < LEAST_PERIODS:
+        yield Remark("few periods", {"periods": checks.periods})
+    seen = {test.name: test.least_seen for test in checks.tests
+            if test.name not in checks.warned and test.least_seen is not None}
+    if seen:
+        yield Remark("silent tests", seen)
+    if checks.tests:
+        yield from untested
+
+
+def rosner_bound(size: int, above: int, level: float) -> float:
+    """Returns how many deviations above the mean the largest number may lie, if so many above it were taken away.
+
+    Source: Rosner, Percentage points for a generalized ESD many-outlier procedure, 1983, with a level of one side.
+    """
+    left = size - above
+    student = float(special.stdtrit(left - 2, 1 - level / left))
+    return (left - 1) * student / math.sqrt((left - 2 + student**2) * left)
+
+
+def outliers_of(demands: Sequence[int], pack: int) -> list[int]:
+    """Returns the demands that lie far above all others, the largest first: at most three.
+
+    Rosner's test looks at the logarithms of the demands above 0, in packs. The variance of a rounding is added to
+    theirs, since otherwise a 2 among many demands of 1 would lie far above them.
+    """
+    ranked = sorted((demand for demand in demands if demand), reverse=True)
+    if len(ranked) < LEAST_DEMANDS:
+        return []
+    packs, far = np.array(ranked) / pack, 0
+    for above in range(MOST_OUTLIERS):
+        logarithms = np.log(packs[above:])
+        variance = logarithms.var(ddof=1) + (1 / (12 * packs[above:]**2)).mean()
+        if logarithms[0] - logarithms.mean() > rosner_bound(len(packs), above, OUTLIERS) * math.sqrt(variance):
+            far = above + 1
+    return ranked[:far]

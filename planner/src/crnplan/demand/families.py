@@ -1,0 +1,477 @@
+"""The families of laws of demand. A family is a class with its fit, its predictive law and draws of its members.
+
+A law is an array of chances: those of 0, 1, 2 and so on. All figures are rounded and unproved. The priors are weak
+(Gelman and others, Bayesian Data Analysis, third edition, sections 2.4 to 3.3):
+
+- Jeffreys's for a Poisson mean and for the share of periods without demand; flat for the p of a geometric law;
+- flat in the logarithms of mean and size for a negative binomial law;
+- flat in the mean and in the logarithm of the deviation for lognormal sizes;
+- flat in the logarithm of the share of bulks, which may have any order of magnitude, and in their mean; their variance
+  has a scaled inverse chi-square law.
+
+A new family is a class, its name in `demand.FAMILIES` and an entry in `REGISTRY`; docs/GUIDE.md says what it is for.
+"""
+from __future__ import annotations
+
+import functools
+import math
+from abc import ABC, abstractmethod
+from collections.abc import Callable
+from typing import Any, NamedTuple
+
+import numpy as np
+from scipy import special
+
+from ..chances import DEMANDS, LEAST_TAIL, Floats, Whole, cut, scaled
+from ..formats import MOST_DEMAND
+from . import FAMILIES
+from .sample import Sample
+
+Parameters = tuple[Floats, ...]  # of a family, each with one number for each member
+UNIFORMS = 5  # rows of uniform numbers, at most, for a member
+LEAST_CHANCE = 1e-300
+FIRST_WIDTH = 128  # of drawn laws; ever more until all but a tail is there
+
+# Negative binomial laws.
+MOST_SIZE = 1e4  # With it, such a law is all but a Poisson law.
+SIZES = 48  # over which the posterior is summed
+LEAST_RATIO, MOST_RATIO, LARGE_MEAN = 0.02, 50.0, 20.0  # of mean to size k; it may be larger for means above LARGE_MEAN
+LEAST_SHARE = 1e-6  # of a size in the posterior
+# The greatest mean: so many standard errors above the one seen, and at most so much above it in the logarithm, since a
+# mean that is flat in its logarithm has too heavy a tail after few demands.
+MOST_ERRORS, MOST_LOGARITHM = 4.0, 2.5
+
+# Lognormal sizes.
+BOUNDS = np.log(DEMANDS[1:] + 0.5)  # of the rounded sizes 1, 2 and so on: their upper ends
+LEAST_DEVIATION = 0.01
+DEVIATIONS = 50  # over which the posterior is summed
+MOST_DEVIATION = 2.0  # of the logarithm of a size: beyond, a size varies by more than a factor of 50 both ways
+
+# Bulks. Beforehand, the deviation of a bulk is about a quarter of its mean, as two more bulks would say.
+MOST_BULKS = 0.5  # the largest share of bulks
+BULK_VARIATION, BULK_FREEDOM = 0.25, 2.0
+
+
+class Fit(NamedTuple):
+    """The member of a family with the greatest likelihood, and how many parameters it has."""
+
+    log_likelihood: float
+    parameters: int
+    chances: Floats
+
+    def bic(self, size: int) -> float:
+        """Returns the Bayesian information criterion (Schwarz, Estimating the dimension of a model, 1978)."""
+        return self.parameters * math.log(size) - 2 * self.log_likelihood
+
+
+class Family(ABC):
+    """A family of laws: how it is fitted, what it says of the next period, and how its members are drawn.
+
+    The priors of the predictive law and of the draws are the same, so the mean of many drawn members is that law.
+    """
+
+    @abstractmethod
+    def fit(self, sample: Sample) -> Fit | None:
+        """Returns the member with the greatest likelihood; None if the sample does not allow the family."""
+
+    @abstractmethod
+    def predictive(self, sample: Sample) -> Floats:
+        """Returns the posterior predictive law: with the doubt about the parameters, from a weak prior of them."""
+
+    @abstractmethod
+    def drawn(self, sample: Sample, uniform: Floats, counted: float = 1.0) -> Parameters:
+        """Draws members from the posterior law of their parameters.
+
+        `uniform` has rows of uniform numbers, with a column for each member. `counted` is how much each number of the
+        sample counts: 1 for the posterior, less for a coarsened one.
+        """
+
+    @abstractmethod
+    def chances(self, parameters: Parameters, values: Whole) -> Floats:
+        """Returns the chances of values, a row for each member."""
+
+    def laws(self, parameters: Parameters, most: int) -> Floats:
+        """Returns a row of chances of 0, 1, 2 and so on for each member, without the end of the tail. `most` is the
+        largest number that was seen."""
+        width = max(FIRST_WIDTH, 2 * most)
+        while True:
+            chances = self.chances(parameters, DEMANDS[:width])
+            total = chances.sum(axis=1, keepdims=True)
+            if width > MOST_DEMAND or total.min() > 1 - LEAST_TAIL:
+                return np.asarray(chances / total)
+            width *= 2
+
+
+class Counts(Family):
+    """A family of whole numbers from 0 whose laws have a formula: that of the logarithms of chances."""
+
+    @abstractmethod
+    def estimate(self, sample: Sample) -> tuple[float, ...] | None:
+        """Returns the parameters with the greatest likelihood; None if the sample does not allow the family."""
+
+    @abstractmethod
+    def logarithms(self, values: Whole, *parameters: Any) -> Floats:
+        """Returns the logarithms of the chances of values."""
+
+    def fit(self, sample: Sample) -> Fit | None:
+        parameters = self.estimate(sample)
+        if parameters is None:
+            return None
+        return Fit(float(sample.counts @ self.logarithms(sample.values, *parameters)), len(parameters),
+                   np.exp(self.logarithms(DEMANDS, *parameters)))
+
+    def chances(self, parameters: Parameters, values: Whole) -> Floats:
+        return np.exp(self.logarithms(values, *(column[:, None] for column in parameters)))
+
+
+class Poisson(Counts):
+    """Poisson laws. The parameter is the mean."""
+
+    def estimate(self, sample: Sample) -> tuple[float, ...] | None:
+        return (sample.mean,) if sample.total else None
+
+    def logarithms(self, values: Whole, *parameters: Any) -> Floats:
+        mean, = parameters
+        return np.asarray(special.xlogy(values, mean) - special.gammaln(values + 1) - mean)
+
+    def predictive(self, sample: Sample) -> Floats:
+        """Returns the law of a number whose mean has a gamma law: it is negative binomial."""
+        return np.exp(NegativeBinomial().logarithms(DEMANDS, sample.total + 0.5, 1 / (sample.size + 1)))
+
+    def drawn(self, sample: Sample, uniform: Floats, counted: float = 1.0) -> Parameters:
+        """Draws means, whose posterior is a gamma law."""
+        return (special.gammaincinv(counted * sample.total + 0.5, uniform[0]) / (counted * sample.size),)
+
+
+class Geometric(Counts):
+    """Geometric laws on 0, 1, 2 and so on. The parameter is p."""
+
+    def estimate(self, sample: Sample) -> tuple[float, ...] | None:
+        return (1 / (1 + sample.mean),) if sample.total else None
+
+    def logarithms(self, values: Whole, *parameters: Any) -> Floats:
+        chance, = parameters
+        return np.asarray(np.log(chance) + special.xlog1py(values, -chance))
+
+    def predictive(self, sample: Sample) -> Floats:
+        """Returns the law of a number whose p has a beta law, from a flat prior of p."""
+        first, second = sample.size + 1.0, sample.total + 1.0
+        return np.asarray(np.exp(special.betaln(first + 1, second + DEMANDS) - special.betaln(first, second)))
+
+    def drawn(self, sample: Sample, uniform: Floats, counted: float = 1.0) -> Parameters:
+        """Draws p, whose posterior is a beta law."""
+        return (special.betaincinv(counted * sample.size + 1, counted * sample.total + 1, uniform[0]),)
+
+
+class NegativeBinomial(Counts):
+    """Negative binomial laws. The parameters are the size k and 1 - p; the mean is k (1 - p) / p."""
+
+    def estimate(self, sample: Sample) -> tuple[float, ...] | None:
+        """Returns the parameters; None if the numbers vary no more than under a Poisson law.
+
+        The score has a single root if the variance with the divisor n is above the mean, else none (Levin and Reeds,
+        Compound multinomial likelihood functions are unimodal, 1977).
+        """
+        from scipy import optimize
+
+        def score(logarithm: float) -> float:
+            """Returns the derivative of the likelihood's logarithm by k, times k."""
+            size = math.exp(logarithm)
+            rises = special.digamma(sample.values + size) - special.digamma(size)
+            return float(size * (sample.counts @ rises - sample.size * math.log1p(sample.mean / size)))
+        low, high = math.log(1e-4), math.log(MOST_SIZE)
+        if sample.squares <= sample.total or score(high) >= 0:
+            return None
+        size = math.exp(optimize.brentq(score, low, high))
+        return size, sample.mean / (size + sample.mean)
+
+    def logarithms(self, values: Whole, *parameters: Any) -> Floats:
+        size, rest = parameters
+        return np.asarray(ways(values, size) + special.xlog1py(size, -rest) + special.xlogy(values, rest))
+
+    def predictive(self, sample: Sample) -> Floats:
+        """Returns the posterior predictive law. For a given size p has a beta law, so only the sizes are summed."""
+        sizes, likelihoods = self._posterior(sample, 1.0)
+        shares = np.exp(likelihoods - likelihoods.max())
+        chances, most_mean = np.zeros(len(DEMANDS)), greatest_mean(sample)
+        for size, share in zip(sizes, shares / shares.sum()):
+            if share > LEAST_SHARE:
+                law = beta_negative_binomial(size, sample.size * size, sample.total, most_mean)
+                chances[:len(law)] += share * law
+        return scaled(chances)
+
+    def drawn(self, sample: Sample, uniform: Floats, counted: float = 1.0) -> Parameters:
+        """Draws sizes and 1 - p. For a given size, p has a beta law that is cut at the greatest mean."""
+        (sizes, likelihoods), most_mean = self._posterior(sample, counted), greatest_mean(sample)
+        size, total = counted * sample.size, counted * sample.total
+        within = special.betainc(total, size * sizes, most_mean / (sizes + most_mean))
+        shares = within * np.exp(likelihoods - likelihoods.max())
+        place = np.searchsorted(np.cumsum(shares)[:-1] / shares.sum(), uniform[0])
+        return sizes[place], special.betaincinv(total, size * sizes[place], uniform[1] * within[place])
+
+    @staticmethod
+    def _posterior(sample: Sample, counted: float) -> tuple[Floats, Floats]:
+        """Returns the sizes over which the posterior is summed, and the logarithm of how likely each is."""
+        most_ratio = MOST_RATIO * max(1.0, sample.mean / LARGE_MEAN)
+        edges = np.geomspace(sample.mean / most_ratio, sample.mean / LEAST_RATIO, SIZES + 1)
+        sizes = np.sqrt(edges[1:] * edges[:-1])
+        rises = special.gammaln(sample.values + sizes[:, None]) - special.gammaln(sizes)[:, None]
+        likelihoods = counted * (rises @ sample.counts)
+        return sizes, likelihoods + special.betaln(counted * sample.size * sizes, counted * sample.total)
+
+
+def greatest_mean(sample: Sample) -> float:
+    """Returns the greatest mean that the prior of a negative binomial law allows."""
+    error = math.sqrt(max(sample.squares / sample.size, sample.mean) / sample.size)
+    return sample.mean * math.exp(min(MOST_ERRORS * error / sample.mean, MOST_LOGARITHM))
+
+
+def ways(values: Any, size: Any) -> Floats:
+    """Returns the logarithms of the binomial coefficients of negative binomial laws."""
+    return np.asarray(special.gammaln(values + size) - special.gammaln(size) - special.gammaln(values + 1))
+
+
+def beta_negative_binomial(size: float, first: float, second: float, most_mean: float) -> Floats:
+    """Returns the chances of a negative binomial number whose p has a beta law, and that its mean is at most so much.
+
+    Without the bound it is the beta negative binomial law (Johnson, Kemp and Kotz, Univariate Discrete Distributions,
+    third edition, section 6.2.3).
+    """
+    above = most_mean / (size + most_mean)  # the greatest value of 1 - p
+    variance = most_mean * (1 + most_mean / size)
+    width = min(MOST_DEMAND, int(most_mean + 12 * math.sqrt(variance) + 20 * variance / most_mean + 30)) + 1
+    values = DEMANDS[:width]
+    (a, b), scale = (second + values, first + size), special.betaln(first + size, second + values)
+    # The chance that a beta number is below the bound falls from one a to the next one by what is known (Abramowitz and
+    # Stegun, Handbook of Mathematical Functions, 26.5.16). It is summed from the last one on, so nothing cancels.
+    steps = np.exp(a * math.log(above) + b * math.log1p(-above) - scale) / a
+    within = special.betainc(a[-1], b, above) + np.append(np.cumsum(steps[-2::-1])[::-1], 0.0)
+    return np.asarray(np.exp(ways(values, size) + scale - special.betaln(first, second)) * within)
+
+
+class Hurdle(Family):
+    """A period has demand with one chance, and the size of a demand less 1 has a law of the family `sizes`.
+
+    The first parameter is the share of periods without demand. Source: Mullahy, Specification and testing of some
+    modified count data models, 1986, section 2.
+    """
+
+    def __init__(self, sizes: Family) -> None:
+        self.sizes = sizes
+
+    def fit(self, sample: Sample) -> Fit | None:
+        share = sample.zeros / sample.size
+        fit = self.sizes.fit(sample.excess)
+        if fit is None:
+            return None
+        likelihood = special.xlogy(sample.zeros, share) + special.xlog1py(sample.size - sample.zeros, -share)
+        return Fit(fit.log_likelihood + float(likelihood), fit.parameters + (sample.zeros > 0),
+                   np.concatenate([[share], (1 - share) * scaled(fit.chances[:-1])]))
+
+    def predictive(self, sample: Sample) -> Floats:
+        """Returns the predictive law. If each period had demand, none is taken to have none."""
+        share = (sample.zeros + 0.5) / (sample.size + 1) if sample.zeros else 0.0
+        above = scaled(self.sizes.predictive(sample.excess)[:len(DEMANDS) - 1])
+        return np.concatenate([[share], (1 - share) * above])
+
+    def drawn(self, sample: Sample, uniform: Floats, counted: float = 1.0) -> Parameters:
+        """Draws the share, whose posterior is a beta law, and the parameters of sizes."""
+        zeros, demands = counted * sample.zeros, counted * (sample.size - sample.zeros)
+        share = (special.betaincinv(zeros + 0.5, demands + 0.5, uniform[-1]) if zeros
+                 else np.zeros(uniform.shape[1]))
+        return share, *self.sizes.drawn(sample.excess, uniform[:-1], counted)
+
+    def chances(self, parameters: Parameters, values: Whole) -> Floats:
+        share, *rest = parameters
+        above = self.sizes.chances((*rest,), np.maximum(values - 1, 0))
+        return np.where(values == 0, share[:, None], (1 - share[:, None]) * above)
+
+
+class Lognormal(Family):
+    """Rounded lognormal sizes, less 1. The parameters are mean and deviation of a size's logarithm.
+
+    What is below 1.5 counts as 1. Samples are of sizes less 1.
+    """
+
+    def fit(self, sample: Sample) -> Fit | None:
+        """Fits the parameters by the moments of the logarithms. None if these hardly vary."""
+        mean, deviation = self._moments(sample)
+        if deviation < LEAST_DEVIATION:
+            return None
+        chances = self._mixed(mean, np.array([deviation]))
+        return Fit(_likelihood(sample, chances), 2, chances)
+
+    def predictive(self, sample: Sample) -> Floats:
+        """Returns the predictive law: the logarithm has Student's law.
+
+        The deviation is at most 2, since the tails of that law with few degrees of freedom have no mean.
+        """
+        mean, deviation = self._moments(sample)
+        freedom = max(sample.size - 1, 1)
+        # Quantiles of a chi-square law.
+        quantiles = 2 * special.gammaincinv(freedom / 2, (np.arange(DEVIATIONS) + 0.5) / DEVIATIONS)
+        drawn = np.minimum(deviation * np.sqrt(freedom / quantiles), MOST_DEVIATION) * math.sqrt(1 + 1 / sample.size)
+        return self._mixed(mean, drawn)
+
+    def drawn(self, sample: Sample, uniform: Floats, counted: float = 1.0) -> Parameters:
+        mean, deviation = self._moments(sample)
+        freedom = max(counted * sample.size - 1, 1.0)
+        squares = 2 * special.gammaincinv(freedom / 2, uniform[0])
+        deviations = np.minimum(deviation * np.sqrt(freedom / squares), MOST_DEVIATION)
+        return mean + deviations / math.sqrt(counted * sample.size) * special.ndtri(uniform[1]), deviations
+
+    def chances(self, parameters: Parameters, values: Whole) -> Floats:
+        mean, deviation = (column[:, None] for column in parameters)
+        above = special.ndtr((np.log(values + 1.5) - mean) / deviation)
+        return np.asarray(above - np.where(values > 0, special.ndtr((np.log(values + 0.5) - mean) / deviation), 0.0))
+
+    @staticmethod
+    def _moments(sample: Sample) -> tuple[float, float]:
+        """Returns the mean and the unbiased deviation of the logarithms of sizes."""
+        logarithms = np.log(sample.values + 1)
+        mean = float(logarithms @ sample.counts) / sample.size
+        return mean, math.sqrt(float(sample.counts @ (logarithms - mean)**2) / max(sample.size - 1, 1))
+
+    @staticmethod
+    def _mixed(mean: float, deviations: Floats) -> Floats:
+        """Returns the chances of all sizes, of which all these deviations are as likely."""
+        below = special.ndtr((BOUNDS - mean) / deviations[:, None]).mean(axis=0)
+        return np.diff(below, prepend=0.0)
+
+
+def _likelihood(sample: Sample, chances: Floats) -> float:
+    """Returns the logarithm of the likelihood of a sample."""
+    return float(sample.counts @ np.log(np.maximum(chances[sample.values], LEAST_CHANCE)))
+
+
+class Parts(NamedTuple):
+    """A sample in two parts: ordinary numbers, with their family and its fit, and bulks, which are larger."""
+
+    ordinary: Sample
+    bulks: Sample
+    family: Family
+    fit: Fit
+
+    def squares(self, counted: float = 1.0) -> float:
+        """Returns the sum of the squared distances of bulks from their mean, with that of the prior."""
+        prior = BULK_FREEDOM * (BULK_VARIATION * self.bulks.mean)**2
+        return counted * self.bulks.squares + prior
+
+
+class Bulk(Family):
+    """Ordinary demand, which is Poisson or negative binomial, and in some periods a much larger normal bulk instead.
+
+    The parameters are the share of bulks, their mean and deviation, and the parameters of ordinary demand.
+    """
+
+    def fit(self, sample: Sample) -> Fit | None:
+        """Fits both parts, each for itself. The likelihood is that of their mixture. None if there are no two parts."""
+        parts = self._parts(sample)
+        if parts is None:
+            return None
+        bulks = parts.bulks
+        share = bulks.size / sample.size
+        chances = share * sizes_of(bulks.mean, math.sqrt(parts.squares() / (bulks.size + BULK_FREEDOM)))
+        chances += (1 - share) * parts.fit.chances
+        return Fit(_likelihood(sample, chances), parts.fit.parameters + 3, chances)
+
+    def predictive(self, sample: Sample) -> Floats:
+        """Returns the predictive law of ordinary demand and of bulks, whose size has Student's law."""
+        parts = self._parts(sample)
+        assert parts is not None
+        bulks, freedom = parts.bulks, parts.bulks.size - 1 + BULK_FREEDOM
+        deviation = math.sqrt(parts.squares() / freedom * (1 + 1 / bulks.size))
+        share = bulks.size / (sample.size + 1)
+        sizes = sizes_of(bulks.mean, deviation, functools.partial(special.stdtr, freedom))
+        return np.asarray(share * sizes + (1 - share) * scaled(parts.family.predictive(parts.ordinary)))
+
+    def drawn(self, sample: Sample, uniform: Floats, counted: float = 1.0) -> Parameters:
+        parts = self._parts(sample)
+        assert parts is not None
+        bulks = counted * parts.bulks.size
+        share = special.betaincinv(bulks, counted * parts.ordinary.size + 1, uniform[-1])
+        freedom = bulks - 1 + BULK_FREEDOM
+        deviation = np.sqrt(parts.squares(counted) / (2 * special.gammaincinv(freedom / 2, uniform[-2])))
+        mean = parts.bulks.mean + deviation / math.sqrt(bulks) * special.ndtri(uniform[-3])
+        return share, mean, deviation, *parts.family.drawn(parts.ordinary, uniform[:-3], counted)
+
+    def chances(self, parameters: Parameters, values: Whole) -> Floats:
+        share, mean, deviation = (column[:, None] for column in parameters[:3])
+        above = special.ndtr((values + 0.5 - mean) / deviation)
+        sizes = above - np.where(values > 1, special.ndtr((values - 0.5 - mean) / deviation), 0.0)
+        ordinary = (POISSON if len(parameters) == 4 else NEGATIVE_BINOMIAL).chances(parameters[3:], values)
+        return np.asarray(share * np.where(values > 0, sizes, 0.0) + (1 - share) * ordinary)
+
+    @staticmethod
+    def _parts(sample: Sample) -> Parts | None:
+        """Divides a sample. None if it has no such parts."""
+        parts = divided(sample)
+        if parts is None:
+            return None
+        ordinary, bulks = parts
+        fits = ((family, family.fit(ordinary)) for family in (POISSON, NEGATIVE_BINOMIAL))
+        best = min(((family, fit) for family, fit in fits if fit), key=lambda pair: pair[1].bic(ordinary.size))
+        return Parts(ordinary, bulks, *best)
+
+
+def divided(sample: Sample) -> tuple[Sample, Sample] | None:
+    """Returns ordinary numbers and bulks: the most likely parts (Scott and Symons, Clustering methods based on
+    likelihood ratio criteria, 1971). None if there is no ordinary number above 0 below at most half of all."""
+    values, counts = sample.values.astype(float), sample.counts.astype(float)
+    bulks = sample.size - np.cumsum(counts)[:-1]
+    allowed = (bulks <= MOST_BULKS * sample.size) & (values[:-1] > 0)
+    if not allowed.any():
+        return None
+    shares = special.xlogy(bulks, bulks / sample.size) + special.xlog1py(sample.size - bulks, -bulks / sample.size)
+    likelihoods = _ordinary_likelihoods(values, counts) + _bulk_likelihoods(values, counts) + shares
+    place = int(np.argmax(np.where(allowed, likelihoods, -np.inf))) + 1
+    return Sample(sample.values[:place], sample.counts[:place]), Sample(sample.values[place:], sample.counts[place:])
+
+
+def _ordinary_likelihoods(values: Floats, counts: Floats) -> Floats:
+    """Returns, for each place but the last, the likelihood's logarithm of the values up to there.
+
+    The law is negative binomial, with the moments of these values; Poisson if they vary no more.
+    """
+    periods, sums, squares = (np.cumsum(counts * values**power)[:-1, None] for power in range(3))
+    means = np.maximum(sums / periods, LEAST_CHANCE)
+    over = squares / periods - means**2 - means
+    sizes = np.where(over > means**2 / MOST_SIZE, means**2 / np.maximum(over, LEAST_CHANCE), MOST_SIZE)
+    logarithms = (ways(values, sizes) + sizes * np.log(sizes / (sizes + means))
+                  + values * np.log(means / (sizes + means)))
+    return np.tril(logarithms) @ counts
+
+
+def _bulk_likelihoods(values: Floats, counts: Floats) -> Floats:
+    """Returns, for each place but the last, the likelihood's logarithm of the values beyond, under a normal law."""
+    bulks, sums, squares = (np.cumsum((counts * values**power)[:0:-1])[::-1] for power in range(3))
+    means = sums / bulks
+    distances = np.maximum(squares - bulks * means**2, 0)
+    variances = (distances + BULK_FREEDOM * (BULK_VARIATION * means)**2) / (bulks + BULK_FREEDOM)
+    return np.asarray(-0.5 * (bulks * np.log(2 * math.pi * variances) + distances / variances))
+
+
+def sizes_of(mean: float, deviation: float, below: Callable[[Floats], Floats] = special.ndtr) -> Floats:
+    """Returns the chances of 0, 1, 2 and so on for a rounded bulk; what is below 1.5 counts as 1.
+
+    `below` is the distribution function of a bulk less the mean, over the deviation.
+    """
+    return np.append(0.0, np.diff(below((DEMANDS[1:] + 0.5 - mean) / deviation), prepend=0.0))
+
+
+POISSON, NEGATIVE_BINOMIAL = Poisson(), NegativeBinomial()
+# The families by name. Sizes of a hurdle family have a family of their own.
+REGISTRY: dict[str, Family] = dict(zip(FAMILIES, (
+    POISSON, NEGATIVE_BINOMIAL, Hurdle(Geometric()), Hurdle(POISSON), Hurdle(NEGATIVE_BINOMIAL), Hurdle(Lognormal()),
+    Bulk()), strict=True))
+
+
+def fits_of(sample: Sample) -> dict[str, Fit]:
+    """Returns all families that a sample allows, the least BIC first. The sample has a number above 0."""
+    fits = {name: fit for name, family in REGISTRY.items() if (fit := family.fit(sample)) is not None}
+    return dict(sorted(fits.items(), key=lambda pair: pair[1].bic(sample.size)))
+
+
+def predictive_of(name: str, sample: Sample) -> Floats:
+    """Returns the posterior predictive law of a family that the sample allows, without the end of its tail."""
+    return cut(REGISTRY[name].predictive(sample))

@@ -1,0 +1,249 @@
+"""Learns from the histories of a catalogue which laws of demand there are, and keeps that as a value and as a text."""
+from __future__ import annotations
+
+import json
+from collections import defaultdict
+from collections.abc import Iterable, Mapping, Sequence
+from dataclasses import dataclass
+from functools import cached_property
+from pathlib import Path
+from typing import Any
+
+import numpy as np
+
+from ..chances import Floats, Whole
+from ..errors import Fault, Refused, RefusedFaults
+from ..files import new_file
+from ..formats import MOST_DEMAND
+from ..records.masters import BORROW
+from ..records.observed import Observed
+from .fitted import check, numbers_of
+from .grid import FLAT, MOST_SIZE, chunks_of, estimated, group_of, marginal
+from .sample import Sample
+
+VERSION = 2  # of the file; another grid is another version
+UNITS = 2**40  # of a chance of 1: the last bits of a sum, which differ by machine, are rounded off
+KIND = "prior of crnplan"
+NONE, CLASS, ALL = BORROW  # "all" is the name of the prior of the whole catalogue too
+LEAST_ITEMS, LEAST_ON_REQUEST = 100, 30
+MOST_ITEMS = 3000  # on which a prior is estimated
+FLAT_ITEMS = 1  # that the flat prior counts for
+CLASS_ITEMS = 30  # that the prior of the catalogue counts for in a class
+MOST_PULLED = 300  # A class with more items has a prior of its own.
+
+Numbers = Observed | Sequence[int]
+Histories = Mapping[str, Numbers] | Iterable[Numbers]
+Classes = Mapping[str, str | None] | Iterable[str | None]
+
+
+@dataclass(frozen=True, eq=False)
+class Learned:
+    """A prior on the grid (cells of the share, cells of sizes), in whole units of 2^-40.
+
+    `items` are those of the catalogue or class that are within the grid, `sampled` those that it was estimated on.
+    `gain` is the mean log10 of their Bayes factors for it against the flat prior.
+    """
+
+    items: int
+    sampled: int
+    gain: float
+    units: Whole
+
+    @classmethod
+    def of(cls, chances: Floats, items: int, sampled: int, gain: float) -> Learned:
+        """Rounds chances to units, and a gain to six decimals."""
+        return cls(items, sampled, round(gain, 6), np.maximum(np.rint(UNITS * chances), 1).astype(np.int64))
+
+    @cached_property
+    def chances(self) -> Floats:
+        """Returns the chances of the cells."""
+        shares: Floats = self.units / self.units.sum()
+        return shares
+
+    @property
+    def tree(self) -> dict[str, Any]:
+        """Returns what a file has of it."""
+        return {"items": self.items, "sampled": self.sampled, "gain": self.gain, "units": self.units.ravel().tolist()}
+
+    @classmethod
+    def from_tree(cls, tree: Mapping[str, Any]) -> Learned:
+        """Returns what a file has. Raises ValueError, TypeError or LookupError if it cannot be."""
+        units = np.array(tree["units"], np.int64).reshape(FLAT.shape)
+        if units.min() < 1:
+            raise ValueError("units are positive")
+        return cls(int(tree["items"]), int(tree["sampled"]), float(tree["gain"]), units)
+
+
+@dataclass(frozen=True, eq=False)
+class Prior:
+    """What a catalogue says of the laws of demand of its items. Processes may share it: as a file, or pickled.
+
+    `borrow` is "all", "class" or "none": each item learns from the whole catalogue, from its class, or from nothing.
+    `outside` is how many items were left out, since their sizes are larger than those of the grid. `whole` is the prior
+    of the catalogue (None with "none"), `classes` has those of the classes by name. `packs` is the prior of all items
+    in packs, counted in packs; None if there are too few of them.
+    """
+
+    borrow: str
+    seed: int = 1
+    items: int = 0
+    outside: int = 0
+    whole: Learned | None = None
+    classes: Mapping[str, Learned] | None = None
+    packs: Learned | None = None
+
+    def of_item(self, item_class: str | None, pack: int = 1) -> tuple[str, Learned | None]:
+        """Returns the prior of an item of a class, with its name. An item without a class that was learned has that of
+        the catalogue, and an item in packs that of all items in packs."""
+        if pack > 1:
+            return ALL, self.packs
+        own = (self.classes or {}).get(item_class or "")
+        return (str(item_class), own) if own else (ALL, self.whole)
+
+    @property
+    def text(self) -> str:
+        """Returns the text of a file: JSON in one line, of the same bytes each time."""
+        tree = {"kind": KIND, "version": VERSION, "borrow": self.borrow, "seed": self.seed, "items": self.items,
+                "outside": self.outside, "whole": self.whole.tree if self.whole else None,
+                "classes": {name: learned.tree for name, learned in sorted((self.classes or {}).items())},
+                "packs": self.packs.tree if self.packs else None}
+        return json.dumps(tree, ensure_ascii=False, separators=(",", ":")) + "\n"
+
+    def write(self, path: Path | str) -> None:
+        """Writes a file, whole. Raises OSError."""
+        with new_file(Path(path)) as file:
+            file.write(self.text)
+
+    @classmethod
+    def read(cls, path: Path | str) -> Prior:
+        """Reads a file that `write` wrote. Raises OSError, and Refused if it is none."""
+        return cls.parse(Path(path).read_bytes(), str(path))
+
+    @classmethod
+    def parse(cls, text: str | bytes, name: str) -> Prior:
+        """Returns what `text` gave. Raises Refused if it is no such text; `name` says where it stands."""
+        try:
+            tree = json.loads(text)
+            kind, version = tree["kind"], tree["version"]
+        except (ValueError, TypeError, LookupError):
+            raise Refused(f"{name}: this is no {KIND}", "learn one from the catalogue") from None
+        if (kind, version) != (KIND, VERSION):
+            raise Refused(f"{name}: this is a {kind} of version {version}, not {VERSION}", "learn it anew")
+        try:
+            if tree["borrow"] not in BORROW or (tree["borrow"] == NONE) is bool(tree["whole"]):
+                raise ValueError("something is learned unless nothing is borrowed")
+            classes = {name: Learned.from_tree(learned) for name, learned in tree["classes"].items()}
+            whole, packs = (Learned.from_tree(tree[part]) if tree[part] else None for part in ("whole", "packs"))
+            return cls(tree["borrow"], int(tree["seed"]), int(tree["items"]), int(tree["outside"]), whole, classes, packs)
+        except (ValueError, TypeError, LookupError, AttributeError, OverflowError):
+            raise Refused(f"{name}: the {KIND} is damaged", "learn it anew") from None
+
+
+def is_outside(sample: Sample) -> bool:
+    """Returns whether the sizes of a history are larger than those of the grid."""
+    return sample.total > MOST_SIZE * sample.demands or sample.most > MOST_DEMAND
+
+
+def samples_of(items: Iterable[tuple[str, Any]]) -> list[Sample]:
+    """Counts the numbers of all histories. Raises RefusedFaults with the faults of all."""
+    samples: list[Sample] = []
+    faults: list[Fault] = []
+    for name, observed in items:
+        try:
+            numbers, places = numbers_of(observed, f"demand of {name}")
+            if min(numbers) < 0:
+                check(numbers, places, lambda number: "is below 0; correct it" if number < 0 else None)
+            samples.append(Sample.of(numbers))
+        except RefusedFaults as refused:
+            faults.extend(refused.faults)
+        except Refused as refused:
+            faults.append(Fault(str(refused)))
+    if faults:
+        raise RefusedFaults(faults)
+    return samples
+
+
+def classes_of(items: Sequence[tuple[str, Any]], histories: Histories, classes: Classes | None) -> list[str]:
+    """Returns the class of each item; empty if it has none."""
+    if classes is None:
+        raise Refused("there are no classes to borrow from; give a class for each item, or borrow=\"all\"")
+    if isinstance(histories, Mapping) != isinstance(classes, Mapping):
+        raise Refused("give classes by item if the histories are by item, else in the order of the histories")
+    names = [classes.get(name) for name, _ in items] if isinstance(classes, Mapping) else [*classes]
+    if len(names) != len(items):
+        raise Refused(f"there are {len(items):,} histories and {len(names):,} classes; give one for each")
+    return [str(name or "") for name in names]
+
+
+def drawn(samples: Iterable[Sample], seed: int) -> list[Sample]:
+    """Returns at most 3,000 histories, drawn at random from more, in an order of their own whatever order they have."""
+    every = sorted(samples, key=lambda sample: (*group_of(sample), sample.values.astype(">i8").tobytes(),
+                                                sample.counts.astype(">i8").tobytes()))
+    if len(every) <= MOST_ITEMS:
+        return every
+    places = np.random.default_rng(seed).choice(len(every), MOST_ITEMS, replace=False)
+    return [every[place] for place in np.sort(places)]
+
+
+def learned(samples: Sequence[Sample], seed: int, above: Floats | None = None) -> Learned:
+    """Estimates the prior of a catalogue, or of a class from that of the catalogue, `above`."""
+    chunks = chunks_of(drawn(samples, seed))
+    pulled = above is not None and len(samples) <= MOST_PULLED
+    start, items = (above, CLASS_ITEMS) if above is not None and pulled else (FLAT, FLAT_ITEMS)
+    chances = estimated(chunks, start, items * start)
+    gains = np.log10(marginal(chunks, chances) / marginal(chunks, FLAT))
+    return Learned.of(chances, len(samples), len(gains), float(gains.mean()))
+
+
+def learn(histories: Histories, classes: Classes | None = None, borrow: str = "all", seed: int = 1, *,
+          least: int = LEAST_ITEMS) -> Prior:
+    """Learns from the histories of a catalogue which laws of demand there are, for `law_of`.
+
+    `histories` are by item or in any order, each as in `fit_demand`, without boxes. The prior is that under which they
+    are most likely, smoothed; of more than 3,000 so many are drawn at random. `borrow` is one of these:
+
+    - `all`: each item learns from the whole catalogue.
+    - `class`: each learns from its class. `classes` has the class of each item, by item or in the order of the
+      histories; an item without one learns from the whole catalogue. A class with up to 300 items is pulled to the
+      catalogue, which counts for 30 items; a larger one has a prior of its own.
+    - `none`: each item has the law of its own history alone.
+
+    Items whose demands are packs learn from all others in packs, as one class counted in packs, if there are 30.
+
+    The prior depends on neither the order nor the names of the items. Items with a mean size above 101 are outside the
+    grid and left out. Raises Refused if there are fewer than `least` others: 100, or on request as few as 30. Raises
+    RefusedFaults with the faults of all histories. The study planner/studies/borrowing.py says what is gained, and
+    which items pay.
+    """
+    if borrow not in BORROW:
+        raise Refused(f"there is no way to borrow {borrow!r}; say {', '.join(BORROW[:-1])} or {BORROW[-1]}")
+    if least < LEAST_ON_REQUEST:
+        raise Refused(f"a law cannot be learned from {least} items; the least is {LEAST_ON_REQUEST}")
+    if borrow == NONE:
+        return Prior(borrow, seed)
+    items = ([*histories.items()] if isinstance(histories, Mapping) else
+             [(f"item {place}", history) for place, history in enumerate(histories, 1)])
+    names = classes_of(items, histories, classes) if borrow == CLASS else []
+    samples = samples_of(items)
+    within = [sample for sample in samples if not is_outside(sample)]
+    outside = len(samples) - len(within)
+    if len(within) < least:
+        raise Refused(few_items(len(within), outside, least))
+    whole = learned(within, seed)
+    groups: defaultdict[str, list[Sample]] = defaultdict(list)
+    for sample, name in zip(samples, names):
+        if name and not is_outside(sample):
+            groups[name].append(sample)
+    by_class = {name: learned(group, seed, whole.chances) for name, group in sorted(groups.items())}
+    packs = [sample.in_packs(pack) for sample in samples if (pack := sample.pack) > 1]
+    packs = [sample for sample in packs if not is_outside(sample)]
+    of_packs = learned(packs, seed, whole.chances) if len(packs) >= LEAST_ON_REQUEST else None
+    return Prior(borrow, seed, len(items), outside, whole, by_class, of_packs)
+
+
+def few_items(items: int, outside: int, least: int) -> str:
+    """Returns a message about a small catalogue."""
+    left_out = f" ({outside:,} more have larger sizes than can be learned from)" if outside else ""
+    remedy = (f"ask for it with least={items}, or fit each alone with borrow=\"none\"" if items >= LEAST_ON_REQUEST
+              else "fit each item alone, with borrow=\"none\"")
+    return f"there are {items} items to learn from{left_out}, and it takes {least}; {remedy}"
