@@ -368,6 +368,15 @@ def test_power(kind: str, size: float, numbers: list[int]) -> None:
     assert stated == pytest.approx(np.mean(seen), abs=0.1)
 
 
+@pytest.mark.parametrize("numbers, season", [([3, 4] * 20, 4), ([2, 5] * 4, 2), ([0, 1] * 4, 2)], ids=str)
+def test_seasons_that_are_all_of_a_history(numbers: list[int], season: int) -> None:
+    """With two sizes, the largest seasons leave nothing to vary within a part. They are seen if any season is."""
+    test = named(check_history(numbers, season=season), "season")
+    assert test.least_seen == math.inf or test.least_seen <= 1
+    seen = season_seen(Tilted(Orders(numbers)), len(numbers), season, season, len(numbers) - 1.5, 1.0)
+    assert seen == 1 and season_seen(Tilted(Orders(numbers)), len(numbers), season, season, math.inf, 1.0) == 0
+
+
 def test_power_of_autocorrelation() -> None:
     """The chance to see an autocorrelation is that of scipy's noncentral chi-squared law."""
     bound = stats.chi2.isf(0.0125, 3)

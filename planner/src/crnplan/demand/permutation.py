@@ -259,6 +259,8 @@ def season_seen(law: Tilted, periods: int, length: int, parts: int, bound: float
     means, _, variance = law.scores(1 + size * np.sin(2 * math.pi * (np.arange(blocks) + 0.5) / blocks))
     of_parts = means.reshape(parts, -1).mean(axis=1)
     within = variance - float(of_parts @ of_parts) / parts
+    if within <= ROUNDING * variance:  # All that varies is between the parts, so no order has a larger statistic.
+        return float(bound < periods - 1)
     apart = periods * float(of_parts @ of_parts) / parts / within
     return float(1 - special.chndtr(bound * variance / within, parts - 1, apart))
 
