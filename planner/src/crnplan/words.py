@@ -45,8 +45,9 @@ PLAN: dict[str, Words] = {
         "the difference is the same in all replications" if float(it["orders"] or 0) >= 2 else
         "the rarer policy places fewer than 2 orders in all replications")),
     "refused": Words("{what}", "{advice}"),
-    "no policy": Words(lambda it: "no policy " + ("is best" if it["fill"] is None else f"meets {it['fill']} of demand")
-                       + f" within s and S up to {MOST_ITEMS:,}", "count in larger units"),
+    "no policy": Words(lambda it: "no policy " + (
+        "is best" if it["fill"] is None else f"meets {it['fill']:g} of demand at once") + (
+        f" within s and S up to {MOST_ITEMS:,}"), "count in larger units"),
     "disagrees": Words("crnsim and theory differ by more than chance allows: {figure} is {run:g} by the run and "
                        "{theory:g} by theory, with a standard error of {error:g}", REPORT),
     "failed": Words("crnplan failed ({kind}: {what})", REPORT)}

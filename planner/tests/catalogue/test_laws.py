@@ -11,7 +11,6 @@ import numpy as np
 import pytest
 
 import crnplan as crn
-from crnplan.plan import one
 from crnplan.plan.answer import Answer
 from crnplan.plan.one import allowed_by, plan_one
 from crnplan.plan.catalogue import learned_of
@@ -23,6 +22,7 @@ from crnplan.words import sentence
 from crnplan.demand.borrowing import law_of
 from crnplan.demand.learning import Prior
 from crnplan.files import own_folder
+from crnplan.theory.confidence import Promises
 from crnplan.theory.long_run import NO_POLICY
 from planner.tests.theory.long_run_costs import fills_of, shortfall_of
 
@@ -205,7 +205,7 @@ def test_confidence_is_one_in_a_wanted_fill_rate(prior: Prior, program: Path) ->
 
 def test_a_promise_that_no_policy_keeps(program: Path, monkeypatch: pytest.MonkeyPatch) -> None:
     """Plans an item by its own law, and says so, if no policy keeps its fill rate under enough laws."""
-    monkeypatch.setattr(one, "promised", lambda *_: NO_POLICY)
+    monkeypatch.setattr(Promises, "cheapest", lambda *_: NO_POLICY)
     item = replace(CATALOGUE["I-006"], fill=Fraction(9, 10), backlog=None)
     plain = answered(item, Settings(borrow=NONE, **SHORT), Prior(NONE), program)
     sure = answered(item, Settings(borrow=NONE, confidence=0.8, **SHORT), Prior(NONE), program)

@@ -16,7 +16,7 @@ from crnplan.plan.question import Question, Settings, question_of
 from crnplan.demand.learning import Prior
 from crnplan.records.item import Item
 from crnplan.remarks import Remark
-from crnplan.theory.long_run import LongRun
+from crnplan.theory.long_run import Candidate, LongRun
 from planner.tests.plan.items import alone, item_of
 from planner.tests.theory.long_run_costs import cost_of, shortfall_of
 
@@ -95,7 +95,7 @@ def test_a_run_that_disagrees_is_a_fault(program: Path, monkeypatch: pytest.Monk
     settings = alone(periods=1_024, replications=24)
     assert isinstance(plan_item(item_of(), settings, NONE, str(program)), Answer)
     monkeypatch.setattr(Question, "theory", raised(1.25))
-    with pytest.raises(Disagreement, match="cost of today: crnsim gives .* than chance allows"):
+    with pytest.raises(Disagreement, match="differ by more than chance allows: cost of today is .* by the run"):
         answer_of(item_of(), settings, program)
     fault = plan_item(item_of(), settings, NONE, str(program))
     assert isinstance(fault, Remark) and fault.code == DISAGREES
@@ -104,20 +104,14 @@ def test_a_run_that_disagrees_is_a_fault(program: Path, monkeypatch: pytest.Monk
 
 def test_a_run_without_rare_events_is_no_fault(program: Path, monkeypatch: pytest.MonkeyPatch) -> None:
     """A run that meets none of a few dear shortages is far from theory by its own spread, and no fault."""
-    seen: list[bool] = []
-    honest = one.is_suspect
-
-    def watched(*words: Any) -> bool:
-        """Keeps whether a run is looked at again."""
-        seen.append(honest(*words))
-        return seen[-1]
-    monkeypatch.setattr(one, "is_suspect", watched)
+    seen, honest = list[Any](), one.report_of
+    monkeypatch.setattr(one, "report_of", lambda *words: seen.append(words) or honest(*words))
     rare = {"counts": (*[1, 0, 1, 2] * 150, 60), "backlog": Fraction(10_000), "levels": (9, 14), "holding": Fraction(1),
             "setup": Fraction(10)}
     for name in "abcdefgh":
         answer = answer_of(item_of(name=name, **rare), alone(fit="empirical"), program)
         assert answer.source == THEORY
-    assert any(seen)
+    assert len(seen) > 8
 
 
 def test_why_there_is_no_interval(program: Path) -> None:
@@ -131,8 +125,8 @@ def test_why_there_is_no_interval(program: Path) -> None:
 
 def test_an_item_without_a_policy(program: Path, monkeypatch: pytest.MonkeyPatch) -> None:
     """An item for which there is no policy has a fault with facts."""
-    monkeypatch.setattr(one, "choice_of", lambda *_: (_ for _ in ()).throw(one.NoPolicy(Fraction(1, 2))))
-    assert plan_item(item_of(), alone(), NONE, str(program)) == Remark(NO_POLICY, {"fill": 0.5})
+    monkeypatch.setattr(LongRun, "best", lambda *_: Candidate(math.inf, 0, 0))
+    assert plan_item(item_of(), alone(), NONE, str(program)) == Remark(NO_POLICY, {"fill": None})
     monkeypatch.setattr(one, "choice_of", lambda *_: 1 // 0)
     assert plan_item(item_of(), alone(), NONE, str(program)).code == "failed"  # type: ignore[union-attr]
 

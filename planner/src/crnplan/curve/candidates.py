@@ -6,7 +6,6 @@ those that are best. There are candidates for dearer orders too, of which fewer 
 """
 from __future__ import annotations
 
-import functools
 from collections.abc import Iterable, Sequence
 from dataclasses import dataclass
 from typing import NamedTuple
@@ -167,5 +166,4 @@ def rows_of(policies: Policies, variant: int, places: Whole, box: int) -> list[t
 
 def candidates_batch(batch: Sequence[Item], settings: Settings, prior: Prior) -> list[Candidates | Remark]:
     """Returns the candidates of items, or why an item has none."""
-    return [or_fault(functools.partial(lambda item: candidates_of(question_of(item, settings, prior)), item))
-            for item in batch]
+    return [or_fault(lambda asked: candidates_of(question_of(asked, settings, prior)), item) for item in batch]

@@ -27,7 +27,7 @@ from ..theory.long_run import Candidate, Figures as TheoryFigures, LongRun
 from ..theory.many_laws import figures_of_laws
 from ..theory.suggestions import FILLS, Chosen, add_fills, chosen_policies
 from .answer import ALONE, CHOSEN, THEORY, TODAY, Answer, Figures
-from .one import LAWS, Sample, allowed_by, choice_of, figures_of, interval, learns, quantile, sample_of
+from .one import LAWS, Sample, allowed_by, choice_of, figures_of, interval, quantile, sample_of
 from ..decide.moves import Case, Found, Moves, moves_of
 from .question import Levels, Question
 
@@ -95,7 +95,7 @@ class Depth:
     @cached_property
     def single(self) -> FittedLaw | None:
         """Returns the law of the item's own history alone, if another one was learned."""
-        return self.question.alone().demand if learns(self.question) else None
+        return self.question.alone().demand if self.question.learns else None
 
     @cached_property
     def allowed(self) -> tuple[tuple[Law, ...], tuple[Law, ...]]:

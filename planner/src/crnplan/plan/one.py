@@ -3,15 +3,18 @@
 Theory chooses the policy, and says what it costs and saves where it is exact. crnsim runs it beside today's policy, as
 a check that is proved for its random numbers. Their key follows from the seed and the item's name alone. So the plan of
 an item does not depend on what else is planned, nor on how many processes work on it.
+
+All policies of a run start with the same stock and meet the same random numbers. What that start adds to the costs is
+taken out, by theory. The interval of a difference is the paired-t interval (Law, Simulation Modeling and Analysis,
+chapter 10).
 """
 from __future__ import annotations
 
 import dataclasses
 import functools
 import math
-from collections.abc import Callable, Iterable, Iterator, Mapping, Sequence
+from collections.abc import Callable, Iterator, Mapping, Sequence
 from dataclasses import dataclass
-from fractions import Fraction
 from typing import NamedTuple, TypeVar
 
 import numpy as np
@@ -31,24 +34,41 @@ from ..records.item import Item
 from ..remarks import Remark
 from ..scenario import Policy, Scenario, key_words
 from ..theory.confidence import FillLevels, Promises
-from ..theory.long_run import Candidate, LongRun
+from ..theory.long_run import LongRun
 from ..theory.start_bias import start_bias
+from ..words import advice, sentence
 from .answer import (ALONE, CHEAPER, CHOSEN, DEARER, DISAGREES, FAILED, FEW_DEMANDS, NO_INTERVAL, NO_POLICY, NO_PROMISE,
                      REFUSED, ROUNDED_COSTS, RUN, SAME, SERVICE, STEPS, THEORY, TODAY, UNDECIDED, UNLIKE, Answer,
                      Estimate, Figures, LawFacts, Run)
 from .question import NONE, Levels, Question, Settings, question_of
 
+Result = TypeVar("Result")
 LAWS = 100  # that are drawn
+LEAST_DEMANDS = 10
+ROUGH_RATES = 0.001
+CLOSE = 1e-9  # Costs whose ratio differs from 1 by less are equal but for rounding.
+# A figure of a run is looked at again, by a larger run under another key, if chance alone puts so few so far from
+# theory. That run must agree: in a sound catalogue of a million items, the chance that one of its three million figures
+# does not is 3 in 1,000.
+SUSPECT, CHANCE = 1e-4, 1e-9
 
 
 class NoPolicy(Refused):
     """There is no best policy within the ranges of s and S, or none with the wanted share of demand met at once."""
 
-    def __init__(self, fill: Fraction | None) -> None:
-        """Takes the wanted share, None if none is wanted."""
-        self.fill = None if fill is None else float(fill)
-        wanted = "no policy is best" if fill is None else f"no policy meets {self.fill:g} of demand at once"
-        super().__init__(f"{wanted} within s and S up to {MOST_ITEMS:,}; count in larger units")
+    def __init__(self, fault: Remark) -> None:
+        """Keeps the fault."""
+        super().__init__(sentence(fault), advice(fault))
+        self.fault = fault
+
+
+class Disagreement(Failed):
+    """A run whose figure is further from exact theory than chance allows: one of both is wrong, a fault of ours."""
+
+    def __init__(self, fault: Remark) -> None:
+        """Keeps what differs."""
+        super().__init__(sentence(fault), advice(fault))
+        self.fault = fault
 
 
 @dataclass(frozen=True)
@@ -73,33 +93,26 @@ def allowed_by(question: Question, laws: int = LAWS) -> tuple[tuple[Law, ...], t
     return drawn.laws, leads
 
 
-def promised(theory: LongRun, question: Question, plain: Candidate) -> Candidate:
-    """Returns the cheapest policy found that keeps the wanted share under so many of the laws that the history allows.
-    `plain` is the one by the item's law alone. Its cost is infinite if there is none."""
-    fill, confidence = question.item.fill, question.settings.confidence
-    assert fill is not None and confidence is not None
-    gap = theory.gap_of(plain.point, plain.level)
-    levels = FillLevels(question.scenario(), theory, gap, *allowed_by(question), [float(fill)])
-    return Promises(levels, theory, confidence).cheapest(plain, float(fill))
-
-
 def choice_of(theory: LongRun, question: Question) -> Choice:
-    """Returns the best policy, or the cheapest that meets the wanted share. Raises NoPolicy if there is none."""
-    fill = question.item.fill
-    best = theory.best() if fill is None else theory.best_with_fill(float(fill))
-    if best.cost == math.inf:
-        raise NoPolicy(fill)
+    """Returns the best policy, or the cheapest that meets the wanted share: with a confidence, under so many of the
+    laws that the history allows. Raises NoPolicy if there is none."""
+    confidence = question.settings.confidence
+    fill = None if question.item.fill is None else float(question.item.fill)
+    best = theory.best() if fill is None else theory.best_with_fill(fill)
     plain = best.point, best.level
-    if fill is None or question.settings.confidence is None:
+    if best.cost == math.inf:
+        raise NoPolicy(Remark(NO_POLICY, {"fill": fill}))
+    if fill is None or confidence is None:
         return Choice(plain, plain)
-    sure = promised(theory, question, best)
+    levels = FillLevels(question.scenario(), theory, theory.gap_of(*plain), *allowed_by(question), [fill])
+    sure = Promises(levels, theory, confidence).cheapest(best, fill)
     return Choice(plain, plain, False) if sure.cost == math.inf else Choice((sure.point, sure.level), plain)
 
 
 def levels_of(question: Question, choice: Choice) -> dict[str, Levels]:
     """Returns s and S of each policy, in boxes. There is none of the item alone if its own law has no best policy."""
     levels = {TODAY: question.levels, CHOSEN: choice.levels, ALONE: choice.levels}
-    if learns(question):
+    if question.learns:
         try:
             single = question.alone()
             levels[ALONE] = choice_of(single.theory(), single).levels
@@ -108,28 +121,21 @@ def levels_of(question: Question, choice: Choice) -> dict[str, Levels]:
     return levels
 
 
-def learns(question: Question) -> bool:
-    """Returns whether the law of an item is learned from others. It is not if it was tried, and its guard spoke against
-    that."""
-    learned = question.learned
-    return learned is not None and not learned.alone
+def figures_of(question: Question, theory: LongRun, levels: Levels) -> Figures:
+    """Returns theory's figures of a policy, whose levels are in boxes. Without a backlog cost only orders and stock
+    cost something."""
+    known, box, rates = theory.figures(*levels), question.item.box, question.rates
+    cost = known.cost if question.has_backlog else rates["setup"] * known.orders + rates["holding"] * known.stock
+    point, level = question.item.levels if levels == question.levels else (levels[0] * box, levels[1] * box)
+    return Figures(point, level, question.money(cost), known.fill, known.short, known.stock * box, known.orders)
 
 
-# A figure of a run is looked at again, by a larger run under another key, if chance alone puts so few so far from
-# theory. That run must agree: in a sound catalogue of a million items, the chance that one of its three million figures
-# does not is 3 in 1,000.
-SUSPECT, CHANCE = 1e-4, 1e-9
-
-
-class Disagreement(Failed):
-    """A run whose figure is further from exact theory than chance allows: one of both is wrong, a fault of ours."""
-
-    def __init__(self, fault: Remark) -> None:
-        """Keeps what differs."""
-        its = fault.facts
-        super().__init__(f"{its['figure']}: crnsim gives {its['run']:g}, theory {its['theory']:g}, which differ by "
-                         f"more than chance allows (standard error {its['error']:g}); please report it")
-        self.fault = fault
+def scenario_of(question: Question, theory: LongRun, levels: Levels) -> Scenario:
+    """Returns the scenario of a run of today's policy, the base, and of the chosen one with some levels, unless it is
+    the same. The run starts from the mean position of the chosen one."""
+    initial = min(max(round(theory.mean_position(*levels)), 0), MOST_ITEMS)
+    policies = [Policy(TODAY, *question.levels), Policy(CHOSEN, *levels)][:1 + (levels != question.levels)]
+    return question.scenario(question.rates.get("backlog", 0), initial).with_policies(policies)
 
 
 class Sample(NamedTuple):
@@ -140,20 +146,17 @@ class Sample(NamedTuple):
 
 
 def sample_of(question: Question, report: Report) -> Sample:
-    """Returns what a run of a question's scenario says of the long run. Raises Refused if the bias of the start is not
-    known."""
-    rows, scenario = report.rows, report.scenario
+    """Returns what a run of a question's scenario says of the long run, in money. Raises Refused if the bias of the
+    start is not known."""
+    rows, scenario, money = report.rows, report.scenario, question.money
     bias, periods, replications = start_bias(scenario), scenario.periods, scenario.replications
-    orders = [bias.theory.figures(it.s, it.S).orders * periods * replications for it in rows]
-    estimates = estimates_of(rows, replications, periods, [its / periods for its in bias.biases], orders)
-    return Sample(tuple(in_money(question, it) for it in estimates), bias.theory.exact and bias.on_lattice)
-
-
-def in_money(question: Question, estimate: PolicyEstimate) -> PolicyEstimate:
-    """Returns an estimate of the program's costs as one of money."""
-    own, error = (None if it is None else question.money(it) for it in (estimate.own_error, estimate.error))
-    return PolicyEstimate(estimate.policy, question.money(estimate.cost), own, question.money(estimate.difference),
-                          error, estimate.orders)
+    orders = [bias.theory.figures(row.s, row.S).orders * periods * replications for row in rows]
+    estimates = estimates_of(rows, replications, periods, [cost / periods for cost in bias.biases], orders)
+    return Sample(tuple(estimate._replace(
+        cost=money(estimate.cost), difference=money(estimate.difference),
+        own_error=None if estimate.own_error is None else money(estimate.own_error),
+        error=None if estimate.error is None else money(estimate.error)) for estimate in estimates),
+        bias.theory.exact and bias.on_lattice)
 
 
 @functools.lru_cache
@@ -170,20 +173,17 @@ def interval(estimate: PolicyEstimate, level: float, replications: int) -> tuple
     return estimate.difference - half, estimate.difference + half
 
 
-def differences(sample: Sample, figures: Sequence[Figures]) -> Iterator[tuple[str, int, float, float, float]]:
-    """Yields for each figure of a run that has a standard error its name, the place of its policy, what the run gives,
-    what theory gives, and that error. Figures are costs, and savings against the first policy."""
-    for place, (it, known) in enumerate(zip(sample.policies, figures)):
-        if it.own_error is not None:
-            yield f"cost of {it.policy}", place, it.cost, known.cost, it.own_error
-        if it.error is not None:
-            yield f"saving of {it.policy}", place, -it.difference, figures[0].cost - known.cost, it.error
-
-
-def is_suspect(sample: Sample, figures: Sequence[Figures], replications: int) -> bool:
-    """Returns whether a figure of a run is so far from theory that a larger run should look at it again."""
-    most = quantile(SUSPECT, replications)
-    return any(abs(run - known) > most * error for _, _, run, known, error in differences(sample, figures))
+def disagreement(sample: Sample, figures: Sequence[Figures], most: float, spare: Sequence[float]) -> Remark | None:
+    """Returns the first figure of a run that is further from theory than so many standard errors and what is to spare
+    for its policy; None if there is none. Figures are costs, and savings against the first policy."""
+    for estimate, known, more in zip(sample.policies, figures, spare):
+        saving = figures[0].cost - known.cost
+        for name, run, theory, error in (("cost", estimate.cost, known.cost, estimate.own_error),
+                                         ("saving", -estimate.difference, saving, estimate.error)):
+            if error is not None and abs(run - theory) > most * error + more:
+                return Remark(DISAGREES, {"figure": f"{name} of {estimate.policy}", "theory": theory, "run": run,
+                                          "error": error})
+    return None
 
 
 def rare_cost(question: Question, theory: LongRun, levels: Levels, scenario: Scenario) -> float:
@@ -205,68 +205,37 @@ def rare_cost(question: Question, theory: LongRun, levels: Levels, scenario: Sce
     return question.money(scenario.costs.setup * orders + scenario.costs.backlog * owed)
 
 
-def check_agreement(question: Question, theory: LongRun, sample: Sample, report: Report,
-                    policies: Sequence[tuple[Levels, Figures]]) -> None:
-    """Raises Disagreement if a cost or a saving of a run is further from theory than chance allows, by `CHANCE`."""
-    scenario = report.scenario
-    most = quantile(CHANCE, scenario.replications)
-    rare = [rare_cost(question, theory, levels, scenario) for levels, _ in policies]
-    for name, place, run, known, error in differences(sample, [figures for _, figures in policies]):
-        if abs(run - known) > most * error + rare[place] + rare[0]:
-            raise Disagreement(Remark(DISAGREES, {"figure": name, "theory": known, "run": run, "error": error}))
-
-
-Found = TypeVar("Found")
-LEAST_DEMANDS = 10
-ROUGH_RATES = 0.001
-CLOSE = 1e-9  # Costs whose ratio differs from 1 by less are equal but for rounding.
-
-
-def figures_of(question: Question, theory: LongRun, levels: Levels) -> Figures:
-    """Returns theory's figures of a policy, whose levels are in boxes. Without a backlog cost only orders and stock
-    cost something."""
-    its, box = theory.figures(*levels), question.item.box
-    setup, holding = question.rates["setup"], question.rates["holding"]
-    cost = its.cost if question.has_backlog else setup * its.orders + holding * its.stock
-    point, level = question.item.levels if levels == question.levels else (levels[0] * box, levels[1] * box)
-    return Figures(point, level, question.money(cost), its.fill, its.short, its.stock * box, its.orders)
-
-
-def scenario_of(question: Question, theory: LongRun, policies: Iterable[Policy], start: Levels) -> Scenario:
-    """Returns the scenario of a run of policies, the first one being the base, from the mean position of the policy
-    with the levels `start`."""
-    initial = min(max(round(theory.mean_position(*start)), 0), MOST_ITEMS)
-    return question.scenario(question.rates.get("backlog", 0), initial).with_policies(policies)
-
-
 def check_run(question: Question, theory: LongRun, report: Report, sample: Sample, figures: Mapping[str, Figures],
               program: str) -> None:
     """Raises Disagreement if a run is further from theory than chance allows, and so is a larger one under another key.
     Nothing is compared if theory or the bias of the start is rounded."""
     known = [figures[row.policy] for row in report.rows]
-    if not (theory.exact and sample.bias_is_exact and is_suspect(sample, known, report.scenario.replications)):
+    most = quantile(SUSPECT, report.scenario.replications)
+    if not (theory.exact and sample.bias_is_exact and disagreement(sample, known, most, [0.0] * len(known))):
         return
     key = key_words(f"{question.settings.seed}\nagain\n{question.item.name}")
-    again = report_of(dataclasses.replace(report.scenario, key=tuple(key), replications=MOST_REPLICATIONS), program)
-    levels = [(row.s, row.S) for row in report.rows]
-    check_agreement(question, theory, sample_of(question, again), again, [*zip(levels, known)])
+    larger = dataclasses.replace(report.scenario, key=tuple(key), replications=MOST_REPLICATIONS)
+    again = sample_of(question, report_of(larger, program))
+    rare = [rare_cost(question, theory, (row.s, row.S), larger) for row in report.rows]
+    fault = disagreement(again, known, quantile(CHANCE, MOST_REPLICATIONS), [cost + rare[0] for cost in rare])
+    if fault:
+        raise Disagreement(fault)
 
 
 def run_of(question: Question, report: Report, sample: Sample) -> Run:
     """Returns the run of today's policy and of the last one of a report, which may be the same."""
     rows, scenario, level = report.rows, report.scenario, question.settings.level
-    base, mine, is_same = sample.policies[0], sample.policies[-1], len(rows) == 1
-    ends = interval(mine, level, scenario.replications)
+    base, chosen, is_same = sample.policies[0], sample.policies[-1], len(rows) == 1
+    ends = interval(chosen, level, scenario.replications)
     low, high = (-ends[1], -ends[0]) if ends else (0.0, 0.0) if is_same else (None, None)
-    estimate = Estimate(base.cost, mine.cost, -mine.difference, 0.0 if is_same else mine.error, low, high)
+    estimate = Estimate(base.cost, chosen.cost, -chosen.difference, 0.0 if is_same else chosen.error, low, high)
     return Run(" ".join(scenario.key), scenario.periods, scenario.replications, scenario.initial, question.scale,
                scenario.costs.setup, scenario.costs.holding, scenario.costs.backlog, rows[0].total, rows[-1].total,
                rows[-1].diff_mean, rows[-1].diff_var or rows[0].diff_mean, sample.bias_is_exact, estimate)
 
 
-def verdict_of(question: Question, today: Figures, saving: float, ends: tuple[float | None, float | None]) -> str:
+def verdict_of(question: Question, today: Figures, saving: float, low: float | None, high: float | None) -> str:
     """Returns the verdict on a policy that is not today's, by its saving, which is between both ends."""
-    low, high = ends
     fill = question.item.fill
     if low is not None and low > 0:
         return CHEAPER
@@ -288,7 +257,7 @@ def remarks_of(question: Question, theory: LongRun, sample: Sample, choice: Choi
     """Yields what must be said of the history of an item, and of its figures."""
     item, settings = question.item, question.settings
     yield from checked(item.counts, settings.every, item.first, settings.season)
-    demands, learned = sum(it > 0 for it in item.counts), question.learned
+    demands, learned = sum(count > 0 for count in item.counts), question.learned
     if demands < LEAST_DEMANDS:
         yield Remark(FEW_DEMANDS, {"demands": demands, "learned": bool(learned and learned.few and not learned.alone)})
     if learned is not None and learned.alone:
@@ -302,7 +271,7 @@ def remarks_of(question: Question, theory: LongRun, sample: Sample, choice: Choi
     if not choice.is_promised:
         yield Remark(NO_PROMISE, {"confidence": settings.confidence})
     if choice.levels != question.levels and sample.policies[-1].error is None:
-        yield Remark(NO_INTERVAL, {"orders": min(it.orders or 0 for it in sample.policies)})
+        yield Remark(NO_INTERVAL, {"orders": min(estimate.orders or 0 for estimate in sample.policies)})
 
 
 def plan_one(question: Question, program: str) -> Answer:
@@ -311,48 +280,42 @@ def plan_one(question: Question, program: str) -> Answer:
     Raises Refused if the item can't be planned, Disagreement if the run is further from theory than chance allows, and
     ProgramError.
     """
-    theory = question.theory()
+    item, theory = question.item, question.theory()
     choice = choice_of(theory, question)
-    is_same = choice.levels == question.levels
-    policies = [Policy(TODAY, *question.levels), *([] if is_same else [Policy(CHOSEN, *choice.levels)])]
-    report = report_of(scenario_of(question, theory, policies, choice.levels), program)
+    report = report_of(scenario_of(question, theory, choice.levels), program)
     sample = sample_of(question, report)
-    figures = {name: figures_of(question, theory, its) for name, its in levels_of(question, choice).items()}
+    figures = {name: figures_of(question, theory, levels) for name, levels in levels_of(question, choice).items()}
     check_run(question, theory, report, sample, figures, program)
     run, today, chosen = run_of(question, report, sample), figures[TODAY], figures[CHOSEN]
-    costs = (today.cost, chosen.cost) if theory.exact else (run.estimate.cost_today, run.estimate.cost_chosen)
-    saving = today.cost - chosen.cost if theory.exact else run.estimate.saving
-    near = CLOSE * today.cost
-    ends = (saving - near, saving + near) if theory.exact else (run.estimate.low, run.estimate.high)
-    item, confidence = question.item, question.settings.confidence
-    return Answer(
-        item.name, item.box, SAME if is_same else verdict_of(question, today, saving, ends),
-        THEORY if theory.exact else RUN, *costs, saving, today, chosen, figures.get(ALONE), theory.step,
-        None if confidence is None or item.fill is None else
-        chosen.cost - figures_of(question, theory, choice.plain).cost,
-        law_facts(question.demand, item.box), sum(it > 0 for it in item.counts), len(item.counts), run,
-        tuple(remarks_of(question, theory, sample, choice)))
+    costs, saving, near = (today.cost, chosen.cost), today.cost - chosen.cost, CLOSE * today.cost
+    ends: tuple[float | None, float | None] = saving - near, saving + near
+    if not theory.exact:
+        estimate = run.estimate
+        costs, saving = (estimate.cost_today, estimate.cost_chosen), estimate.saving
+        ends = estimate.low, estimate.high
+    verdict = SAME if choice.levels == question.levels else verdict_of(question, today, saving, *ends)
+    confidence_cost = None
+    if question.settings.confidence is not None and item.fill is not None:
+        confidence_cost = chosen.cost - figures_of(question, theory, choice.plain).cost
+    return Answer(item.name, item.box, verdict, THEORY if theory.exact else RUN, *costs, saving, today, chosen,
+                  figures.get(ALONE), theory.step, confidence_cost, law_facts(question.demand, item.box),
+                  sum(count > 0 for count in item.counts), len(item.counts), run,
+                  tuple(remarks_of(question, theory, sample, choice)))
 
 
-def fault_of(why: Exception) -> Remark:
-    """Returns why an item can't be planned, as a code and facts."""
-    if isinstance(why, Disagreement):
-        return why.fault
-    if isinstance(why, NoPolicy):
-        return Remark(NO_POLICY, {"fill": why.fill})
-    if isinstance(why, Refused):
-        return Remark(REFUSED, {"what": worded(why.what), "advice": worded(why.advice)})
-    return Remark(FAILED, {"kind": type(why).__name__, "what": str(why)})
-
-
-def or_fault(answer: Callable[[], Found]) -> Found | Remark:
-    """Returns an answer, or why there is none. Raises ProgramError, since then no item has one."""
+def or_fault(answer: Callable[[Item], Result], item: Item) -> Result | Remark:
+    """Returns the answer to an item, or as a code and facts why there is none. Raises ProgramError, since then no item
+    has one."""
     try:
-        return answer()
-    except (Refused, Disagreement, ArithmeticError, ValueError, LookupError, MemoryError) as why:
-        return fault_of(why)
+        return answer(item)
+    except (Disagreement, NoPolicy) as why:
+        return why.fault
+    except Refused as why:
+        return Remark(REFUSED, {"what": worded(why.what), "advice": worded(why.advice)})
+    except (ArithmeticError, ValueError, LookupError, MemoryError) as why:
+        return Remark(FAILED, {"kind": type(why).__name__, "what": str(why)})
 
 
 def plan_item(item: Item, settings: Settings, prior: Prior, program: str) -> Answer | Remark:
     """Returns the answer to an item, or why it can't be planned. Raises ProgramError."""
-    return or_fault(lambda: plan_one(question_of(item, settings, prior), program))
+    return or_fault(lambda asked: plan_one(question_of(asked, settings, prior), program), item)

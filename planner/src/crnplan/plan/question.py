@@ -121,6 +121,11 @@ class Question:
         return self.demand.diagnostics.borrowed
 
     @property
+    def learns(self) -> bool:
+        """Returns whether the law is learned from other items. It is not if its guard spoke against that."""
+        return self.learned is not None and not self.learned.alone
+
+    @property
     def implied_backlog(self) -> int:
         """Returns the backlog rate; without one, that by which the wanted share would be best for a newsvendor."""
         fill = self.item.fill
