@@ -13,7 +13,7 @@ from dataclasses import dataclass, field
 from difflib import get_close_matches
 from pathlib import Path
 from statistics import NormalDist
-from typing import Any
+from typing import Any, NamedTuple
 
 import numpy as np
 
@@ -32,7 +32,16 @@ from .answer import CHOSEN, OURS, RUN, TODAY, Answer
 from .one import plan_item
 from .question import ALL, CLASS, NONE, Question, Settings, question_of
 
-MOST_PARTS = 1_000
+ANSWERS = "answers.sqlite"
+PLANNED, PRIOR = "planned", "prior"  # facts of the store
+AGAIN = "run crnplan catalogue again"
+# Items whose histories are looked at for the law of a whole catalogue: it is estimated on 3,000 of them.
+MOST_READ = 10_000
+MOST_PARTS = 1_000  # of a sum
+# Codes of remarks on what was learned, each with the names of its facts.
+OWN_LAWS = "own laws"  # reason: `fit`, `borrow`, or why too few items are there
+LEARNED = "learned"  # items, classes, and whether in an `earlier` run
+OTHERWISE = "masters say otherwise"  # items
 
 
 class Sums(defaultdict[str, list[float]]):
@@ -83,7 +92,11 @@ class Totals:
         """Adds up items with their answers, or their faults."""
         totals = cls()
         for item, answer in answers:
-            totals.add(item, answer)
+            if isinstance(answer, Remark):
+                totals.faults += 1
+                totals.broken += answer.code in OURS
+            else:
+                totals.add(item, answer)
         return totals
 
     @property
@@ -95,34 +108,24 @@ class Totals:
         """Returns a sum of money."""
         return self.sums.total(name)
 
-    def add(self, item: Item, answer: Answer | Remark) -> None:
-        """Adds an item."""
-        if isinstance(answer, Remark):
-            self.faults += 1
-            self.broken += answer.code in OURS
-            return
+    def add(self, item: Item, answer: Answer) -> None:
+        """Adds an item with its answer."""
+        estimate, price = answer.run.estimate, float(item.price or 0)
+        demand = price * answer.law.mean
         self.verdicts[answer.verdict] += 1
         self.by_run += answer.source == RUN
         self.remarked += bool(answer.remarks or item.remarks)
         self.promised += answer.confidence_cost is not None
-        estimate = answer.run.estimate
         self.without_interval += estimate.error is None
-        for name, value in (("cost_today", answer.cost_today), ("cost_chosen", answer.cost_chosen),
-                            ("saving", answer.saving), (f"saving {answer.verdict}", answer.saving),
-                            ("run_saving", estimate.saving), ("run_variance", (estimate.error or 0.0)**2),
-                            ("confidence_cost", answer.confidence_cost or 0.0)):
-            self.sums.add(name, value)
-        if item.price:
-            self._add_values(float(item.price), answer)
-
-    def _add_values(self, price: float, answer: Answer) -> None:
-        """Adds the values of an item with a price."""
-        self.priced += 1
-        asked = price * answer.law.mean
-        self.sums.add("demand", asked)
+        self.priced += bool(price)
+        values = {"cost_today": answer.cost_today, "cost_chosen": answer.cost_chosen, "saving": answer.saving,
+                  f"saving {answer.verdict}": answer.saving, "run_saving": estimate.saving,
+                  "run_variance": (estimate.error or 0.0)**2, "confidence_cost": answer.confidence_cost or 0.0,
+                  "demand": demand}
         for name, figures in ((TODAY, answer.today), (CHOSEN, answer.chosen)):
-            self.sums.add(f"value_{name}", price * figures.stock)
-            self.sums.add(f"met_{name}", asked * figures.fill)
+            values |= {f"value_{name}": price * figures.stock, f"met_{name}": demand * figures.fill}
+        for name, value in values.items():
+            self.sums.add(name, value)
 
     def fill(self, policy: str) -> float | None:
         """Returns the share of demand by value that is met at once; None if no item has a price."""
@@ -132,10 +135,6 @@ class Totals:
     def half_width(self, level: float) -> float:
         """Returns half the width of the interval of all savings by runs. Those of different items are independent."""
         return NormalDist().inv_cdf((1 + level) / 2) * math.sqrt(self["run_variance"])
-
-
-ANSWERS = "answers.sqlite"
-PLANNED, PRIOR = "planned", "prior"  # facts of the store
 
 
 @dataclass(frozen=True)
@@ -169,7 +168,7 @@ class PlannedFolder:
     """A folder whose items are all answered, as their rows are now. `planned_folder` opens it."""
 
     def __init__(self, path: Path, read: Catalogued, answers: Store[Answer], planned: Planned) -> None:
-        """Takes what is open. Raises Refused if an item is not planned as its rows are now."""
+        """Takes what is open."""
         self.path, self.read, self.store, self.planned = path, read, answers, planned
         self.settings = planned.settings
         self.every, self.decimals, self.counts = (read.fact(name) for name in ("every", "decimals", "counts"))
@@ -178,8 +177,7 @@ class PlannedFolder:
         """Raises Refused if an item is not planned as its rows are now."""
         kept = self.store.digests()
         if any(kept.get(name) != digest for name, digest in self.read.digests(self.planned.common)):
-            raise Refused(f"{self.path}: its plan is not as the rows that were read last", "run crnplan catalogue "
-                          "again")
+            raise Refused(f"{self.path}: its plan is not as the rows that were read last", AGAIN)
 
     def answers(self) -> Iterator[tuple[Item, Answer | Remark]]:
         """Yields the items in order of their names, each with its answer, or with the fault for which it has none."""
@@ -193,10 +191,8 @@ class PlannedFolder:
         item = self.read.item(name)
         if item is None:
             raise self._why_not(name)
-        digest = self.read.digest(name, self.planned.common)
-        if self.store.digest(name) != digest:
-            raise Refused(f"{self.path}: item {name!r}: it is not planned as its rows are now",
-                          "run crnplan catalogue again")
+        if self.store.digest(name) != self.read.digest(name, self.planned.common):
+            raise Refused(f"{self.path}: item {name!r}: it is not planned as its rows are now", AGAIN)
         answer = self.store.answer(name)
         if isinstance(answer, Remark):
             raise Refused(f"{self.path}: item {name!r}: it could not be planned: {sentence(answer)}", advice(answer))
@@ -208,7 +204,7 @@ class PlannedFolder:
 
     def _why_not(self, name: str) -> Refused:
         """Returns why an item has no plan: it is left out, or there is none of this name."""
-        left = next((it for it in self.read.rejects() if it.kind == "item" and it.item == name), None)
+        left = next((out for out in self.read.rejects() if out.kind == "item" and out.item == name), None)
         if left:
             where = f"{left.file}:{left.line}" if left.line else left.file
             return Refused(f"{self.path}: item {name!r} is left out: {where}: {sentence(left.remark)}",
@@ -232,16 +228,7 @@ def planned_folder(path: Path) -> Iterator[PlannedFolder]:
         yield PlannedFolder(path, read, answers, planned)
 
 
-# Items whose histories are looked at for the law of a whole catalogue: it is estimated on 3,000 of them.
-MOST_READ = 10_000
-# Codes of remarks on what was learned, each with the names of its facts.
-OWN_LAWS = "own laws"  # reason: `fit`, `borrow`, or why too few items are there
-LEARNED = "learned"  # items, classes, and whether in an `earlier` run
-OTHERWISE = "masters say otherwise"  # items
-
-
-@dataclass(frozen=True)
-class Learned:
+class Learned(NamedTuple):
     """What items learn from one another, from whom an item learns if its master does not say that, and remarks."""
 
     prior: Prior
@@ -249,16 +236,16 @@ class Learned:
     remarks: tuple[Remark, ...]
 
 
-def drawn_names(read: Catalogued, most: int | None) -> frozenset[str]:
-    """Returns the names of so many items, or of all: those with the least digests, which is as good as at random."""
-    if most is None:
-        return frozenset(read.names())
-    return frozenset(heapq.nsmallest(most, read.names(), key=lambda name: hashlib.sha256(name.encode()).digest()))
+def own_laws(reason: str) -> Learned:
+    """Returns that no item learns from another one, and why."""
+    return Learned(Prior(NONE), NONE, (Remark(OWN_LAWS, {"reason": reason}),))
 
 
-def items_of(read: Catalogued, most: int | None = None) -> Iterator[Item]:
-    """Yields so many items, or all, but for those counted in boxes."""
-    drawn = drawn_names(read, most)
+def items_of(read: Catalogued, most: int | None) -> Iterator[Item]:
+    """Yields so many items, or all, but for those counted in boxes. They are those whose names have the least digests,
+    which is as good as at random."""
+    drawn = frozenset(read.names() if most is None else heapq.nsmallest(
+        most, read.names(), key=lambda name: hashlib.sha256(name.encode()).digest()))
     yield from (item for item in read.items() if item.name in drawn and item.box == 1)
 
 
@@ -266,49 +253,48 @@ def learned_of(answers: Store[Answer], read: Catalogued, settings: Settings, aga
     """Returns what the items of a catalogue learn from one another.
 
     With `settings.borrow` None an item learns from all if there are 100 items. What was learned before in this way is
-    kept, unless it is to be learned `again`. Raises Refused if fewer than 30 items are to learn.
+    used again as it is, also if items change, unless it is to be learned `again`: otherwise each new row would change
+    the plan of every item. Raises Refused if fewer than 30 items are to learn.
     """
     if settings.fit != "auto":
-        return Learned(Prior(NONE), NONE, (Remark(OWN_LAWS, {"reason": f"fit = {settings.fit}"}),))
+        return own_laws(f"fit = {settings.fit}")
     said = Counter(item.borrow for item in read.items())
     asked = {settings.borrow, *said} & {ALL, CLASS}
     if settings.borrow == NONE and not asked:
-        return Learned(Prior(NONE), NONE, (Remark(OWN_LAWS, {"reason": f"borrow = {NONE}"}),))
+        return own_laws(f"borrow = {NONE}")
     way, least = CLASS if CLASS in asked else ALL, LEAST_ON_REQUEST if asked else LEAST_ITEMS
     try:
-        prior, remark = _kept(answers, read, way, least, again)
+        earlier = None if again else kept_prior(answers, way, least)
+        prior = earlier or learned_now(answers, read, way, least)
     except Refused as few:
         if asked:
             raise
-        return Learned(Prior(NONE), NONE, (Remark(OWN_LAWS, {"reason": few.what}),))
-    usual = settings.borrow or (ALL if prior.items - prior.outside >= LEAST_ITEMS else NONE)
+        return own_laws(few.what)
+    learners = prior.items - prior.outside
+    usual = settings.borrow or (ALL if learners >= LEAST_ITEMS else NONE)
     others = sum(count for word, count in said.items() if word not in ("", usual))
     own = [Remark(OWN_LAWS, {"reason": ""})] if usual == NONE else []
     otherwise = [Remark(OTHERWISE, {"items": others})] if others else []
+    remark = Remark(LEARNED, {"items": learners, "classes": len(prior.classes or {}), "earlier": prior is earlier})
     return Learned(prior, usual, (*own, remark, *otherwise))
 
 
-def _kept(answers: Store[Answer], read: Catalogued, way: str, least: int, again: bool) -> tuple[Prior, Remark]:
-    """Returns what was learned in an earlier run, or is learned now, and a remark on it. Raises Refused if there are
-    fewer than `least` items."""
-    text = None if again else answers.fact(PRIOR)
-    if text is not None:
-        prior = Prior.parse(text, str(answers.path))
-        if prior.borrow == way and prior.items - prior.outside >= least:
-            return prior, _remark(prior, True)
+def kept_prior(answers: Store[Answer], way: str, least: int) -> Prior | None:
+    """Returns what at least so many items have learned in this way in an earlier run; None if that is not kept."""
+    text = answers.fact(PRIOR)
+    prior = None if text is None else Prior.parse(text, str(answers.path))
+    return prior if prior and prior.borrow == way and prior.items - prior.outside >= least else None
+
+
+def learned_now(answers: Store[Answer], read: Catalogued, way: str, least: int) -> Prior:
+    """Returns what items learn now, and keeps it. Raises Refused if there are fewer than `least` items."""
     histories, groups = list[Any](), list[str]()
     for item in items_of(read, None if way == CLASS else MOST_READ):
         histories.append(np.array(item.counts, np.uint32))
         groups.append(item.group)
     prior = learn(histories, groups if way == CLASS else None, way, least=least)
     answers.keep_facts({PRIOR: prior.text})
-    return prior, _remark(prior, False)
-
-
-def _remark(prior: Prior, earlier: bool) -> Remark:
-    """Returns from how many items something was learned."""
-    return Remark(LEARNED, {"items": prior.items - prior.outside, "classes": len(prior.classes or {}),
-                            "earlier": earlier})
+    return prior
 
 
 class Lost(Failed):
@@ -340,16 +326,15 @@ def plan_into(folder: Folder, settings: Settings, *, jobs: int | None = None, ad
     path = program_for(program, address)
     with (faults_of(folder.path), contextlib.closing(Catalogued(folder.path / READ)) as read,
           contextlib.closing(Store(folder.store(ANSWERS), Answer)) as answers):
-        learned = learned_of(answers, read, settings, again)
-        settings = dataclasses.replace(settings, borrow=learned.usual, every=read.fact("every"))
-        planned = Planned(settings, learned.prior, settings.common(program_digest(path, address), learned.prior))
+        prior, usual, remarks = learned_of(answers, read, settings, again)
+        settings = dataclasses.replace(settings, borrow=usual, every=read.fact("every"))
+        planned = Planned(settings, prior, settings.common(program_digest(path, address), prior))
         planned.keep(answers)
         work = Work(answers, dict(read.digests(planned.common)))
         write_rejects(folder, read)
-        work.finish(plan_batch, read.item, settings, learned.prior, path, workers=workers_of(jobs, address, path),
-                    shown=shown)
-        its = PlannedFolder(folder.path, read, answers, planned)
-        totals = Totals.of(its.answers())
-        done = Done(len(work.left), work.kept, totals, learned.remarks,
-                    tuple(missing_of(its.counts, totals.planned + totals.faults)))
-        return dataclasses.replace(done, summary=write_catalogue(folder, its, done))
+        work.finish(plan_batch, read.item, settings, prior, path, workers=workers_of(jobs, address, path), shown=shown)
+        catalogue = PlannedFolder(folder.path, read, answers, planned)
+        totals = Totals.of(catalogue.answers())
+        done = Done(len(work.left), work.kept, totals, remarks,
+                    tuple(missing_of(catalogue.counts, totals.planned + totals.faults)))
+        return dataclasses.replace(done, summary=write_catalogue(folder, catalogue, done))
