@@ -17,7 +17,7 @@ from typing import Any
 import click
 
 from crnplan.curve.exchange import Items
-from crnplan.curve.gathering import CANDIDATES, gather
+from crnplan.curve.exchange_curve import CANDIDATES, gather
 from crnplan.pages.catalogue_tables import DECISIONS, EXACT, planned_of
 from crnplan.pages.exports import PAGE
 from crnplan.plan.catalogue import ANSWERS, PlannedFolder, planned_folder

@@ -46,9 +46,8 @@ def plan(folder: Path, jobs: int) -> None:
 
 def curve(folder: Path, jobs: int) -> None:
     """Draws the exchange curve."""
-    from crnplan.curve.exchange_curve import draw_curve
-    from crnplan.curve.exchange import Budget
-    draw_curve(folder / PLAN, Budget(), jobs=jobs)
+    from crnplan import exchange_curve
+    exchange_curve(folder / PLAN, jobs=jobs)
 
 
 def page(folder: Path, jobs: int) -> None:

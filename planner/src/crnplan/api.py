@@ -168,10 +168,9 @@ class Plan(Result):
               confirm: int = 0, jobs: int | None = None, cluster: str | None = None) -> Drawn:
         """Returns how much service the whole stock can give for its value: see `exchange_curve`. `policies` has the
         policy of each item for the budget."""
-        from .curve.exchange import Budget
-        from .curve.exchange_curve import draw_curve
-        return draw_curve(self.path, Budget(stock_value, fill, orders), jobs=jobs, address=cluster,
-                          program=self.program, confirm=confirm)
+        from .curve.exchange_curve import exchange_curve
+        return exchange_curve(self.path, stock_value=stock_value, fill=fill, orders=orders, jobs=jobs, cluster=cluster,
+                              program=self.program, confirm=confirm)
 
     def report(self, items: Iterable[str] = ()) -> Path:
         """Writes report.html, and pages of `items`, into the folder of the plan, and returns the path."""

@@ -61,7 +61,7 @@ LEARNING: dict[str, Words] = {
                      + " in an earlier run" * bool(it["earlier"])),
     "masters say otherwise": Words("the masters say otherwise for {items:,} items (borrow)")}
 
-# Of an item that is not on the exchange curve (curve/gathering.py).
+# Of an item that is not on the exchange curve (curve/exchange_curve.py).
 CURVE: dict[str, Words] = {
     "no price": Words("it has no price above 0, so its stock has no value", "give it a price in the masters"),
     "not planned": Words("it is not planned as its rows are now", "run crnplan catalogue again")}

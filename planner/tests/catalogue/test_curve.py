@@ -14,9 +14,8 @@ import pandas as pd
 import pytest
 
 import crnplan as crn
-from crnplan.curve.exchange_curve import CURVE, LEFT_OUT, POLICIES, Drawn, draw_curve, points_of
 from crnplan.curve.exchange import Budget, chosen_by, with_more_orders
-from crnplan.curve.gathering import CANDIDATES
+from crnplan.curve.exchange_curve import CANDIDATES, CURVE, LEFT_OUT, POLICIES, Drawn, exchange_curve, points_of
 from crnplan.plan.catalogue import ANSWERS, planned_folder
 from crnplan.plan.one import figures_of
 from crnplan.records.catalogued import READ
@@ -56,7 +55,7 @@ def plan(twenty: Path, tmp_path: Path) -> Path:
 
 def drawn(plan: Path, budget: Budget = Budget()) -> Drawn:
     """Returns the curve of a folder, by one process."""
-    return draw_curve(plan, budget, jobs=1)
+    return exchange_curve(plan, stock_value=budget.value, fill=budget.fill, orders=budget.orders, jobs=1)
 
 
 def tables_of(plan: Path) -> dict[str, bytes]:

@@ -12,9 +12,8 @@ import pytest
 from hypothesis import given, settings, strategies as st
 
 from crnplan.curve.candidates import (DEARER_ORDERS, DEARER_STOCK, PRICES, VARIANTS, Candidates, candidates_of,
-                                      variants_of)
+                                      lower_hull, slopes, variants_of)
 from crnplan.curve.exchange import Budget, Dearer, Items, Ladder, Point, chosen_by, gap_of
-from crnplan.curve.hull import lower_hull, slopes
 from crnplan.plan.catalogue import planned_folder
 from crnplan.errors import Refused
 
@@ -116,7 +115,7 @@ def test_bound_against_every_choice(seed: int) -> None:
         kept &= (orders <= its.orders * (1 + 1e-9)) | (found.dearer.orders == 0)
         kept &= (values <= its.value * (1 + 1e-9)) | (found.dearer.stock == 0)
         best = cost[kept].min()
-        assert best <= its.cost * (1 + 1e-9) <= best * (1 + found.gap) * (1 + 1e-6)
+        assert best <= its.cost * (1 + 1e-9) <= best * (1 + gap_of(items, its, found.dearer)) * (1 + 1e-6)
         tested += 1
     assert tested >= 7
 

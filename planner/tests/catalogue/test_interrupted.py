@@ -16,11 +16,9 @@ from pathlib import Path
 
 import pytest
 
-from crnplan.curve.exchange_curve import CURVE, LEFT_OUT, POLICIES, draw_curve, exchange_curve
+from crnplan.curve.exchange_curve import CANDIDATES, CURVE, LEFT_OUT, POLICIES, exchange_curve
 from crnplan import plan
 from crnplan.records.catalogue_reading import read_catalogue
-from crnplan.curve.exchange import Budget
-from crnplan.curve.gathering import CANDIDATES
 from crnplan.plan.catalogue import ANSWERS
 from crnplan.jobs import BATCH
 from crnplan.files import MARKER
@@ -194,7 +192,7 @@ def test_killed_at_random(folder: Path, drawn: Path, crnplan: Command, start: St
         told = crnplan(*command, "--jobs", "1", "--program", holding)
         now = int(told.errors.split("plan: ")[1].split()[0])
     else:
-        now = draw_curve(folder / "plan", Budget(fill=0.9), jobs=1).gathered.new
+        now = exchange_curve(folder / "plan", fill=0.9, jobs=1).gathered.new
     assert now == FEW - len(before) and tables(folder / "plan", names) == tables(drawn, names)
 
 

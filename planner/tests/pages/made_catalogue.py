@@ -10,7 +10,8 @@ from fractions import Fraction
 from pathlib import Path
 from typing import Any
 
-from crnplan.curve.kept import Point, keep_curve
+from crnplan.curve.exchange import Point
+from crnplan.curve.exchange_curve import keep_curve
 from crnplan.demand.learning import Prior
 from crnplan.files import own_folder
 from crnplan.pages.exports import CATALOGUE_FILES, write_catalogue
@@ -133,17 +134,16 @@ def made_counts(items: int, rejects: Sequence[Reject]) -> dict[str, Any]:
                       "open_orders": 0, "late": 0}}
 
 
-def made_curve(pairs: Iterable[Pair]) -> list[Point]:
+def made_curve(pairs: Iterable[Pair]) -> list[tuple[str, Point]]:
     """Returns the points of an exchange curve: today's and the chosen one as the items have them, others beside."""
     priced = [(float(item.price), answer) for item, answer in pairs if item.price is not None]
     today, chosen = (math.fsum(price * stock(answer) for price, answer in priced)
                      for stock in (lambda it: it.today.stock, lambda it: it.chosen.stock))
     most = max(today, chosen) or 1.0
 
-    def point(name: str, value: float, less: float, orders: float, cost: float) -> Point:
+    def point(name: str, value: float, less: float, orders: float, cost: float) -> tuple[str, Point]:
         """Returns a point, below the best share that its stock value can give."""
-        return Point(name=name, value=value, fill=1 - 0.3 * math.exp(-4.5 * value / most) - less, orders=orders,
-                     cost=cost)
+        return name, Point(value, 1 - 0.3 * math.exp(-4.5 * value / most) - less, orders, cost)
     return [point("today", today, 0.06, 250.0, 1900.0), point("chosen item by item", chosen, 0.004, 215.0, 1500.0),
             point("today's stock, best service", today, 0.0, 214.0, 1450.0),
             point("today's service, least stock", 0.4 * today, 0.0, 203.0, 900.0),

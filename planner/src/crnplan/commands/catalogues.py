@@ -10,8 +10,7 @@ from typing import Any
 
 import click
 
-from ..curve.exchange import Budget
-from ..curve.exchange_curve import draw_curve
+from ..curve.exchange_curve import exchange_curve
 from ..demand import METHODS
 from ..errors import CrnplanError, Refused, spelt
 from ..files import Folder, faults_of, new_file, own_folder
@@ -264,8 +263,8 @@ def curve(folder: Path, stock_value: float | None, fill: float | None, orders: f
 
     All of it is by theory. --confirm has crnsim count the stock of a sample of items at each named point.
     """
-    drawn = draw_curve(folder, Budget(stock_value, fill, orders), jobs=jobs, address=cluster, program=program,
-                       confirm=confirm, shown=True)
+    drawn = exchange_curve(folder, stock_value=stock_value, fill=fill, orders=orders, jobs=jobs, cluster=cluster,
+                           program=program, confirm=confirm, progress=True)
     if plot:
         from ..pages.pictures import exchange_picture, save
         save(exchange_picture(drawn.curve, drawn.named), plot)

@@ -1,8 +1,10 @@
 """Computes the candidates of an item for the exchange curve: the best policy by theory for each of a grid of prices.
 
-A price is what a unit of value costs that is not met at once, beside the item's setup and holding costs. The candidates
-are vertices of the item's own convex hull: of all order-up-to levels and of gaps S - s on a grid that is refined beside
-those that are best. There are candidates for dearer orders too, of which fewer are then bought, and for dearer stock.
+A price is what a unit of value costs that is not met at once, beside the item's setup and holding costs. For a price the
+best policy is a vertex of a lower convex hull: of what policies cost against the demand that they do not meet at once
+(Everett, Generalized Lagrange multiplier method, Operations Research 11, 1963). The hull of an item is that of all
+order-up-to levels and of gaps S - s on a grid that is refined beside those that are best. There are candidates for
+dearer orders too, of which fewer are then bought, and for dearer stock.
 """
 from __future__ import annotations
 
@@ -15,13 +17,14 @@ import numpy.typing as npt
 
 from ..demand.learning import Prior
 from ..formats import MOST_ITEMS
-from ..theory.long_run import LongRun, gap_grid
-from .hull import Floats, Whole, slopes, vertices
 from ..plan.one import or_fault
 from ..plan.question import Question, Settings, question_of
 from ..records.item import Item
 from ..remarks import Remark
+from ..theory.long_run import LongRun, gap_grid
 
+Floats = npt.NDArray[np.float64]
+Whole = npt.NDArray[np.int64]
 # Answers of other versions are not used again.
 VERSION = 2
 # Prices of a unit of value that is not met at once, in units of value: eight a decade.
@@ -34,6 +37,47 @@ DEARER_ORDERS, DEARER_STOCK = (0, 1, 2, 3), (0, 4, 5)
 STOCK = (1, 4, 16)
 
 
+def slopes(owner: Whole, cost: Floats, unmet: Floats) -> Floats:
+    """Returns the price at which each point is as good as the next one; infinite for the last one of an owner.
+
+    Points are by owner, with rising cost and falling unmet demand.
+    """
+    prices = np.full(len(owner), np.inf)
+    is_step = owner[1:] == owner[:-1]
+    np.divide(np.diff(cost), -np.diff(unmet), out=prices[:-1], where=is_step)
+    return prices
+
+
+def lower_hull(owner: Whole, cost: Floats, unmet: Floats) -> Whole:
+    """Returns the places of the vertices of each owner's lower hull: by owner, with rising cost and falling unmet.
+
+    `owner` has whole numbers from 0 on. Prices rise strictly from each vertex to the next.
+    """
+    order = np.lexsort((unmet, cost, owner))
+    # Ranks are whole numbers, so that the minimum starts anew with each owner, and nothing is rounded.
+    ranks = np.unique(unmet, return_inverse=True)[1].reshape(-1)[order] - owner[order] * (len(order) + 1)
+    least = np.minimum.accumulate(ranks)
+    meets_more = np.append(True, least[1:] < least[:-1])
+    return vertices(owner, cost, unmet, order[meets_more])
+
+
+def vertices(owner: Whole, cost: Floats, unmet: Floats, kept: Whole) -> Whole:
+    """Returns those of some places that are vertices of their owner's lower hull: they are by owner, with rising cost
+    and falling unmet.
+
+    A point that is not below the line through the points beside it is no vertex, so all such points are left out at
+    once, until there are none.
+    """
+    while True:
+        prices = slopes(owner[kept], cost[kept], unmet[kept])
+        is_first = np.append(True, owner[kept][1:] != owner[kept][:-1])
+        before = np.where(is_first, -np.inf, np.append(-np.inf, prices[:-1]))
+        is_vertex = before < prices
+        if is_vertex.all():
+            return kept
+        kept = kept[is_vertex]
+
+
 class Best(NamedTuple):
     """Gaps with their best levels for each cost of stock and each price: arrays of that shape, a row for each gap."""
 
@@ -41,11 +85,6 @@ class Best(NamedTuple):
     level: Whole
     stock: Floats
     unmet: Floats
-
-    def joined(self, other: Best) -> Best:
-        """Returns these and others, by rising gap."""
-        order = np.argsort(np.concatenate([self.gaps, other.gaps]))
-        return Best(*(np.concatenate(its)[order] for its in zip(self, other)))
 
 
 class Policies:
@@ -65,7 +104,9 @@ class Policies:
         """Computes the best levels of gaps. Those are left out with which S is out of its range."""
         new = {*gaps} - {*self.known.gaps.tolist()}
         for some in self.theory.parts(sorted(gap for gap in new if self.theory.items(gap) <= MOST_ITEMS)):
-            self.known = self.known.joined(self.best_of(some))
+            joined = [np.concatenate(arrays) for arrays in zip(self.known, self.best_of(some))]
+            order = np.argsort(joined[0])
+            self.known = Best(*(array[order] for array in joined))
 
     def best_of(self, gaps: Whole) -> Best:
         """Returns rising gaps with their best levels."""
@@ -75,9 +116,9 @@ class Policies:
         kept = vertices(owner, stock, unmet, np.arange(len(owner)))
         prices = slopes(owner[kept], stock[kept], unmet[kept]) * (self.holding / self.value)
         ends, asked = np.searchsorted(owner[kept], np.arange(len(gaps) + 1)), PRICES / np.array(STOCK)[:, None]
-        its = np.stack([kept[first + np.searchsorted(prices[first:end - 1], asked)]
-                        for first, end in zip(ends, ends[1:])])
-        return Best(gaps, levels[place[its]], stock[its], unmet[its])
+        best = np.stack([kept[first + np.searchsorted(prices[first:end - 1], asked)]
+                         for first, end in zip(ends, ends[1:])])
+        return Best(gaps, levels[place[best]], stock[best], unmet[best])
 
     def may_be_best(self, gaps: Whole, levels: Whole, stock: Floats, unmet: Floats) -> npt.NDArray[np.bool_]:
         """Returns for each gap which levels may be best for a price: the least, and those that meet more demand than
@@ -87,19 +128,17 @@ class Policies:
         before = np.minimum.accumulate(np.where(is_allowed, unmet, np.inf), axis=1)[:, :-1]
         is_better = (unmet[:, 1:] < before) & (self.holding * np.diff(stock) <= self.value * PRICES[-1]
                                                * (unmet[:, :-1] - unmet[:, 1:]))
-        found: npt.NDArray[np.bool_] = is_allowed & ((levels == least) | np.pad(is_better, ((0, 0), (1, 0))))
-        return found
+        is_best: npt.NDArray[np.bool_] = is_allowed & ((levels == least) | np.pad(is_better, ((0, 0), (1, 0))))
+        return is_best
 
     def best_places(self, costs: Sequence[tuple[float, float]]) -> Whole:
         """Returns the place of the best gap for each cost of orders and of stock in the order of `VARIANTS`, and for
         each price."""
-        gaps, _, stock, unmet = self.known
-        orders, found = self.orders()[:, None], []
+        orders, places = self.orders()[:, None], []
         for (order, holding), (_, times) in zip(costs, VARIANTS):
-            place = STOCK.index(times)
-            totals = order * orders + holding * stock[:, place] + PRICES * self.value * unmet[:, place]
-            found.append(totals.argmin(axis=0))
-        return np.array(found)
+            stock, unmet = (array[:, STOCK.index(times)] for array in (self.known.stock, self.known.unmet))
+            places.append((order * orders + holding * stock + PRICES * self.value * unmet).argmin(axis=0))
+        return np.array(places)
 
     def orders(self) -> Floats:
         """Returns the orders of a period for each gap."""
@@ -110,12 +149,12 @@ class Policies:
     def search(self, costs: Sequence[tuple[float, float]]) -> Whole:
         """Returns what `best_places` does, of gaps that are looked at ever finer beside the best."""
         while True:
-            gaps, found = self.known.gaps, self.best_places(costs)
-            places = np.unique(found)
+            gaps, best = self.known.gaps, self.best_places(costs)
+            places = np.unique(best)
             below, above = gaps[np.maximum(places - 1, 0)], gaps[np.minimum(places + 1, len(gaps) - 1)]
             self.look_at([*((below + gaps[places]) // 2).tolist(), *((gaps[places] + above + 1) // 2).tolist()])
             if len(self.known.gaps) == len(gaps):
-                return found
+                return best
 
 
 def variants_of(setup: float, holding: float, demand: float) -> list[tuple[float, float]]:
@@ -155,13 +194,13 @@ def candidates_of(question: Question) -> Candidates:
 def rows_of(policies: Policies, variant: int, places: Whole, box: int) -> list[tuple[float, ...]]:
     """Returns the rows of `Candidates` for a variant, from the places of the best gap for each price."""
     prices, known = np.arange(len(PRICES)), policies.known
-    levels, stock, unmet = (its[places, STOCK.index(VARIANTS[variant][1]), prices] for its in known[1:])
+    levels, stock, unmet = (array[places, STOCK.index(VARIANTS[variant][1]), prices] for array in known[1:])
     gaps, orders = known.gaps[places], policies.orders()[places]
     is_new = np.append(True, (np.diff(gaps) != 0) | (np.diff(levels) != 0))
     points = levels - policies.theory.items(gaps)
-    figures = ([float(f"{it:.{DIGITS}g}") for it in row] for row in zip(stock * box, unmet * box, orders))
+    figures = ([float(f"{figure:.{DIGITS}g}") for figure in row] for row in zip(stock * box, unmet * box, orders))
     whole = zip(prices.tolist(), (points * box).tolist(), (levels * box).tolist())
-    return [(variant, *row, *its) for new, row, its in zip(is_new, whole, figures) if new]
+    return [(variant, *row, *more) for new, row, more in zip(is_new, whole, figures) if new]
 
 
 def candidates_batch(batch: Sequence[Item], settings: Settings, prior: Prior) -> list[Candidates | Remark]:

@@ -17,8 +17,8 @@ from typing import NamedTuple
 import numpy as np
 
 from ..errors import Refused, argument
-from .candidates import DEARER_ORDERS, DEARER_STOCK, PRICES, VARIANTS, Candidates, variants_of
-from .hull import Floats, Whole, lower_hull, slopes
+from .candidates import (DEARER_ORDERS, DEARER_STOCK, PRICES, VARIANTS, Candidates, Floats, Whole, lower_hull, slopes,
+                         variants_of)
 
 # A budget that is not used up is filled with steps whose price is at most so many times that of the step too many.
 FILL = 2.0
@@ -76,17 +76,18 @@ class Items:
     def of(cls, answers: Iterable[tuple[str, float, Candidates]]) -> Items:
         """Takes the candidates of items, each with its name and price. They are not kept as they come."""
         names, demand, parts = list[str](), list[float](), []
-        for place, (name, price, its) in enumerate(answers):
-            rows, setup, holding = np.array(its.rows, float), its.setup, its.holding
-            variant, first = rows[:, 0].astype(int), rows[:, 1].astype(int)
-            extra = np.array(variants_of(setup, holding, its.demand)) - (setup, holding)
+        for place, (name, price, candidates) in enumerate(answers):
+            setup, holding, rows = candidates.setup, candidates.holding, np.array(candidates.rows, float)
+            variant, first, point, level = rows[:, :4].astype(int).T
+            stock, unmet, orders = rows[:, 4:].T
+            extra = np.array(variants_of(setup, holding, candidates.demand)) - (setup, holding)
             end = np.where(np.append(variant[1:] != variant[:-1], True), len(PRICES), np.append(first[1:], 0))
-            parts.append((np.full(len(rows), place), variant, first, end, rows[:, 2].astype(int),
-                          rows[:, 3].astype(int), extra[variant, 0], extra[variant, 1] / price, price * rows[:, 4],
-                          price * rows[:, 5], rows[:, 6], setup * rows[:, 6] + holding * rows[:, 4]))
+            parts.append((np.full(len(rows), place), variant, first, end, point, level, extra[variant, 0],
+                          extra[variant, 1] / price, price * stock, price * unmet, orders,
+                          setup * orders + holding * stock))
             names.append(name)
-            demand.append(price * its.demand)
-        return cls(tuple(names), np.array(demand), *(np.concatenate(its) for its in zip(*parts)))
+            demand.append(price * candidates.demand)
+        return cls(tuple(names), np.array(demand), *(np.concatenate(columns) for columns in zip(*parts)))
 
     @property
     def asked(self) -> float:
@@ -128,8 +129,8 @@ class Items:
         known = np.array(variants)
         shares = np.zeros((len(self.names), len(VARIANTS)))
         shares[places, known[above - 1]], shares[places, known[above]] = 1 - share, share
-        found: Floats = shares[self.owner, self.variant]
-        return found
+        counted: Floats = shares[self.owner, self.variant]
+        return counted
 
 
 class Ladder:
@@ -155,10 +156,14 @@ class Ladder:
         chosen[self.owner[:count]] = self.above[:count]
         return chosen
 
+    def _changes(self, figure: Floats) -> Floats:
+        """Returns by how much each step raises a figure."""
+        changes: Floats = figure[self.above] - figure[self.below]
+        return changes
+
     def along(self, figure: Floats) -> Floats:
         """Returns the sum of a figure after 0 steps, 1 step, and so on."""
-        changes = figure[self.above] - figure[self.below]
-        return np.append(0.0, np.cumsum(changes)) + float(figure[self.start].sum())
+        return np.append(0.0, np.cumsum(self._changes(figure))) + float(figure[self.start].sum())
 
     def with_price(self, price: float) -> Whole:
         """Returns the best choice for a price."""
@@ -171,21 +176,10 @@ class Ladder:
         if unmet[-1] > allowed:
             return None
         count = int(np.argmax(unmet <= allowed))
-        return self._without_spare(self.after(count), count, allowed - float(unmet[count]))
-
-    def _without_spare(self, chosen: Whole, count: int, spare: float) -> Whole:
-        """Takes back steps that are not needed, the dearest first, each item's last one first."""
-        stays: set[int] = set()
-        for place in range(count - 1, -1, -1):
-            if self.prices[place] * FILL < self.prices[count - 1]:
-                break
-            owner, below, above = int(self.owner[place]), self.below[place], self.above[place]
-            loss = float(self.items.unmet[below] - self.items.unmet[above])
-            if owner not in stays and loss <= spare:
-                chosen[owner], spare = below, spare - loss
-            else:
-                stays.add(owner)
-        return chosen
+        # Steps that are not needed are taken back, the dearest first, each item's last one first.
+        first = int(np.searchsorted(self.prices * FILL, self.prices[count - 1])) if count else 0
+        return self._changed(self.after(count), range(count - 1, first - 1, -1), self.below,
+                             -self._changes(self.items.unmet), allowed - float(unmet[count]))
 
     def with_value(self, most: float) -> Whole | None:
         """Returns the choice with the best service whose stock is worth no more; None if no choice is."""
@@ -194,48 +188,35 @@ class Ladder:
         if not len(fits):
             return None
         count = int(fits[-1])
-        return self._with_spare(self.after(count), count, allowed - float(value[count]))
+        # Further steps are taken that the budget allows, the cheapest first, each item's next one first.
+        end = int(np.searchsorted(self.prices, FILL * self.prices[count], "right")) if count < len(self.prices) else 0
+        return self._changed(self.after(count), range(count, end), self.above, self._changes(self.items.value),
+                             allowed - float(value[count]))
 
-    def _with_spare(self, chosen: Whole, count: int, spare: float) -> Whole:
-        """Takes further steps that the budget allows, the cheapest first, each item's next one first."""
+    def _changed(self, chosen: Whole, places: Iterable[int], rows: Whole, used: Floats, spare: float) -> Whole:
+        """Returns a choice in which owners of steps get the rows beside these, step by step, each of which uses some of
+        what is to spare. An owner for whom there is too little stays as it is."""
         stays: set[int] = set()
-        for place in range(count, len(self.prices)):
-            if self.prices[place] > FILL * self.prices[count]:
-                break
+        for place in places:
             owner = int(self.owner[place])
-            more = float(self.items.value[self.above[place]] - self.items.value[self.below[place]])
-            if owner not in stays and more <= spare:
-                chosen[owner], spare = self.above[place], spare - more
+            if owner not in stays and used[place] <= spare:
+                chosen[owner], spare = rows[place], spare - used[place]
             else:
                 stays.add(owner)
         return chosen
 
 
-@dataclass(frozen=True)
-class Choice:
-    """A choice of policies: rows of the candidates, one for each item, what they amount to, and a bound.
-
-    `gap`, if it was computed, is the share by which setup and holding are above the bound: no choice with this service
-    (and no more orders, or no more stock, if `dearer` says so) costs less than the bound.
-    """
+class Choice(NamedTuple):
+    """A choice of policies: rows of the candidates, one for each item, what they amount to, and what is dearer."""
 
     rows: Whole
     point: Point
-    gap: float
     dearer: Dearer
 
 
-def judged(items: Items, rows: Whole, dearer: Dearer = AS_IS) -> Choice:
-    """Returns a choice with its bound."""
-    point = items.at(rows)
-    return Choice(rows, point, gap_of(items, point, dearer), dearer)
-
-
 def gap_of(items: Items, point: Point, dearer: Dearer = AS_IS) -> float:
-    """Returns the share by which setup and holding of a point are at most above the best with its service.
-
-    Each extra cost gives a bound of choices with no more orders or stock than the point, so the best bound is taken.
-    """
+    """Returns the share by which setup and holding of a point are at most above the best with its service, and with no
+    more orders or stock, if these are dearer. Each extra cost gives such a bound, so the best bound is taken."""
     parts = [0.0, *(2.0**-np.arange(DOUBLINGS)).tolist()] if dearer != AS_IS else [0.0]
     least = max(items.least_cost(point, Dearer(part * dearer.orders, part * dearer.stock)) for part in parts)
     return max(0.0, point.cost / least - 1) if least > 0 else math.inf
@@ -271,32 +252,31 @@ class Budget:
             raise Refused(f"{argument('stock_value')} and {argument('fill')}: each alone names a point of the curve",
                           "leave one out")
 
-    def choice(self, items: Items, dearer: Dearer) -> Choice | None:
+    def choice(self, items: Items, dearer: Dearer = AS_IS) -> Choice | None:
         """Returns the choice that keeps the stock value or the share; None if none does."""
         ladder = Ladder(items, dearer)
         rows = ladder.with_value(self.value) if self.value is not None else ladder.with_fill(self.fill or 0.0)
-        return None if rows is None else Choice(rows, items.at(rows), math.nan, dearer)
+        return None if rows is None else Choice(rows, items.at(rows), dearer)
 
-    def keeps_orders(self, choice: Choice) -> bool:
-        """Returns whether a choice has no more orders than are allowed."""
-        return self.orders is None or choice.point.orders <= self.orders * (1 + NEAR)
+    def kept(self, choice: Choice | None) -> Choice | None:
+        """Returns a choice that has no more orders than are allowed; None if it has more."""
+        return choice if choice and choice.point.orders <= (self.orders or math.inf) * (1 + NEAR) else None
 
 
 def check_most(ladder: Ladder, budget: Budget) -> None:
-    """Raises Refused for a budget beyond the end of the curve."""
+    """Raises OffCurve for a budget beyond the end of the curve."""
     items = ladder.items
     most, end = float(ladder.along(items.value).max()), 1 - float(ladder.along(items.unmet)[-1]) / items.asked
     if budget.value is not None and budget.value > most * (1 + NEAR):
-        raise OffCurve(argument("stock_value", f"{budget.value:,.10g}"), f"the most stock on the curve is worth "
-                       f"{most:,.2f}",
-                       "name less")
+        raise OffCurve(argument("stock_value", f"{budget.value:,.10g}"),
+                       f"the most stock on the curve is worth {most:,.2f}", "name less")
     if budget.fill is not None and budget.fill > end + NEAR:
         raise OffCurve(argument("fill", f"{budget.fill:g}"), f"the curve ends with {end:.8f} of demand by value",
                        "name less")
 
 
 def chosen_by(items: Items, budget: Budget) -> Choice:
-    """Returns the choice for a budget. Raises Refused if no choice keeps it, and for more than the curve has.
+    """Returns the choice for a budget. Raises OffCurve if no choice keeps it, and for more than the curve has.
 
     If a choice on the curve keeps all of it, that is taken. If the stock value or the share lies below the curve, stock
     is made dearer: there is less of it, with more orders, up to those that are allowed. If orders are too many, they
@@ -305,7 +285,7 @@ def chosen_by(items: Items, budget: Budget) -> Choice:
     ladder = Ladder(items)
     check_most(ladder, budget)
     value, fill = float(ladder.along(items.value).min()), 1 - float(ladder.along(items.unmet)[0]) / items.asked
-    first = budget.choice(items, AS_IS)
+    first = budget.choice(items)
     is_below = first is None or (budget.fill is not None and budget.fill < fill * (1 - NEAR))
     if is_below and budget.orders is None:
         what, least = ("fill", f"begins with {fill:.4f} of demand by value") if first else \
@@ -313,70 +293,54 @@ def chosen_by(items: Items, budget: Budget) -> Choice:
         raise OffCurve(argument(what, f"{budget.fill or budget.value:,.10g}"), f"the curve {least}",
                        f"name more, or allow more orders than it has there, by {argument('orders')}")
     if first is None or is_below:
-        found = _less_stock(items, budget, first)
-    else:
-        found = first if budget.keeps_orders(first) else _fewer_orders(items, budget, first)
-    return judged(items, found.rows, found.dearer)
+        return with_more_orders(items, budget)
+    return budget.kept(first) or with_fewer_orders(items, budget, first)
 
 
 def with_more_orders(items: Items, budget: Budget) -> Choice:
-    """Returns the choice for a budget with dearer stock, so that all orders that are allowed are used.
-
-    Raises Refused if no choice keeps it.
-    """
-    found = _less_stock(items, budget, budget.choice(items, AS_IS))
-    return judged(items, found.rows, found.dearer)
-
-
-def _amounts(extras: Floats) -> list[float]:
-    """Returns extra costs that are doubled up to the greatest of a variant."""
-    return [0.0, *(float(extras.max()) / 2.0**np.arange(DOUBLINGS, -1, -1)).tolist()]
+    """Returns the choice with the greatest extra cost of stock with which there are few enough orders, so that all
+    orders that are allowed are used. Raises OffCurve if no choice keeps the budget."""
+    choice = _border(items.stock_extra, lambda amount: budget.kept(budget.choice(items, Dearer(stock=amount))),
+                     budget.kept(budget.choice(items)), is_least=False)
+    if choice is None:
+        least = "stock of so little value" if budget.value is not None else "this service"
+        raise OffCurve(argument("orders", f"{budget.orders:g}"), f"{least} takes more orders, or is not to be had",
+                       "name more orders or more stock")
+    return choice
 
 
-def _between(low: float, high: float, choice_of: Callable[[float], Choice | None], found: Choice,
-             is_high: bool) -> Choice:
-    """Returns the choice at the border between two extra costs, where all budgets are kept at one of them."""
-    for _ in range(HALVINGS):
-        middle = (low + high) / 2
-        its = choice_of(middle)
-        found = found if its is None else its
-        low, high = (low, middle) if (its is not None) is is_high else (middle, high)
-    return found
-
-
-def _fewer_orders(items: Items, budget: Budget, first: Choice) -> Choice:
-    """Returns the choice with the least extra cost of an order with which there are few enough orders."""
-    fewest, amounts = first.point.orders, _amounts(items.orders_extra)
+def with_fewer_orders(items: Items, budget: Budget, first: Choice) -> Choice:
+    """Returns the choice with the least extra cost of an order with which there are few enough orders; `first` has too
+    many. Raises OffCurve if no choice keeps the budget."""
+    fewest = first.point.orders
 
     def choice_of(amount: float) -> Choice | None:
         """Returns the choice if an order costs so much more; None if it keeps not all budgets."""
         nonlocal fewest
-        its = budget.choice(items, Dearer(orders=amount))
-        fewest = fewest if its is None else min(fewest, its.point.orders)
-        return its if its is not None and budget.keeps_orders(its) else None
-    for low, high in zip(amounts, amounts[1:]):
-        found = choice_of(high)
-        if found is not None:
-            return _between(low, high, choice_of, found, is_high=True)
-    raise OffCurve(argument("orders", f"{budget.orders:g}"), f"with this stock or service there are {fewest:.4g} "
-                   "orders a period or more", "name more")
+        choice = budget.choice(items, Dearer(orders=amount))
+        fewest = min(fewest, choice.point.orders) if choice else fewest
+        return budget.kept(choice)
+    choice = _border(items.orders_extra, choice_of, None, is_least=True)
+    if choice is None:
+        raise OffCurve(argument("orders", f"{budget.orders:g}"), f"with this stock or service there are {fewest:.4g} "
+                       "orders a period or more", "name more")
+    return choice
 
 
-def _less_stock(items: Items, budget: Budget, first: Choice | None) -> Choice:
-    """Returns the choice with the greatest extra cost of stock with which there are few enough orders."""
-    def choice_of(amount: float) -> Choice | None:
-        """Returns the choice if stock costs so much more; None if it keeps not all budgets."""
-        its = budget.choice(items, Dearer(stock=amount))
-        return its if its is not None and budget.keeps_orders(its) else None
-    amounts, found = _amounts(items.stock_extra), first if first and budget.keeps_orders(first) else None
-    last = 0.0
-    for amount in amounts[1:]:
-        its = choice_of(amount)
-        if its is None and found is not None:
-            return _between(last, amount, choice_of, found, is_high=False)
-        last, found = amount, its
-    if found is None:
-        least = "stock of so little value" if budget.value is not None else "this service"
-        raise OffCurve(argument("orders", f"{budget.orders:g}"), f"{least} takes more orders, or is not to be had",
-                       "name more orders or more stock")
-    return found
+def _border(extras: Floats, choice_of: Callable[[float], Choice | None], first: Choice | None,
+            is_least: bool) -> Choice | None:
+    """Returns the choice with the least extra cost, or the greatest, with which a budget is kept; None if there is
+    none. `choice_of` has the choice for an extra cost, `first` is that for none."""
+    low, last = 0.0, first
+    for high in (float(extras.max()) / 2.0**np.arange(DOUBLINGS, -1, -1)).tolist():
+        choice = choice_of(high)
+        best, beyond = (choice, last) if is_least else (last, choice)
+        if best and not beyond:
+            for _ in range(HALVINGS):
+                middle = (low + high) / 2
+                nearer = choice_of(middle)
+                best = nearer or best
+                low, high = (low, middle) if bool(nearer) is is_least else (middle, high)
+            return best
+        low, last = high, choice
+    return None if is_least else last

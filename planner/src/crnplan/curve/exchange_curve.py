@@ -1,27 +1,43 @@
-"""Draws the exchange curve of a planned folder: stock value against the share of demand, by value, met at once."""
+"""Draws the exchange curve of a planned folder: stock value against the share of demand, by value, met at once.
+
+Candidates of items are kept in a file of the folder, each with all that it depends on, as the plan's answers are. For a
+sample of items crnsim counts the stock of the named points beside theory.
+"""
 from __future__ import annotations
 
+import contextlib
+import hashlib
+import itertools
+import json
 import math
-from collections.abc import Iterator, Mapping
-from dataclasses import dataclass
+from collections.abc import Iterable, Iterator, Mapping, Sequence
+from dataclasses import dataclass, replace
 from pathlib import Path
-from typing import TYPE_CHECKING
+from typing import TYPE_CHECKING, NamedTuple
 
-from ..files import own_folder
-from ..plan.answer import CHOSEN, TODAY
-from ..plan.catalogue import planned_folder
+import numpy as np
+
+from ..crnsim.counts import counting
+from ..crnsim.long_run import long_run_of
+from ..errors import Refused
+from ..files import Folder, own_folder
+from ..jobs import Work, workers_of
+from ..plan.answer import CHOSEN, TODAY, Answer
+from ..plan.catalogue import PlannedFolder, planned_folder
+from ..plan.question import Levels, Question
 from ..records.catalogued import CATALOGUE
+from ..remarks import Remark
+from ..scenario import Policy
+from ..stored import Store, digest_of
 from ..table import Cell, DataTable, MONEY, Result, aligned, number, text, whole
 from ..words import advice, sentence
-from .candidates import PRICES
-from .confirming import Confirmed, confirmed
-from .exchange import NEAR, Budget, Choice, Ladder, OffCurve, Point, chosen_by, gap_of, judged, with_more_orders
-from .gathering import Gathered, gather
-from .kept import Point as KeptPoint, keep_curve
+from .candidates import PRICES, VERSION, Candidates, Floats, Whole, candidates_batch
+from .exchange import NEAR, Budget, Choice, Items, Ladder, OffCurve, Point, chosen_by, gap_of, with_more_orders
 
 if TYPE_CHECKING:
     import pandas as pd
 
+CANDIDATES = "curve.sqlite"
 CURVE, POLICIES, LEFT_OUT = "curve.csv", "curve_policies.csv", "curve_left_out.csv"
 FIGURES = (
     number("value", "money", "the value of the mean stock", MONEY),
@@ -42,12 +58,167 @@ ON_CURVE, SAME_STOCK, SAME_SERVICE, BUDGET = "curve", "same stock", "same servic
 # What each point is, for a reader.
 SAID = {TODAY: "today", CHOSEN: "chosen item by item", SAME_STOCK: "today's stock, best service",
         SAME_SERVICE: "today's service, least stock", BUDGET: "your budget"}
+DRAWN = "curve"  # the fact with the points, beside the answers of a plan
+# Codes of remarks on items that are not on the curve.
+NO_PRICE, NO_PLAN = "no price", "not planned"
+# Runs of each item that crnsim counts the stock of, of 1,024 periods each.
+KEYS = 8
+# Stock by runs is as theory says if it differs by no more.
+CLOSE = 0.02
+NOTES = (
+    "Met at once: the share of demand by value. All figures are by theory, rounded and unproved, of the long run under "
+    "the laws fitted to the histories.",
+    "One price for a unit of value that is not met at once chooses the policy of each item, with setup and holding as "
+    "in the masters. Points with more orders or fewer lie beside the curve.",
+    "Above the best: setup and holding are at most so much above the least of all policies that were looked at with "
+    "the same service (and no more orders or stock, where these are bounded too).")
+
+
+@dataclass
+class Gathered:
+    """The candidates of all items with a price and a plan, and what is known of them.
+
+    `points` has today's policies and those chosen item by item, `shown` by item the description and today's s and S.
+    `left_out` has the other items, each with a remark. `new` counts the items whose candidates were computed now.
+    """
+
+    folder: PlannedFolder
+    items: Items
+    points: dict[str, Point]
+    shown: list[tuple[str, int, int]]
+    left_out: list[tuple[str, Remark]]
+    new: int
+
+
+def gather(own: Folder, folder: PlannedFolder, jobs: int | None, address: str | None, shown: bool) -> Gathered:
+    """Computes the candidates of a planned folder that are not kept yet, and returns all. Raises Refused."""
+    left_out, digests = list[tuple[str, Remark]](), dict[str, str]()
+    current, common = folder.store.digests(), folder.planned.common
+    for (name, digest), item in zip(folder.read.digests(common), folder.read.items()):
+        answer = folder.store.answer(name) if current.get(name) == digest else Remark(NO_PLAN)
+        if isinstance(answer, Answer) and item.price and item.price > 0:
+            digests[name] = digest_of(digest, VERSION, item.price)
+        else:
+            left_out.append((name, answer if isinstance(answer, Remark) else Remark(NO_PRICE)))
+    with contextlib.closing(Store(own.store(CANDIDATES), Candidates)) as kept:
+        work = Work(kept, digests)
+        work.finish(candidates_batch, folder.read.item, folder.planned.settings, folder.planned.prior,
+                    workers=workers_of(jobs, address), shown=shown)
+        return gathered(folder, kept, digests, left_out, len(work.left))
+
+
+def gathered(folder: PlannedFolder, kept: Store[Candidates], names: Iterable[str], left_out: list[tuple[str, Remark]],
+             new: int) -> Gathered:
+    """Returns what is kept of some items beside those that are left out. Raises Refused if no item can be on the
+    curve."""
+    # Of today's and of the chosen policies: the value of the stock, the demand that is not met, orders and costs.
+    sums, shown, asked = np.zeros((2, 4)), list[tuple[str, int, int]](), 0.0
+
+    def candidates() -> Iterator[tuple[str, float, Candidates]]:
+        """Yields the candidates as they are added up."""
+        nonlocal asked
+        for name in names:
+            item, answer, its = folder.read.item(name), folder.store.answer(name), kept.answer(name)
+            if isinstance(its, Remark):
+                left_out.append((name, its))
+                continue
+            assert item is not None and item.price is not None and isinstance(answer, Answer)
+            price = float(item.price)
+            demand = price * its.demand
+            asked += demand
+            sums[...] += [(price * theory.stock, demand * (1 - theory.fill), theory.orders,
+                           its.setup * theory.orders + its.holding * theory.stock)
+                          for theory in (answer.today, answer.chosen)]
+            shown.append((item.description, *item.levels))
+            yield name, price, its
+    first = next(rest := candidates(), None)
+    if first is None:
+        why, what = "no item is in the plan", ""
+        if left_out:
+            name, remark = left_out[0]
+            why, what = f"{len(left_out):,} items are left out; the first, {name}: {sentence(remark)}", advice(remark)
+        raise Refused(f"{folder.path}: no item can be on the curve: {why}", what)
+    items = Items.of(itertools.chain([first], rest))
+    points = {policy: Point(value, 1 - unmet / asked, orders, cost)
+              for policy, (value, unmet, orders, cost) in zip((TODAY, CHOSEN), sums.tolist())}
+    return Gathered(folder, items, points, shown, sorted(left_out, key=lambda pair: pair[0]), new)
+
+
+class Confirmation(NamedTuple):
+    """The value of the mean stock of some items: by theory, and by crnsim with its standard error."""
+
+    theory: float
+    runs: float
+    error: float
+
+    @property
+    def share(self) -> float:
+        """Returns the difference of the runs from theory, as a share of it; 0 if there is no stock."""
+        return self.runs / self.theory - 1 if self.theory else 0.0
+
+
+@dataclass(frozen=True)
+class Confirmed:
+    """What crnsim counts for each named point, for so many of all items that are on the curve."""
+
+    points: Mapping[str, Confirmation]
+    sample: int
+    items: int
+
+    def lines(self, said: Mapping[str, str]) -> list[str]:
+        """Returns a line on each point. `said` says what it is for a reader."""
+        wide = max(map(len, said.values()))
+        lines = [f"crnsim: the stock of {self.sample:,} of {self.items:,} items, taken at random, is worth"]
+        lines += [f"{said[name].ljust(wide)}  {stock.runs:,.2f} by runs (standard error {stock.error:,.2f}), "
+                  f"{stock.theory:,.2f} by theory ({stock.share:+.2%})" for name, stock in self.points.items()]
+        far = [said[name] for name, stock in self.points.items() if abs(stock.share) > CLOSE]
+        return [*lines, f"More than {CLOSE:.0%} apart, so look at these items: {', '.join(far)}."] if far else lines
+
+
+def sample_of(names: Sequence[str], seed: str, count: int) -> list[int]:
+    """Returns the places of so many names, chosen by a digest of the seed and the name: the same in each run."""
+    order = sorted(range(len(names)),
+                   key=lambda place: hashlib.sha256(f"{seed}\nconfirm\n{names[place]}".encode()).digest())
+    return sorted(order[:count])
+
+
+def stocks_by_run(question: Question, asked: Iterable[Levels], program: str | Path | None) -> dict[Levels, Floats]:
+    """Returns the mean stock of each policy, whose levels are in items, in each run. All meet the same demands; each
+    run starts from a state of its own. Raises ProgramError."""
+    box, levels = question.item.box, list(dict.fromkeys(asked))
+    policies = [Policy(f"policy{number}", round(point / box), round(level / box))
+                for number, (point, level) in enumerate(levels)]
+    report = long_run_of(counting(question.scenario(0).with_policies(policies), "holding"), KEYS, program)
+    return dict(zip(levels, np.array(report.costs, float).T * box / report.periods))
+
+
+def confirmed(its: Gathered, choices: Mapping[str, Choice], count: int, program: str | Path | None) -> Confirmed:
+    """Counts the mean stock of a sample of items in the long run: today's, the chosen, and that of each choice.
+
+    Raises Refused and ProgramError.
+    """
+    items, sample = its.items, sample_of(its.items.names, its.folder.settings.seed, count)
+    sums = {name: np.zeros(3) for name in (*its.points, *choices)}  # by theory, by runs, and the variance of these
+    for place in sample:
+        item, answer = its.folder.item(items.names[place])
+        price = float(item.price or 0)
+        stocks = {name: (figures.levels, price * figures.stock)
+                  for name, figures in ((TODAY, answer.today), (CHOSEN, answer.chosen))}
+        for name, choice in choices.items():
+            row = choice.rows[place]
+            stocks[name] = (int(items.point[row]), int(items.level[row])), float(items.value[row])
+        counted = stocks_by_run(its.folder.question(item), (levels for levels, _ in stocks.values()), program)
+        for name, (levels, value) in stocks.items():
+            runs = price * counted[levels]
+            sums[name] += value, runs.mean(), runs.var(ddof=1) / KEYS
+    points = {name: Confirmation(theory, runs, math.sqrt(variance)) for name, (theory, runs, variance) in sums.items()}
+    return Confirmed(points, len(sample), len(items.names))
 
 
 @dataclass(frozen=True)
 class Drawn(Result):
     """The curve: its points by price, the points that have a name with their gaps, what each is for a reader, and why
-    others are missing. `written` is the choice whose policies are written."""
+    others are missing. `written` names the point whose policies are written: `rows` of the candidates."""
 
     gathered: Gathered
     curve: list[tuple[float, Point]]
@@ -55,7 +226,7 @@ class Drawn(Result):
     said: dict[str, str]
     missing: dict[str, str]
     written: str
-    choice: Choice
+    rows: Whole
     confirmed: Confirmed | None
 
     @property
@@ -92,7 +263,7 @@ class Drawn(Result):
         rows: Iterator[list[Cell]] = (
             [items.names[place], *self.gathered.shown[place], int(items.point[row]), int(items.level[row]),
              float(items.value[row]), 1 - float(items.unmet[row]) / float(items.demand[place]),
-             float(items.orders[row]), float(items.cost[row])] for place, row in enumerate(self.choice.rows.tolist()))
+             float(items.orders[row]), float(items.cost[row])] for place, row in enumerate(self.rows.tolist()))
         return DataTable(POLICY_COLUMNS, rows, self.gathered.folder.decimals, "")
 
     @property
@@ -105,79 +276,62 @@ class Drawn(Result):
 def points_of(its: Gathered, budget: Budget) -> tuple[dict[str, Choice], dict[str, str]]:
     """Returns the choices that have a name, and of others why there are none. Raises Refused for a budget that no
     choice keeps."""
-    today, found, missing = its.points[TODAY], {}, {}
-    for name, asked in ((SAME_STOCK, {"value": today.value}), (SAME_SERVICE, {"fill": today.fill})):
+    today, choices, missing = its.points[TODAY], dict[str, Choice](), dict[str, str]()
+    for name, asked in ((SAME_STOCK, Budget(value=today.value)), (SAME_SERVICE, Budget(fill=today.fill))):
         try:
-            found[name] = _as_today(its, asked)
+            choices[name] = _as_today(its.items, today, asked)
         except OffCurve as off:
             missing[name] = off.why
-    if budget == Budget(orders=budget.orders) and budget.orders is not None:
+    if budget.orders is not None and budget.value is budget.fill is None:
         budget = Budget(fill=today.fill, orders=budget.orders)
     if budget != Budget():
-        found[BUDGET] = chosen_by(its.items, budget)
-    return found, missing
+        choices[BUDGET] = chosen_by(its.items, budget)
+    return choices, missing
 
 
-def _as_today(its: Gathered, asked: Mapping[str, float]) -> Choice:
+def _as_today(items: Items, today: Point, asked: Budget) -> Choice:
     """Returns the choice with today's stock or service.
 
     With many small orders today may be better than the curve, which has fewer; or the curve begins above it. Then the
     choice has more orders, at most today's.
     """
-    today = its.points[TODAY]
     try:
-        choice = chosen_by(its.items, Budget(**asked))
+        choice = chosen_by(items, asked)
     except OffCurve:
-        return with_more_orders(its.items, Budget(**asked, orders=today.orders))
-    if choice.point.fill >= today.fill * (1 - NEAR) and choice.point.value <= today.value * (1 + NEAR):
+        choice = None
+    if choice and choice.point.fill >= today.fill * (1 - NEAR) and choice.point.value <= today.value * (1 + NEAR):
         return choice
     try:
-        return with_more_orders(its.items, Budget(**asked, orders=today.orders))
+        return with_more_orders(items, replace(asked, orders=today.orders))
     except OffCurve:
+        if choice is None:
+            raise
         return choice
 
 
-def curve_points(its: Gathered) -> list[tuple[float, Point]]:
+def curve_points(items: Items) -> list[tuple[float, Point]]:
     """Returns the points of the curve: for each price of the grid at which some item's policy changes."""
-    ladder, found = Ladder(its.items), list[tuple[float, Point]]()
+    ladder, points = Ladder(items), list[tuple[float, Point]]()
     for price in PRICES.tolist():
-        point = its.items.at(ladder.with_price(price))
-        if not found or point != found[-1][1]:
-            found.append((price, point))
-    return found
+        point = items.at(ladder.with_price(price))
+        if not points or point != points[-1][1]:
+            points.append((price, point))
+    return points
 
 
-def draw_curve(folder: Path, budget: Budget, *, jobs: int | None = None, address: str | None = None,
-               program: str | Path | None = None, confirm: int = 0, shown: bool = False) -> Drawn:
-    """Computes the curve of a planned folder, and writes its tables there. Raises Refused and ProgramError."""
-    with planned_folder(folder) as planned, own_folder(folder, CATALOGUE, (CURVE, POLICIES, LEFT_OUT)) as own:
-        its = gather(own, planned, jobs, address, shown)
-        drawn = _drawn(its, budget, confirm, program)
-        for name, table in ((CURVE, drawn.table), (POLICIES, drawn.policy_table), (LEFT_OUT, drawn.left_out)):
-            with own.whole(name) as file:
-                file.writelines(table.lines)
-        named = [*((said, point) for said, point in drawn.named.items()), *(("", point) for _, point in drawn.curve)]
-        keep_curve(planned.store, (KeptPoint(name=name, value=point.value, fill=point.fill, orders=point.orders,
-                                             cost=point.cost) for name, point in named))
-    return drawn
-
-
-def _drawn(its: Gathered, budget: Budget, confirm: int, program: str | Path | None) -> Drawn:
+def draw(its: Gathered, budget: Budget, confirm: int, program: str | Path | None) -> Drawn:
     """Returns the curve with its points, and perhaps what crnsim counts."""
-    found, missing = points_of(its, budget)
+    choices, missing = points_of(its, budget)
     points = {name: (point, gap_of(its.items, point)) for name, point in its.points.items()}
-    points |= {name: (choice.point, choice.gap) for name, choice in found.items()}
-    written = next((name for name in (BUDGET, SAME_SERVICE, SAME_STOCK) if name in found), ON_CURVE)
+    points |= {name: (choice.point, gap_of(its.items, choice.point, choice.dearer)) for name, choice in choices.items()}
+    written = next((name for name in (BUDGET, SAME_SERVICE, SAME_STOCK) if name in choices), ON_CURVE)
     # If neither of today's figures is on the curve, the policies are those of its beginning.
-    choice = found[written] if found else judged(its.items, Ladder(its.items).with_price(float(PRICES[0])))
-    sample = confirmed(its, found, confirm, program) if confirm else None
-    said = {name: SAID[name] + (how_of(found[name]) if name in found else "") for name in points}
-    return Drawn(its, curve_points(its), points, said, missing, written, choice, sample)
-
-
-def how_of(choice: Choice) -> str:
-    """Returns how a choice differs from the curve, for a reader."""
-    return " (more orders)" if choice.dearer.stock else " (fewer orders)" if choice.dearer.orders else ""
+    rows = Ladder(its.items).with_price(float(PRICES[0])) if not choices else choices[written].rows
+    sample = confirmed(its, choices, confirm, program) if confirm else None
+    said = {name: SAID[name] for name in points}
+    for name, choice in choices.items():
+        said[name] += " (more orders)" * bool(choice.dearer.stock) + " (fewer orders)" * bool(choice.dearer.orders)
+    return Drawn(its, curve_points(its.items), points, said, missing, written, rows, sample)
 
 
 def gap_text(gap: float) -> str:
@@ -189,29 +343,40 @@ def curve_text(drawn: Drawn) -> str:
     """Returns the curve for a reader: the named points as a table, and what they mean."""
     its, left = drawn.gathered, drawn.gathered.left_out
     money, every = min(its.folder.decimals, 2), its.folder.every
-    rows = [["", "stock value", "met at once", f"orders a {every}", f"setup and holding a {every}",
-             "above the best"]]
+    rows = [["", "stock value", "met at once", f"orders a {every}", f"setup and holding a {every}", "above the best"]]
     for name, (point, gap) in drawn.points.items():
         rows.append([drawn.said[name], f"{point.value:,.{money}f}", f"{point.fill:.2%}", f"{point.orders:,.4g}",
                      f"{point.cost:,.{money}f}", gap_text(gap)])
-    lines = [f"{len(its.items.names):,} items are on the curve" + (
-        f"; {len(left):,} are left out, as {left[0][0]}: {sentence(left[0][1])} ({LEFT_OUT} names all)" if left
-        else ""),
-             "", aligned(rows), *(f"{SAID[name]}: there is no such point: {why}" for name,
-                                  why in drawn.missing.items()), *NOTES]
+    lines = [f"{len(its.items.names):,} items are on the curve"]
+    if left:
+        lines[0] += (f"; {len(left):,} are left out, as {left[0][0]}: {sentence(left[0][1])} ({LEFT_OUT} names all)")
+    lines += ["", aligned(rows)]
+    lines += [f"{SAID[name]}: there is no such point: {why}" for name, why in drawn.missing.items()]
     policies = SAID.get(drawn.written, "the least stock")
-    lines.append(f'{CURVE} has the curve; {POLICIES} has the policies of "{policies}", in {its.folder.path}.')
+    lines += [*NOTES, f'{CURVE} has the curve; {POLICIES} has the policies of "{policies}", in {its.folder.path}.']
     lines += ["", *drawn.confirmed.lines(drawn.said)] if drawn.confirmed else []
     return "\n".join(lines) + "\n"
 
 
-NOTES = (
-    "Met at once: the share of demand by value. All figures are by theory, rounded and unproved, of the long run under "
-    "the laws fitted to the histories.",
-    "One price for a unit of value that is not met at once chooses the policy of each item, with setup and holding as "
-    "in the masters. Points with more orders or fewer lie beside the curve.",
-    "Above the best: setup and holding are at most so much above the least of all policies that were looked at with "
-    "the same service (and no more orders or stock, where these are bounded too).")
+def plan_digest(answers: Store[Answer]) -> str:
+    """Returns the digest of what all answers depend on: a curve is of these answers alone."""
+    return digest_of(*sorted(answers.digests().items()))
+
+
+def keep_curve(answers: Store[Answer], points: Iterable[tuple[str, Point]]) -> None:
+    """Keeps the points of the curve of these answers for its page, the named ones first. Each has what it is for a
+    reader: nothing on the line itself."""
+    answers.keep_facts({DRAWN: json.dumps({"plan": plan_digest(answers), "points": [*points]})})
+
+
+def kept_curve(answers: Store[Answer]) -> list[tuple[str, Point]] | None:
+    """Returns the points of the curve that is kept beside answers: none if they are of an earlier plan, None if there
+    is no curve."""
+    text = answers.fact(DRAWN)
+    if text is None:
+        return None
+    tree = json.loads(text)
+    return [(name, Point(*point)) for name, point in tree["points"]] if tree["plan"] == plan_digest(answers) else []
 
 
 def exchange_curve(folder: str | Path, *, stock_value: float | None = None, fill: float | None = None,
@@ -236,5 +401,11 @@ def exchange_curve(folder: str | Path, *, stock_value: float | None = None, fill
     Raises Refused for a folder without a plan and a budget that no policies keep, and ProgramError.
     Source: Silver, Pyke and Thomas, Inventory and Production Management in Supply Chains, 2017, exchange curves.
     """
-    return draw_curve(Path(folder), Budget(stock_value, fill, orders), jobs=jobs, address=cluster, program=program,
-                      confirm=confirm, shown=progress)
+    budget, path = Budget(stock_value, fill, orders), Path(folder)
+    with planned_folder(path) as planned, own_folder(path, CATALOGUE, (CURVE, POLICIES, LEFT_OUT)) as own:
+        drawn = draw(gather(own, planned, jobs, cluster, progress), budget, confirm, program)
+        for name, table in ((CURVE, drawn.table), (POLICIES, drawn.policy_table), (LEFT_OUT, drawn.left_out)):
+            with own.whole(name) as file:
+                file.writelines(table.lines)
+        keep_curve(planned.store, [*drawn.named.items(), *(("", point) for _, point in drawn.curve)])
+    return drawn

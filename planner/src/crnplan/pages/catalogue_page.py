@@ -7,7 +7,7 @@ from collections.abc import Mapping, Sequence
 from dataclasses import dataclass
 from itertools import groupby
 
-from ..curve.kept import Point
+from ..curve.exchange import Point
 from ..plan.answer import CHEAPER, CHOSEN, DEARER, SAME, SERVICE, TODAY, UNDECIDED, Answer
 from ..plan.question import Settings
 from ..plan.catalogue import Totals
@@ -94,7 +94,7 @@ class Contents:
     totals: Totals
     rows: Sequence[Shown]
     reasons: Sequence[Reason]
-    curve: Sequence[Point]
+    curve: Sequence[tuple[str, Point]]
     no_curve: str
     pages: Mapping[str, str]
     lost: Sequence[str]
@@ -204,16 +204,17 @@ def clipped(points: Sequence[tuple[float, float]], right: float, bottom: float) 
 
 def exchange_plot(its: Contents) -> dict[str, object]:
     """Returns the exchange curve as a line, and its named points."""
-    named = [it for it in its.curve if it["name"]]
-    unit, unit_name = unit_of(max(it["value"] for it in named))
-    right = ROOM * max(it["value"] for it in named) / unit
-    bottom = max(0.0, 100 * min(it["fill"] for it in named) - BELOW)
+    named = [(name, point) for name, point in its.curve if name]
+    most = max(point.value for _, point in named)
+    unit, unit_name = unit_of(most)
+    right, bottom = ROOM * most / unit, max(0.0, 100 * min(point.fill for _, point in named) - BELOW)
     across, up = Scale.of([right or 1.0]), Scale.between(bottom, 100.0)
-    line = clipped([(it["value"] / unit, 100 * it["fill"]) for it in its.curve if not it["name"]], across.high, bottom)
-    points = [{"name": it["name"], "css": f"point-{place}", "form": FORMS[place],
-               "x": round(across.at(it["value"] / unit) / 10, 2), "y": round(100 - up.at(100 * it["fill"]) / 10, 2),
-               "value": its.money(it["value"]), "fill": percent(it["fill"], 2), "orders": f"{it['orders']:,.4g}",
-               "cost": its.money(it["cost"])} for place, it in enumerate(named)]
+    line = clipped([(point.value / unit, 100 * point.fill) for name, point in its.curve if not name], across.high,
+                   bottom)
+    points = [{"name": name, "css": f"point-{place}", "form": FORMS[place],
+               "x": round(across.at(point.value / unit) / 10, 2), "y": round(100 - up.at(100 * point.fill) / 10, 2),
+               "value": its.money(point.value), "fill": percent(point.fill, 2), "orders": f"{point.orders:,.4g}",
+               "cost": its.money(point.cost)} for place, (name, point) in enumerate(named)]
     said = "; ".join(f"{it['name']}: {it['fill']} met at once with a stock of {it['value']}" for it in points)
     path = "L".join(f"{across.at(x):g} {UNITS - up.at(y):g}" for x, y in line)
     return {"path": f"M{path}" if line else "", "scale": up, "marks": across.marks, "points": points,

@@ -8,7 +8,7 @@ from typing import TYPE_CHECKING
 from urllib.parse import quote
 
 from ..crnsim.program import find_program
-from ..curve.kept import kept_curve
+from ..curve.exchange_curve import kept_curve
 from ..files import Folder, own_folder
 from ..plan.depth import Depth
 from ..plan.catalogue import PlannedFolder, Totals, planned_folder
@@ -63,7 +63,7 @@ def contents_of(its: PlannedFolder, totals: Totals) -> Contents:
     kept.sort(key=lambda pair: (-pair[1].saving, pair[0].name))
     table = DataTable(DECISION_COLUMNS, [decision_row(*pair) for pair in kept], its.decimals, "")
     rows = [Shown(item, answer, cells) for (item, answer), cells in zip(kept, table.cells(is_shown=True))]
-    curve = kept_curve(its)
+    curve = kept_curve(its.store)
     lost = missing_of(its.counts, totals.planned + totals.faults)
     return Contents(
         its.every, its.decimals, its.settings, its.counts["files"], its.counts["items"]["named"], totals, rows,

@@ -27,6 +27,11 @@ class Figures:
     stock: float
     orders: float
 
+    @property
+    def levels(self) -> tuple[int, int]:
+        """Returns s and S in items."""
+        return self.point, self.level
+
 
 @dataclass(frozen=True)
 class LawFacts:
