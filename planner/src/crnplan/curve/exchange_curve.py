@@ -366,7 +366,8 @@ def plan_digest(answers: Store[Answer]) -> str:
 def keep_curve(answers: Store[Answer], points: Iterable[tuple[str, Point]]) -> None:
     """Keeps the points of the curve of these answers for its page, the named ones first. Each has what it is for a
     reader: nothing on the line itself."""
-    answers.keep_facts({DRAWN: json.dumps({"plan": plan_digest(answers), "points": [*points]})})
+    rows = [{"name": name, **point._asdict()} for name, point in points]
+    answers.keep_facts({DRAWN: json.dumps({"plan": plan_digest(answers), "points": rows})})
 
 
 def kept_curve(answers: Store[Answer]) -> list[tuple[str, Point]] | None:
@@ -376,7 +377,8 @@ def kept_curve(answers: Store[Answer]) -> list[tuple[str, Point]] | None:
     if text is None:
         return None
     tree = json.loads(text)
-    return [(name, Point(*point)) for name, point in tree["points"]] if tree["plan"] == plan_digest(answers) else []
+    rows = tree["points"] if tree["plan"] == plan_digest(answers) else []
+    return [(row.pop("name"), Point(**row)) for row in rows]
 
 
 def exchange_curve(folder: str | Path, *, stock_value: float | None = None, fill: float | None = None,

@@ -24,10 +24,9 @@ from ..records.items import KEEP, LEAVE_OUT
 from ..records.masters import BORROW
 from ..records.texts import DELIMITERS
 from ..records.units import unit_fault
-from ..toml.rules import read_tables
-from ..toml.rules import Key, MISSING, Table
+from ..toml.rules import (MISSING, RANGE, Key, Table, choice, date, flag, money, number, numbers, read_tables, share,
+                          text, texts)
 from ..toml.documents import Path as Place, TreeFault
-from ..toml.rules import choice, date, flag, money, number, numbers, RANGE, share, text, texts
 from ..toml.texts import shown
 
 TEXT, NO, DATE = Key(text), Key(flag, default=False), Key(date)
