@@ -14,7 +14,7 @@ from functools import cached_property
 from ..crnsim.report import report_of
 from ..crnsim.trajectory import Period, trajectories
 from ..decide.doubt import WITHIN, Doubt
-from ..decide.intervals import Compared as ComparedRow, Estimate, with_intervals
+from ..decide.intervals import Compared as ComparedRow, Estimate, verdict_of, with_intervals
 from ..demand.fitted import FittedLaw
 from ..demand.posterior import AllowedLaws
 from ..errors import Refused
@@ -33,7 +33,6 @@ from .question import Levels, Question
 
 MOST_PERIODS = 104  # of a trajectory
 Ends = tuple[float, float] | None
-VERDICTS = {True: "worse", False: "better"}
 
 
 @dataclass(frozen=True)
@@ -84,8 +83,8 @@ class Depth:
         """Returns s and S of the answer's policies in boxes."""
         item, today = self.question.item, self.question.levels
         figures = {TODAY: self.answer.today, CHOSEN: self.answer.chosen, ALONE: self.answer.alone}
-        return {name: today if (its.point, its.level) == item.levels else (its.point // item.box, its.level // item.box)
-                for name, its in figures.items() if its is not None}
+        return {name: today if policy.levels == item.levels else (policy.point // item.box, policy.level // item.box)
+                for name, policy in figures.items() if policy is not None}
 
     @property
     def chosen(self) -> str:
@@ -106,30 +105,28 @@ class Depth:
     def suggested(self) -> Chosen:
         """Returns further policies with the reasons for each: those that keep fill rates, by the law of the item and
         under most of the allowed ones, and with a backlog cost the neighbours of the best."""
-        scenario, levels = self.question.scenario(), self.levels[CHOSEN]
-        gap = self.theory.gap_of(*levels)
-        promises = Promises(FillLevels(scenario, self.theory, gap, *self.allowed, [*FILLS.values()]), self.theory,
-                            self.confidence)
+        scenario, levels, theory = self.question.scenario(), self.levels[CHOSEN], self.theory
+        fills = FillLevels(scenario, theory, theory.gap_of(*levels), *self.allowed, [*FILLS.values()])
+        promises = Promises(fills, theory, self.confidence)
         if self.question.has_backlog and self.question.item.fill is None:
-            best = Candidate(self.theory.figures(*levels).cost, *levels)
-            return chosen_policies(scenario, self.theory, best, promises)
-        found = Chosen(scenario)
-        add_fills(found, self.theory, promises)
-        return found
+            best = Candidate(theory.figures(*levels).cost, *levels)
+            return chosen_policies(scenario, theory, best, promises)
+        chosen = Chosen(scenario)
+        add_fills(chosen, theory, promises)
+        return chosen
 
     @cached_property
     def policies(self) -> dict[Policy, tuple[str, ...]]:
         """Returns today's policy, the chosen one, that of the item alone, and further ones, each in boxes with the
         reasons for it."""
-        named: dict[Levels, str] = {}
+        names, reasons = dict[Levels, str](), dict[Levels, tuple[str, ...]]()
         for name, levels in self.levels.items():
-            named.setdefault(levels, name)
-        reasons = {(it.s, it.S): (it.name, tuple(self.suggested.reasons[its]))
-                   for its, it in self.suggested.policies.items()}
-        for levels, (name, _) in reasons.items():
-            named.setdefault(levels, name)
-        found = ((Policy(name, *levels), reasons.get(levels, ("", ()))[1]) for levels, name in named.items())
-        return dict([*found][:POLICIES[1]])
+            names.setdefault(levels, name)
+        for behaviour, policy in self.suggested.policies.items():
+            names.setdefault((policy.s, policy.S), policy.name)
+            reasons[policy.s, policy.S] = tuple(self.suggested.reasons[behaviour])
+        shown = [*names.items()][:POLICIES[1]]
+        return {Policy(name, *levels): reasons.get(levels, ()) for levels, name in shown}
 
     @cached_property
     def sample(self) -> Sample:
@@ -160,38 +157,34 @@ class Depth:
 
     def compared(self) -> list[Compared]:
         """Returns all policies, the cheapest first."""
-        settings, is_exact, found = self.question.settings, self.answer.source == THEORY, list[Compared]()
-        for (policy, reasons), sampled in zip(self.policies.items(), map(self._sampled, self.sample.policies)):
-            figures, run = figures_of(self.question, self.theory, (policy.s, policy.S)), sampled
-            ends = None if policy.name == TODAY else interval(run, settings.level, settings.replications)
-            own = None
-            if run.own_error is not None:
-                half = quantile(1 - settings.level, settings.replications) * run.own_error
-                own = run.cost - half, run.cost + half
-            cost = figures.cost if is_exact else run.cost
-            difference = figures.cost - self.answer.today.cost if is_exact else run.difference
-            verdict = "base" if policy.name == TODAY else verdict_of(difference, is_exact, ends)
-            found.append(Compared(policy.name, figures, cost, difference, run, own, ends, verdict, reasons))
-        return sorted(found, key=lambda it: it.difference)
+        settings, is_exact, rows = self.question.settings, self.answer.source == THEORY, list[Compared]()
+        half = quantile(1 - settings.level, settings.replications)
+        for (policy, reasons), run in zip(self.policies.items(), map(self._sampled, self.sample.policies)):
+            figures, is_base = figures_of(self.question, self.theory, (policy.s, policy.S)), policy.name == TODAY
+            ends = None if is_base else interval(run, settings.level, settings.replications)
+            own = None if run.own_error is None else (run.cost - half * run.own_error, run.cost + half * run.own_error)
+            cost, difference = run.cost, run.difference
+            if is_exact:
+                cost, difference = figures.cost, figures.cost - self.answer.today.cost
+            known = (difference, difference) if is_exact else ends or (None, None)
+            verdict = "base" if is_base else verdict_of(*known)
+            rows.append(Compared(policy.name, figures, cost, difference, run, own, ends, verdict, reasons))
+        return sorted(rows, key=lambda row: row.difference)
 
     def doubt(self) -> Doubt | None:
         """Returns what the policies cost, and how well they fill, under the laws that the item's history allows, and
         what it has learned. None if no such law has a long run. Without a backlog cost only fill rates mean something.
         """
-        (demands, leads), scenario = self.allowed, self._costed()
+        (demands, leads), scenario, policies = self.allowed, self.scenario, tuple(self.policies)
         laws: list[tuple[Law, Law]] = [*zip(demands, leads or [scenario.lead] * len(demands))]
-        policies = tuple(self.policies)
+        # Without a backlog cost it is that by which a newsvendor would meet the wanted share.
+        costs = dataclasses.replace(scenario.costs, backlog=self.question.implied_backlog)
+        scenario = dataclasses.replace(scenario, costs=costs)
         try:
             figures = figures_of_laws(scenario, laws, policies)
         except NoTheory:
             return None
         return Doubt(scenario, policies, WITHIN, AllowedLaws({}, demands), None, figures)
-
-    def _costed(self) -> Scenario:
-        """Returns the scenario; without a backlog cost, with the one by which a newsvendor would meet the wanted share.
-        """
-        costs = dataclasses.replace(self.scenario.costs, backlog=self.question.implied_backlog)
-        return dataclasses.replace(self.scenario, costs=costs)
 
     def moves(self) -> Moves:
         """Returns how the best policy moves, and what it costs to keep the chosen one, in money."""
@@ -204,34 +197,33 @@ class Depth:
         asked, box = self._asked(case), self.question.item.box
         theory = asked.theory()
         best = choice_of(theory, asked).levels
-        found = (TheoryFigures(its.cost, its.fill, its.short, its.stock, its.orders)
-                 for its in (figures_of(asked, theory, levels) for levels in (best, kept)))
-        return Found((best[0] * box, best[1] * box), *found)
+        figures = (TheoryFigures(policy.cost, policy.fill, policy.short, policy.stock, policy.orders)
+                   for policy in (figures_of(asked, theory, levels) for levels in (best, kept)))
+        return Found((best[0] * box, best[1] * box), *figures)
 
     def _asked(self, case: Case) -> Question:
         """Returns the question of a case."""
-        its, costs = self.question, dataclasses.asdict(case.scenario.costs)
+        question, costs = self.question, dataclasses.asdict(case.scenario.costs)
         demand, lead = case.scenario.demand, case.scenario.lead
         return dataclasses.replace(
-            its, item=dataclasses.replace(its.item, fill=None if case.fill is None else Fraction(case.fill)),
-            settings=dataclasses.replace(its.settings, confidence=None),
-            rates={name: costs[name] for name in its.rates},
-            demand=dataclasses.replace(its.demand, values=demand.values, weights=demand.weights),
-            lead=dataclasses.replace(its.lead, values=lead.values, weights=lead.weights))
+            question, item=dataclasses.replace(question.item, fill=None if case.fill is None else Fraction(case.fill)),
+            settings=dataclasses.replace(question.settings, confidence=None),
+            rates={name: costs[name] for name in question.rates},
+            demand=dataclasses.replace(question.demand, values=demand.values, weights=demand.weights),
+            lead=dataclasses.replace(question.lead, values=lead.values, weights=lead.weights))
 
     def _stock(self) -> int:
         """Returns today's stock in boxes; the initial stock of the run if that is not known."""
-        stock = self.question.item.stock
-        return self.answer.run.initial if stock is None else min(max(round(stock / self.question.item.box), 0),
-                                                                 MOST_ITEMS)
+        item = self.question.item
+        return self.answer.run.initial if item.stock is None else min(max(round(item.stock / item.box), 0), MOST_ITEMS)
 
     def trajectory(self) -> Mapping[str, list[Period]]:
         """Returns today's and the chosen policy period by period, in boxes: replication 0 of the run, from today's
         stock if that is known."""
-        shown = [it for it in self.policies if it.name in (TODAY, self.chosen)]
+        shown = [policy for policy in self.policies if policy.name in (TODAY, self.chosen)]
         periods = min(self.question.settings.periods, MOST_PERIODS)
         scenario = dataclasses.replace(self.scenario.with_policies(shown), initial=self._stock())
-        return dict(zip((it.name for it in shown), trajectories(scenario, periods, program=self.program)))
+        return dict(zip((policy.name for policy in shown), trajectories(scenario, periods, program=self.program)))
 
     def coming(self, periods: int, replications: int) -> Coming:
         """Returns the policies over so many coming periods from today's stock, in as many replications. The cost of an
@@ -241,9 +233,3 @@ class Depth:
                                        costs=costs)
         rows = report_of(scenario, self.program).rows
         return Coming(scenario, tuple(with_intervals(rows, replications, self.question.settings.level)))
-
-
-def verdict_of(difference: float, is_exact: bool, ends: Ends) -> str:
-    """Returns the verdict on a policy by its difference from today's: exactly, or by its interval."""
-    low, high = (difference, difference) if is_exact else ends or (0.0, 0.0)
-    return "undecided" if low <= 0 <= high else VERDICTS[low > 0]
