@@ -215,7 +215,7 @@ def item_rows(name: str, item: Item, program: str) -> Figures:
 
 def item_figures(plan: ItemPlan) -> Figures:
     """Returns the figures of an item's plan, in the program's units as its scenario has them."""
-    depth, scale = plan.depth, float(plan.question.scale)
+    depth, scale = plan.depth, float(plan.depth.question.scale)
     scenario, doubt, names = depth.scenario, depth.doubt(), {CHOSEN: "best"}
     law = {name: {"mean": float(its.mean), "largest": its.values[-1], "values": len(its.values)}
            for name, its in (("demand", scenario.demand), ("lead", scenario.lead))}

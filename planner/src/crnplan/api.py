@@ -14,7 +14,7 @@ from .crnsim.program import find_program
 from .errors import Refused, argument
 from .files import Folder, own_folder
 from .pages.catalogue_summary import catalogue_summary
-from .pages.exports import CATALOGUE_FILES, report, write_item
+from .pages.exports import CATALOGUE_FILES, report
 from .pages.item_page import ItemPage
 from .pages.item_summary import item_summary
 from .pages.item_tables import doubt_of, moves_of, policies_of
@@ -22,7 +22,7 @@ from .pages.item_words import ItemWords, decimals_of
 from .pages.reasons import rejects_of
 from .plan.catalogue import Done, Lost, Totals, plan_into, planned_folder
 from .plan.depth import Depth
-from .plan.item import KIND, planned, read_item
+from .plan.item import plan_item as plan_one_item
 from .plan.question import Settings
 from .records.catalogue_reading import Catalogue, Words, read_into
 from .records.catalogued import CATALOGUE, READ
@@ -264,9 +264,6 @@ def plan_item(history: str | Path, settings: str | Path, *, out: str | Path | No
     `history` is a CSV file, `settings` a TOML file. With `out`, all tables and the page are written into that folder.
     Raises RefusedFaults with all faults of the settings or of the history, Refused and ProgramError.
     """
-    facts = read_item(history, settings)
-    found = planned(facts, program)
-    if out is not None:
-        with own_folder(Path(out), KIND) as folder:
-            write_item(folder, found, lambda name: None)
-    return PlannedItem(ItemWords(found.depth, facts.period, decimals_of(facts.item), found.coming, facts.notes))
+    planned = plan_one_item(history, settings, out, program=program)
+    facts = planned.facts
+    return PlannedItem(ItemWords(planned.depth, facts.period, decimals_of(facts.item), planned.coming, facts.notes))

@@ -94,7 +94,7 @@ def test_fifty_items_have_the_same_answer(items: Mapping[str, Item], folder: Pat
     assert len(answers) == ITEMS and len({it.verdict for it in answers.values() if isinstance(it, Answer)}) > 1
     for name, item in items.items():
         room = write(tmp_path / name, item)
-        assert planned(read_item(room / "history.csv", room / "settings.toml"), program).answer == answers[name], name
+        assert planned(read_item(room / "history.csv", room / "settings.toml"), program).depth.answer == answers[name], name
 
 
 @pytest.mark.parametrize("name", ["I-001", "I-002"])

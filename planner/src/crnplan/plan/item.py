@@ -17,14 +17,14 @@ from ..files import own_folder
 from ..records import History, LeadTimes, read_history, read_lead_times
 from ..records.item import Item
 from ..remarks import Remark
-from .answer import Answer
 from .depth import Coming, Depth
 from .settings import ItemSettings, read_settings
 from .one import plan_one
-from .question import NONE, Question, Settings, question_of
+from .question import NONE, Settings, question_of
 
 KIND = "item"  # of the folder
 RULES = ("delimiter", "encoding", "decimal", "item", "leave_out")
+COMING = 64  # replications of the coming periods
 
 
 @dataclass(frozen=True)
@@ -60,8 +60,6 @@ class ItemPlan:
     for that, `summary` says on one screen what comes of it."""
 
     facts: Facts
-    question: Question
-    answer: Answer
     depth: Depth
     coming: Coming | None
     summary: str = ""
@@ -122,19 +120,14 @@ def planned(facts: Facts, program: str | Path | None = None) -> ItemPlan:
     ProgramError."""
     path, run = str(find_program(program)), facts.settings["run"]
     question = question_of(facts.item, settings_of(facts))
-    answer = plan_one(question, path)
-    depth = Depth(question, answer, path, run["laws"], run["confidence"])
+    depth = Depth(question, plan_one(question, path), path, run["laws"], run["confidence"])
     coming = depth.coming(run["horizon"], run["replications"] or COMING) if run["horizon"] else None
-    return ItemPlan(facts, question, answer, depth, coming)
+    return ItemPlan(facts, depth, coming)
 
 
-# Replications of the coming periods.
-COMING = 64
-
-
-def plan_item(history: str | Path, settings: str | Path, out: str | Path, *, program: str | Path | None = None,
-              told: Callable[[str], None] = lambda name: None) -> ItemPlan:
-    """Plans an item, writes all of it into a folder, and returns the plan.
+def plan_item(history: str | Path, settings: str | Path, out: str | Path | None = None, *,
+              program: str | Path | None = None, told: Callable[[str], None] = lambda name: None) -> ItemPlan:
+    """Plans an item, writes all of it into a folder if `out` names one, and returns the plan.
 
     `history` is a CSV file, `settings` a TOML file. All of it is computed each time; nothing that is in the folder is
     read. `told` is called with the name of each part before it is computed. Raises RefusedFaults with all faults of the
@@ -143,6 +136,8 @@ def plan_item(history: str | Path, settings: str | Path, out: str | Path, *, pro
     from ..pages.exports import write_item
     find_program(program)
     facts = read_item(history, settings)
+    if out is None:
+        return planned(facts, program)
     with own_folder(Path(out), KIND) as folder:
         told("plan")
         plan = planned(facts, program)
