@@ -146,7 +146,8 @@ def test_good_settings(tmp_path: Path) -> None:
     (tmp_path / "settings.toml").write_text(GOOD)
     read = read_settings(tmp_path / "settings.toml")
     assert read["costs"] == {"setup": 45, "holding": Fraction(3, 5), "backlog": 9, "unit": 0}
-    assert (read["run"]["level"], read["run"]["seed"], read.fill, read.lead_path) == (0.95, "a text", None, None)
+    assert [read["run"][name] for name in ("level", "seed", "fill")] == [0.95, "a text", None]
+    assert read["lead"]["path"] is None
     assert (read["history"]["fit"], read["lead"]["fit"], read["run"]["confidence"]) == ("auto", "auto", None)
 
 
@@ -154,7 +155,7 @@ def test_a_wanted_fill_rate(tmp_path: Path) -> None:
     """A fill rate takes the place of a backlog cost, as it is spelt."""
     (tmp_path / "settings.toml").write_text(GOOD.replace("backlog = 9.00", "").replace("laws = 10", "fill = 0.95"))
     read = read_settings(tmp_path / "settings.toml")
-    assert (read.fill, read["costs"]["backlog"]) == (Fraction(19, 20), None)
+    assert (read["run"]["fill"], read["costs"]["backlog"]) == (Fraction(19, 20), None)
 
 
 @given(st.lists(st.tuples(st.integers(0, len(GOOD)), st.sampled_from('[]=" \n1éx{,')), max_size=4))

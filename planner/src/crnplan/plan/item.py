@@ -18,9 +18,9 @@ from ..records import History, LeadTimes, read_history, read_lead_times
 from ..records.item import Item
 from ..remarks import Remark
 from .depth import Coming, Depth
-from .settings import ItemSettings, read_settings
 from .one import plan_one
 from .question import NONE, Settings, question_of
+from .settings import Tables, read_settings
 
 KIND = "item"  # of the folder
 RULES = ("delimiter", "encoding", "decimal", "item", "leave_out")
@@ -36,7 +36,7 @@ class Facts:
     path: Path
     history: History
     leads: LeadTimes | None
-    settings: ItemSettings
+    settings: Tables
 
     @property
     def period(self) -> str:
@@ -65,54 +65,36 @@ class ItemPlan:
     summary: str = ""
 
 
-def _history_of(path: Path, settings: ItemSettings) -> History:
-    """Returns the history that the settings describe."""
-    asked = settings["history"]
-    dates = {"every": asked["every"], "start": asked["from"], "end": asked["to"]} if asked["date"] else {}
-    as_given = {name: asked[name] for name in ("demand", "returns", "date", "net", "whole", *RULES)}
-    return read_history(path, date_formats=tuple(asked["date_formats"]), **dates, **as_given)
-
-
-def _leads_of(settings: ItemSettings) -> LeadTimes | None:
-    """Returns the lead times of a file; None if the settings have them."""
-    asked, rules = settings["lead"], settings["history"]
-    if settings.lead_path is None:
-        return None
-    return read_lead_times(settings.lead_path, lead=asked["column"], every=rules["every"], ordered=asked["ordered"],
-                           received=asked["received"], date_formats=tuple(rules["date_formats"]),
-                           **{name: rules[name] for name in RULES})
-
-
-def _name_of(path: Path, settings: ItemSettings) -> str:
-    """Returns the name of an item, from which its key follows: that of the settings, else the text that its rows have,
-    else the name of the file without its ending."""
-    texts: dict[str, str] = settings["history"]["item"]
-    return str(settings["run"]["name"] or ", ".join(texts.values()) or path.stem)
-
-
 def read_item(history: str | Path, settings: str | Path) -> Facts:
-    """Reads the facts of an item. Raises RefusedFaults with all faults of the settings or of the history."""
-    path, read = Path(history), read_settings(settings)
-    demand, leads = _history_of(path, read), _leads_of(read)
-    costs, today, returns = read["costs"], read["today"], demand.returns
-    item = Item(_name_of(path, read), demand.counts, leads.counts if leads else tuple(read["lead"]["times"]),
-                (today["s"], today["S"]), costs["setup"], costs["holding"], costs["backlog"], read.fill, costs["unit"],
-                returns.counts if returns and any(returns.counts) else (), stock=Fraction(today["stock"]),
-                first=demand.first,
-                rows=len(demand.counts))
-    return Facts(item, path, demand, leads, read)
+    """Reads the facts of an item. Its name, from which its key follows, is that of the settings, else the text that its
+    rows have, else the name of the file without its ending. Raises RefusedFaults with all faults of the settings or of
+    the history."""
+    path, tables = Path(history), read_settings(settings)
+    asked, lead, costs, today, run = (tables[name] for name in ("history", "lead", "costs", "today", "run"))
+    dates = {"every": asked["every"], "start": asked["from"], "end": asked["to"]} if asked["date"] else {}
+    rules: dict[str, Any] = {"date_formats": tuple(asked["date_formats"]), **{name: asked[name] for name in RULES}}
+    demand = read_history(path, **{name: asked[name] for name in ("demand", "returns", "date", "net", "whole")},
+                          **dates, **rules)
+    leads = read_lead_times(lead["path"], lead=lead["column"], every=asked["every"], ordered=lead["ordered"],
+                            received=lead["received"], **rules) if lead["path"] else None
+    returns = demand.returns.counts if demand.returns else ()
+    item = Item(run["name"] or ", ".join(asked["item"].values()) or path.stem, demand.counts,
+                leads.counts if leads else tuple(lead["times"]), (today["s"], today["S"]), costs["setup"],
+                costs["holding"], costs["backlog"], run["fill"], costs["unit"], returns if any(returns) else (),
+                stock=Fraction(today["stock"]), first=demand.first, rows=len(demand.counts))
+    return Facts(item, path, demand, leads, tables)
 
 
 def settings_of(facts: Facts) -> Settings:
     """Returns how an item is planned by its settings. The replications are those of the coming periods, if there is a
     horizon."""
-    read = facts.settings
-    run: dict[str, Any] = {name: read["run"][name] for name in ("seed", "level") if read["run"][name] is not None}
-    if read["run"]["replications"] and not read["run"]["horizon"]:
-        run["replications"] = read["run"]["replications"]
-    return Settings(fit=read["history"]["fit"], lead_fit=read["lead"]["fit"], borrow=NONE, every=facts.history.every,
-                    season=read["history"]["season"],
-                    confidence=read["run"]["confidence"] if read.fill is not None else None, **run)
+    history, run = facts.settings["history"], facts.settings["run"]
+    asked: dict[str, Any] = {name: run[name] for name in ("seed", "level") if run[name] is not None}
+    if run["replications"] and not run["horizon"]:
+        asked["replications"] = run["replications"]
+    return Settings(fit=history["fit"], lead_fit=facts.settings["lead"]["fit"], borrow=NONE,
+                    every=facts.history.every, season=history["season"],
+                    confidence=None if run["fill"] is None else run["confidence"], **asked)
 
 
 def planned(facts: Facts, program: str | Path | None = None) -> ItemPlan:

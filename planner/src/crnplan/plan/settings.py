@@ -7,7 +7,6 @@ from __future__ import annotations
 import dataclasses
 import functools
 from collections.abc import Container, Mapping
-from dataclasses import dataclass
 from fractions import Fraction
 from pathlib import Path
 from typing import Any
@@ -24,13 +23,18 @@ from ..records.items import KEEP, LEAVE_OUT
 from ..records.masters import BORROW
 from ..records.texts import DELIMITERS
 from ..records.units import unit_fault
+from ..toml.documents import Path as Place, TreeFault
 from ..toml.rules import (MISSING, RANGE, Key, Table, choice, date, flag, money, number, numbers, read_tables, share,
                           text, texts)
-from ..toml.documents import Path as Place, TreeFault
 from ..toml.texts import shown
 
+Tables = Mapping[str, Mapping[str, Any]]
+CONFIG = "crnplan.toml"
 TEXT, NO, DATE = Key(text), Key(flag, default=False), Key(date)
 ITEMS = Key(number(*formats.limits("policy", "S")), needed=True)
+NEED_DATE = ("net", "whole", "from", "to")
+# The ways to give lead times: the key that chooses it, and the keys that it takes beside. A file needs its column.
+LEADS = {"file": ("column",), "orders": ("ordered", "received"), "times": ()}
 
 
 def horizon(path: Place, value: Any) -> list[TreeFault]:
@@ -45,10 +49,19 @@ def amount(path: Place, value: Any) -> list[TreeFault]:
     return faults or ([] if value > 0 else [TreeFault(RANGE, path, f"{shown(value)} is free", "write a cost above 0")])
 
 
+def unit(path: Place, value: Any) -> list[TreeFault]:
+    """Returns the faults of the unit that is stated of a column, at the key FILE.ROLE."""
+    faults = text(path, value)
+    if faults:
+        return faults
+    what = unit_fault(str(path[-1]).partition(".")[2], value)
+    return [TreeFault(RANGE, path, what, "write a unit of this column")] if what else []
+
+
 RULES = Table({
     "history": Table({
-        "demand": Key(text, needed=True), "returns": TEXT, "date": TEXT, "every": Key(choice("day", "week", "month")),
-        "decimal": Key(choice(".", ",")), "delimiter": Key(choice(",", ";", "tab")), "encoding": TEXT,
+        "demand": Key(text, needed=True), "returns": TEXT, "date": TEXT, "every": Key(choice(*EVERY)),
+        "decimal": Key(choice(*DECIMALS)), "delimiter": Key(choice(*DELIMITERS)), "encoding": TEXT,
         "date_formats": Key(texts, default=[]), "net": NO, "whole": NO, "leave_out": NO, "item": Table({}, other=TEXT),
         "from": DATE, "to": DATE, "fit": Key(choice(*METHODS), default="auto"),
         "season": Key(number(2, formats.MOST_WEIGHT))}, needed=True, elsewhere={
@@ -73,120 +86,6 @@ RULES = Table({
     elsewhere={"check": "an item is no longer checked by itself: run crnplan check on scenario.toml, and remove this "
                         "table"})
 HOMES = {key: name for name, table in reversed(RULES.keys.items()) if isinstance(table, Table) for key in table.keys}
-NEED_DATE = ("net", "whole", "from", "to")
-# The ways to give lead times: the key that chooses it, and the keys that it takes beside. A file needs its column.
-LEADS = {"file": ("column",), "orders": ("ordered", "received"), "times": ()}
-
-
-@dataclass(frozen=True)
-class ItemSettings:
-    """The settings of an item: its tables, each with all keys. Keys that are not given have their default, or None."""
-
-    path: Path
-    tables: Mapping[str, Mapping[str, Any]]
-
-    def __getitem__(self, table: str) -> Mapping[str, Any]:
-        """Returns a table."""
-        return self.tables[table]
-
-    @property
-    def fill(self) -> Fraction | None:
-        """Returns the share of demand that is wanted at once, as it is spelt; None if none is wanted."""
-        fill: Fraction | None = self["run"]["fill"]
-        return fill
-
-    @property
-    def lead_path(self) -> Path | None:
-        """Returns the file of lead times or of orders, from the folder of the settings; None if there is none."""
-        name = self["lead"]["file"] or self["lead"]["orders"]
-        return self.path.parent / name if name else None
-
-
-def _exact(value: Any) -> Fraction | None:
-    """Returns a number as it is spelt; None if there is none."""
-    return None if value is None else Fraction(str(getattr(value, "spelt", value)).replace("_", ""))
-
-
-def _missing(path: Place, what: str, advice: str) -> TreeFault:
-    """Returns the fault of a table that lacks something."""
-    return TreeFault(MISSING, path, what, advice)
-
-
-def _history_faults(history: Mapping[str, Any], lead: Mapping[str, Any]) -> list[TreeFault]:
-    """Returns the faults of keys of the history beside each other."""
-    faults = [TreeFault(RANGE, ("history", name), "this key needs the column of dates",
-                        "write date and every too, or remove it")
-              for name in NEED_DATE if history.get(name) and "date" not in history]
-    if ("date" in history or "orders" in lead) and "every" not in history:
-        faults.append(_missing(("history",), "the key every is missing", 'write every = "week", or day or month'))
-    return faults
-
-
-def _lead_faults(lead: Mapping[str, Any], folder: Path) -> list[TreeFault]:
-    """Returns the faults of the way in which lead times are given."""
-    ways = [way for way in LEADS if way in lead]
-    if len(ways) != 1:
-        what = f"{' and '.join(ways)} are there: keep one" if ways else "there are no lead times"
-        return [_missing(("lead",), what, "write file and column, or orders, ordered and received, or times = "
-                         "[2, 3, 2]")]
-    way = ways[0]
-    faults = [TreeFault(RANGE, ("lead", name), f"this key is not used with {way}", "remove it")
-              for name in lead.keys() - {way, *LEADS[way], "fit"}]
-    if way == "file" and "column" not in lead:
-        faults.append(_missing(("lead", "file"), "the key column is missing",
-                               "write the name of the column of lead times in the file"))
-    if way != "times" and not (folder / lead[way]).is_file():
-        faults.append(_missing(("lead", way), f"there is no file {folder / lead[way]}",
-                               "name one, from the folder of this file"))
-    return faults
-
-
-def _joint_faults(folder: Path, _path: Place, tree: Mapping[str, Any], good: Container[str]) -> list[TreeFault]:
-    """Returns the faults of keys beside each other, in the tables whose keys have no fault by themselves."""
-    tables, faults = {name: tree[name] for name in tree if name in good}, list[TreeFault]()
-    if "history" in tables:
-        faults += _history_faults(tables["history"], tables.get("lead", {}))
-    if "lead" in tables:
-        faults += _lead_faults(tables["lead"], folder)
-    run = tables.get("run", {} if "run" not in tree else {"fill": None})
-    if "costs" in tables and "backlog" not in tables["costs"] and "fill" not in run:
-        faults.append(_missing(("costs",), "there is neither a backlog cost nor a wanted fill rate",
-                               "write backlog, or [run] fill"))
-    if "today" in tables and tables["today"]["s"] > tables["today"]["S"]:
-        s, S = tables["today"]["s"], tables["today"]["S"]
-        faults.append(TreeFault(RANGE, ("today", "s"), f"s = {s} is above S = {S}", "interchange them, or raise S"))
-    return faults
-
-
-def read_settings(path: str | Path) -> ItemSettings:
-    """Returns the settings of a file. Raises Refused if it can't be read, and RefusedFaults with all that is wrong with
-    it."""
-    path = Path(path)
-    rules = dataclasses.replace(RULES, joint=functools.partial(_joint_faults, path.parent))
-    tables = RULES.completed(read_tables(path, rules))
-    tables["costs"] = {name: _exact(value) for name, value in tables["costs"].items()}
-    tables["run"]["fill"] = _exact(tables["run"]["fill"])
-    return ItemSettings(path, tables)
-
-
-def as_setting(name: str, value: str) -> str:
-    """Returns an argument of the library as the key of the settings."""
-    key = {"start": "from", "end": "to"}.get(name, name)
-    return (f"[{HOMES[key]}] {key}" if key in HOMES else key) + f" = {value}" * bool(value)
-
-
-CONFIG = "crnplan.toml"
-
-
-def unit(path: Place, value: Any) -> list[TreeFault]:
-    """Returns the faults of the unit that is stated of a column, at the key FILE.ROLE."""
-    faults = text(path, value)
-    if faults:
-        return faults
-    what = unit_fault(str(path[-1]).partition(".")[2], value)
-    return [TreeFault(RANGE, path, what, "write a unit of this column")] if what else []
-
-
 COLUMNS = [f"{kind}.{role}" for kind, roles in ROLES.items() for role in roles]
 CATALOGUE_RULES = Table({"catalogue": Table({
     "every": Key(choice(*EVERY)), "delimiter": Key(choice(*DELIMITERS)), "encoding": TEXT,
@@ -200,6 +99,72 @@ CATALOGUE_RULES = Table({"catalogue": Table({
     "units": Table(dict.fromkeys(COLUMNS, Key(unit))), "names": Table(dict.fromkeys(COLUMNS, Key(texts))),
     "factors": Table({}, other=Key(number(1, MOST_WEIGHT)))})},
     other=Key(lambda path, value: []))
+
+
+def _lead_faults(lead: Mapping[str, Any], folder: Path) -> list[TreeFault]:
+    """Returns the faults of the way in which lead times are given."""
+    ways = [way for way in LEADS if way in lead]
+    if len(ways) != 1:
+        what = f"{' and '.join(ways)} are there: keep one" if ways else "there are no lead times"
+        return [TreeFault(MISSING, ("lead",), what, "write file and column, or orders, ordered and received, or times = "
+                         "[2, 3, 2]")]
+    way = ways[0]
+    faults = [TreeFault(RANGE, ("lead", name), f"this key is not used with {way}", "remove it")
+              for name in lead.keys() - {way, *LEADS[way], "fit"}]
+    if way == "file" and "column" not in lead:
+        faults.append(TreeFault(MISSING, ("lead", "file"), "the key column is missing",
+                               "write the name of the column of lead times in the file"))
+    if way != "times" and not (folder / lead[way]).is_file():
+        faults.append(TreeFault(MISSING, ("lead", way), f"there is no file {folder / lead[way]}",
+                               "name one, from the folder of this file"))
+    return faults
+
+
+def _joint_faults(folder: Path, _path: Place, tree: Mapping[str, Any], good: Container[str]) -> list[TreeFault]:
+    """Returns the faults of keys beside each other, in the tables whose keys have no fault by themselves."""
+    tables, faults = {name: tree[name] for name in tree if name in good}, list[TreeFault]()
+    history, lead = tables.get("history"), tables.get("lead", {})
+    if history is not None and "date" not in history:
+        faults += [TreeFault(RANGE, ("history", name), "this key needs the column of dates",
+                             "write date and every too, or remove it") for name in NEED_DATE if history.get(name)]
+    if history is not None and ("date" in history or "orders" in lead) and "every" not in history:
+        faults.append(TreeFault(MISSING, ("history",), "the key every is missing",
+                                'write every = "week", or day or month'))
+    if "lead" in tables:
+        faults += _lead_faults(lead, folder)
+    run = tables.get("run", {} if "run" not in tree else {"fill": None})
+    if "costs" in tables and "backlog" not in tables["costs"] and "fill" not in run:
+        faults.append(TreeFault(MISSING, ("costs",), "there is neither a backlog cost nor a wanted fill rate",
+                               "write backlog, or [run] fill"))
+    if "today" in tables and tables["today"]["s"] > tables["today"]["S"]:
+        s, S = tables["today"]["s"], tables["today"]["S"]
+        faults.append(TreeFault(RANGE, ("today", "s"), f"s = {s} is above S = {S}", "interchange them, or raise S"))
+    return faults
+
+
+def read_settings(path: str | Path) -> Tables:
+    """Returns the tables of a file, each with all keys: those that are not given have their default, or None. Amounts
+    are exact. `path` of `lead` is the file of lead times or of orders, None if there is none.
+
+    Raises Refused if the file can't be read, and RefusedFaults with all that is wrong with it.
+    """
+    folder = Path(path).parent
+    rules = dataclasses.replace(RULES, joint=functools.partial(_joint_faults, folder))
+    tables = RULES.completed(read_tables(path, rules))
+    for table, names in (("costs", tables["costs"]), ("run", ["fill"])):
+        for name in names:
+            value = tables[table][name]
+            spelt = str(getattr(value, "spelt", value)).replace("_", "")
+            tables[table][name] = None if value is None else Fraction(spelt)
+    file = tables["lead"]["file"] or tables["lead"]["orders"]
+    tables["lead"]["path"] = folder / file if file else None
+    return tables
+
+
+def as_setting(name: str, value: str) -> str:
+    """Returns an argument of the library as the key of the settings."""
+    key = {"start": "from", "end": "to"}.get(name, name)
+    return (f"[{HOMES[key]}] {key}" if key in HOMES else key) + f" = {value}" * bool(value)
 
 
 def read_config(path: str | Path | None) -> dict[str, Any]:
