@@ -15,11 +15,10 @@ from typing import Any
 
 import crnplan as crn
 from crnplan.curve.candidates import Candidates
-from crnplan.decide.intervals import with_intervals
-from crnplan.decide.long_run import check_long_run, corrected_decision, long_run_decision
-from crnplan.decide.verdicts import table_of
+from crnplan.decide.keys import check_long_run
+from crnplan.decide.long_run import corrected_decision, long_run_decision
+from crnplan.decide.sensitivity import moves_of
 from crnplan.demand.checks import check_history
-from crnplan.decide.moves import moves_of
 from crnplan.plan.answer import CHOSEN, Answer
 from crnplan.plan.catalogue import planned_folder
 from crnplan.plan.item import ItemPlan, planned, read_item
@@ -69,7 +68,7 @@ def run_rows(scenario: crn.Scenario, program: str) -> Figures:
     report = scenario.run(program=program)
     found = {"rows": by_policy(map(asdict, report.rows))}
     if scenario.replications > 1:
-        found["decided"] = by_frame(table_of(with_intervals(report.rows, scenario.replications, 0.95)))
+        found["decided"] = by_frame(report.decide())
         found["corrected"] = by_frame(corrected_decision(report.rows, scenario))
     return found
 

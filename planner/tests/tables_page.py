@@ -8,7 +8,7 @@ from pathlib import Path
 from crnplan.crnsim import long_run as exact_long_run
 from crnplan.crnsim import report, trajectory
 from crnplan.curve import exchange_curve
-from crnplan.decide import doubt, long_run, moves, sensitivity, verdicts
+from crnplan.decide import doubt, sensitivity, verdicts
 from crnplan.pages import catalogue_tables, item_tables, laws, reasons
 from crnplan.table import Column, page_of
 from crnplan.theory import suggestions
@@ -32,13 +32,13 @@ TABLES: Mapping[str, tuple[str, Sequence[Column]]] = {
     "coming.csv": ("The same over the coming periods, with `[run] horizon`.", item_tables.COMING_COLUMNS),
     "doubt.csv, crnplan doubt": ("Policies under the laws that a history allows. A column stands if there is a figure.",
                                  doubt.COLUMNS),
-    "sensitivity.csv": ("How the best policy of an item moves.", moves.COLUMNS),
+    "sensitivity.csv": ("How the best policy of an item moves.", sensitivity.MOVES),
     "trajectory.csv, crnplan trajectory": ("Policies period by period.", trajectory.COLUMNS),
     "laws.csv": ("The laws of an item.", laws.LAW_COLUMNS),
     "crnplan suggest": ("Suggested policies.", [*suggestions.COLUMNS, suggestions.REASONS]),
     "crnplan run": ("A report of crnsim, exactly.", report.COLUMNS),
     "crnplan decide, crnplan check": ("Policies beside the base, over the coming periods.", verdicts.COLUMNS),
-    "crnplan run --long-run": ("Policies beside the base, in the long run.", long_run.COLUMNS),
+    "crnplan run --long-run": ("Policies beside the base, in the long run.", verdicts.LONG_RUN_COLUMNS),
     "Scenario.long_run": ("Exact figures of the long run, in Python.", exact_long_run.COLUMNS),
     "crnplan sensitivity": ("What a policy costs too much, here in the cases `base` and `demand_up`.",
                             sensitivity.columns_of(["base", "demand_up"]))}

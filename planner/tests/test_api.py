@@ -76,8 +76,7 @@ def test_command(name: str) -> None:
 def names_of_types() -> dict[str, object]:
     """Returns the names in annotations that modules import for checks of types alone."""
     names: dict[str, object] = {"Floats": numpy.ndarray, "Figure": Figure, "pd": pandas, "np": numpy}
-    for part in ("crnsim.report", "crnsim.long_run", "decide.verdicts", "decide.long_run", "decide.keys",
-                 "decide.doubt",
+    for part in ("crnsim.report", "crnsim.long_run", "decide.verdicts", "decide.keys", "decide.doubt",
                  "theory.suggestions", "theory.many_laws", "demand.posterior", "demand.borrowing",
                  "curve.exchange_curve"):
         its = vars(importlib.import_module(f"crnplan.{part}"))

@@ -10,7 +10,7 @@ import numpy as np
 import pytest
 
 import crnplan as crn
-from crnplan.decide.doubt import Doubt, Spreads, doubt
+from crnplan.decide.doubt import Doubt, doubt
 from crnplan.decide.intervals import t_quantile
 from crnplan.demand.posterior import AllowedLaws, allowed_laws, allowed_leads
 from crnplan.errors import Refused, ScenarioError
@@ -150,8 +150,6 @@ def test_runs(part: Scenario, program: Path) -> None:
     """Runs have the costs of the scenario under each law; the spread of luck is that of one replication."""
     found = doubt(part, HISTORY, times=10, runs=True, program=program)
     expected = np.array([*runs_of(part, program)])
-    assert isinstance(found.spreads, Spreads)
-    assert found.spreads.costs == pytest.approx(expected[:, :, 0])
     rows = {row["policy"]: row for row in found.table.records}
     for at, policy in enumerate(part.policies):
         row = rows[policy.name]

@@ -48,7 +48,8 @@ def test_intervals_are_those_of_the_costs_themselves(drawn: Costs, periods: int,
     """Compares intervals from a report with those that scipy computes from the costs of all replications."""
     count, base = len(drawn["p0"]), drawn["p0"]
     compared = with_intervals(rows_of_costs(drawn, periods), count, level)
-    assert [it.diff_total for it in compared] == sorted(sum(own) - sum(base) for own in drawn.values())
+    assert [it.diff for it in compared] == pytest.approx(
+        sorted((sum(own) - sum(base)) / count for own in drawn.values()))
     for it in compared:
         own = drawn[it.policy]
         half = stats.t.interval(level, count - 1)[1] * statistics.stdev(own) / math.sqrt(count)

@@ -14,9 +14,11 @@ import pytest
 from scipy import stats
 
 from crnplan.decide import long_run
-from crnplan.decide.long_run import (LongRunDecision, LongRunRow, check_long_run, corrected_decision, long_run_decision,
-                                     start_warning)
+from crnplan.decide.intervals import Compared
+from crnplan.decide.keys import check_long_run
+from crnplan.decide.long_run import corrected_decision, long_run_decision, start_warning
 from crnplan.decide.sensitivity import sensitivity
+from crnplan.decide.verdicts import Decision
 from crnplan.crnsim.long_run import LongRunReport
 from crnplan.crnsim.report import Row
 from crnplan.errors import Refused
@@ -37,7 +39,7 @@ EVEN = replace(PART, demand=Law((1,), (1,)), lead=Law((1,), (1,)),
                policies=(Policy("today", 1, 5), Policy("equal", 1, 5)))
 
 
-def by_name(found: LongRunDecision) -> dict[str, LongRunRow]:
+def by_name(found: Decision) -> dict[str, Compared]:
     """Returns the rows by the names of their policies."""
     return {it.policy: it for it in found.rows}
 
@@ -129,9 +131,9 @@ def test_the_start_of_a_report_is_warned_of(initial: int, unit: int, program: Pa
     free = replace(asked, costs=replace(asked.costs, unit=0))
     strong = [name for name, effect in effects_of(free, rows).items() if abs(effect) > 0.25]
     warning = start_warning(rows, asked)
-    assert warning == (f"WARNING: these verdicts are on the coming 40 periods from a stock of {initial}, not on the "
+    assert warning == (f"these verdicts are on the coming 40 periods from a stock of {initial}, not on the "
                        "long run.\nBy theory the start adds more than 0.25 standard errors to the difference of "
-                       f"{', '.join(strong)}.\nA comparison in the long run takes that out.\n" if strong else "")
+                       f"{', '.join(strong)}.\nA comparison in the long run takes that out." if strong else "")
     assert strong or initial != 25
 
 
@@ -160,7 +162,8 @@ def test_decide_warns_of_the_start(crnplan: Command, room: Path, program: Path) 
     text, table, tree = (crnplan("decide", "report.csv", "--scenario", "part.toml", *it)
                          for it in ([], ["--csv"], ["--json"]))
     assert text.output.startswith("The coming 40 periods from a stock of 25\n\npolicy ")
-    assert text.output.endswith(f"\n\n{warning}") and table.errors.endswith(f"\n\n{warning}")
+    end = f"\n\nWARNING: {warning}\n"
+    assert text.output.endswith(end) and table.errors.endswith(end)
     read = json.loads(tree.output)
     assert read["warnings"] == [warning] and read["horizon"] == "the coming 40 periods from a stock of 25"
     assert "WARNING" not in crnplan("decide", "report.csv", "--replications", "64").output
@@ -290,12 +293,11 @@ def test_sensitivity_in_the_long_run(crnplan: Command, room: Path, program: Path
     """Each case costs what its own scenario does, also those that one run counts for two."""
     even = replace(PART, costs=Costs(40, 3, 2, 8))
     found = sensitivity(even, long_run=True, program=program)
-    costs = {it.name: it.costs for it in found.cases}
     cases = {"base": even, "lead_plus_1": replace(even, lead=Law((2, 4), (2, 1))),
              "backlog_half": replace(even, costs=Costs(40, 3, 2, 4)),
              "backlog_double": replace(even, costs=Costs(40, 3, 2, 16))}
     for name, scenario in cases.items():
-        assert costs[name] == tuple(it.per_period for it in scenario.long_run(program=program).rows)
+        assert found.costs[name] == [it.per_period for it in scenario.long_run(program=program).rows]
     (room / "part.toml").write_text(even.toml())
     text = crnplan("sensitivity", "part.toml", "--long-run").output
     assert text.startswith("The long run, each policy from a state of its own, without unit\n\npolicy ")

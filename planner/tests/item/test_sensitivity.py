@@ -7,7 +7,7 @@ from typing import Any
 import pytest
 
 from crnplan import Scenario
-from crnplan.decide.moves import AS_IT_IS, Moves, cases_of, moves_of
+from crnplan.decide.sensitivity import AS_IT_IS, Moves, cases_of, moves_of
 from crnplan.theory.suggestions import figures_of, suggestions_of
 
 DEMAND = {0: 5, 2: 3, 4: 2, 9: 1}

@@ -12,8 +12,8 @@ from .. import __version__, formats
 from ..crnsim.program import program_and_reason, writes_known_report
 from ..crnsim.sweep import numbers_of, sweep as sweep_of
 from ..crnsim.trajectory import MOST_DRAWN, chosen, shown_periods, table_of, trajectories
-from ..decide.keys import check_keys
-from ..decide.reports import check_policies, read_report
+from ..decide.intervals import check_policies, read_report
+from ..decide.keys import check_keys, check_long_run
 from ..decide.sensitivity import sensitivity as sensitivity_of
 from ..decide.verdicts import decided
 from ..errors import Refused
@@ -136,7 +136,7 @@ def decide(report: str, path: str | None, is_sweep: bool, replications: int | No
         decision = decided(rows, count, level)
     else:
         from ..decide.long_run import coming_decision, corrected_decision
-        check_policies(rows, scenario.policies, (report, str(path)), is_sweep)
+        check_policies(rows, scenario.policies, report, str(path), is_sweep)
         if long_run:
             show(corrected_decision(rows, scenario, level), form)
             return
@@ -199,7 +199,6 @@ def check(scenario: str, best: str, keys: tuple[str, ...], replications: int | N
     options["keys"] = [key.split() for key in keys]
     asked = read_for(scenario, horizon, stock, long_run, is_table=form is None)
     if long_run:
-        from ..decide.long_run import check_long_run
         if (replications, out) != (None, None):
             raise usage_error("--long-run has no --replications and no --out: more keys give more")
         checked = check_long_run(asked, best, **options)

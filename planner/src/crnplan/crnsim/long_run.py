@@ -37,7 +37,7 @@ from .report import COLUMNS as REPORT_COLUMNS, Row, rows_of
 from .words import Whole, Words, drawn, places_of, stream_words, words_of_keys
 
 if TYPE_CHECKING:
-    from ..decide.long_run import LongRunDecision
+    from ..decide.verdicts import Decision
 
 KEYS = 48
 MOST_KEYS = formats.MOST_REPLICATIONS
@@ -105,7 +105,7 @@ class LongRunReport(Result):
         return DataTable(COLUMNS, [[it.policy, it.s, it.S, it.per_period, it.diff_mean / self.periods,
                                 (it.diff_var or Fraction(0)) / square] for it in self.rows], index="policy")
 
-    def decide(self, level: float = 0.95) -> LongRunDecision:
+    def decide(self, level: float = 0.95) -> Decision:
         """Returns all policies by rank, the cheapest first, with paired-t intervals of a period, verdicts, and the
         figures of theory beside. `level` is above 0, below 1."""
         from ..decide.long_run import long_run_decision

@@ -13,8 +13,8 @@ from __future__ import annotations
 
 import dataclasses
 import math
-from collections.abc import Iterable, Sequence
-from dataclasses import dataclass
+from collections.abc import Iterable, Mapping
+from dataclasses import dataclass, field
 from functools import cached_property
 from pathlib import Path
 from typing import TYPE_CHECKING
@@ -59,25 +59,11 @@ COLUMNS = (
 
 
 @dataclass(frozen=True, eq=False)
-class Spreads:
-    """Costs of a period from crnsim: `costs` has a row for each law and a column for each policy. `luck` is the
-    standard deviation of the cost of one replication, by policy; nan with a single replication."""
-
-    costs: Floats
-    luck: Floats
-
-    @property
-    def law(self) -> Floats:
-        """Returns the standard deviation of each policy's cost over the laws, whose runs share their key."""
-        spread: Floats = self.costs.std(axis=0, ddof=1)
-        return spread
-
-
-@dataclass(frozen=True, eq=False)
 class Doubt(Result):
     """The figures of policies under the laws that a history allows. `lead` is None if lead times are the scenario's.
 
-    `laws` counts those that were drawn; `figures` may have fewer, if some have no long run.
+    `demand` has all laws that were drawn; `figures` may have fewer, if some have no long run. `spreads` has the columns
+    of runs by crnsim, with a figure for each policy; none without runs.
     """
 
     scenario: Scenario
@@ -86,7 +72,7 @@ class Doubt(Result):
     demand: AllowedLaws
     lead: AllowedLaws | None
     figures: LawFigures
-    spreads: Spreads | None = None
+    spreads: Mapping[str, Floats] = field(default_factory=dict)
 
     @cached_property
     def regrets(self) -> Floats:
@@ -112,16 +98,12 @@ class Doubt(Result):
         if not np.isnan(own).any():
             columns |= {"own_regret": own.mean(axis=0), "own_regret_90": np.quantile(own, MOST, axis=0),
                         "own_within": (own <= self.within).mean(axis=0)}
-        columns |= {"fill": fill.mean(axis=0), "fill_10": np.quantile(fill, 1 - MOST, axis=0)}
-        if self.spreads is not None:
-            columns |= {"run_cost": self.spreads.costs.mean(axis=0), "law_spread": self.spreads.law,
-                        "luck_spread": self.spreads.luck}
-        return columns
+        return columns | {"fill": fill.mean(axis=0), "fill_10": np.quantile(fill, 1 - MOST, axis=0), **self.spreads}
 
     @cached_property
     def order(self) -> list[int]:
         """Returns the places of the policies by their mean cost, the cheapest first."""
-        return [int(it) for it in self.columns["cost"].argsort(kind="stable")]
+        return [int(place) for place in self.columns["cost"].argsort(kind="stable")]
 
     @property
     def regrets_shown(self) -> Floats:
@@ -131,10 +113,10 @@ class Doubt(Result):
     @property
     def table(self) -> DataTable:
         """Returns the figures indexed by `policy`, the cheapest first."""
-        columns = [it for it in COLUMNS if it in POLICY or it.name in self.columns]
+        columns = [column for column in COLUMNS if column in POLICY or column.name in self.columns]
         rows: list[list[Cell]] = [
             [self.policies[place].name, self.policies[place].s, self.policies[place].S,
-             *map(float, (its[place] for its in self.columns.values()))] for place in self.order]
+             *(float(figures[place]) for figures in self.columns.values())] for place in self.order]
         return DataTable(columns, rows, index="policy")
 
     @property
@@ -168,12 +150,31 @@ class Doubt(Result):
     @property
     def remarks(self) -> list[str]:
         """Returns lines on the laws, on the lattice, and on what does not fit."""
-        return [*_law_notes(self), *_error_notes(self.figures), *_mean_notes(self)]
+        drawn, figures, scenario = len(self.demand.laws), self.figures, self.scenario
+        families, lead_families = (", ".join(f"{count} {name}" for name, count in laws.families.items()) if laws else ""
+                                   for laws in (self.demand, self.lead))
+        lines = [f"laws of demand: {families} (history: its periods with random weights)",
+                 f"laws of lead times: {lead_families}" if self.lead else
+                 "lead times: those of the scenario under each law"]
+        if len(figures.laws) < drawn:
+            lines.append(f"{drawn - len(figures.laws)} laws of {drawn} are left out: under them as much comes back as "
+                         "is asked for")
+        lines.append("cost: a period of the long run, without unit; by theory, rounded and unproved")
+        if figures.error is not None:
+            lines.append(f"counted in steps of up to {figures.step} items: costs are right to about "
+                         f"{max(figures.error, 1e-4):.2%}, by which steps twice as large change them at most")
+        for name, own, allowed in (("demand", scenario.demand, self.demand), ("lead time", scenario.lead, self.lead)):
+            means = [float(law.mean) for law in allowed.laws] if allowed else []
+            if means and not min(means) <= float(own.mean) <= max(means):
+                lines.append(f"the mean {name} of the scenario is {float(own.mean):.4g}, but {min(means):.4g} to "
+                             f"{max(means):.4g} under the laws of the history; is it this item's history, in the same "
+                             "periods and boxes?")
+        return lines
 
     @property
     def notes(self) -> str:
         """Returns the sentences and the remarks."""
-        spreads = "" if self.spreads is None else (
+        spreads = "" if not self.spreads else (
             f"\nrun_cost, law_spread, luck_spread: a period of the {horizon_of(self.scenario)}, by crnsim, all laws "
             "with one key: mean cost, its standard deviation over the laws, and that of one replication under a law\n")
         return f"{spreads}\n{self.sentence} {self.bounds}\n\n" + "".join(f"{line}\n" for line in self.remarks)
@@ -185,57 +186,10 @@ class Doubt(Result):
                 f"{self.notes}")
 
 
-def _law_notes(doubt: Doubt) -> Iterable[str]:
-    """Yields where the laws come from, and how many have no long run."""
-    families = ", ".join(f"{count} {name}" for name, count in doubt.demand.families.items())
-    yield f"laws of demand: {families} (history: its periods with random weights)"
-    if doubt.lead is None:
-        yield "lead times: those of the scenario under each law"
-    else:
-        yield f"laws of lead times: {', '.join(f'{count} {name}' for name, count in doubt.lead.families.items())}"
-    drawn, kept = len(doubt.demand.laws), len(doubt.figures.laws)
-    if kept < drawn:
-        yield f"{drawn - kept} laws of {drawn} are left out: under them as much comes back as is asked for"
-
-
-def _error_notes(figures: LawFigures) -> Iterable[str]:
-    """Yields what is known of the error of the figures."""
-    yield "cost: a period of the long run, without unit; by theory, rounded and unproved"
-    if figures.error is not None:
-        yield (f"counted in steps of up to {figures.step} items: costs are right to about "
-               f"{max(figures.error, 1e-4):.2%}, by which steps twice as large change them at most")
-
-
-def _mean_notes(doubt: Doubt) -> Iterable[str]:
-    """Yields a doubt whether the history is the scenario's."""
-    scenario = doubt.scenario
-    for name, own, its in (("demand", scenario.demand, doubt.demand), ("lead time", scenario.lead, doubt.lead)):
-        means = [float(law.mean) for law in its.laws] if its else []
-        if means and not min(means) <= float(own.mean) <= max(means):
-            yield (f"the mean {name} of the scenario is {float(own.mean):.4g}, but {min(means):.4g} to "
-                   f"{max(means):.4g} under the laws of the history; is it this item's history, in the same periods "
-                   "and boxes?")
-
-
-def candidates_of(scenario: Scenario, policies: Policies | None) -> tuple[Policy, ...]:
-    """Returns the policies to be looked at: the given ones, or the scenario's. Raises ScenarioError with all faults."""
-    if policies is None:
-        return scenario.policies
-    asked = tuple(dict.fromkeys(policies_of(policies)))
-    if not asked:
-        raise Refused("policies: there is none; give at least one")
-    checked_tree(scenario.with_policies(asked).tree, any_number=True)
-    return asked
-
-
-def laws_with_leads(demand: AllowedLaws, lead: AllowedLaws | None, scenario: Scenario) -> list[tuple[Law, Law]]:
-    """Returns pairs of laws of demand and of lead times."""
-    leads: Sequence[Law] = lead.laws if lead else [scenario.lead] * len(demand.laws)
-    return [*zip(demand.laws, leads)]
-
-
-def spreads_of(scenario: Scenario, laws: Iterable[tuple[Law, Law]], program: str | Path | None) -> Spreads:
-    """Runs crnsim on a scenario with each law of demand and of lead times, all with the scenario's key."""
+def _spreads_of(scenario: Scenario, laws: Iterable[tuple[Law, Law]], program: str | Path | None) -> dict[str, Floats]:
+    """Runs crnsim on a scenario with each law of demand and of lead times, all with the scenario's key. Returns by
+    policy the mean cost of a period, its standard deviation over the laws, and that of the cost of one replication;
+    nan with a single replication."""
     import numpy as np
     costs, variances = [], []
     for demand, lead in laws:
@@ -244,7 +198,7 @@ def spreads_of(scenario: Scenario, laws: Iterable[tuple[Law, Law]], program: str
         if scenario.replications > 1:
             variances.append([float(own_variance(row, rows[0], scenario.replications)) for row in rows])
     luck = np.sqrt(np.mean(variances, axis=0)) / scenario.periods if variances else np.full(len(costs[0]), np.nan)
-    return Spreads(np.array(costs), luck)
+    return {"run_cost": np.mean(costs, axis=0), "law_spread": np.std(costs, axis=0, ddof=1), "luck_spread": luck}
 
 
 def doubt(scenario: Scenario, history: Observed | Iterable[Number], leads: Observed | Iterable[Number] | None = None, *,
@@ -268,10 +222,15 @@ def doubt(scenario: Scenario, history: Observed | Iterable[Number], leads: Obser
         raise Refused(f"{argument('times', str(times))}: there can be {TIMES[0]:,} to {TIMES[1]:,} laws")
     if not 0 <= within < math.inf:
         raise Refused(f"{argument('within', f'{within:g}')}: it is a share of at least 0, as 0.03 for 3%")
-    candidates = candidates_of(scenario, policies)
+    candidates = scenario.policies
+    if policies is not None:
+        candidates = tuple(dict.fromkeys(policies_of(policies)))
+        if not candidates:
+            raise Refused("policies: there is none; give at least one")
+        checked_tree(scenario.with_policies(candidates).tree, any_number=True)
     demand = allowed_laws(history, times=times, box=box, seed=seed)
     lead = None if leads is None else allowed_leads(leads, times=times, seed=seed)
-    laws = laws_with_leads(demand, lead, scenario)
+    laws = [*zip(demand.laws, lead.laws if lead else [scenario.lead] * len(demand.laws))]
     figures = figures_of_laws(scenario, laws, candidates)
-    spreads = spreads_of(scenario.with_policies(candidates), laws, program) if runs else None
+    spreads = _spreads_of(scenario.with_policies(candidates), laws, program) if runs else {}
     return Doubt(scenario, candidates, within, demand, lead, figures, spreads)

@@ -1,7 +1,7 @@
-"""Computes paired-t intervals from the rows of a report. The base is the first policy.
+"""Reads the rows of a report for a decision, and computes paired-t intervals from them. The base is the first policy.
 
-Each other policy gets an interval for its `diff_mean`, with R - 1 degrees of freedom. All these intervals together hold
-at the level, by Bonferroni over the comparisons (Law, Simulation Modeling and Analysis, chapter 10).
+Each other policy gets an interval for its difference from the base, with R - 1 degrees of freedom. All these intervals
+together hold at the level, by Bonferroni over the comparisons (Law, Simulation Modeling and Analysis, chapter 10).
 
 A report has no variance of a policy's own costs, but it follows exactly. With R replications, the variance of the
 difference of two costs is R * diff_var. It equals the sum of both variances less twice their covariance `cov`, and the
@@ -12,36 +12,61 @@ This is not proved; crnsim's figures are, and all that is computed here is round
 from __future__ import annotations
 
 import math
+import sys
 from collections.abc import Iterator, Sequence
-from dataclasses import dataclass, fields
+from dataclasses import dataclass
 from fractions import Fraction
-from typing import NamedTuple, Protocol
+from pathlib import Path
+from typing import NamedTuple
 
 from .. import formats
 from ..crnsim.keys import MOST_KEYS
-from ..crnsim.report import Row
+from ..crnsim.report import Row, read_rows
 from ..errors import Refused, argument
-
+from ..scenario import Policy
 
 FEWEST_ORDERS = 2  # of the rarer policy of a comparison, in all replications
 
 
 @dataclass(frozen=True)
-class Compared(Row):
-    """A row of a report with its intervals, in the scenario's money. None stands for no figure.
+class Compared:
+    """A policy beside the base, in the scenario's money. None stands for no figure.
 
-    `percent` is the difference in percent of the base's cost. From `low` to `high` is the joint interval of
-    `diff_mean`, from `cost_low` to `cost_high` that of `per_period`, by itself. `verdict` is base, better, worse or
-    undecided.
+    `cost` is that of a period, from `cost_low` to `cost_high` is its interval by itself. `diff` is the cost less the
+    base's: of a replication over coming periods, of a period in the long run. `percent` is that in percent of the
+    base's cost, and `low` to `high` its joint interval. `verdict` is base, better, worse or undecided. `theory_cost`
+    and `theory_diff` are theory's, in the long run. `effect` is what the start adds to `diff` in a run that is not
+    corrected, in standard errors.
     """
 
-    percent: Fraction | None = None
-    std_error: float | None = None
-    low: float | None = None
-    high: float | None = None
-    cost_low: float | None = None
-    cost_high: float | None = None
-    verdict: str = "undecided"
+    policy: str
+    s: int
+    S: int
+    cost: float
+    cost_low: float | None
+    cost_high: float | None
+    diff: float
+    percent: float | None
+    std_error: float | None
+    low: float | None
+    high: float | None
+    verdict: str
+    theory_cost: float | None = None
+    theory_diff: float | None = None
+    effect: float | None = None
+
+
+class Estimate(NamedTuple):
+    """What a run says of a policy in the long run, in money of a period: its cost, and that less the base's, each with
+    its standard error. None stands for no error: the rarer policy hardly orders, or nothing varies. `orders` are those
+    of the whole run; None if they are many."""
+
+    policy: str
+    cost: float
+    own_error: float | None
+    difference: float
+    error: float | None
+    orders: float | None
 
 
 def checked_level(level: float) -> float:
@@ -62,28 +87,7 @@ def t_quantile(tails: float, degrees: int) -> float:
     return math.sqrt(degrees * (1 - inside) / inside)
 
 
-def quantiles_of(level: float, policies: int, replications: int) -> tuple[float, float]:
-    """Returns how many standard errors the joint intervals of so many policies reach, and one by itself; 0 with one
-    replication. Raises Refused if the level is not between 0 and 1."""
-    tails = 1 - checked_level(level)
-    if replications == 1:
-        return 0.0, 0.0
-    return t_quantile(tails / max(1, policies - 1), replications - 1), t_quantile(tails, replications - 1)
-
-
-def around(figure: float, half: float | None) -> tuple[float | None, float | None]:
-    """Returns both ends of an interval; None if there is none."""
-    return (None, None) if half is None else (figure - half, figure + half)
-
-
-def verdict_of(low: float | None, high: float | None) -> str:
-    """Returns what the interval of a difference from the base says of a policy."""
-    if low is None or high is None or low <= 0 <= high:
-        return "undecided"
-    return "worse" if low > 0 else "better"
-
-
-def periods_of(row: Row, replications: int) -> Fraction | None:
+def _periods_of(row: Row, replications: int) -> Fraction | None:
     """Returns the periods of a replication that a row implies: None if the policy costs nothing."""
     return row.total / (row.per_period * replications) if row.total and row.per_period else None
 
@@ -94,40 +98,65 @@ def own_variance(row: Row, base: Row, replications: int) -> Fraction:
     return replications * row.diff_var - base.cov + 2 * row.cov
 
 
-class Estimate(NamedTuple):
-    """What a run says of a policy in the long run, in money of a period: its cost, and that less the base's, each with
-    its standard error. None stands for no error: the rarer policy hardly orders, or nothing varies. `orders` are those
-    of the whole run; None if they are many."""
-
-    policy: str
-    cost: float
-    own_error: float | None
-    difference: float
-    error: float | None
-    orders: float | None
-
-
 def estimates_of(rows: Sequence[Row], replications: int, periods: int, shifts: Sequence[float],
                  orders: Sequence[float | None]) -> list[Estimate]:
     """Returns an estimate of each policy of a report. `shifts` are taken from the costs of a period."""
-    enough = [count is None or count >= FEWEST_ORDERS for count in orders]
-
-    def estimate(place: int) -> Estimate:
-        """Returns the estimate of a policy."""
-        row, shift = rows[place], shifts[place]
+    enough, estimates = [count is None or count >= FEWEST_ORDERS for count in orders], list[Estimate]()
+    for row, shift, count, is_enough in zip(rows, shifts, orders, enough, strict=True):
         own = math.sqrt(own_variance(row, rows[0], replications) / replications) / periods
         error = math.sqrt(row.diff_var or 0) / periods
-        return Estimate(row.policy, float(row.per_period) - shift, own if enough[place] else None,
-                        float(row.diff_mean) / periods - shift + shifts[0],
-                        error if enough[0] and enough[place] and error > 0 else None, orders[place])
-    return [estimate(place) for place in range(len(rows))]
+        estimates.append(Estimate(row.policy, float(row.per_period) - shift, own if is_enough else None,
+                                  float(row.diff_mean) / periods - shift + shifts[0],
+                                  error if enough[0] and is_enough and error > 0 else None, count))
+    return estimates
 
 
-def is_of(row: Row, base: Row, replications: int) -> bool:
+def compared(rows: Sequence[Row], estimates: Sequence[Estimate], percents: Sequence[float | None], level: float,
+             replications: int) -> Iterator[Compared]:
+    """Yields the policies of a report, in its order, with their intervals. Raises Refused if the level is not between 0
+    and 1."""
+    tails, joint, single = 1 - checked_level(level), 0.0, 0.0
+    if replications > 1:
+        joint = t_quantile(tails / max(1, len(rows) - 1), replications - 1)
+        single = t_quantile(tails, replications - 1)
+    for place, (row, own, percent) in enumerate(zip(rows, estimates, percents, strict=True)):
+        error = own.error if place else None
+        low, high = (None, None) if error is None else (own.difference - joint * error, own.difference + joint * error)
+        half = None if own.own_error is None else single * own.own_error
+        cost_low, cost_high = (None, None) if half is None else (own.cost - half, own.cost + half)
+        verdict = "base" if place == 0 else "undecided"
+        if low is not None and high is not None and not low <= 0 <= high:
+            verdict = "worse" if low > 0 else "better"
+        yield Compared(row.policy, row.s, row.S, own.cost, cost_low, cost_high, own.difference, percent, error, low,
+                       high, verdict)
+
+
+def with_intervals(rows: Sequence[Row], replications: int, level: float) -> list[Compared]:
+    """Returns all policies over the periods of a report by rank, the cheapest first, each with its intervals and its
+    verdict. Raises Refused if the level is not between 0 and 1."""
+    base, estimates = rows[0], list[Estimate]()
+    for row in rows:
+        own = error = None
+        if replications > 1:
+            own = math.sqrt(own_variance(row, base, replications) / replications)
+            own, error = own / float(_periods_of(row, replications) or 1), math.sqrt(row.diff_var or 0)
+        estimates.append(Estimate(row.policy, float(row.per_period), own, float(row.diff_mean), error, None))
+    percents = [float(100 * Fraction(row.diff_total, base.total)) if base.total else None for row in rows]
+    ranked = sorted(zip(rows, compared(rows, estimates, percents, level, replications)),
+                    key=lambda pair: pair[0].diff_total)
+    return [row for _, row in ranked]
+
+
+def with_verdict(rows: Sequence[Compared], verdict: str) -> list[str]:
+    """Returns the names of the policies that have a verdict."""
+    return [row.policy for row in rows if row.verdict == verdict]
+
+
+def _is_of(row: Row, base: Row, replications: int) -> bool:
     """Returns whether a row can be of a report with this number of replications and this base."""
     if not 1 <= replications <= formats.MOST_REPLICATIONS * MOST_KEYS:
         return False
-    periods, of_base = periods_of(row, replications), periods_of(base, replications)
+    periods, of_base = _periods_of(row, replications), _periods_of(base, replications)
     if row.diff_mean * replications != row.diff_total or row.total - base.total != row.diff_total or row.total < 0:
         return False
     if periods is not None and (periods.denominator != 1 or of_base not in (None, periods)):
@@ -140,50 +169,39 @@ def is_of(row: Row, base: Row, replications: int) -> bool:
 def check_replications(rows: Sequence[Row], replications: int, place: str) -> None:
     """Raises Refused if a row is of no report of this number of replications. `place` names the report."""
     for line, row in enumerate(rows, 2):
-        if not is_of(row, rows[0], replications):
+        if not _is_of(row, rows[0], replications):
             raise Refused(f"{place}:{line}: this is no report of {replications} replications; give its own number")
 
 
-def with_interval(row: Row, base: Row, replications: int, quantiles: tuple[float, float]) -> Compared:
-    """Returns a row with its intervals. `quantiles` are those of the joint intervals and of each one by itself."""
-    compared = {it.name: getattr(row, it.name) for it in fields(Row)}
-    if base.total:
-        compared["percent"] = 100 * Fraction(row.diff_total, base.total)
-    if replications > 1:
-        error = math.sqrt(own_variance(row, base, replications) / replications)
-        half = quantiles[1] * error / float(periods_of(row, replications) or 1)
-        compared["cost_low"], compared["cost_high"] = around(float(row.per_period), half)
-    if row is base:
-        compared["verdict"] = "base"
-    elif replications > 1:
-        error = math.sqrt(row.diff_var or 0)
-        ends = around(float(row.diff_mean), quantiles[0] * error)
-        compared |= {"std_error": error, "low": ends[0], "high": ends[1], "verdict": verdict_of(*ends)}
-    return Compared(**compared)
+def read_report(path: str | Path, replications: int) -> list[Row]:
+    """Reads the rows of a report; `-` is standard input.
 
-
-def with_intervals(rows: Sequence[Row], replications: int, level: float) -> list[Compared]:
-    """Returns all policies by rank, the cheapest first, each with its intervals and its verdict.
-
-    Raises Refused if the level is not between 0 and 1.
+    Raises Refused if it cannot be read, or if it is no report of this number of replications.
     """
-    quantiles = quantiles_of(level, len(rows), replications)
-    compared = (with_interval(row, rows[0], replications, quantiles) for row in rows)
-    return sorted(compared, key=lambda it: it.diff_total)
+    name = "standard input" if str(path) == "-" else str(path)
+    try:
+        data = sys.stdin.buffer.read() if str(path) == "-" else Path(path).read_bytes()
+        rows = read_rows(data.decode("utf-8"), name)
+    except OSError as fault:
+        raise Refused(f"{name}: {fault.strerror}; name a report that crnsim has written") from fault
+    except UnicodeDecodeError as fault:
+        raise Refused(f"{name}: this is no report of crnsim: {fault}") from fault
+    check_replications(rows, replications, name)
+    return rows
 
 
-class Judged(Protocol):
-    """A policy with its verdict."""
-
-    @property
-    def policy(self) -> str:
-        """Returns the name of the policy."""
-
-    @property
-    def verdict(self) -> str:
-        """Returns base, better, worse or undecided."""
-
-
-def with_verdict(rows: Sequence[Judged], verdict: str) -> Iterator[str]:
-    """Yields the names of the policies that have a verdict."""
-    return (row.policy for row in rows if row.verdict == verdict)
+def check_policies(rows: Sequence[Row], policies: Sequence[Policy], report: str, scenario: str, sweep: bool) -> None:
+    """Raises Refused if the rows are not those of a scenario's policies, in order; of a sweep only the first one is
+    compared. `report` and `scenario` are the names of both files."""
+    given = [(row.policy, row.s, row.S) for row in rows]
+    wanted = [(policy.name, policy.s, policy.S) for policy in policies]
+    if sweep:
+        given, wanted = given[:1], wanted[:1]
+    for number, (one, other) in enumerate(zip(given, wanted), 1):
+        if one != other:
+            raise Refused("{}: policy {} is {} ({}, {}), but in {} it is {} ({}, {}); give the report's own scenario"
+                          .format(report, number, *one, scenario, *other))
+    if len(given) != len(wanted):
+        is_sweep = given[:1] == wanted[:1] and len(given) > len(wanted)
+        hint = f"; for a table of crnplan sweep add {argument('sweep')}" * is_sweep
+        raise Refused(f"{report}: it has {len(given)} policies, but {scenario} has {len(wanted)}{hint}")

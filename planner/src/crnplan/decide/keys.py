@@ -10,25 +10,22 @@ from __future__ import annotations
 
 import contextlib
 import dataclasses
+import functools
 from collections.abc import Sequence
 from dataclasses import dataclass
 from pathlib import Path
-from typing import TYPE_CHECKING
 
 from .. import formats
-from ..toml.writing import plain_text
 from ..crnsim.keys import MOST_KEYS, Key, keys_of
 from ..crnsim.pooling import pooled
 from ..crnsim.report import report_text
 from ..errors import Refused, argument
 from ..files import own_folder
-from ..scenario import Policy, Scenario
+from ..scenario import Scenario
 from ..table import DataTable, Json, Result
-from .intervals import Judged, check_replications, checked_level, with_intervals, with_verdict
+from ..toml.writing import plain_text
+from .intervals import check_replications, checked_level, with_intervals, with_verdict
 from .verdicts import Decision, horizon_of
-
-if TYPE_CHECKING:
-    from .long_run import LongRunDecision
 
 LEAST_REPLICATIONS = 2
 POOLED = "pooled.csv"
@@ -41,12 +38,12 @@ class Check(Result):
 
     best: str
     keys: tuple[Key, ...]
-    decision: Decision | LongRunDecision
+    decision: Decision
 
     @property
     def holds(self) -> bool:
         """Returns whether no policy is better than the best one."""
-        return not any(with_verdict(self.decision.rows, "better"))
+        return not with_verdict(self.decision.rows, "better")
 
     @property
     def table(self) -> DataTable:
@@ -56,7 +53,14 @@ class Check(Result):
     @property
     def sentence(self) -> str:
         """Returns one sentence on what the verdicts say of the best policy."""
-        return sentence_of(self.best, self.decision.rows)
+        clauses = [] if not self.holds else ["no policy is better"]
+        for verdict, one, many in (("better", "is better", "are better"),
+                                   ("undecided", *[f"can't be told apart from {self.best}"] * 2),
+                                   ("worse", "is worse", "are worse")):
+            names = with_verdict(self.decision.rows, verdict)
+            clauses += [f"{', '.join(names)} {one if len(names) == 1 else many}"] if names else []
+        return (f"On these new histories {self.best} {'holds' if self.holds else 'does not hold'}: "
+                f"{'; '.join(clauses)}.\n")
 
     @property
     def notes(self) -> str:
@@ -75,36 +79,14 @@ class Check(Result):
         return {"best": self.best, "holds": self.holds, "keys": self.keys, **self.decision.tree}
 
 
-def sentence_of(best: str, rows: Sequence[Judged]) -> str:
-    """Returns one sentence on what the verdicts say of the best policy."""
-    better, alike, worse = (list(with_verdict(rows, it)) for it in ("better", "undecided", "worse"))
-    parts = clause_of(better, "is better", "are better") or ["no policy is better"]
-    parts += clause_of(alike, *[f"can't be told apart from {best}"] * 2)
-    parts += clause_of(worse, "is worse", "are worse")
-    return f"On these new histories {best} {'does not hold' if better else 'holds'}: {'; '.join(parts)}.\n"
-
-
-def clause_of(names: Sequence[str], one: str, many: str) -> list[str]:
-    """Returns what is said of policies, in the singular or the plural."""
-    return [f"{', '.join(names)} {one if len(names) == 1 else many}"] if names else []
-
-
-def policies_of(scenario: Scenario, best: str) -> list[Policy]:
-    """Returns the policies of a scenario, the best one first."""
+def _with_base(scenario: Scenario, best: str) -> Scenario:
+    """Returns a scenario with its best policy as the first one."""
     names = [policy.name for policy in scenario.policies]
     if best not in names:
         raise Refused(f"there is no policy {best!r}; the policies are: {', '.join(names)}")
     if len(names) == 1:
         raise Refused("the scenario has one policy; add the policies with which it should be compared")
-    return sorted(scenario.policies, key=lambda policy: policy.name != best)
-
-
-def checked_replications(replications: int) -> int:
-    """Returns the number of replications for each key. Raises Refused if it is out of range."""
-    if not LEAST_REPLICATIONS <= replications <= formats.MOST_REPLICATIONS:
-        raise Refused(f"{argument('replications', str(replications))}: there can be {LEAST_REPLICATIONS} to "
-                      f"{formats.MOST_REPLICATIONS} for each key; more come from more keys ({argument('keys')})")
-    return replications
+    return scenario.with_policies(sorted(scenario.policies, key=lambda policy: policy.name != best))
 
 
 def check_keys(scenario: Scenario, best: str, *, keys: Sequence[Sequence[str]] = (), count: int | None = None,
@@ -119,15 +101,15 @@ def check_keys(scenario: Scenario, best: str, *, keys: Sequence[Sequence[str]] =
     pooled.csv if there are several: the report of all replications. Raises Refused, also for the scenario's own key,
     and ProgramError if a run fails.
     """
-    checked_replications(replications)
+    if not LEAST_REPLICATIONS <= replications <= formats.MOST_REPLICATIONS:
+        raise Refused(f"{argument('replications', str(replications))}: there can be {LEAST_REPLICATIONS} to "
+                      f"{formats.MOST_REPLICATIONS} for each key; more come from more keys ({argument('keys')})")
     checked_level(level)
-    policies = policies_of(scenario, best)
-    all_keys = keys_of(keys, count, scenario.key)
-    asked = dataclasses.replace(scenario, replications=replications).with_policies(policies)
+    asked = dataclasses.replace(_with_base(scenario, best), replications=replications)
+    all_keys, reports = keys_of(keys, count, scenario.key), []
     with contextlib.nullcontext() if out is None else own_folder(Path(out), "check") as folder:
         if folder:
             folder.remove(*KEPT)
-        reports = []
         for number, key in enumerate(all_keys, 1):
             report = dataclasses.replace(asked, key=key).run(program=program)
             check_replications(report.rows, replications, "the report")
@@ -139,5 +121,20 @@ def check_keys(scenario: Scenario, best: str, *, keys: Sequence[Sequence[str]] =
         if folder and len(reports) > 1:
             folder.write(POOLED, report_text(rows))
     total = replications * len(reports)
-    compared = tuple(with_intervals(rows, total, level))
-    return Check(best, tuple(all_keys), Decision(compared, best, total, level, horizon_of(scenario), most=len(rows)))
+    ranked = tuple(with_intervals(rows, total, level))
+    return Check(best, tuple(all_keys), Decision(ranked, best, total, level, horizon_of(scenario), most=len(rows)))
+
+
+def check_long_run(scenario: Scenario, best: str, *, keys: Sequence[Sequence[str]] = (), count: int | None = None,
+                   runs: int = 48, level: float = 0.95, program: str | Path | None = None) -> Check:
+    """Compares each other policy with the policy named `best` in the long run, under new keys.
+
+    Keys are given and drawn as in `check_keys`. From each follow 48 keys of runs, or as many as `runs`, 2 to 256, and
+    those of all are pooled. Raises Refused, also for the scenario's own key, and ProgramError if a run fails.
+    """
+    from ..crnsim.long_run import LongRunReport
+    from .long_run import long_run_decision
+    checked_level(level)
+    asked, all_keys = _with_base(scenario, best), keys_of(keys, count, scenario.key)
+    reports = (dataclasses.replace(asked, key=key).long_run(keys=runs, program=program) for key in all_keys)
+    return Check(best, tuple(all_keys), long_run_decision(functools.reduce(LongRunReport.plus, reports), level))

@@ -1,47 +1,48 @@
-"""Says how much each policy of a scenario may cost too much if the scenario is not quite right.
+"""Says how much each policy of a scenario may cost too much if the scenario is not quite right, and how the best moves.
 
-The cases are the scenario itself (`base`); demand 10% up and down; every lead time one period longer; the cost
-`backlog` halved and doubled. All else stays as it is, the key too. Costs with another `backlog` follow exactly from the
-items owed, which one run counts.
+Each case changes one thing. `sensitivity` asks crnsim what the policies cost in the scenario itself (`base`), with
+demand 10% up and down, with every lead time one period longer, and with the cost `backlog` halved and doubled. All else
+stays as it is, the key too. Costs with another `backlog` follow exactly from the items owed, which one run counts.
+`moves_of` asks theory which policy is best in the long run of each case, and what it costs to keep the chosen one.
 
-This is not proved; crnsim's figures are, and decimals are rounded.
+This is not proved; crnsim's figures are. Theory's figures and all decimals are rounded.
 """
 from __future__ import annotations
 
 import dataclasses
 import math
 from collections import Counter
-from collections.abc import Iterator, Mapping, Sequence
+from collections.abc import Callable, Iterator, Mapping, Sequence
 from dataclasses import dataclass
 from fractions import Fraction
 from functools import cached_property
 from pathlib import Path
+from typing import TYPE_CHECKING
 
 from .. import formats
 from ..crnsim.counts import all_totals, counting
 from ..crnsim.program import find_program
+from ..errors import Refused
 from ..law import Law
-from ..scenario import Policy, Scenario
-from ..table import Cell, Column, DataTable, Json, Result, aligned, number, text
+from ..scenario import Costs, Policy, Scenario
+from ..table import Cell, Column, DataTable, Json, Result, aligned, number, text, whole
 from .verdicts import POLICY, horizon_of
 
+if TYPE_CHECKING:
+    from ..theory.long_run import Figures
+
 CHANGES = [("demand_up", 11, "demand 10% up"), ("demand_down", 9, "demand 10% down")]
+AS_IT_IS = "as it is"
+MOVES = (
+    text("case", "what differs; all else is as it is"), whole("s", "items", "reorder point of the best policy there"),
+    whole("S", "items", "its order-up-to level"), number("cost", "money a period", "its cost", "", ".2f"),
+    number("fill", "share", "demand that it meets at once", "", ".2%"),
+    number("kept_cost", "money a period", "cost of the chosen policy there", "", ".2f"),
+    number("kept_more", "share", "how much more than the best that is", "", "+.2%"),
+    number("kept_fill", "share", "demand that the chosen policy meets at once", "", ".2%"))
 # The regret of a policy in a case: money per period, and percent of the least cost, None if that is 0.
 Regret = tuple[Fraction, Fraction | None]
-
-
-@dataclass(frozen=True)
-class Case:
-    """A case: its name, and the cost per period of each policy, in the scenario's order."""
-
-    name: str
-    costs: tuple[Fraction, ...]
-
-    @cached_property
-    def regrets(self) -> list[Regret]:
-        """Returns the regret of each policy: its cost less that of the case's cheapest policy."""
-        least = min(self.costs)
-        return [(cost - least, 100 * (cost - least) / least if least else None) for cost in self.costs]
+Levels = tuple[int, int]
 
 
 @dataclass(frozen=True)
@@ -56,46 +57,50 @@ class Loss:
 
 @dataclass(frozen=True)
 class Sensitivity(Result):
-    """What each policy may cost too much: exact costs by case, and remarks on cases that are not exact or left out.
-
-    `horizon` says whether the costs are of the long run or of the coming periods.
-    """
+    """What each policy may cost too much. `costs` has by case the exact cost a period of each policy. `remarks` are on
+    cases that are not exact or left out."""
 
     policies: tuple[Policy, ...]
-    cases: tuple[Case, ...]
+    costs: Mapping[str, Sequence[Fraction]]
     remarks: tuple[str, ...]
     horizon: str
 
     @cached_property
     def losses(self) -> list[Loss]:
-        """Returns the regrets of each policy. The policy with the least greatest regret comes first."""
-        def loss(policy: Policy, *regrets: Regret) -> Loss:
-            """Returns the regrets of a policy with the greatest one."""
-            place = max(range(len(regrets)), key=lambda it: regrets[it][0])
-            return Loss(policy, regrets, regrets[place], self.cases[place].name)
-        losses = map(loss, self.policies, *(case.regrets for case in self.cases))
-        return sorted(losses, key=lambda it: it.greatest[0])
+        """Returns the regrets of each policy: its cost less that of the case's cheapest policy. The policy with the
+        least greatest regret comes first."""
+        losses = list[Loss]()
+        for place, policy in enumerate(self.policies):
+            above = [(costs[place] - min(costs), min(costs)) for costs in self.costs.values()]
+            regrets = tuple((more, 100 * more / least if least else None) for more, least in above)
+            greatest, worst = max(zip(regrets, self.costs), key=lambda pair: pair[0][0])
+            losses.append(Loss(policy, regrets, greatest, worst))
+        return sorted(losses, key=lambda loss: loss.greatest[0])
 
     @property
     def cheapest(self) -> list[tuple[str, str, Fraction]]:
         """Returns the name of each case, its cheapest policy, of several the first by rank, and that policy's cost."""
-        return [(case.name, next(it.policy.name for it in self.losses if it.regrets[place][0] == 0), min(case.costs))
-                for place, case in enumerate(self.cases)]
+        return [(case, next(loss.policy.name for loss in self.losses if loss.regrets[place][0] == 0), min(costs))
+                for place, (case, costs) in enumerate(self.costs.items())]
 
     @property
     def table(self) -> DataTable:
         """Returns the regret of each policy in each case, indexed by `policy`, the least greatest regret first."""
         rows: list[list[Cell]] = [
-            [it.policy.name, it.policy.s, it.policy.S, *(None if figure is None else float(figure) for regret in (
-                *it.regrets, it.greatest) for figure in regret), it.worst] for it in self.losses]
-        return DataTable(columns_of([it.name for it in self.cases]), rows, index="policy")
+            [loss.policy.name, loss.policy.s, loss.policy.S, *(None if figure is None else float(figure) for regret in (
+                *loss.regrets, loss.greatest) for figure in regret), loss.worst] for loss in self.losses]
+        return DataTable(columns_of([*self.costs]), rows, index="policy")
 
     @property
     def text(self) -> str:
         """Returns the table, the cheapest policy of each case, and the notes. The first line is the horizon."""
-        heading = ["policy", "s", "S", *(case.name for case in self.cases), "greatest", "in"]
-        cells = [[it.policy.name, str(it.policy.s), str(it.policy.S), *map(cell, (*it.regrets, it.greatest)), it.worst]
-                 for it in self.losses]
+        def cell(regret: Regret) -> str:
+            """Returns a regret as text."""
+            money, percent = regret
+            return f"{float(money):.3f}" + ("" if percent is None else f" ({float(percent):.2f}%)")
+        heading = ["policy", "s", "S", *self.costs, "greatest", "in"]
+        cells = [[loss.policy.name, str(loss.policy.s), str(loss.policy.S), *map(cell, (*loss.regrets, loss.greatest)),
+                  loss.worst] for loss in self.losses]
         table = [[case, name, f"{float(cost):.3f}"] for case, name, cost in self.cheapest]
         return (f"{self.horizon}\n\n" + aligned([heading, *cells], (0, len(heading) - 1))
                 + "\nregret: cost per period above the cheapest policy of the case\n\n"
@@ -121,44 +126,31 @@ def columns_of(cases: Sequence[str]) -> list[Column]:
     return [*POLICY, *regrets, text("greatest_case", "the case with the greatest regret")]
 
 
-def cell(regret: Regret) -> str:
-    """Returns a regret as text."""
-    money, percent = regret
-    return f"{float(money):.3f}" + ("" if percent is None else f" ({float(percent):.2f}%)")
-
-
-def scaled_down(weights: Mapping[int, int]) -> Law:
-    """Returns the table of weights that come to 65,536 at most.
-
-    They are divided by their common divisor, or else scaled to 65,536 and rounded so that their sum stays right.
-    """
-    common = math.gcd(*weights.values())
-    weights = {value: weight // common for value, weight in weights.items()}
-    total = sum(weights.values())
-    if total <= formats.MOST_WEIGHT:
-        return Law.of(weights)
-    shares = {value: divmod(weight * formats.MOST_WEIGHT, total) for value, weight in weights.items()}
-    rest = formats.MOST_WEIGHT - sum(whole for whole, _ in shares.values())
-    rounded_up = set(sorted(shares, key=lambda value: -shares[value][1])[:rest])
-    return Law.of({value: whole + (value in rounded_up) for value, (whole, _) in shares.items()})
-
-
 def changed_demand(demand: Law, tenths: int) -> Law:
     """Returns the demands of which each is multiplied by so many tenths.
 
     If that is not whole, it becomes the whole numbers below and above, with the weight shared so that the mean is
-    right.
+    right. If the weights come to more than 65,536, they are scaled to that and rounded so that their sum stays right.
     """
-    weights: Counter[int] = Counter()
+    counts: Counter[int] = Counter()
     for value, weight in zip(demand.values, demand.weights):
         low, rest = divmod(tenths * value, 10)
-        weights[low] += weight * (10 - rest)
-        weights[low + 1] += weight * rest
-    return scaled_down(weights)
+        counts[low] += weight * (10 - rest)
+        counts[low + 1] += weight * rest
+    common = math.gcd(*counts.values())
+    weights = {value: weight // common for value, weight in counts.items()}
+    total = sum(weights.values())
+    if total <= formats.MOST_WEIGHT:
+        return Law.of(weights)
+    shares = {value: divmod(weight * formats.MOST_WEIGHT, total) for value, weight in weights.items()}
+    missing = formats.MOST_WEIGHT - sum(share for share, _ in shares.values())
+    rounded_up = set(sorted(shares, key=lambda value: -shares[value][1])[:missing])
+    return Law.of({value: share + (value in rounded_up) for value, (share, _) in shares.items()})
 
 
-def demand_cases(scenario: Scenario, notes: list[str]) -> Iterator[tuple[str, Scenario]]:
-    """Yields the cases with another demand. What cannot be done exactly or at all goes to the notes."""
+def law_cases(scenario: Scenario, notes: list[str]) -> Iterator[tuple[str, Scenario]]:
+    """Yields the cases with another demand, and with longer lead times. What cannot be done exactly or at all goes to
+    the notes."""
     for name, tenths, words in CHANGES:
         demand = changed_demand(scenario.demand, tenths)
         if demand.values[-1] > formats.MOST_DEMAND:
@@ -169,24 +161,12 @@ def demand_cases(scenario: Scenario, notes: list[str]) -> Iterator[tuple[str, Sc
         if after != before * tenths / 10:
             notes.append(f"{words}: by rounded weights the mean is {float(after / before) - 1:+.4%}")
         yield name, dataclasses.replace(scenario, demand=demand)
-
-
-def lead_cases(scenario: Scenario, notes: list[str]) -> Iterator[tuple[str, Scenario]]:
-    """Yields the case with longer lead times. A note says if it is left out."""
     lead = Law.of({value + 1: weight for value, weight in zip(scenario.lead.values, scenario.lead.weights)})
     if lead.values[-1] > formats.MOST_LEAD:
         notes.append(f"lead time plus 1 is left out: a lead time would be {lead.values[-1]}, which is over "
                      f"{formats.MOST_LEAD}")
     else:
         yield "lead_plus_1", dataclasses.replace(scenario, lead=lead)
-
-
-def costs_of(scenarios: Sequence[Scenario], program: str | Path | None, long_run: bool) -> list[list[Fraction]]:
-    """Returns the cost per period of each policy of each scenario."""
-    if long_run:
-        return [[row.per_period for row in it.long_run(program=program).rows] for it in scenarios]
-    totals = zip(scenarios, all_totals(find_program(program), scenarios))
-    return [[Fraction(total, it.periods * it.replications) for total in its] for it, its in totals]
 
 
 def sensitivity(scenario: Scenario, *, long_run: bool = False, program: str | Path | None = None) -> Sensitivity:
@@ -197,11 +177,137 @@ def sensitivity(scenario: Scenario, *, long_run: bool = False, program: str | Pa
     over 10,000 or a lead time over 32, is left out. Raises ProgramError if a run fails.
     """
     notes: list[str] = []
-    cases = {"base": scenario, **dict(demand_cases(scenario, notes)), **dict(lead_cases(scenario, notes))}
-    *found, owed = costs_of([*cases.values(), counting(scenario, "backlog")], program, long_run)
-    costs, rate = dict(zip(cases, found)), scenario.costs.backlog
+    cases = {"base": scenario, **dict(law_cases(scenario, notes))}
+    asked = [*cases.values(), counting(scenario, "backlog")]
+    if long_run:
+        runs = [[row.per_period for row in case.long_run(program=program).rows] for case in asked]
+    else:
+        runs = [[Fraction(total, case.periods * case.replications) for total in totals]
+                for case, totals in zip(asked, all_totals(find_program(program), asked))]
+    costs, rate = dict(zip(cases, runs)), scenario.costs.backlog
     for name, change in (("backlog_half", Fraction(-rate, 2)), ("backlog_double", Fraction(rate))):
-        costs[name] = [cost + change * items for cost, items in zip(found[0], owed)]
-    return Sensitivity(scenario.policies, tuple(Case(name, tuple(its)) for name, its in costs.items()), tuple(notes),
+        costs[name] = [cost + change * items for cost, items in zip(runs[0], runs[-1])]
+    return Sensitivity(scenario.policies, costs, tuple(notes),
                        "The long run, each policy from a state of its own, without unit" if long_run else
                        f"The {horizon_of(scenario)}")
+
+
+@dataclass(frozen=True)
+class Case:
+    """A case in words, and its scenario. All its costs count `times` as much, since half of a cost may not be whole.
+
+    `fill` is the share of demand that is to be met at once, None if none is wanted.
+    """
+
+    words: str
+    scenario: Scenario
+    fill: float | None = None
+    times: int = 1
+
+
+@dataclass(frozen=True)
+class Found:
+    """The best policy of a case, with its figures, and those of the policy that is kept."""
+
+    best: Levels
+    figures: Figures
+    kept: Figures
+
+
+@dataclass(frozen=True)
+class Move:
+    """What is best in a case, and what keeping the chosen policy amounts to there.
+
+    Costs are of a period, in the scenario's money; `fill` is the share of demand met at once.
+    """
+
+    words: str
+    s: int
+    S: int
+    cost: float
+    fill: float
+    kept_cost: float
+    kept_fill: float
+
+    @property
+    def kept_more(self) -> float:
+        """Returns by which share of the best cost keeping the policy costs more; nan if the best costs nothing."""
+        return self.kept_cost / self.cost - 1 if self.cost else math.nan
+
+
+@dataclass(frozen=True)
+class Moves(Result):
+    """The moves in all cases, the first one being the scenario as it is, and remarks on cases that are left out."""
+
+    kept: str
+    moves: tuple[Move, ...]
+    remarks: tuple[str, ...]
+
+    @property
+    def table(self) -> DataTable:
+        """Returns the cases."""
+        return DataTable(MOVES, [[move.words, move.s, move.S, move.cost, move.fill, move.kept_cost, move.kept_more,
+                                  move.kept_fill] for move in self.moves])
+
+    @property
+    def notes(self) -> str:
+        """Returns what the columns mean, and the remarks."""
+        return "\n".join([
+            "", "case: what differs; all else is as it is. s, S, cost, fill: of the best policy in that case",
+            f"kept_cost, kept_more, kept_fill: of {self.kept}, and how much more than the best it costs",
+            "by theory in the long run, rounded and unproved; costs of a period, in the scenario's money",
+            *([""] if self.remarks else []), *self.remarks, ""])
+
+    @property
+    def text(self) -> str:
+        """Returns the table below its heading, and the notes."""
+        return f"How the best policy moves, and what it costs to keep the chosen one\n\n{self.table.text}{self.notes}"
+
+
+def cases_of(scenario: Scenario, fill: float | None, notes: list[str]) -> Iterator[Case]:
+    """Yields all cases: each cost that there is halved and doubled, half and twice as much demand that need not be met
+    at once, and other laws. What cannot be changed exactly, or at all, goes to the notes."""
+    yield Case(AS_IT_IS, scenario, fill)
+    costs = dataclasses.asdict(scenario.costs)
+    for name in ("setup", "holding", "backlog"):
+        if costs[name]:
+            halved = Costs(**{other: cost if other == name else 2 * cost for other, cost in costs.items()})
+            doubled = Costs(**costs | {name: 2 * costs[name]})
+            yield Case(f"{name} halved", dataclasses.replace(scenario, costs=halved), fill, 2)
+            yield Case(f"{name} doubled", dataclasses.replace(scenario, costs=doubled), fill)
+    for times in (0.5, 2.0):
+        other_fill = 0.0 if fill is None else 1 - times * (1 - fill)
+        if other_fill > 0:
+            yield Case(f"fill rate of {100 * other_fill:.4g}% wanted", scenario, other_fill)
+    words = {name: words for name, _, words in CHANGES} | {"lead_plus_1": "lead times one period longer"}
+    for name, changed in law_cases(scenario, notes):
+        yield Case(words[name], changed, fill)
+
+
+def found_of(case: Case, kept: Levels) -> Found:
+    """Returns the best policy of a case with a backlog cost. Raises NoTheory."""
+    from ..theory.lattice import NoTheory, theories_of
+    theory, _ = theories_of(case.scenario, kept[1] - kept[0])
+    best = theory.best()
+    if best.cost == math.inf:
+        raise NoTheory("there is no best policy within the ranges of s and S")
+    return Found((best.point, best.level), theory.figures(best.point, best.level), theory.figures(*kept))
+
+
+def moves_of(scenario: Scenario, name: str, kept: Levels, *, fill: float | None = None,
+             find: Callable[[Case, Levels], Found] = found_of) -> Moves:
+    """Returns how the best policy moves, and what it costs to keep a policy of this name and levels.
+
+    `fill` is the share of demand that is to be met at once, if one is wanted. `find` finds the best policy of a case;
+    if it raises Refused, the case is left out with a note.
+    """
+    notes, moves = list[str](), list[Move]()
+    for case in cases_of(scenario, fill, notes):
+        try:
+            found = find(case, kept)
+        except Refused as fault:
+            notes.append(f"{case.words} is left out: {fault}")
+            continue
+        moves.append(Move(case.words, *found.best, found.figures.cost / case.times, found.figures.fill,
+                          found.kept.cost / case.times, found.kept.fill))
+    return Moves(name, tuple(moves), tuple(notes))

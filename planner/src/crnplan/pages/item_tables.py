@@ -75,7 +75,7 @@ def coming_of(words: ItemWords) -> DataTable | None:
         return None
     figures = {it.name: it.figures for it in words.compared}
     rows: list[list[Cell]] = [
-        [it.policy, figures[it.policy].point, figures[it.policy].level, words.question.money(float(it.per_period)),
+        [it.policy, figures[it.policy].point, figures[it.policy].level, words.question.money(it.cost),
          *words.ends_of(it), it.verdict] for it in words.coming.rows]
     return DataTable(COMING_COLUMNS, rows, words.decimals, index="policy")
 

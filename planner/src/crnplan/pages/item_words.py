@@ -15,7 +15,7 @@ from ..errors import Fault, spelt, worded
 from ..plan.answer import CHEAPER, CHOSEN, DEARER, SAME, SERVICE, THEORY, UNDECIDED, Figures
 from ..plan.depth import Coming, Compared, Depth
 from ..plan.settings import as_setting
-from ..decide.moves import Moves
+from ..decide.sensitivity import Moves
 from ..records.item import Item
 from ..records.dates import EVERY, period_name
 from ..remarks import Remark
@@ -112,7 +112,7 @@ class ItemWords:
         assert self.coming is not None
         periods = self.coming.scenario.periods
         low, high = (None if it is None else self.question.money(it / periods) for it in (row.low, row.high))
-        return self.question.money(float(row.diff_mean) / periods), low, high
+        return self.question.money(row.diff / periods), low, high
 
     def spoken(self, saving: float) -> str:
         """Returns a saving in words."""

@@ -15,12 +15,11 @@ from typing import Any
 import numpy as np
 
 from ..chances import Floats
-from ..crnsim.report import Row
 from ..crnsim.trajectory import Period
 from ..curve.exchange import Point
 from ..decide.doubt import MOST, Doubt
 from ..decide.intervals import Compared
-from ..decide.verdicts import Decision, listed
+from ..decide.verdicts import Decision
 from ..errors import Refused
 from ..scenario import Policy
 
@@ -96,7 +95,7 @@ def name_right(axes: Axes, names: Sequence[str]) -> None:
     right.spines["right"].set_visible(False)
 
 
-def label_of(row: Row) -> str:
+def label_of(row: Compared) -> str:
     """Returns a policy's name with its levels."""
     return f"{row.policy} ({row.s}, {row.S})"
 
@@ -109,14 +108,14 @@ def base_of(decision: Decision) -> Compared:
 @settings()
 def differences_picture(decision: Decision) -> Figure:
     """Returns a picture of `diff_mean` of each listed policy with its interval."""
-    rows, base = listed(decision.rows), base_of(decision)
+    rows, base = decision.listed, base_of(decision)
     figure, (axes,) = blank(9, 2.3 + 0.3 * len(rows))
     axes.axvline(0, color="black", linewidth=0.8)
     for place, row in enumerate(rows):
         style = marker_of(*VERDICTS[row.verdict])
         if row.low is not None:
             axes.plot([row.low, row.high], [place, place], color=style["color"], linewidth=2, solid_capstyle="butt")
-        axes.plot(float(row.diff_mean), place, markersize=12 if row.verdict == "base" else 7, **style)
+        axes.plot(row.diff, place, markersize=12 if row.verdict == "base" else 7, **style)
     axes.set_yticks(range(len(rows)), [label_of(row) for row in rows])
     axes.set_ylim(len(rows) - 0.4, -0.6)
     axes.grid(axis="y", color="#dddddd", linewidth=0.6)
@@ -124,8 +123,8 @@ def differences_picture(decision: Decision) -> Figure:
     axes.ticklabel_format(axis="x", style="plain", useOffset=False)
     axes.xaxis.set_major_formatter(NUMBER)
     axes.locator_params(axis="x", nbins=7)
-    if base.total:
-        name_right(axes, ["" if row.percent is None else f"{float(row.percent):+.2f}%" for row in rows])
+    if base.percent is not None:
+        name_right(axes, ["" if row.percent is None else f"{row.percent:+.2f}%" for row in rows])
     is_single, most = decision.replications == 1, len(decision.rows)
     spread = "one replication: no intervals" if is_single else f"joint level {100 * decision.level:g}%"
     axes.set_xlabel(f"cost of a replication less that of {base.policy}\nin the scenario's money; {spread}")
@@ -143,13 +142,13 @@ def least_step(levels: Iterable[int]) -> int:
     return min((high - low for low, high in itertools.pairwise(sorted({*levels}))), default=1)
 
 
-def draw_cells(axes: Axes, rows: Sequence[Row], widths: tuple[int, int], shades: cm.ScalarMappable) -> None:
+def draw_cells(axes: Axes, rows: Sequence[Compared], widths: tuple[int, int], shades: cm.ScalarMappable) -> None:
     """Draws a cell for each pair of s and S, with its cost if there is room."""
     across = max(row.s for row in rows) - min(row.s for row in rows)
     down = max(row.S for row in rows) - min(row.S for row in rows)
     has_room = across / widths[0] < NARROW_CELLS and down / widths[1] < 2 * NARROW_CELLS
     for row in rows:
-        cost = float(row.per_period)
+        cost = row.cost
         colour = shades.to_rgba(cost)
         axes.add_patch(Rectangle((row.s - widths[0] / 2, row.S - widths[1] / 2), *widths, facecolor=colour,
                                  edgecolor="white", linewidth=0.4))
@@ -160,7 +159,7 @@ def draw_cells(axes: Axes, rows: Sequence[Row], widths: tuple[int, int], shades:
                       color="black" if grey > 0.5 else "white")
 
 
-def draw_frames(axes: Axes, best: Row, base: Row, widths: tuple[int, int]) -> None:
+def draw_frames(axes: Axes, best: Compared, base: Compared, widths: tuple[int, int]) -> None:
     """Frames the best pair and the base, and names both above the axes."""
     handles, names = [], []
     for row, style, name in ((best, "solid", "best"), (base, "dashed", "base")):
@@ -170,7 +169,7 @@ def draw_frames(axes: Axes, best: Row, base: Row, widths: tuple[int, int]) -> No
                                                              "linestyle": "solid"}))
         axes.add_patch(Rectangle(corner, *widths, **frame))
         handles.append(Rectangle((0, 0), 1, 1, **frame))
-        names.append(f"{name}: {label_of(row)}, {float(row.per_period):,.3f} a period")
+        names.append(f"{name}: {label_of(row)}, {row.cost:,.3f} a period")
     axes.legend(handles, names, **ABOVE)
 
 
@@ -178,7 +177,7 @@ def draw_frames(axes: Axes, best: Row, base: Row, widths: tuple[int, int]) -> No
 def map_picture(decision: Decision) -> Figure:
     """Returns a picture of the cost per period over reorder point and order-up-to level."""
     rows, base = decision.rows, base_of(decision)
-    costs = [float(row.per_period) for row in rows]
+    costs = [row.cost for row in rows]
     figure, (axes,) = blank(9, 7)
     norm = colors.PowerNorm(0.5, min(costs), max(max(costs), min(costs) + 1e-9))
     shades = cm.ScalarMappable(norm, "cividis")

@@ -28,7 +28,7 @@ from ..theory.many_laws import figures_of_laws
 from ..theory.suggestions import FILLS, Chosen, add_fills, chosen_policies
 from .answer import ALONE, CHOSEN, THEORY, TODAY, Answer, Figures
 from .one import LAWS, Sample, allowed_by, choice_of, figures_of, interval, quantile, sample_of
-from ..decide.moves import Case, Found, Moves, moves_of
+from ..decide.sensitivity import Case, Found, Moves, moves_of
 from .question import Levels, Question
 
 MOST_PERIODS = 104  # of a trajectory
