@@ -11,8 +11,9 @@ functions, types, closures and the clauses of loops, "proof" only from proofs an
 
     reached by CONTRACT   the definitions that it reaches and none above has reached, in the order in which it reaches
                           them. A statement or a type has its meaning, which is the comment above it, unless the page
-                          has its name in bold and in code; a function is only named
-    kept                  those that only invariants reach from the contracts of CHAIN
+                          has its name in bold and in code. A function is only named; if the contracts of CHAIN reach
+                          all functions of a file, the first list with one of them says so
+    kept                  the names of those that only invariants reach from the contracts of CHAIN
     ensures CONTRACT      its `ensures` clauses, as they stand in the source
 
 It goes by names and scopes, not by types: what a binder hides, or stands behind a dot, is no definition. In doubt it
@@ -207,14 +208,21 @@ def is_statement(name):
     return name.lstrip("◌")[:1].isupper()
 
 
-def lines_of(repository, nodes, told):
-    """The lines of a list: the files in the order in which they are reached, in each its definitions."""
+def lines_of(repository, nodes, told, sorts, listed=()):
+    """The lines of a list: the files in the order in which they are reached, in each its definitions.
+
+    It takes the names that the page explains, the sorts by the contracts of CHAIN, and what stands in the lists above.
+    """
     for place in dict.fromkeys(place_of(it) for it in nodes):
         here = sorted((it for it in nodes if place_of(it) == place), key=lambda it: repository.definitions[it].line)
-        named = [it for it in here if not is_statement(it[3]) or it[3] in told]
-        yield f"\n[`{here[0][1]}`, {here[0][2]}](../{place})"
-        yield from ["", *(f"- `{it[3]}`: {repository.meaning(it)}" for it in here if it not in named)]
-        yield from [f"- {', '.join(f'`{it[3]}`' for it in named)}"] if named else []
+        explained = [it for it in here if is_statement(it[3]) and it[3] not in told]
+        functions = [it for it in repository.definitions if place_of(it) == place and not is_statement(it[3])]
+        is_whole = len(functions) > 1 and all(sorts[it] == "stated" for it in functions)
+        named = [f"`{it[3]}`" for it in here if it not in explained and not (is_whole and it in functions)]
+        if is_whole and not set(functions) & set(listed) and set(functions) & set(here):
+            named.append("all functions")
+        yield f"\n[`{here[0][1]}`, {here[0][2]}](../{place}){': ' if named else ''}{', '.join(named)}"
+        yield from ["", *(f"- `{it[3]}`: {repository.meaning(it)}" for it in explained)] if explained else []
 
 
 def clauses_of(repository, node):
@@ -243,11 +251,11 @@ def filled(repository, text):
         elif mark == "kept":
             kept = [it for it in repository.definitions if sorts[it] == "kept"]
             kept.sort(key=lambda it: (*it[1:3], repository.definitions[it].line))
-            lines = lines_of(repository, kept, told)
+            lines = lines_of(repository, kept, {it[3] for it in kept}, sorts)
         else:
             nodes = [it for it in repository.levels([public[path]]) if it not in shown]
+            lines = list(lines_of(repository, nodes, told, sorts, shown))
             shown.update(nodes)
-            lines = lines_of(repository, nodes, told)
         return "\n".join([f"<!-- {' '.join([mark, path]).strip()} -->", *lines, "<!-- end -->"])
 
     return PART.sub(part, text)

@@ -11,10 +11,10 @@ from tests.documents.markdown import spans_of, text_of
 from tests.runs import TOP
 from tools.edits import FOLDERS, Edit, crates, edits_of
 
-LISTED = {name: below.split() for name, below in re.findall(r"^(\w+):(.*)$", text_of("crates.txt"), re.MULTILINE)}
+LISTED = re.findall(r"^(\w+):", text_of("crates.txt"), re.MULTILINE)
 # The table of crates stands above that of crnplan's packages.
 CRATES = text_of("docs/ARCHITECTURE.md").partition("| Module | Contents |")[0]
-ROWS = dict(re.findall(r"^\| `((?:crn|tests_|uses)[a-z_]*)` \|[^|]*\|([^|]*)\|", CRATES, re.MULTILINE))
+ROWS = re.findall(r"^\| `((?:crn|tests_|uses)[a-z_]*)` \|", CRATES, re.MULTILINE)
 # What the program gives out. Each is defined in a crate below it, so main.rt compiles only if it is there.
 PROGRAM_NAMES = {"simulate", "leg", "resume", "migrate", "replay_run", "read_words", "Command", "Fault"}
 # Names in pages that stand for any of their kind.
@@ -28,12 +28,6 @@ SENTENCES = Counter(it.what for it in EDITS)
 def test_map_has_each_crate() -> None:
     """ARCHITECTURE lists the crates of crates.txt."""
     assert sorted(ROWS) == sorted(LISTED)
-
-
-@pytest.mark.parametrize("name", ROWS)
-def test_map_of_crate(name: str) -> None:
-    """ARCHITECTURE says which crates a crate stands on."""
-    assert sorted(re.findall("`([a-z_]+)`", ROWS[name])) == sorted(LISTED[name])
 
 
 def test_program_gives_out_its_names() -> None:
