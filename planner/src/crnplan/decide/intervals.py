@@ -111,6 +111,13 @@ def estimates_of(rows: Sequence[Row], replications: int, periods: int, shifts: S
     return estimates
 
 
+def verdict_of(low: float | None, high: float | None) -> str:
+    """Returns what the interval of a difference from the base says of a policy."""
+    if low is None or high is None or low <= 0 <= high:
+        return "undecided"
+    return "worse" if low > 0 else "better"
+
+
 def compared(rows: Sequence[Row], estimates: Sequence[Estimate], percents: Sequence[float | None], level: float,
              replications: int) -> Iterator[Compared]:
     """Yields the policies of a report, in its order, with their intervals. Raises Refused if the level is not between 0
@@ -124,11 +131,8 @@ def compared(rows: Sequence[Row], estimates: Sequence[Estimate], percents: Seque
         low, high = (None, None) if error is None else (own.difference - joint * error, own.difference + joint * error)
         half = None if own.own_error is None else single * own.own_error
         cost_low, cost_high = (None, None) if half is None else (own.cost - half, own.cost + half)
-        verdict = "base" if place == 0 else "undecided"
-        if low is not None and high is not None and not low <= 0 <= high:
-            verdict = "worse" if low > 0 else "better"
         yield Compared(row.policy, row.s, row.S, own.cost, cost_low, cost_high, own.difference, percent, error, low,
-                       high, verdict)
+                       high, verdict_of(low, high) if place else "base")
 
 
 def with_intervals(rows: Sequence[Row], replications: int, level: float) -> list[Compared]:
