@@ -6,7 +6,6 @@ import dataclasses
 import hashlib
 import json
 import sqlite3
-import types
 import typing
 from collections.abc import Callable, Iterable, Iterator, Mapping, Sequence
 from fractions import Fraction
@@ -48,12 +47,12 @@ def _tuples(value: Any) -> Any:
 
 # How values of a type are kept in a cell, and read again. Fractions, tuples and remarks are texts.
 KINDS: dict[Any, tuple[Callable[[Any], Cell], Callable[[Any], Any]]] = {
-    int: (lambda it: it if -LARGEST <= it < LARGEST else str(it), int), float: (float, float), str: (str, str),
-    bool: (int, bool), Fraction: (str, Fraction),
-    tuple: (lambda it: json.dumps(it, separators=(",", ":")), lambda it: _tuples(json.loads(it))),
-    Remark: (lambda it: json.dumps([it.code, it.facts]), lambda it: Remark(*json.loads(it))),
-    (Remark,): (lambda its: json.dumps([[it.code, it.facts] for it in its]),
-                lambda it: tuple(Remark(*its) for its in json.loads(it)))}
+    int: (lambda number: number if -LARGEST <= number < LARGEST else str(number), int), float: (float, float),
+    str: (str, str), bool: (int, bool), Fraction: (str, Fraction),
+    tuple: (lambda values: json.dumps(values, separators=(",", ":")), lambda text: _tuples(json.loads(text))),
+    Remark: (lambda remark: json.dumps([remark.code, remark.facts]), lambda text: Remark(*json.loads(text))),
+    tuple[Remark, ...]: (lambda remarks: json.dumps([[remark.code, remark.facts] for remark in remarks]),
+                         lambda text: tuple(Remark(*parts) for parts in json.loads(text)))}
 
 
 @contextlib.contextmanager
@@ -70,37 +69,31 @@ def damages_of(path: Path) -> Iterator[None]:
 def check_whole(base: sqlite3.Connection, path: Path) -> None:
     """Raises Damaged if a store is not whole, as SQLite sees it."""
     with damages_of(path):
-        for (found,) in base.execute("PRAGMA quick_check(1)"):
-            if found != "ok":
-                raise Damaged(path, str(found))
+        for (state,) in base.execute("PRAGMA quick_check(1)"):
+            if state != "ok":
+                raise Damaged(path, str(state))
 
 
 class Columns(Generic[Row]):
-    """The columns in which values of a frozen dataclass are kept.
+    """The columns in which values of a type are kept: one, or for a frozen dataclass those of its fields.
 
     A field that is a dataclass itself has a column for each of its own fields, with its name before theirs. None stands
     in all columns of a value that is not there.
     """
 
-    def __init__(self, kind: type[Row], prefix: str = "") -> None:
-        """Looks at the fields of a class."""
-        self.kind, self.names = kind, list[str]()
-        self.parts: list[tuple[str, bool, Columns[Any] | None, Callable[[Any], Cell], Callable[[Any], Any]]] = []
-        hints = typing.get_type_hints(kind)
-        for it in dataclasses.fields(kind):
-            args = typing.get_args(hints[it.name])
-            is_union = typing.get_origin(hints[it.name]) in (types.UnionType, typing.Union)
-            hint = next(arg for arg in args if arg is not type(None)) if is_union else hints[it.name]
-            name = f"{prefix}{it.name}"
-            if dataclasses.is_dataclass(hint) and hint is not Remark:
-                nested = Columns[Any](typing.cast(type, hint), f"{name}_")
-                self.parts.append((it.name, is_union, nested, str, str))
-                self.names += nested.names
-                continue
-            is_tuple = typing.get_origin(hint) is tuple
-            key = (Remark,) if is_tuple and typing.get_args(hint)[0] is Remark else tuple if is_tuple else hint
-            self.parts.append((it.name, is_union, None, *KINDS[key]))
-            self.names.append(name)
+    def __init__(self, kind: type[Row], name: str = "") -> None:
+        """Looks at a type, whose union with None counts as that type."""
+        self.kind, self.names, self.parts = kind, [name], list[tuple[str, slice, Columns[Any]]]()
+        if dataclasses.is_dataclass(kind) and kind is not Remark:
+            self.names, hints, prefix = [], typing.get_type_hints(kind), f"{name}_" if name else ""
+            for field in dataclasses.fields(kind):
+                types = [hint for hint in typing.get_args(hints[field.name]) if hint is not type(None)]
+                is_union = type(None) in typing.get_args(hints[field.name])
+                part = Columns[Any](types[0] if is_union else hints[field.name], f"{prefix}{field.name}")
+                self.parts.append((field.name, slice(len(self.names), len(self.names) + len(part.names)), part))
+                self.names += part.names
+        else:
+            self.written, self.read = KINDS[kind if kind in KINDS else typing.get_origin(kind)]
 
     def insert(self, table: str) -> str:
         """Returns what has SQL add the cells of a value to a table with these columns."""
@@ -110,28 +103,18 @@ class Columns(Generic[Row]):
         """Returns the cells of a value; all are None if there is none."""
         if value is None:
             return [None] * len(self.names)
-        cells: list[Cell] = []
-        for name, _, nested, written, _ in self.parts:
-            part = getattr(value, name)
-            if nested:
-                cells += nested.cells(part)
-            else:
-                cells.append(None if part is None else written(part))
-        return cells
+        if not self.parts:
+            return [self.written(value)]
+        return [cell for name, _, part in self.parts for cell in part.cells(getattr(value, name))]
 
     def value(self, cells: Sequence[Cell]) -> Row:
-        """Returns the value of cells. Raises ValueError, TypeError or LookupError if they have none."""
-        parts, place = [], 0
-        for _, may_lack, nested, _, read in self.parts:
-            if nested:
-                its = cells[place:place + len(nested.names)]
-                parts.append(None if may_lack and its[0] is None else nested.value(its))
-                place += len(nested.names)
-            else:
-                cell = cells[place]
-                parts.append(None if may_lack and cell is None else read(cell))
-                place += 1
-        return self.kind(*parts)
+        """Returns the value of cells, None if the first one is. Raises ValueError, TypeError or LookupError if they
+        have none."""
+        if cells[0] is None:
+            return typing.cast(Row, None)
+        if not self.parts:
+            return typing.cast(Row, self.read(cells[0]))
+        return self.kind(*(part.value(cells[place]) for _, place, part in self.parts))
 
 
 class Store(Generic[Row]):
@@ -150,7 +133,7 @@ class Store(Generic[Row]):
             self.base.execute("PRAGMA journal_mode = WAL")
             self.base.execute("PRAGMA synchronous = NORMAL")
             check_whole(self.base, path)
-            if [it[1] for it in self.base.execute("PRAGMA table_info(answers)")] != names:
+            if [column[1] for column in self.base.execute("PRAGMA table_info(answers)")] != names:
                 self.base.executescript("DROP TABLE IF EXISTS answers; CREATE TABLE answers (item TEXT PRIMARY KEY, "
                                         f"{quoted(names[1:])})")
             with self.base:
