@@ -28,9 +28,8 @@ from .files import KEPT, bytes_digest, package_digest
 from .remarks import Remark
 from .stored import Store
 
+# Items of a batch, of which each worker has one under way: so much at most is lost if all ends by force.
 BATCH = 8
-# Batches that are under way for each worker. With one, so much at most is lost if all ends by force.
-AHEAD = 1
 # A batch of items takes seconds. After so many it is given to a further worker, and after so many workers all ends.
 LIMIT_SECONDS, MOST_TRIES = 900.0, 3
 WATCH_SECONDS = 0.5
@@ -119,7 +118,7 @@ class Processes(Workers):
 
     def __init__(self, jobs: int) -> None:
         """Starts so many when they are needed."""
-        self.most, self.is_late = AHEAD * jobs, False
+        self.most, self.is_late = jobs, False
         self.pool = futures.ProcessPoolExecutor(jobs, initializer=_begin_worker, initargs=(os.getpid(),))
 
     def submit(self, function: Callable[..., Any], words: Sequence[Any], late: Sequence[Any] = ()) -> Any:
@@ -155,21 +154,27 @@ def identity(program: str) -> dict[str, str]:
     return {"crnplan": package_digest(), "crnsim": bytes_digest(Path(path).read_bytes()) if path else ""}
 
 
-class Stranger:
-    """A worker of a cluster that would give other figures."""
+def strangeness(worker: str, own: Mapping[str, str], answer: object) -> str:
+    """Returns in which way a worker of a cluster would give other figures, by its `identity` or why it has none, beside
+    what is here; nothing if it would not."""
+    what = [f"can't say which crnplan it has ({answer})"]
+    if isinstance(answer, Mapping):
+        what = [f"has another {name}" if answer[name] else f"has no {name}" for name in own if own[name] != answer[name]]
+    return f"the worker {worker} {' and '.join(what)}, and would give other figures" if what else ""
 
-    def __init__(self, worker: str, own: Mapping[str, str], its: object) -> None:
-        """Takes the name of the worker, what is here, and its `identity`, or why it has none."""
-        what = [f"has another {name}" if its[name] else f"has no {name}" for name in own if own[name] != its[name]] \
-            if isinstance(its, Mapping) else [f"can't say which crnplan it has ({its})"]
-        self.is_one, self.text = bool(what), f"the worker {worker} {' and '.join(what)}"
+
+def check_worker(strange: str) -> None:
+    """Raises Refused if a worker would give other figures."""
+    if strange:
+        raise Refused(strange, f"{KEPT}; give all workers the crnplan and the crnsim of this machine")
 
 
-def _run_as_here(function: Callable[..., Any], own: Mapping[str, str], program: str, *words: Any) -> Any:
-    """Runs a function on a worker of a cluster, or returns the Stranger that the worker is."""
+def run_as_here(function: Callable[..., Any], own: Mapping[str, str], program: str, *words: Any) -> tuple[str, Any]:
+    """Returns the strangeness of the worker of a cluster that this runs on, and what a function returns there, which is
+    not called by a stranger."""
     worker: Any = importlib.import_module("distributed").get_worker()
-    stranger = Stranger(f"{worker.name} ({worker.address})", own, identity(program))
-    return stranger if stranger.is_one else function(*words)
+    strange = strangeness(f"{worker.name} ({worker.address})", own, identity(program))
+    return strange, None if strange else function(*words)
 
 
 class Cluster(Workers):
@@ -183,16 +188,10 @@ class Cluster(Workers):
         answers = client.run(identity, program, on_error="return")
         if not self.own["crnsim"]:
             self.own["crnsim"] = next((its["crnsim"] for its in answers.values() if isinstance(its, dict)), "")
-        names = {address: its["id"] for address, its in client.scheduler_info()["workers"].items()}
-        for address, its in answers.items():
-            self._check(Stranger(f"{names.get(address)} ({address})", self.own, its))
-        self.most = max(1, AHEAD * sum(client.ncores().values()))
-
-    def _check(self, stranger: Stranger) -> None:
-        """Raises Refused if a worker is not as this machine."""
-        if stranger.is_one:
-            raise Refused(f"{stranger.text}, and would give other figures",
-                          f"{KEPT}; give all workers the crnplan and the crnsim of this machine")
+        workers = client.scheduler_info()["workers"]
+        for address, answer in answers.items():
+            check_worker(strangeness(f"{workers.get(address, {}).get('id')} ({address})", self.own, answer))
+        self.most = max(1, sum(client.ncores().values()))
 
     def share(self, word: Any) -> Any:
         """Sends a word to all workers."""
@@ -200,11 +199,12 @@ class Cluster(Workers):
 
     def submit(self, function: Callable[..., Any], words: Sequence[Any], late: Sequence[Any] = ()) -> Any:
         """Begins to run a function on a worker, not on those where it is late, if there are others."""
-        keys = {future.key for future in late}
-        busy = {address for address, running in self.client.processing().items()
-                if keys & {*running}} if late else set()
-        others = [address for address in self.client.scheduler_info()["workers"] if address not in busy] if late else []
-        return self.client.submit(_run_as_here, function, self.own, self.program, *words, pure=False, retries=2,
+        others: list[str] = []
+        if late:
+            keys = {future.key for future in late}
+            busy = {address for address, running in self.client.processing().items() if keys & {*running}}
+            others = [address for address in self.client.scheduler_info()["workers"] if address not in busy]
+        return self.client.submit(run_as_here, function, self.own, self.program, *words, pure=False, retries=2,
                                   workers=others or None)
 
     def wait(self, running: Sequence[Any], seconds: float) -> None:
@@ -215,9 +215,8 @@ class Cluster(Workers):
 
     def result(self, future: Any) -> Any:
         """Returns the result of a future that is done. Raises Refused if the worker is not as this machine."""
-        result = future.result()
-        if isinstance(result, Stranger):
-            self._check(result)
+        strange, result = future.result()
+        check_worker(strange)
         return result
 
 
@@ -267,12 +266,6 @@ def program_digest(program: str, address: str | None) -> str:
     return digest
 
 
-def named(function: Callable[..., list[Any]], names: list[str], asked: list[Any],
-          words: Sequence[Any]) -> tuple[list[str], list[Any]]:
-    """Returns names with what a function returns for what is asked of them."""
-    return names, function(asked, *words)
-
-
 class Work(Generic[Answer]):
     """Which names are to be answered, which answers are kept, and which names are left."""
 
@@ -301,13 +294,20 @@ class Work(Generic[Answer]):
                 shared = them.share(words)
                 for some, answers in them.answers(named, ((function, some, [*map(asked, some)], shared)
                                                           for some in batches)):
-                    self.answers.keep([(name, self.digests[name], it) for name, it in zip(some, answers, strict=True)])
+                    rows = zip(some, answers, strict=True)
+                    self.answers.keep([(name, self.digests[name], answer) for name, answer in rows])
                     done += len(some)
                     show(done)
         except BaseException:
             if shown and done:
                 print(f"{done:,} of {total:,} {unit} are done and kept; run again to go on", file=sys.stderr)
             raise
+
+
+def named(function: Callable[..., list[Any]], names: list[str], asked: list[Any],
+          words: Sequence[Any]) -> tuple[list[str], list[Any]]:
+    """Returns names with what a function returns for what is asked of them."""
+    return names, function(asked, *words)
 
 
 def lines(total: int, kept: int, unit: str) -> Callable[[int], None]:
