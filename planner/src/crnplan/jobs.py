@@ -41,9 +41,11 @@ Answer = TypeVar("Answer")
 
 
 class Workers:
-    """What runs functions. This one runs each at once, in this process."""
+    """What runs functions: the processes of a pool, or without one this process, which runs each at once."""
 
-    most = 1
+    def __init__(self, most: int = 1, pool: futures.Executor | None = None) -> None:
+        """Takes how many batches may be under way."""
+        self.most, self.pool, self.is_late = most, pool, False
 
     def share(self, word: Any) -> Any:
         """Returns a word as it is sent to functions, if many of them take it."""
@@ -51,6 +53,9 @@ class Workers:
 
     def submit(self, function: Callable[..., Any], words: Sequence[Any], late: Sequence[Any] = ()) -> Any:
         """Begins to run a function, not where it is late, and returns the future."""
+        self.is_late |= bool(late)
+        if self.pool:
+            return self.pool.submit(function, *words)
         future: futures.Future[Any] = futures.Future()
         future.set_result(function(*words))
         return future
@@ -113,31 +118,18 @@ def _begin_worker(parent: int) -> None:
     threading.Thread(target=watch, daemon=True).start()
 
 
-class Processes(Workers):
-    """Processes of this machine."""
-
-    def __init__(self, jobs: int) -> None:
-        """Starts so many when they are needed."""
-        self.most, self.is_late = jobs, False
-        self.pool = futures.ProcessPoolExecutor(jobs, initializer=_begin_worker, initargs=(os.getpid(),))
-
-    def submit(self, function: Callable[..., Any], words: Sequence[Any], late: Sequence[Any] = ()) -> Any:
-        """Begins to run a function in a process that is free."""
-        self.is_late |= bool(late)
-        return self.pool.submit(function, *words)
-
-
 @contextlib.contextmanager
 def processes(jobs: int) -> Iterator[Workers]:
-    """Gives so many processes. With one, all runs in this one."""
+    """Gives so many processes of this machine. With one, all runs in this one."""
     if jobs == 1:
         yield Workers()
         return
     before = set(multiprocessing.active_children())
-    workers = Processes(jobs)
+    pool = futures.ProcessPoolExecutor(jobs, initializer=_begin_worker, initargs=(os.getpid(),))
+    workers = Workers(jobs, pool)
     try:
         yield workers
-        workers.pool.shutdown(wait=not workers.is_late)
+        pool.shutdown(wait=not workers.is_late)
     except BrokenProcessPool as fault:
         raise Failed("a worker process has ended by force (was there enough memory?)",
                      f"{KEPT}; run again, with fewer {argument('jobs')} if memory is short") from fault
@@ -145,7 +137,7 @@ def processes(jobs: int) -> Iterator[Workers]:
         # If all is well they have ended. Otherwise nobody waits for what they do.
         for worker in set(multiprocessing.active_children()) - before:
             worker.kill()
-        workers.pool.shutdown(wait=False, cancel_futures=True)
+        pool.shutdown(wait=False, cancel_futures=True)
 
 
 def identity(program: str) -> dict[str, str]:
@@ -183,15 +175,14 @@ class Cluster(Workers):
 
     def __init__(self, client: Any, program: str) -> None:
         """Asks all workers that are there what they have. Raises Refused if one has something else."""
-        self.client, self.program, self.own = client, program, identity(program)
         client.wait_for_workers(1, WORKER_SECONDS)
-        answers = client.run(identity, program, on_error="return")
+        super().__init__(max(1, sum(client.ncores().values())))
+        self.client, self.program, self.own = client, program, identity(program)
+        answers, workers = client.run(identity, program, on_error="return"), client.scheduler_info()["workers"]
         if not self.own["crnsim"]:
-            self.own["crnsim"] = next((its["crnsim"] for its in answers.values() if isinstance(its, dict)), "")
-        workers = client.scheduler_info()["workers"]
+            self.own["crnsim"] = next((answer["crnsim"] for answer in answers.values() if isinstance(answer, dict)), "")
         for address, answer in answers.items():
             check_worker(strangeness(f"{workers.get(address, {}).get('id')} ({address})", self.own, answer))
-        self.most = max(1, sum(client.ncores().values()))
 
     def share(self, word: Any) -> Any:
         """Sends a word to all workers."""
