@@ -41,10 +41,10 @@ Answer = TypeVar("Answer")
 
 
 class Workers:
-    """What runs functions: the processes of a pool, or without one this process, which runs each at once."""
+    """What runs functions: the processes of a pool, or without one this process, which runs each at once. `most` is how
+    many batches may be under way."""
 
     def __init__(self, most: int = 1, pool: futures.Executor | None = None) -> None:
-        """Takes how many batches may be under way."""
         self.most, self.pool, self.is_late = most, pool, False
 
     def share(self, word: Any) -> Any:
@@ -91,7 +91,6 @@ class _Batch:
     """A batch that is under way: its futures, one for each worker that it was given to, and when it is due."""
 
     def __init__(self, workers: Workers, function: Callable[..., Any], words: Sequence[Any]) -> None:
-        """Gives it to a worker."""
         self.workers, self.function, self.words = workers, function, words
         self.futures: list[Any] = []
         self.give()
@@ -111,7 +110,6 @@ def _begin_worker(parent: int) -> None:
     signal.signal(signal.SIGINT, lambda number, frame: None)
 
     def watch() -> None:
-        """Looks whether the parent is there."""
         while os.getppid() == parent:
             time.sleep(WATCH_SECONDS)
         os._exit(1)
@@ -151,7 +149,8 @@ def strangeness(worker: str, own: Mapping[str, str], answer: object) -> str:
     what is here; nothing if it would not."""
     what = [f"can't say which crnplan it has ({answer})"]
     if isinstance(answer, Mapping):
-        what = [f"has another {name}" if answer[name] else f"has no {name}" for name in own if own[name] != answer[name]]
+        others = [name for name, digest in own.items() if answer[name] != digest]
+        what = [f"has another {name}" if answer[name] else f"has no {name}" for name in others]
     return f"the worker {worker} {' and '.join(what)}, and would give other figures" if what else ""
 
 
@@ -306,7 +305,6 @@ def lines(total: int, kept: int, unit: str) -> Callable[[int], None]:
     part = -1
 
     def show(done: int) -> None:
-        """Writes how many are done, if a line is due."""
         nonlocal part
         if (reached := done * (MOST_LINES - 1) // total) > part:
             print(f"{done} of {total} {unit} ({kept} kept)", file=sys.stderr, flush=True)

@@ -26,7 +26,6 @@ class Damaged(Failed):
     """A file of ours that another program, or the disk, has changed."""
 
     def __init__(self, path: Path, what: str) -> None:
-        """Says what to do."""
         super().__init__(f"{path}: {what}: the file is damaged", "remove it, and run again")
 
 
@@ -82,7 +81,6 @@ class Columns(Generic[Row]):
     """
 
     def __init__(self, kind: type[Row], name: str = "") -> None:
-        """Looks at a type, whose union with None counts as that type."""
         self.kind, self.names, self.parts = kind, [name], list[tuple[str, slice, Columns[Any]]]()
         if dataclasses.is_dataclass(kind) and kind is not Remark:
             self.names, hints, prefix = [], typing.get_type_hints(kind), f"{name}_" if name else ""

@@ -6,67 +6,54 @@ Nothing reads these words again.
 from __future__ import annotations
 
 from collections.abc import Callable, Mapping
-from dataclasses import dataclass
+from typing import Any
 
 from .errors import worded
 from .formats import MOST_ITEMS
 from .law_words import LAWS
 from .record_words import RECORDS
-from .remarks import Remark, Value
+from .remarks import Remark
 
-Facts = Mapping[str, Value]
+Facts = Mapping[str, Any]
 Say = str | Callable[[Facts], str]
 REPORT = "please report it with this item's rows"
 
 
-@dataclass(frozen=True)
-class Words:
-    """What is said of a code, and what to do about it."""
-
-    text: Say
-    advice: Say = ""
-
-
-def counted(count: Value, noun: str) -> str:
+def counted(count: int, noun: str) -> str:
     """Returns a count with its noun, in the singular or the plural."""
     return f"{count:,} {noun}{'s' * (count != 1)}"
 
 
-# Of the answer to an item (plan/answer.py).
-PLAN: dict[str, Words] = {
-    "few demands": Words(lambda it: f"demand in {counted(it['demands'], 'period')} alone, so its law is " + (
-        "nearly that of the catalogue" if it["learned"] else "hardly known")),
-    "unlike the catalogue": Words("unlike the catalogue from which laws are learned: see borrow = none"),
-    "steps": Words("theory counts in steps of {items:,} items"),
-    "rounded costs": Words("costs are rounded by up to {error:.1%}"),
-    "no promise": Words("its fill rate holds for its own law: no policy keeps it under {confidence:.0%} of the laws "
-                        "that its history allows"),
-    "no interval": Words(lambda it: "the run has no interval: " + (
-        "the difference is the same in all replications" if float(it["orders"] or 0) >= 2 else
-        "the rarer policy places fewer than 2 orders in all replications")),
-    "refused": Words("{what}", "{advice}"),
-    "no policy": Words(lambda it: "no policy " + (
+# What is said of a code, and what to do about it.
+WORDS: dict[str, tuple[Say, Say]] = {
+    # Of the answer to an item (plan/answer.py).
+    "few demands": (lambda it: f"demand in {counted(it['demands'], 'period')} alone, so its law is " + (
+        "nearly that of the catalogue" if it["learned"] else "hardly known"), ""),
+    "unlike the catalogue": ("unlike the catalogue from which laws are learned: see borrow = none", ""),
+    "steps": ("theory counts in steps of {items:,} items", ""),
+    "rounded costs": ("costs are rounded by up to {error:.1%}", ""),
+    "no promise": ("its fill rate holds for its own law: no policy keeps it under {confidence:.0%} of the laws that "
+                   "its history allows", ""),
+    "no interval": (lambda it: "the run has no interval: " + (
+        "the difference is the same in all replications" if it["orders"] >= 2 else
+        "the rarer policy places fewer than 2 orders in all replications"), ""),
+    "refused": ("{what}", "{advice}"),
+    "no policy": (lambda it: "no policy " + (
         "is best" if it["fill"] is None else f"meets {it['fill']:g} of demand at once") + (
         f" within s and S up to {MOST_ITEMS:,}"), "count in larger units"),
-    "disagrees": Words("crnsim and theory differ by more than chance allows: {figure} is {run:g} by the run and "
-                       "{theory:g} by theory, with a standard error of {error:g}", REPORT),
-    "failed": Words("crnplan failed ({kind}: {what})", REPORT)}
-
-# Of what a catalogue has learned (plan/catalogue.py).
-LEARNING: dict[str, Words] = {
-    "own laws": Words(lambda it: "each item has the law of its own history" + f" "
-                      f"({it['reason']})" * bool(it["reason"])),
-    "learned": Words(lambda it: f"laws of demand were learned from {counted(it['items'], 'item')}"
-                     + f" and {it['classes']:,} classes" * bool(it["classes"])
-                     + " in an earlier run" * bool(it["earlier"])),
-    "masters say otherwise": Words("the masters say otherwise for {items:,} items (borrow)")}
-
-# Of an item that is not on the exchange curve (curve/exchange_curve.py).
-CURVE: dict[str, Words] = {
-    "no price": Words("it has no price above 0, so its stock has no value", "give it a price in the masters"),
-    "not planned": Words("it is not planned as its rows are now", "run crnplan catalogue again")}
-
-WORDS = {**PLAN, **LEARNING, **CURVE, **{code: Words(*said) for code, said in (*LAWS.items(), *RECORDS.items())}}
+    "disagrees": ("crnsim and theory differ by more than chance allows: {figure} is {run:g} by the run and {theory:g} "
+                  "by theory, with a standard error of {error:g}", REPORT),
+    "failed": ("crnplan failed ({kind}: {what})", REPORT),
+    # Of what a catalogue has learned (plan/catalogue.py).
+    "own laws": (lambda it: "each item has the law of its own history" + f" ({it['reason']})" * bool(it["reason"]), ""),
+    "learned": (lambda it: f"laws of demand were learned from {counted(it['items'], 'item')}"
+                + f" and {it['classes']:,} classes" * bool(it["classes"])
+                + " in an earlier run" * bool(it["earlier"]), ""),
+    "masters say otherwise": ("the masters say otherwise for {items:,} items (borrow)", ""),
+    # Of an item that is not on the exchange curve (curve/exchange_curve.py).
+    "no price": ("it has no price above 0, so its stock has no value", "give it a price in the masters"),
+    "not planned": ("it is not planned as its rows are now", "run crnplan catalogue again"),
+    **LAWS, **RECORDS}
 
 
 def _said(say: Say, facts: Facts) -> str:
@@ -76,7 +63,7 @@ def _said(say: Say, facts: Facts) -> str:
 
 def sentence(remark: Remark) -> str:
     """Returns what is said of a remark, without a full stop."""
-    return _said(WORDS[remark.code].text, remark.facts)
+    return _said(WORDS[remark.code][0], remark.facts)
 
 
 class _Blank(str):
@@ -94,14 +81,14 @@ class _Blank(str):
 def pattern(remark: Remark) -> str:
     """Returns what is said of all remarks with this code: facts are left out. Words that a function makes, or that are
     a fact alone, are those of this remark."""
-    say = WORDS[remark.code].text
+    say = WORDS[remark.code][0]
     text = worded(say.format_map(dict.fromkeys(remark.facts, _Blank()))) if isinstance(say, str) else ""
     return text if any(map(str.isalpha, text)) else sentence(remark)
 
 
 def advice(remark: Remark) -> str:
     """Returns what to do about a remark; nothing if there is no advice."""
-    return _said(WORDS[remark.code].advice, remark.facts)
+    return _said(WORDS[remark.code][1], remark.facts)
 
 
 def advised(remark: Remark) -> str:

@@ -1,8 +1,8 @@
 """Computes the candidates of an item for the exchange curve: the best policy by theory for each of a grid of prices.
 
-A price is what a unit of value costs that is not met at once, beside the item's setup and holding costs. For a price the
-best policy is a vertex of a lower convex hull: of what policies cost against the demand that they do not meet at once
-(Everett, Generalized Lagrange multiplier method, Operations Research 11, 1963). The hull of an item is that of all
+A price is what a unit of value costs that is not met at once, beside the item's setup and holding costs. For a price
+the best policy is a vertex of a lower convex hull: of what policies cost against the demand that they do not meet at
+once (Everett, Generalized Lagrange multiplier method, Operations Research 11, 1963). The hull of an item is that of all
 order-up-to levels and of gaps S - s on a grid that is refined beside those that are best. There are candidates for
 dearer orders too, of which fewer are then bought, and for dearer stock.
 """

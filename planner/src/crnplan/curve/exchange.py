@@ -226,7 +226,6 @@ class OffCurve(Refused):
     """A budget that no choice keeps: which one, why, and what to do."""
 
     def __init__(self, budget: str, why: str, advice: str) -> None:
-        """Keeps the reason apart."""
         super().__init__(f"{budget}: {why}", advice)
         self.why = why
 
@@ -315,7 +314,6 @@ def with_fewer_orders(items: Items, budget: Budget, first: Choice) -> Choice:
     fewest = first.point.orders
 
     def choice_of(amount: float) -> Choice | None:
-        """Returns the choice if an order costs so much more; None if it keeps not all budgets."""
         nonlocal fewest
         choice = budget.choice(items, Dearer(orders=amount))
         fewest = min(fewest, choice.point.orders) if choice else fewest

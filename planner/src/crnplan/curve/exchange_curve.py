@@ -115,7 +115,6 @@ def gathered(folder: PlannedFolder, kept: Store[Candidates], names: Iterable[str
     sums, shown, asked = np.zeros((2, 4)), list[tuple[str, int, int]](), 0.0
 
     def candidates() -> Iterator[tuple[str, float, Candidates]]:
-        """Yields the candidates as they are added up."""
         nonlocal asked
         for name in names:
             item, answer, its = folder.read.item(name), folder.store.answer(name), kept.answer(name)

@@ -48,7 +48,6 @@ class Sums(defaultdict[str, list[float]]):
     """Sums of floats by name, without rounding but at the end (`math.fsum`)."""
 
     def __init__(self) -> None:
-        """Begins with none."""
         super().__init__(list)
 
     def add(self, name: str, value: float) -> None:
@@ -168,7 +167,6 @@ class PlannedFolder:
     """A folder whose items are all answered, as their rows are now. `planned_folder` opens it."""
 
     def __init__(self, path: Path, read: Catalogued, answers: Store[Answer], planned: Planned) -> None:
-        """Takes what is open."""
         self.path, self.read, self.store, self.planned = path, read, answers, planned
         self.settings = planned.settings
         self.every, self.decimals, self.counts = (read.fact(name) for name in ("every", "decimals", "counts"))

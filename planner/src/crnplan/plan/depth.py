@@ -69,7 +69,6 @@ class Depth:
 
     def __init__(self, question: Question, answer: Answer, program: str, laws: int = LAWS,
                  confidence: float | None = None) -> None:
-        """Takes a question with its answer."""
         self.question, self.answer, self.program, self.laws = question, answer, program, laws
         self.confidence = confidence or question.settings.confidence or CONFIDENCE
 

@@ -57,7 +57,6 @@ class NoPolicy(Refused):
     """There is no best policy within the ranges of s and S, or none with the wanted share of demand met at once."""
 
     def __init__(self, fault: Remark) -> None:
-        """Keeps the fault."""
         super().__init__(sentence(fault), advice(fault))
         self.fault = fault
 
@@ -66,7 +65,6 @@ class Disagreement(Failed):
     """A run whose figure is further from exact theory than chance allows: one of both is wrong, a fault of ours."""
 
     def __init__(self, fault: Remark) -> None:
-        """Keeps what differs."""
         super().__init__(sentence(fault), advice(fault))
         self.fault = fault
 

@@ -59,19 +59,15 @@ class Settings:
                 raise Refused(f"{argument(name, str(word))} is not one of {', '.join(words)}")
         if self.fit != "auto" and self.borrow not in (None, NONE):
             raise Refused(f"{argument('fit', self.fit)} fits each item alone, and "
-                          f"{argument('borrow', str(self.borrow))} "
-                          "learns from others", "leave one out")
-        if not 0 < self.level < 1:
-            raise Refused(f"{argument('level', f'{self.level:g}')} is not between 0 and 1", "write 0.95 for 95 of 100 "
-                          "samples")
-        if self.confidence is not None and not 0 < self.confidence < 1:
-            raise Refused(f"{argument('confidence', f'{self.confidence:g}')} is not between 0 and 1",
-                          "write 0.8 for 80% "
-                          "of the laws that a history allows")
-        for name, value, least, most in (("periods", self.periods, 1, MOST_PERIODS),
-                                         ("replications", self.replications, 2, MOST_REPLICATIONS)):
-            if not least <= value <= most:
-                raise Refused(f"{argument(name, str(value))} is not from {least} to {most:,}")
+                          f"{argument('borrow', str(self.borrow))} learns from others", "leave one out")
+        for name, share, example in (("level", self.level, "0.95 for 95 of 100 samples"),
+                                     ("confidence", self.confidence, "0.8 for 80% of the laws that a history allows")):
+            if share is not None and not 0 < share < 1:
+                raise Refused(f"{argument(name, f'{share:g}')} is not between 0 and 1", f"write {example}")
+        for name, number, least, most in (("periods", self.periods, 1, MOST_PERIODS),
+                                          ("replications", self.replications, 2, MOST_REPLICATIONS)):
+            if not least <= number <= most:
+                raise Refused(f"{argument(name, str(number))} is not from {least} to {most:,}")
 
     def common(self, program: str, prior: Prior) -> str:
         """Returns what all answers depend on, with the digest of the program and what was learned, as a text."""
@@ -162,10 +158,9 @@ class Question:
         rate: with hardly any it would be far too coarse.
         """
         scenario = self.scenario()
-        shape = shape_of(scenario)
-        if not self.has_backlog:
-            costs = dataclasses.replace(scenario.costs, backlog=self.implied_backlog)
-            shape = shape_of(dataclasses.replace(scenario, costs=costs))
+        costs = scenario.costs if self.has_backlog else dataclasses.replace(scenario.costs,
+                                                                            backlog=self.implied_backlog)
+        shape = shape_of(dataclasses.replace(scenario, costs=costs))
         gap = self.levels[1] - self.levels[0]
         return theory_on(scenario, shape, *lattice_of(scenario, shape, gap, MOST_GAPS))
 

@@ -106,8 +106,8 @@ def _lead_faults(lead: Mapping[str, Any], folder: Path) -> list[TreeFault]:
     ways = [way for way in LEADS if way in lead]
     if len(ways) != 1:
         what = f"{' and '.join(ways)} are there: keep one" if ways else "there are no lead times"
-        return [TreeFault(MISSING, ("lead",), what, "write file and column, or orders, ordered and received, or times = "
-                         "[2, 3, 2]")]
+        return [TreeFault(MISSING, ("lead",), what,
+                          "write file and column, or orders, ordered and received, or times = [2, 3, 2]")]
     way = ways[0]
     faults = [TreeFault(RANGE, ("lead", name), f"this key is not used with {way}", "remove it")
               for name in lead.keys() - {way, *LEADS[way], "fit"}]
