@@ -158,8 +158,7 @@ class Question:
         rate: with hardly any it would be far too coarse.
         """
         scenario = self.scenario()
-        costs = scenario.costs if self.has_backlog else dataclasses.replace(scenario.costs,
-                                                                            backlog=self.implied_backlog)
+        costs = dataclasses.replace(scenario.costs, backlog=self.implied_backlog)
         shape = shape_of(dataclasses.replace(scenario, costs=costs))
         gap = self.levels[1] - self.levels[0]
         return theory_on(scenario, shape, *lattice_of(scenario, shape, gap, MOST_GAPS))
