@@ -9,4 +9,5 @@ pub mod Laws
 pub mod Machine
 pub mod Traces
 pub mod Progress
+pub mod Batches
 pub mod Inner

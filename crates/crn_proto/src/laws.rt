@@ -3,6 +3,7 @@
 ghost use Rattle.crn_proto.specs.Laws.{EveryRunShowsABroadcast, EveryRunIsLawful, NoUnreadSlotIsWritten, WhatIsTakenWasRead, NothingFollowsTheEnd};
 ghost use Rattle.crn_proto.specs.Traces.{EveryReplayIsARun};
 ghost use Rattle.crn_proto.specs.Progress.{NeverStuck, StoresAreBounded, ProgressIsBounded, EndsByRounds};
+ghost use Rattle.crn_proto.specs.Batches.{CanGoOn, BatchesNeverStick, BatchesEndByRounds};
 
 /// States what holds under every schedule of single loads and stores, with batches of every length and with gates
 /// remembered from any earlier load. The ring shows a broadcast list, and its words and all parts are lawful. No slot is
@@ -35,4 +36,19 @@ pub fn progress()
     ensures stores_are_bounded { StoresAreBounded }
     ensures progress_is_bounded { ProgressIsBounded }
     ensures ends_by_rounds { EndsByRounds }
+{}
+
+/// States the same of runs with batches, in which actors go on: between two batches the producer loads each reader's cursor
+/// in turn, or none if the counts that it remembers let the next block in; a reader that has seen a block looks again only
+/// once it has taken. Batches have at most b blocks, each as many as its actor chooses, and remembered counts may be old.
+///
+/// Each actor that has not finished can always make such a move. As long as not all have finished, some actor stores a word
+/// or finishes in its next moves: the producer in `readers + 1`, a reader in `BLOCK_WORDS * b + 2`. In a round each actor
+/// that has not finished makes its moves, in any order: the producer `readers + BLOCK_WORDS * b + 1`, a reader
+/// `BLOCK_WORDS * b + 2`. After n + 2 rounds with n blocks to publish, or 2n + 1 on one slot, the end is marked, and each
+/// reader has seen it or has left.
+pub fn progress_in_batches()
+    ensures can_go_on { CanGoOn }
+    ensures never_stick { BatchesNeverStick }
+    ensures end_by_rounds { BatchesEndByRounds }
 {}

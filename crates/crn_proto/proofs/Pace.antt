@@ -1,0 +1,259 @@
+-- Rounds of a ring, told from nothing but how far each actor is before and after them: in a round a block is published
+-- if there is room, and each reader takes one if there is one. Both rings use it: the machine, which takes one block at a
+-- time, and the runs with batches.
+use Rattle.std.proofs.Common.{◌≡◌, ℕ, ◌+◌, ◌-◌, ◌<◌, ◌≤◌, ◌||◌, ◌⊎◌, Bool, true, false, List, [], ◌∷◌, length, inl, inr, refl, sym, ◌∙◌, arith}
+use Rattle.std.specs.Prelude.{cond, ◌==◌}
+use Rattle.std.proofs.lemmas.Bool.{cases_lt, true≢false, eqb-false, or_cases}
+use Rattle.crn_proto.specs.declared.spec.RingSpec.{RingSpec}
+use Rattle.crn_proto.specs.Ring.{IsRing}
+use Rattle.crn_proto.specs.Progress.{blocks_of, rounds_of}
+
+pub either : (b : Bool) → (b ≡ true) ⊎ (b ≡ false)
+either true = inl refl
+either false = inr refl
+
+pub or_of : (a b : Bool) → (a ≡ true) ⊎ (b ≡ true) → (a || b) ≡ true
+or_of true b h = refl
+or_of false b h = elim h [ inl e ↦ absurd (true≢false (sym e)) | inr e ↦ e ]
+
+-- how far each actor is
+pub record Mark : Type 0 where
+  pub published : ℕ
+  pub ended : Bool
+  pub taken : ℕ → ℕ
+  pub left : ℕ → Bool
+  pub seen_end : ℕ → Bool
+
+-- reader r has left, or has seen the end
+abbrev pub is_done : Mark → ℕ → Bool
+is_done x r = x.left r || x.seen_end r
+
+abbrev pub AllDone : RingSpec → Mark → Type 0
+AllDone spec x = (x.ended ≡ true) × ((r : ℕ) → r < spec.readers → is_done x r ≡ true)
+
+-- reader r is in the ring
+abbrev pub InRing : Mark → ℕ → Type 0
+InRing x r = (x.left r ≡ false) × (x.seen_end r ≡ false)
+
+-- each reader that has not left leaves room for the next block
+abbrev pub HasRoom : RingSpec → Mark → Type 0
+HasRoom spec x = (r : ℕ) → r < spec.readers → (x.left r ≡ true) ⊎ (x.published < x.taken r + spec.size)
+
+-- what holds of the marks of a ring
+pub record MarkStands (spec : RingSpec) (x : Mark) : Type 0 where
+  pub first_published : spec.id.first ≤ x.published
+  pub in_total : x.published ≤ spec.id.total
+  pub from_first : (r : ℕ) → r < spec.readers → spec.id.first ≤ x.taken r
+  pub in_published : (r : ℕ) → r < spec.readers → x.left r ≡ false → x.taken r ≤ x.published
+  pub at_end : (r : ℕ) → r < spec.readers → x.seen_end r ≡ true → x.ended ≡ true
+
+-- nothing is taken back
+pub record Onward (spec : RingSpec) (x y : Mark) : Type 0 where
+  pub published : x.published ≤ y.published
+  pub ended : x.ended ≡ true → (y.ended ≡ true) × (y.published ≡ x.published)
+  pub taken : (r : ℕ) → r < spec.readers → x.taken r ≤ y.taken r
+  pub left : (r : ℕ) → r < spec.readers → x.left r ≡ true → y.left r ≡ true
+  pub seen_end : (r : ℕ) → r < spec.readers → x.seen_end r ≡ true → y.seen_end r ≡ true
+
+-- what a round does
+pub record Rounds (spec : RingSpec) (x y : Mark) : Type 0 where
+  pub stands : MarkStands spec x
+  pub onward : Onward spec x y
+  pub publishes : x.ended ≡ false → x.published < spec.id.total → HasRoom spec x → (y.ended ≡ true) ⊎ (x.published < y.published)
+  pub ends : x.ended ≡ false → x.published ≡ spec.id.total → y.ended ≡ true
+  pub takes : (r : ℕ) → r < spec.readers → InRing x r → x.taken r < x.published → (is_done y r ≡ true) ⊎ (x.taken r < y.taken r)
+  pub sees_end : (r : ℕ) → r < spec.readers → InRing x r → x.ended ≡ true → x.taken r ≡ x.published → is_done y r ≡ true
+
+-- rounds one after another, from mark to mark
+abbrev pub Paced : RingSpec → Mark → List Mark → Type 0
+Paced spec x [] = Unit {0}
+Paced spec x (y ∷ marks) = Rounds spec x y × Paced spec y marks
+
+-- the mark after them
+abbrev pub last_mark : Mark → List Mark → Mark
+last_mark x [] = x
+last_mark x (y ∷ marks) = last_mark y marks
+
+-- ---- one round
+
+-- all blocks below f are published, or the end is marked; a reader is done, or has taken all blocks below g or all that there are
+record Reached (spec : RingSpec) (x : Mark) (f g : ℕ) : Type 0 where
+  produced : (x.ended ≡ true) ⊎ (f ≤ x.published)
+  took : (r : ℕ) → r < spec.readers → (is_done x r ≡ true) ⊎ ((g ≤ x.taken r) ⊎ ((x.ended ≡ true) × (x.published ≤ x.taken r)))
+
+-- one block more, or none
+abbrev OrMore : ℕ → ℕ → Type 0 → Type 0
+OrMore n n' may = (n' ≡ n) ⊎ ((n' ≡ n + 1) × may)
+
+module _ (spec : RingSpec) (x y : Mark) (go : Rounds spec x y) (f g : ℕ) (re : Reached spec x f g) where
+  done_later : (r : ℕ) → r < spec.readers → is_done x r ≡ true → is_done y r ≡ true
+  done_later r h e = or_of _ _ (elim (or_cases _ _ e) [ inl left ↦ inl (go.onward.left r h left) | inr seen ↦ inr (go.onward.seen_end r h seen) ])
+
+  room_here : x.ended ≡ false → x.published ≡ f → f < g + spec.size → HasRoom spec x
+  room_here going at near r h = elim (re.took r h) [
+    | inl fin ↦ elim (or_cases _ _ fin) [
+      | inl left ↦ inl left
+      | inr seen ↦ absurd (true≢false (sym (go.stands.at_end r h seen) ∙ going))
+    ]
+    | inr (inl low) ↦ inr (omega arith)
+    | inr (inr (end, whole)) ↦ absurd (true≢false (sym end ∙ going))
+  ]
+
+  produces_one : f < spec.id.total → f < g + spec.size → (y.ended ≡ true) ⊎ (f + 1 ≤ y.published)
+  produces_one more near =
+      let rises = go.onward.published in
+      elim (either x.ended) [
+        | inl end ↦ inl (go.onward.ended end).0
+        | inr going ↦ elim re.produced [
+          | inl end ↦ inl (go.onward.ended end).0
+          | inr low ↦ elim (cases_lt f x.published) [
+            | inl above ↦ inr (omega arith)
+            | inr at ↦ elim (go.publishes going (omega arith) (room_here going (omega arith) near)) [ inl end ↦ inl end | inr up ↦ inr (omega arith) ]
+          ]
+        ]
+      ]
+
+  produces : (f' : ℕ) → OrMore f f' ((f < spec.id.total) × (f < g + spec.size)) → (y.ended ≡ true) ⊎ (f' ≤ y.published)
+  produces f' more = elim more [
+    | inl same ↦ let rises = go.onward.published in elim re.produced [ inl end ↦ inl (go.onward.ended end).0 | inr low ↦ inr (omega arith) ]
+    | inr (one, (few, near)) ↦ elim (produces_one few near) [ inl end ↦ inl end | inr up ↦ inr (omega arith) ]
+  ]
+
+  abbrev Took : ℕ → ℕ → Type 0
+  Took g' r = (is_done y r ≡ true) ⊎ ((g' ≤ y.taken r) ⊎ ((y.ended ≡ true) × (y.published ≤ y.taken r)))
+
+  ended_took : (g' r : ℕ) → r < spec.readers → x.ended ≡ true → x.published ≤ x.taken r → Took g' r
+  ended_took g' r h end whole =
+      let (still, same) = go.onward.ended end in
+      let rises = go.onward.taken r h in
+      inr (inr (still, omega arith))
+
+  takes_one : (r : ℕ) → r < spec.readers → InRing x r → x.taken r ≡ g → g < f → Took (g + 1) r
+  takes_one r h there at behind = elim (cases_lt (x.taken r) x.published) [
+    | inl more ↦ elim (go.takes r h there more) [ inl fin ↦ inl fin | inr up ↦ inr (inl (omega arith)) ]
+    | inr none ↦ elim re.produced [ inl end ↦ ended_took (g + 1) r h end none | inr low ↦ absurd (omega arith) ]
+  ]
+
+  takes_on : (g' : ℕ) → OrMore g g' (g < f) → (r : ℕ) → r < spec.readers → Took g' r
+  takes_on g' more r h =
+      let rises = go.onward.taken r h in
+      elim (re.took r h) [
+        | inl fin ↦ inl (done_later r h fin)
+        | inr (inr (end, whole)) ↦ ended_took g' r h end whole
+        | inr (inl low) ↦ elim more [
+          | inl same ↦ inr (inl (omega arith))
+          | inr (one, behind) ↦ elim (cases_lt g (x.taken r)) [
+            | inl above ↦ inr (inl (omega arith))
+            | inr at ↦ elim (either (x.left r)) [
+              | inl left ↦ inl (or_of _ _ (inl (go.onward.left r h left)))
+              | inr stays ↦ elim (either (x.seen_end r)) [
+                | inl seen ↦ inl (or_of _ _ (inr (go.onward.seen_end r h seen)))
+                | inr no_end ↦ elim (takes_one r h (stays, no_end) (omega arith) behind) [
+                  | inl fin ↦ inl fin
+                  | inr (inl up) ↦ inr (inl (omega arith))
+                  | inr (inr whole) ↦ inr (inr whole)
+                ]
+              ]
+            ]
+          ]
+        ]
+      ]
+
+  -- a round in which a block may be published, and one taken
+  round_on : (f' g' : ℕ) → OrMore f f' ((f < spec.id.total) × (f < g + spec.size)) → OrMore g g' (g < f) → Reached spec y f' g'
+  round_on f' g' front back = record { produced = produces f' front; took = λ r h. takes_on g' back r h }
+
+  -- with all blocks published the end is marked
+  end_round : spec.id.total ≤ f → y.ended ≡ true
+  end_round full = elim (either x.ended) [
+    | inl end ↦ (go.onward.ended end).0
+    | inr going ↦ elim re.produced [
+      | inl end ↦ (go.onward.ended end).0
+      | inr low ↦ let most = go.stands.in_total in go.ends going (omega arith)
+    ]
+  ]
+
+  -- with the end marked and all blocks taken, each reader sees the end
+  last_round : x.ended ≡ true → spec.id.total ≤ g → AllDone spec y
+  last_round end full = (
+    (go.onward.ended end).0,
+    λ r h. elim (either (x.left r)) [
+      | inl left ↦ or_of _ _ (inl (go.onward.left r h left))
+      | inr stays ↦ elim (either (x.seen_end r)) [
+        | inl seen ↦ or_of _ _ (inr (go.onward.seen_end r h seen))
+        | inr no_end ↦
+            let most = go.stands.in_total in
+            let own = go.stands.in_published r h stays in
+            elim (re.took r h) [
+              | inl fin ↦ done_later r h fin
+              | inr (inl low) ↦ go.sees_end r h (stays, no_end) end (omega arith)
+              | inr (inr (also, whole)) ↦ go.sees_end r h (stays, no_end) end (omega arith)
+            ]
+      ]
+    ],
+  )
+
+  all_later : AllDone spec x → AllDone spec y
+  all_later (end, all) = ((go.onward.ended end).0, λ r h. done_later r h (all r h))
+
+-- ---- all rounds
+
+-- what is done stays so
+done_stays : (spec : RingSpec) (marks : List Mark) (x : Mark) → Paced spec x marks → AllDone spec x → AllDone spec (last_mark x marks)
+done_stays spec [] x paced fin = fin
+done_stays spec (y ∷ marks) x (go, more) fin =
+    done_stays spec marks y more (all_later spec x y go 0 0 (record { produced = inl fin.0; took = λ r h. inl (fin.1 r h) }) fin)
+
+-- Once all blocks are published, and all but one taken, two rounds are enough.
+two_more : (spec : RingSpec) (x y z : Mark) (marks : List Mark) (f g : ℕ) → Reached spec x f g → spec.id.total ≡ f → g ≤ f → f ≤ g + 1 → Paced spec x (y ∷ z ∷ marks)
+    → AllDone spec (last_mark x (y ∷ z ∷ marks))
+two_more spec x y z marks f g re full low high (first, (second, more)) =
+    let back : OrMore g f (g < f) = elim (cases_lt g f) [ inl behind ↦ inr (omega arith, behind) | inr level ↦ inl (omega arith) ] in
+    let then = round_on spec x y first f g re f f (inl refl) back in
+    let end = end_round spec x y first f g re (omega arith) in
+    done_stays spec marks z more (last_round spec y z second f f then end (omega arith))
+
+-- With two slots or more a block is published in each round, and taken in the next.
+on_many_slots : (spec : RingSpec) (marks : List Mark) (x : Mark) (f g : ℕ) → Reached spec x f g → 2 ≤ spec.size → f ≤ spec.id.total → g ≤ f → f ≤ g + 1 → Paced spec x marks
+    → spec.id.total - f + 2 ≤ length marks → AllDone spec (last_mark x marks)
+on_many_slots spec [] x f g re size most low high paced long = absurd (omega arith)
+on_many_slots spec (y ∷ []) x f g re size most low high paced long = absurd (omega arith)
+on_many_slots spec (y ∷ z ∷ marks) x f g re size most low high paced long = elim (cases_lt f spec.id.total) [
+  | inr full ↦ two_more spec x y z marks f g re (omega arith) low high paced
+  | inl more ↦
+      let back : OrMore g f (g < f) = elim (cases_lt g f) [ inl behind ↦ inr (omega arith, behind) | inr level ↦ inl (omega arith) ] in
+      let then = round_on spec x y paced.0 f g re (f + 1) f (inr (refl, (more, omega arith))) back in
+      on_many_slots spec (z ∷ marks) y (f + 1) f then size (omega arith) (omega arith) (omega arith) paced.1 (omega arith)
+]
+
+-- On any ring a block is published in a round, and taken in the next one.
+on_one_slot : (spec : RingSpec) (marks : List Mark) (x : Mark) (f g : ℕ) → 0 < spec.size → Reached spec x f g → f ≤ spec.id.total → g ≤ f → f ≤ g + 1 → Paced spec x marks
+    → spec.id.total - f + (spec.id.total - g) + 1 ≤ length marks → 2 ≤ length marks → AllDone spec (last_mark x marks)
+on_one_slot spec [] x f g slots re most low high paced long two = absurd (omega arith)
+on_one_slot spec (y ∷ []) x f g slots re most low high paced long two = absurd (omega arith)
+on_one_slot spec (y ∷ z ∷ marks) x f g slots re most low high paced long two = elim (cases_lt f spec.id.total) [
+  | inr full ↦ two_more spec x y z marks f g re (omega arith) low high paced
+  | inl more ↦ elim (cases_lt g f) [
+    | inl behind ↦
+        let then = round_on spec x y paced.0 f g re f (g + 1) (inl refl) (inr (refl, behind)) in
+        on_one_slot spec (z ∷ marks) y f (g + 1) slots then (omega arith) (omega arith) (omega arith) paced.1 (omega arith) (omega arith)
+    | inr level ↦
+        let then = round_on spec x y paced.0 f g re (f + 1) g (inr (refl, (more, omega arith))) (inl refl) in
+        on_one_slot spec (z ∷ marks) y (f + 1) g slots then (omega arith) (omega arith) (omega arith) paced.1 (omega arith) (omega arith)
+  ]
+]
+
+-- After so many rounds all are done.
+pub paced_ends : (spec : RingSpec) → IsRing spec → (x : Mark) (marks : List Mark) → MarkStands spec x → Paced spec x marks → rounds_of spec ≤ length marks → AllDone spec (last_mark x marks)
+paced_ends spec ring x marks stands paced long =
+    let re : Reached spec x spec.id.first spec.id.first = record { produced = inr stands.first_published; took = λ r h. inr (inl (stands.from_first r h)) } in
+    let ordered = ring.in_order in
+    let slots = ring.has_slots in
+    elim (either (spec.size == 1)) [
+      | inl one ↦
+          let more : cond (spec.size == 1) (blocks_of spec - 1) 0 ≡ blocks_of spec - 1 = rw one refl in
+          on_one_slot spec marks x spec.id.first spec.id.first slots re ordered (omega arith) (omega arith) paced (omega arith) (omega arith)
+      | inr many ↦
+          let other = eqb-false _ _ many in
+          on_many_slots spec marks x spec.id.first spec.id.first re (omega arith) ordered (omega arith) (omega arith) paced (omega arith)
+    ]
