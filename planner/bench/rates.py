@@ -12,12 +12,11 @@ from typing import Any
 
 from crnplan.plan.answer import Answer
 from crnplan.plan.catalogue import Planned
-from crnplan.records.catalogue_reading import Words, open_sources
+from crnplan.records.catalogue_reading import open_sources
+from crnplan.records.items import Words
 from crnplan.records.catalogued import Catalogued
-from crnplan.records.columns import ROLES
 from crnplan.records.item import Item
 from crnplan.records.rows import read_rows
-from crnplan.records.sources import Given
 from crnplan.stored import Store
 from crnplan.jobs import BATCH, Work, Workers, cluster, processes
 
@@ -38,10 +37,10 @@ def transactions(folder: Path, answer: Answer) -> float:
 
 def split_seconds(paths: dict[str, str | Path | None]) -> float:
     """Returns the processor seconds in which the rows of a catalogue are read."""
-    sources = open_sources({kind: Given(path, str(path)) for kind, path in paths.items() if path is not None}, Words())
-    start = time.process_time()
-    read_rows(sources, ROLES, False, lambda source: lambda *what: None)
-    return time.process_time() - start
+    with open_sources(paths, Words()) as sources:
+        start = time.process_time()
+        read_rows(sources)
+        return time.process_time() - start
 
 
 def instant(batch: Sequence[Item], settings: Any, prior: Any, answer: Answer) -> list[Answer]:

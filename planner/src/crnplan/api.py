@@ -24,9 +24,9 @@ from .plan.catalogue import Done, Lost, Totals, plan_into, planned_folder
 from .plan.depth import Depth
 from .plan.item import plan_item as plan_one_item
 from .plan.question import Settings
-from .records.catalogue_reading import Catalogue, Words, read_into
+from .records.catalogue_reading import Catalogue, read_into
 from .records.catalogued import CATALOGUE, READ
-from .records.items import KEEP, LEAVE_OUT
+from .records.items import KEEP, LEAVE_OUT, Words
 from .remarks import Remark
 from .table import DataTable, Result
 

@@ -67,6 +67,11 @@ RECORDS: dict[str, tuple[Say, Say]] = {
                   f"count in a smaller unit, as grams for kilograms, and then in boxes of many ({argument('box')})"),
     "below 0": ("{text!r} is below 0", "write 0 or more"),
     "negative": ("{text!r} is negative", f"correct it, or say {argument('net')} to take it off the sale that it undoes"),
+    "negative period": ("{text!r} is negative", f"correct it ({argument('net')} takes it off its period, if each row has a "
+                        f"date: {argument('date')} and {argument('every')})"),
+    "negative movement": ("{text!r} is negative", f"say {argument('net')} to take it off its period, or write items that "
+                          f"came back into a column of their own ({argument('returns')})"),
+    "below 1": ("{text!r} is below 1", "write 1 if the order is there for the next period's demand"),
     "decimals": ("{text!r} has more than {decimals} decimals", "round it"),
     "zero": ("it is 0, so that stock, or being short, costs nothing", "write an amount above 0"),
     "no share": ("{text!r} is no share between 0 and 1", "write it as 0.95 or 95%"),

@@ -10,9 +10,9 @@ from hypothesis import strategies as st
 from crnplan import formats
 from crnplan.plan.question import finest
 from crnplan.errors import Refused
-from crnplan.records.amounts import AmountReader, readings
+from crnplan.records.cells import AmountReader, readings
 from crnplan.records.faults import Unreadable
-from crnplan.records.masters import leads_of
+from crnplan.records.item import leads_of
 from crnplan.money import rounded_costs
 
 AMOUNTS = st.decimals(0, 10**8, places=4, allow_nan=False)

@@ -9,6 +9,7 @@ import random
 from pathlib import Path
 from typing import Any
 
+import numpy as np
 import pandas as pd
 import pytest
 
@@ -16,11 +17,12 @@ from crnplan.records.item import Item
 from crnplan.words import sentence
 from crnplan.records.catalogue_reading import Catalogue, read_catalogue
 from crnplan.records import rows
-from crnplan.records.items import Reader, far_above
-from crnplan.records.catalogue_reading import Words, read_alone
+from crnplan.records.rows import far_above
+from crnplan.records.items import Reader, Words
+from crnplan.records.catalogue_reading import read_alone
 from crnplan.errors import Refused, RefusedFaults
 from crnplan.files import MARKER
-from crnplan.records.dates import period_of
+from crnplan.records.cells import period_of
 from planner.tests.catalogue.audit import Audit, audit
 from planner.tests.catalogue.conftest import FILES
 from planner.tests.catalogue.made import ITEMS, START, TITLES, TODAY, WEEKS, Made, name_of
@@ -196,7 +198,7 @@ def test_ways_of_taking_rows(files: Path, catalogue: Catalogue, words: dict[str,
     ([2, 1, 3, 4, 2, 4000, 3000], 2), ([5], 0), ([0, 0, 7], 0), ([1, 1, 1, 1, 40, 41, 42, 43], 0)])
 def test_far_above(amounts: list[int], far: int) -> None:
     """An amount is far above all others if it is 30 times the next one, and of few others 300 times."""
-    assert far_above(amounts) == far
+    assert far_above(np.array(amounts)) == far
 
 
 def read_text(folder: Path, demand: str, masters: str = "", **words: Any) -> Catalogue:

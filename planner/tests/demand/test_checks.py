@@ -21,7 +21,7 @@ from crnplan.demand.checks import (STUDIED, Check, Checks, Season, check_history
 from crnplan.demand.permutation import (Orders, Tilted, autocorrelation_seen, bound_of, drawn_orders, least_seen, p_value,
                                         season_seen, statistics_of, trend_seen)
 from crnplan.errors import Refused, spelt
-from crnplan.records.dates import period_of
+from crnplan.records.cells import period_of
 from crnplan.remarks import Remark
 from crnplan.words import advised, sentence
 from planner.tests.conftest import Command

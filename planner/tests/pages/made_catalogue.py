@@ -46,7 +46,6 @@ def made_folder(path: Path, items: int, names: Sequence[str] = (), has_curve: bo
     pairs = [made_pair(source, name) for name in called[:items]] + ([change] if change else [])
     with own_folder(path, CATALOGUE, CATALOGUE_FILES) as folder:
         writer = Writer(folder)
-        writer.begin()
         writer.add_items(item for item, _ in pairs)
         rejects = made_rejects(source, items)
         for reject in rejects:

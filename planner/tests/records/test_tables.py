@@ -16,10 +16,9 @@ import pytest
 from crnplan.errors import Refused, RefusedFaults
 from crnplan.records import read_history, read_lead_times
 from crnplan.records.catalogue_reading import Catalogue, read_catalogue
-from crnplan.records.columns import Stated
+from crnplan.records.columns import Stated, open_source
 from crnplan.records.item import Item
-from crnplan.records.sources import open_source, whole_table
-from crnplan.records.texts import Rules
+from crnplan.records.sources import Rules, opened
 
 Day = datetime.date
 MONDAY = Day(2026, 3, 2)
@@ -150,8 +149,8 @@ def test_a_file_that_changes_is_refused(tmp_path: Path) -> None:
     """A file that another program changes while it is read is refused."""
     path = tmp_path / "demand.csv"
     path.write_text("item,date,quantity\n" + weekly([2] * WEEKS), "utf-8")
-    with whole_table(path, "demand") as given:
-        rows = open_source("demand", given, Rules(), Stated(), "week").rows()
+    with opened(path, "demand", Rules()) as sheet:
+        rows = open_source("demand", sheet, Stated(), "week").rows()
         next(rows)
         path.write_text("item,date,quantity\n" + weekly([3] * (WEEKS - 1)), "utf-8")
         with pytest.raises(Refused, match="demand.csv: the file was changed while it was read; run again"):

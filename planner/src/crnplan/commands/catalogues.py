@@ -22,13 +22,12 @@ from ..plan.catalogue import Lost, plan_into
 from ..plan.item import plan_item
 from ..plan.question import Settings
 from ..plan.settings import CONFIG, as_setting, read_config
-from ..records.amounts import DECIMALS
-from ..records.catalogue_reading import Catalogue, Words, kinds_of, read_into
+from ..records.catalogue_reading import Catalogue, kinds_of, read_into
 from ..records.catalogued import CATALOGUE
+from ..records.cells import DECIMALS, EVERY
 from ..records.columns import ROLES
-from ..records.dates import EVERY
-from ..records.items import KEEP, LEAVE_OUT
-from ..records.masters import BORROW
+from ..records.item import BORROW
+from ..records.items import KEEP, LEAVE_OUT, Words
 from . import note
 from .histories import writing_options
 from .words import Picture, program_option, worker_options

@@ -16,13 +16,11 @@ from ..demand import FAMILIES, METHODS
 from ..errors import Fault, Refused, RefusedFaults
 from ..law import Law
 from ..records import History, read_history, read_lead_times
-from ..records.amounts import DECIMALS
-from ..records.dates import EVERY
+from ..records.cells import DECIMALS, EVERY
 from ..records.faults import RefusedFiles, printed, write_rejects
+from ..records.histories import column_names
 from ..records.observed import LeadTimes, Observed
-from ..records.reading import column_names
-from ..records.sources import whole_table
-from ..records.texts import Rules
+from ..records.sources import Rules
 from ..scenario import Scenario
 from ..toml.documents import places_of
 from . import note
@@ -233,8 +231,7 @@ def history(**asked: Any) -> None:
     """
     rules = rules_of(asked)
     if asked["demand"] is None:
-        with whole_table(asked["file"], "history") as given:
-            names = ", ".join(column_names(given, Rules(**rules))) or "none"
+        names = ", ".join(column_names(asked["file"], Rules(**rules))) or "none"
         raise Refused(f"{asked['file']}: say --demand with the name of a column; the columns are: {names}")
     with attempts_of(asked) as attempts:
         laws = laws_of(asked, attempts)

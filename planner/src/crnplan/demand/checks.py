@@ -20,7 +20,7 @@ from scipy import special
 from ..chances import Floats
 from ..errors import Refused
 from ..money import Number, whole
-from ..records.dates import first_day, period_name
+from ..records.cells import first_day, period_name
 from ..records.observed import History, Observed
 from ..remarks import Remark, Value
 from ..words import advised, sentence

@@ -2,7 +2,7 @@
 from __future__ import annotations
 
 from collections.abc import Callable, Iterable, Iterator, Mapping
-from dataclasses import dataclass, field
+from dataclasses import dataclass, field, replace
 from fractions import Fraction
 from functools import cached_property
 from typing import TYPE_CHECKING, Any, cast
@@ -13,7 +13,7 @@ from ..errors import Fault, Refused
 from ..formats import MOST_WEIGHT
 from ..law import Law
 from ..money import whole
-from ..records.faults import Place, RefusedFiles
+from ..records.faults import RefusedFiles
 from ..records.observed import Observed
 from ..remarks import Remark
 from ..words import advised
@@ -132,21 +132,22 @@ def dense(observed: Any, what: str) -> Iterable[Any]:
     return cast(Iterable[Any], observed)
 
 
-def numbers_of(observed: Observed | Iterable[Any], what: str) -> tuple[list[int], Iterable[Place | None]]:
+def numbers_of(observed: Observed | Iterable[Any], what: str) -> tuple[list[int], Iterable[Fault | None]]:
     """Returns numbers and their places. Whole numbers of any kind are taken, and floats that are whole."""
     if isinstance(observed, Observed):
         return list(observed.counts), observed.places
     numbers = [whole(number, f"{what}: entry {place}") for place, number in enumerate(dense(observed, what), 1)]
     if not 1 <= len(numbers) <= MOST_WEIGHT:
         raise Refused(f"there are {len(numbers):,} numbers of {what}; give 1 to {MOST_WEIGHT:,}")
-    return numbers, (Place("", 0, 0, what, f"entry {place}, {number},") for place, number in enumerate(numbers, 1))
+    return numbers, (Fault(f"column {what!r}: entry {place}, {number},") for place, number in enumerate(numbers, 1))
 
 
-def check(numbers: Iterable[int], places: Iterable[Place | None], reason_of: Callable[[int], str | None]) -> None:
+def check(numbers: Iterable[int], places: Iterable[Fault | None], reason_of: Callable[[int], str | None]) -> None:
     """Raises RefusedFiles for all numbers that a scenario can't have."""
     reasons = [*map(reason_of, numbers)]
     if any(reasons):
-        faults: list[Fault] = [place.fault(reason) for place, reason in zip(places, reasons) if place and reason]
+        faults = [replace(place, what=f"{place.what} {reason}") for place, reason in zip(places, reasons)
+                  if place and reason]
         if faults:
             raise RefusedFiles(faults)
 

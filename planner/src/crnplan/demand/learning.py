@@ -15,7 +15,7 @@ from ..chances import Floats, Whole
 from ..errors import Fault, Refused, RefusedFaults
 from ..files import new_file
 from ..formats import MOST_DEMAND
-from ..records.masters import BORROW
+from ..records.item import BORROW
 from ..records.observed import Observed
 from .fitted import check, numbers_of
 from .grid import FLAT, MOST_SIZE, chunks_of, estimated, group_of, marginal

@@ -17,7 +17,7 @@ from ..plan.depth import Coming, Compared, Depth
 from ..plan.settings import as_setting
 from ..decide.sensitivity import Moves
 from ..records.item import Item
-from ..records.dates import EVERY, period_name
+from ..records.cells import EVERY, period_name
 from ..remarks import Remark
 from ..theory.long_run import exactness_of
 from ..words import advised, sentence

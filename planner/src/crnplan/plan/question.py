@@ -18,7 +18,7 @@ from ..errors import Refused, argument
 from ..formats import MOST_PERIODS, MOST_REPLICATIONS, limits
 from ..money import rounded_costs
 from ..records.item import Item
-from ..records.masters import BORROW
+from ..records.item import BORROW
 from ..scenario import Scenario
 from ..theory.lattice import lattice_of, shape_of, theory_on
 from ..theory.long_run import LongRun

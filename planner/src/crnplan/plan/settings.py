@@ -16,13 +16,11 @@ from ..decide.doubt import TIMES
 from ..demand import LEAD_METHODS, METHODS
 from ..errors import Refused
 from ..formats import MOST_PERIODS, MOST_REPLICATIONS, MOST_WEIGHT
-from ..records.amounts import DECIMALS
-from ..records.columns import ROLES
-from ..records.dates import EVERY
+from ..records.cells import DECIMALS, EVERY
+from ..records.columns import ROLES, unit_fault
+from ..records.item import BORROW
 from ..records.items import KEEP, LEAVE_OUT
-from ..records.masters import BORROW
-from ..records.texts import DELIMITERS
-from ..records.units import unit_fault
+from ..records.sources import DELIMITERS
 from ..toml.documents import Path as Place, TreeFault
 from ..toml.rules import (MISSING, RANGE, Key, Table, choice, date, flag, money, number, numbers, read_tables, share,
                           text, texts)

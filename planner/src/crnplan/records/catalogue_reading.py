@@ -3,35 +3,28 @@ from __future__ import annotations
 
 import contextlib
 import datetime
+import json
 import tempfile
-from collections import Counter
-from collections.abc import Mapping, Sequence
+from collections.abc import Iterator, Mapping, Sequence
 from dataclasses import asdict, dataclass, field
 from pathlib import Path
 from typing import TYPE_CHECKING, Any, TypedDict
 
-from ..errors import Fault, Refused, RefusedFaults, argument
+from ..errors import Fault, Refused, RefusedFaults, argument, worded
 from ..files import Folder, faults_of, own_folder
-from ..remarks import Remark, Value
 from ..table import Json
-from .amounts import AmountReader
-from .catalogued import CATALOGUE, Catalogued, Reject, Writer
-from .columns import ROLES, Stated
-from .dates import EVERY, DateReader
+from .catalogued import CATALOGUE, Catalogued, Writer
+from .cells import NAMES, DateReader, text_of
+from .columns import ROLES, Source, open_source
 from .faults import Unreadable, on_one_line
-from .items import KEEP, LEAVE_OUT, Reader, Ways
-from .masters import AMOUNTS, MONEY
-from .rows import DATES, RejectRow, Rows, read_rows
-from .sources import Given, Source, Table, open_source, whole_table
-from .span import ends_of, record_of
-from .stated import found_text
-from .texts import Rules
-from .units import unit_fault
+from .item import AMOUNTS
+from .items import KEEP, LEAVE_OUT, Reader, Words
+from .observed import Day
+from .rows import DATES, Rows, read_rows
+from .sources import Table, opened
 
 if TYPE_CHECKING:
     import pandas as pd
-
-Day = datetime.date
 
 
 class FileCounts(TypedDict):
@@ -53,43 +46,6 @@ class Counts(TypedDict):
 
 
 @dataclass(frozen=True)
-class Words(Ways, Rules):
-    """How the files of a catalogue are read: periods, columns with their units and usual names by file and role, the
-    ends of the record, how rows are taken, and how files are written. Raises Refused for what can't be meant."""
-
-    every: str = "week"
-    columns: Mapping[str, Mapping[str, str]] = field(default_factory=dict)
-    units: Mapping[str, Mapping[str, str]] = field(default_factory=dict)
-    names: Mapping[str, Mapping[str, Sequence[str]]] = field(default_factory=dict)
-    start: Day | str | None = None
-    end: Day | str | None = None
-    today: Day = field(default_factory=datetime.date.today)
-
-    def __post_init__(self) -> None:
-        """Checks the words one by one."""
-        super().__post_init__()
-        if self.every not in EVERY:
-            raise Refused(f"{argument('every', self.every)} is not one of {', '.join(EVERY)}")
-        for name, value in (("twice", self.twice), ("far", self.far)):
-            if value not in (KEEP, LEAVE_OUT):
-                raise Refused(f"{argument(name, value)} is not {KEEP} or {LEAVE_OUT}")
-        for name, table in (("columns", self.columns), ("units", self.units), ("names", self.names)):
-            for kind, roles in table.items():
-                wrong = next((role for role in roles if role not in ROLES.get(kind, ())), None)
-                if kind not in ROLES or wrong is not None:
-                    known = ", ".join(f"{kind}.{role}" for kind in ROLES for role in ROLES[kind])
-                    raise Refused(f"{argument(name)}: there is no column {kind}{f'.{wrong}' if wrong else ''}; they are {known}")
-        for kind, units in self.units.items():
-            for role, unit in units.items():
-                if reason := unit_fault(role, unit):
-                    raise Refused(f"{argument('units', f'{kind}.{role}={unit}')}: {reason}")
-
-    def stated(self, kind: str) -> Stated:
-        """Returns what is stated of the columns of a file."""
-        return Stated(self.columns.get(kind, {}), self.units.get(kind, {}), self.names.get(kind, {}))
-
-
-@dataclass(frozen=True)
 class Catalogue:
     """A catalogue that was read: its items, what was left out, and the counts that say that nothing is lost."""
 
@@ -102,10 +58,10 @@ class Catalogue:
         return contextlib.closing(Catalogued(self.path))
 
     def fact(self, name: str) -> Json:
-        """Returns a fact: `counts`, `found`, `every`, `decimals` or `periods`."""
+        """Returns a fact: `counts`, `found`, `said`, `every`, `decimals` or `periods`."""
         with self.opened() as its:
-            found: Json = its.fact(name)
-        return found
+            fact: Json = its.fact(name)
+        return fact
 
     @property
     def counts(self) -> Counts:
@@ -187,94 +143,116 @@ def read_catalogue(demand: Table, items: Table, orders: Table | None = None, *,
     return Catalogue(path, room)
 
 
-def read_alone(path: Path, paths: Mapping[str, Table | None], words: Words) -> Path:
+def read_alone(path: Path, tables: Mapping[str, Table | None], words: Words) -> Path:
     """Reads a catalogue into a folder that no other run uses, and returns the file of what was read."""
     with own_folder(path, CATALOGUE) as folder:
-        return read_into(folder, paths, words)
+        return read_into(folder, tables, words)
 
 
-def open_sources(paths: Mapping[str, Given], words: Words) -> dict[str, Source]:
-    """Looks at the heads of the files. Raises RefusedFaults with all that is wrong with them."""
+@contextlib.contextmanager
+def open_sources(tables: Mapping[str, Table | None], words: Words, room: Path | None = None) -> Iterator[dict[str, Source]]:
+    """Gives tables after a look at their heads. Raises RefusedFaults with all that is wrong with these."""
     sources: dict[str, Source] = {}
     faults: list[Fault] = []
-    for kind, path in paths.items():
-        try:
-            sources[kind] = open_source(kind, path, words, words.stated(kind), words.every)
-        except RefusedFaults as refused:
-            faults += refused.faults
-    if faults:
-        raise RefusedFaults(faults)
-    return sources
-
-
-def readers_of(rows: Mapping[str, Rows], decimal: str | None) -> dict[str, AmountReader]:
-    """Returns how the amounts of each role are read, after a look at all of them."""
-    currencies: dict[str, str] = {}
-    readers = {}
-    for kind, roles in AMOUNTS.items():
-        for role in roles:
-            codes = rows[kind].columns.get(role) if kind in rows else None
-            readers[role] = AmountReader(decimal, currencies if role in MONEY else None).look(codes.distinct if codes
-                                                                                              else ())
-    return readers
-
-
-def days_of(rows: Rows, reader: DateReader) -> Counter[Day]:
-    """Returns how many rows of demand have each day."""
-    days = Counter[Day]()
-    for cell, count in rows.counts("date"):
-        with contextlib.suppress(Unreadable):
-            days[reader.read(cell)[0]] += count
-    return days
+    with contextlib.ExitStack() as stack:
+        for kind, table in tables.items():
+            if table is None:
+                continue
+            try:
+                sheet = stack.enter_context(opened(table, kind, words, room))
+                sources[kind] = open_source(kind, sheet, words.stated(kind), words.every)
+            except RefusedFaults as refused:
+                faults += refused.faults
+        if faults:
+            raise RefusedFaults(faults)
+        yield sources
 
 
 def read_into(folder: Folder, tables: Mapping[str, Table | None], words: Words) -> Path:
     """Reads a catalogue into a folder, and returns the file of what was read. Raises as `read_catalogue` does."""
-    with faults_of(folder.path), contextlib.ExitStack() as stack:
-        files = {kind: stack.enter_context(whole_table(table, kind, folder.room())) for kind, table in tables.items()
-                 if table is not None}
-        sources = open_sources(files, words)
-        writer = Writer(folder)
-        stack.callback(writer.drop)
-        writer.begin()
-        path = writer.finish(_read(sources, words, writer))
-    return path
+    with faults_of(folder.path), open_sources(tables, words, folder.room()) as sources, Writer(folder) as writer:
+        rows = read_rows(sources)
+        reader = Reader(rows, words, writer)
+        reader.read()
+        periods = reader.record.periods
+        return writer.finish({"counts": counts_of(reader), "every": words.every, "decimals": reader.counts.decimals,
+                              "periods": [periods.start, periods.stop], "found": found_text(reader),
+                              "said": [line for source in sources.values() for line in source.said(words.every)]})
 
 
-def _read(sources: Mapping[str, Source], words: Words, writer: Writer) -> dict[str, Any]:
-    """Writes the items of tables and what is left out, and returns the facts of the catalogue."""
-    start, end = ends_of(words.start, words.end)
-
-    def reject(source: Source) -> RejectRow:
-        """Returns what rejects a row of a table that has no item."""
-        def rejected(line: int, code: str, role: str, text: str, facts: Mapping[str, Value]) -> None:
-            """Rejects a row."""
-            column = source.columns[role].name if role else ""
-            writer.reject(Reject("row", source.name, line, "", column, on_one_line(text), Remark(code, facts),
-                                 int(source.kind == "demand")))
-        return rejected
-    rows = read_rows(sources, ROLES, bool(words.date_formats), reject)
-    dates = {kind: DateReader([cell for role in DATES if role in its.columns for cell in its.columns[role].distinct],
-                              words.date_formats)
-             for kind, its in rows.items()}
-    record = record_of(days_of(rows["demand"], dates["demand"]), words.every, start, end, words.today)
-    amounts = readers_of(rows, words.decimal)
-    reader = Reader(rows, dates, amounts, record, words, writer)
-    reader.read()
-    return {"counts": counts_of(rows, reader), "every": words.every, "decimals": reader.counts.decimals,
-            "periods": [record.periods.start, record.periods.stop], "found": found_text(rows, dates, amounts, record),
-            "said": [line for source in sources.values() for line in source.said(words.every)]}
-
-
-def counts_of(rows: Mapping[str, Rows], reader: Reader) -> dict[str, Any]:
+def counts_of(reader: Reader) -> Counts:
     """Returns the counts of rows by table, and of items: of rows as they were read, and of what became of them."""
     its = reader.counts
-    files = {kind: {"name": table.source.name, "read": len(table) + table.rejected, "blank": table.blank,
-                    "used": its.used[kind], "rejected": table.rejected + its.rejected[kind],
-                    "with_item": its.with_item[kind]}
-             for kind, table in rows.items()}
-    items = {name: value for name, value in asdict(its).items() if isinstance(value, int) and name != "decimals"}
-    return {"files": files, "items": items}
+    files: dict[str, FileCounts] = {
+        kind: {"name": rows.source.name, "read": len(rows), "blank": len(rows.blank), "used": its.used[kind],
+               "rejected": its.rejected[kind], "with_item": its.with_item[kind]} for kind, rows in reader.rows.items()}
+    return {"files": files, "items": {name: value for name, value in asdict(its).items()
+                                      if isinstance(value, int) and name != "decimals"}}
+
+
+def found_text(reader: Reader) -> str:
+    """Returns what was found in the tables, as the lines of crnplan.toml that would state it, with comments."""
+    record = reader.record
+    lines = ["[catalogue]", f"every = {json.dumps(record.every)}",
+             f"# the record: {record.first} to {record.last}, {len(record.periods):,} {record.every}s"]
+    for kind, rows in reader.rows.items():
+        lines += ["", f"[catalogue.{kind}]", *_file_lines(rows), *_date_lines(rows, reader.dates[kind])]
+        for place, role in enumerate(AMOUNTS[kind]):
+            amounts = reader.amounts[role]
+            if amounts.stated and not place:
+                lines.append(f"# the decimal sign is {NAMES[amounts.stated]}, as stated")
+            signs = " and ".join(f"{NAMES[sign]} in {on_one_line(text)}" for sign, text in sorted(amounts.sides.items()))
+            lines += [f"# the decimal sign of {role} is {signs}"] * bool(signs)
+    return worded("\n".join(lines)) + "\n"
+
+
+def _file_lines(rows: Rows) -> Iterator[str]:
+    """Yields lines on a table: how it is written, its columns and its first rows."""
+    source, blank = rows.source, len(rows.blank)
+    yield (f"# {source.name}: {source.sheet.written}, heading in line {source.line}, {len(rows):,} rows"
+           + f" and {blank:,} blank ones" * (blank > 0))
+    if source.titles:
+        titles = [on_one_line(" ".join(filter(None, cells))) for _, cells in source.titles]
+        yield f"# lines above the heading, passed over: {json.dumps(titles, ensure_ascii=False)}"
+    for role in ROLES[source.kind]:
+        column = source.columns.get(role)
+        if column:
+            said = "  # found by its name" * column.is_guess + f"  # in {column.unit}" * bool(column.unit)
+            yield f"{role} = {json.dumps(column.name, ensure_ascii=False)}{said}"
+        else:
+            yield f"# no column is the {role}"
+    places = {column.place for column in source.columns.values()}
+    unused = [on_one_line(name) for place, name in enumerate(source.heading) if name and place not in places]
+    if unused:
+        yield f"# not used: {', '.join(unused)}"
+    for row in source.first_rows:
+        yield f"# row: {' | '.join(map(on_one_line, row))}"
+
+
+def _date_lines(rows: Rows, reader: DateReader) -> Iterator[str]:
+    """Yields a line for each form of the dates of a table, and says what decides a form that could be two."""
+    forms: dict[str, tuple[str, int]] = {}
+    unclear = 0
+    for cell, count in (pair for role in DATES if role in rows.columns for pair in rows.counts(role)):
+        try:
+            form = reader.read(cell)[1]
+        except Unreadable as why:
+            unclear += count * (why.remark.code == "day or month")
+            continue
+        first, before = forms.get(form, (text_of(cell), 0))
+        forms[form] = first, before + count
+    formats = argument("date_formats")
+    if reader.patterns:
+        yield f"# dates by {formats}: {sum(count for _, count in forms.values()):,}"
+        return
+    for form, (text, count) in sorted(forms.items()):
+        yield f"# dates as {form}: {count:,}, such as {text}"
+    if reader.sides:
+        first = " and ".join(f"the {'day' if side else 'month'} comes first in {text}"
+                             for side, text in sorted(reader.sides.items()))
+        yield f"# of dates with slashes, {first}"
+    if unclear:
+        yield f"# dates that may have the day or the month first: {unclear:,}; say {formats}"
 
 
 def kinds_of(words: Sequence[str], option: str, example: str) -> dict[str, dict[str, str]]:

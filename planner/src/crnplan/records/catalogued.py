@@ -106,17 +106,23 @@ class Writer:
     """Writes what is read of a catalogue. The file stands under its name only when `finish` is called."""
 
     def __init__(self, folder: Folder) -> None:
-        """Opens a new file."""
+        """Opens a new file, with its tables."""
         self.path, self.part = folder.store(READ), folder.room() / READ
         self.base = sqlite3.connect(self.part)
         self.waiting: list[Reject] = []
-
-    def begin(self) -> None:
-        """Makes the tables."""
         self.base.executescript("PRAGMA journal_mode = OFF; PRAGMA synchronous = OFF;"
                                 f"CREATE TABLE items ({quoted(ITEM.names)}, PRIMARY KEY (name)) WITHOUT ROWID;"
                                 "CREATE TABLE facts (name TEXT PRIMARY KEY, value TEXT);"
                                 f"CREATE TABLE rejects ({quoted(REJECT.names)});")
+
+    def __enter__(self) -> Writer:
+        """Gives itself."""
+        return self
+
+    def __exit__(self, *fault: object) -> None:
+        """Removes a file that was not finished."""
+        self.base.close()
+        self.part.unlink(missing_ok=True)
 
     def reject(self, reject: Reject) -> None:
         """Adds what is left out or named."""
@@ -141,8 +147,3 @@ class Writer:
         self.base.close()
         os.replace(self.part, self.path)
         return self.path
-
-    def drop(self) -> None:
-        """Removes a file that was not finished."""
-        self.base.close()
-        self.part.unlink(missing_ok=True)

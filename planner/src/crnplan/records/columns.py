@@ -1,25 +1,29 @@
-"""Finds the columns of a catalogue's files, and their units: by the names that a planner states, else by usual names.
+"""Finds the columns of a table and their units, by the names that a planner states, else by usual names; and converts
+numbers into the unit in which their role counts.
 
-A name that is found is said as a guess. Two columns that could both be meant are refused, never chosen between.
+A name that is found is said as a guess. Two columns that could both be meant are refused, never chosen between. Days,
+weeks, months and years are of 1, 7, 30.4375 and 365.25 days, so a year has 52.18 weeks.
 """
 from __future__ import annotations
 
+import itertools
 import re
 import tomllib
 import unicodedata
-from collections.abc import Callable, Mapping, Sequence
-from dataclasses import dataclass, field
+from collections.abc import Iterator, Mapping, Sequence
+from dataclasses import dataclass, field, replace
+from fractions import Fraction
 from pathlib import Path
 
-from ..errors import argument
-from .units import ROLE_UNITS, is_doubtful, unit_fault
+from ..errors import Fault, RefusedFaults, argument
+from .faults import shown
+from .sources import Row, RoleOf, Sheet, heading_of, no_role, texts_of
 
 NAMES = tomllib.loads(Path(__file__).with_name("headings.toml").read_text("utf-8"))
-# The roles of each file in order, and those that each must have. s and S differ by their case.
+# The roles of each table in order, and those that each must have. s and S differ by their case.
 ROLES = {"demand": ["item", "date", "quantity", "returned", "measure"],
          "items": ["item", "description", "setup", "holding", "backlog", "fill", "lead", "s", "S", "stock", "price",
-                   "price_for",
-                   "class", "borrow"],
+                   "price_for", "class", "borrow"],
          "orders": ["item", "ordered", "received"]}
 NEEDED = {"item", "date", "quantity", "setup", "holding", "s", "S", "ordered", "received"}
 # Letters that are no letter with an accent.
@@ -27,11 +31,57 @@ LETTERS = str.maketrans({"ł": "l", "ø": "o", "æ": "ae"})
 UNITS: dict[str, str] = {word: unit for unit, words in NAMES["units"].items() for word in words}
 BESIDE = {*NAMES["beside"]["words"]}
 IMPLIED = {name: unit for unit, names in NAMES["implied"].items() for name in names}
+DAYS = {"day": Fraction(1), "week": Fraction(7), "month": Fraction(487, 16), "year": Fraction(1461, 4)}
+# What the numbers of a role may count. A length is a time, a rate is money for one item and period.
+ROLE_UNITS = {"quantity": "count", "returned": "count", "s": "count", "S": "count", "stock": "count", "lead": "length",
+              "holding": "rate", "backlog": "rate", "setup": "order", "price": "price", "fill": "share"}
+ALLOWED = {"count": ("item",), "length": ("period", *DAYS), "rate": ("period", *DAYS, "share", "percent"),
+           "order": ("order",), "price": ("item",), "share": ("share", "percent")}
+COUNTED = {"count": "items", "length": "times", "rate": "money for one item and period", "order": "money for an order",
+           "price": "money for one item", "share": "shares"}
+NUMBERED = ("count", "price")
+SHOWN_ROWS, MOST_NAME = 3, 100
+NO_ROW = "there is no row below the heading; export the file again, with its rows"
+
+
+def unit_fault(role: str, unit: str) -> str | None:
+    """Returns why the numbers of a role can't be converted from a unit; None if they can."""
+    kind = ROLE_UNITS.get(role)
+    if kind is None:
+        return f"the {role} has no unit"
+    is_number = unit.isdecimal() and int(unit) > 0
+    if unit in ALLOWED[kind] or kind in NUMBERED and is_number:
+        return None
+    known = ", ".join([*ALLOWED[kind], *["or a number, as 12 for packs of 12"] * (kind in NUMBERED)])
+    return f"the {role} counts {COUNTED[kind]}, and {unit!r} is none of its units: {known}"
+
+
+def factor_of(role: str, unit: str, every: str) -> Fraction:
+    """Returns by what the numbers of a role are multiplied. A share of the price is one of a year."""
+    kind = ROLE_UNITS.get(role)
+    if not unit:
+        return Fraction(1)
+    if unit.isdecimal():
+        return Fraction(int(unit)) if kind == "count" else 1 / Fraction(int(unit))
+    if unit in DAYS:
+        return DAYS[unit] / DAYS[every] if kind == "length" else DAYS[every] / DAYS[unit]
+    hundredth = Fraction(1, 100) if unit == "percent" else Fraction(1)
+    return hundredth * DAYS[every] / DAYS["year"] if kind == "rate" and unit in ("share", "percent") else hundredth
+
+
+def periods_of(lead: Fraction) -> tuple[int, ...]:
+    """Returns the lead times in whole periods of an order that takes so many periods, and may be placed at any time of
+    one: as those of dated orders, of which an order takes at least 1."""
+    low = int(lead)
+    rest = (lead - low).limit_denominator(7)
+    lows = (max(1, low),) * (rest.denominator - rest.numerator)
+    leads = lows + (max(1, low + 1),) * rest.numerator
+    return leads if len({*leads}) > 1 else leads[:1]
 
 
 @dataclass(frozen=True)
 class Stated:
-    """What a planner states of a file's columns: the name and the unit of some roles, and more usual names of roles."""
+    """What a planner states of a table's columns: names and units of some roles, and more usual names of roles."""
 
     columns: Mapping[str, str] = field(default_factory=dict)
     units: Mapping[str, str] = field(default_factory=dict)
@@ -40,13 +90,27 @@ class Stated:
 
 @dataclass(frozen=True)
 class Column:
-    """A column of a file: its name in the heading, its place from 0, whether it was found by its name alone, and its
+    """A column of a table: its name in the heading, its place from 0, whether it was found by its name alone, and its
     unit, empty if that is the one of its role."""
 
     name: str
     place: int
-    is_guess: bool
+    is_guess: bool = False
     unit: str = ""
+
+    def converted(self, role: str, every: str) -> str:
+        """Returns how the numbers of the column are converted; the empty text if they are not."""
+        kind, unit = ROLE_UNITS.get(role), self.unit
+        if not unit or not kind:
+            return ""
+        how = f"{'packs of' if kind == 'count' else 'a price for'} {unit} to items"
+        if kind == "length":
+            how = f"{unit}s to {every}s, for orders that are placed on any day"
+        elif unit in ("share", "percent"):
+            how = unit + (f" of the price and year to money an item and {every}" if kind == "rate" else " to shares")
+        elif kind == "rate":
+            how = f"money a {unit} to money a {every}"
+        return f"column {self.name!r}: {role}: converted from {how}"
 
 
 def plain_name(name: str) -> str:
@@ -58,16 +122,9 @@ def plain_name(name: str) -> str:
 
 
 def names_of(kind: str, stated: Stated) -> dict[str, set[str]]:
-    """Returns the usual names of each role of a file."""
+    """Returns the usual names of each role of a table."""
     return {role: {*NAMES["all" if role == "item" else kind][role], *map(plain_name, stated.names.get(role, ()))}
             for role in ROLES[kind]}
-
-
-def role_of(kind: str, stated: Stated) -> Callable[[str], str | None]:
-    """Returns the function that gives the role of a cell if that is a usual name of a column, by which the heading of a
-    file is found."""
-    known = {name: role for role, names in names_of(kind, stated).items() for name in names}
-    return lambda cell: known.get(plain_name(cell)) or known.get(bare_name(plain_name(cell))[0])
 
 
 def is_number(words: Sequence[str], place: int) -> bool:
@@ -93,20 +150,15 @@ def bare_name(name: str) -> tuple[str, str]:
                      key=lambda unit: (not unit.isdecimal(), unit not in ("share", "percent"), unit == "item"))
 
 
-def _listed(heading: Sequence[str]) -> str:
-    """Returns the columns of a heading as a text."""
-    return ", ".join(filter(None, heading)) or "none"
-
-
 class Finder:
-    """Finds the columns of a file in its heading."""
+    """Finds the columns of a table in its heading."""
 
     def __init__(self, kind: str, heading: Sequence[str], stated: Stated, every: str) -> None:
         """Takes the heading, and what is stated of it."""
         self.kind, self.heading, self.stated, self.every = kind, heading, stated, every
         self.names = names_of(kind, stated)
         self.plain = [plain_name(cell) for cell in heading]
-        self.found: dict[str, Column] = {}
+        self.columns: dict[str, Column] = {}
         self.wrong: list[str] = []
 
     def find(self) -> tuple[dict[str, Column], list[str]]:
@@ -115,41 +167,29 @@ class Finder:
         Names are compared whole first, for all roles, so that no column with the very name of one role goes to another
         one.
         """
-        for role, name in self.stated.columns.items():
-            self._take(role, [place for place, cell in enumerate(self.heading) if cell == name], name)
+        stated, self.wrong = stated_columns(self.heading, self.stated.columns)
+        for role, column in stated.items():
+            self._add(role, column)
         for role in (it for it in ROLES[self.kind] if it not in self.stated.columns):
             places = self._places(role)
             if len(places) > 1:
                 both = " and ".join(repr(self.heading[it]) for it in places)
-                self.wrong.append(f"the columns {both} may both be the {role}; say {self._column(role)}")
+                self.wrong.append(f"the columns {both} may both be the {role}; say {self._argument('columns', role)}")
             elif places:
-                self._add(role, places[0], True)
+                self._add(role, Column(self.heading[places[0]], places[0], True))
             elif role in NEEDED:
-                self.wrong.append(f"no column looks like the {role}; say {self._column(role)}; the columns are: "
-                                  f"{_listed(self.heading)}")
-        return self.found, self.wrong
+                self.wrong.append(f"no column looks like the {role}; say {self._argument('columns', role)}; the "
+                                  f"columns are: {listed(self.heading)}")
+        return self.columns, self.wrong
 
-    def _column(self, role: str) -> str:
-        """Returns the argument that names the column of a role."""
-        return argument("columns", f"{self.kind}.{role}=NAME")
-
-    def _unit(self, role: str, unit: str) -> str:
-        """Returns the argument that states the unit of a role."""
-        return argument("units", f"{self.kind}.{role}={unit}")
-
-    def _take(self, role: str, places: Sequence[int], name: str) -> None:
-        """Takes the column that is stated for a role."""
-        if len(places) == 1:
-            self._add(role, places[0], False)
-        else:
-            how_many = "more than one column" if places else "no column"
-            self.wrong.append(f"there is {how_many} {name!r}, which is stated as {self.kind}.{role}; the columns are: "
-                              f"{_listed(self.heading)}")
+    def _argument(self, name: str, role: str, value: str = "NAME") -> str:
+        """Returns the argument that says something of a role."""
+        return argument(name, f"{self.kind}.{role}={value}")
 
     def _places(self, role: str) -> list[int]:
         """Returns the places of the columns that may have a role: those with its very name, else those with its name
         and a unit, else those that begin so."""
-        taken = {it.place for it in self.found.values()}
+        taken = {it.place for it in self.columns.values()}
         known = {name for other, names in self.names.items() if other != role for name in names} - self.names[role]
         free = [place for place, name in enumerate(self.plain) if place not in taken and name not in known]
         exact = [place for place in free if self.plain[place] in self.names[role]]
@@ -157,20 +197,96 @@ class Finder:
         return exact or bare or [place for place in free if bare_name(self.plain[place])[0] not in known and any(
             len(name) > 1 and self.plain[place].startswith(f"{name} ") for name in self.names[role])]
 
-    def _add(self, role: str, place: int, is_guess: bool) -> None:
+    def _add(self, role: str, column: Column) -> None:
         """Adds the column of a role with its unit: the stated one, else that of its heading."""
-        heading = self.heading[place]
-        unit, stated = bare_name(self.plain[place])[1] if role in ROLE_UNITS else "", self.stated.units.get(role)
-        if self.plain[place] in self.names.get(role, ()) and self.plain[place] not in IMPLIED:
-            unit = ""
-        unit = stated or unit
+        plain, stated = self.plain[column.place], self.stated.units.get(role)
+        is_plain = role not in ROLE_UNITS or plain in self.names.get(role, ()) and plain not in IMPLIED
+        unit = stated or ("" if is_plain else bare_name(plain)[1])
         reason = unit_fault(role, unit) if unit else None
         if reason:
-            origin = "is stated" if stated else f"is the unit in the heading {heading!r}"
-            self.wrong.append(f"{unit!r} {origin}, and {reason}; say {self._unit(role, 'UNIT')}, or convert its "
-                              "numbers")
-        if is_doubtful(role, unit, self.every):
-            self.wrong.append(f"the column {heading!r} names no unit, and may count {self.every}s or weeks; say "
-                              f"{self._unit(role, self.every)} or {self._unit(role, 'week')}")
+            origin = "is stated" if stated else f"is the unit in the heading {column.name!r}"
+            self.wrong.append(f"{unit!r} {origin}, and {reason}; say {self._argument('units', role, 'UNIT')}, or "
+                              "convert its numbers")
+        if ROLE_UNITS.get(role) in ("length", "rate") and not unit and self.every != "week":
+            said = " or ".join(self._argument("units", role, word) for word in (self.every, "week"))
+            self.wrong.append(f"the column {column.name!r} names no unit, and may count {self.every}s or weeks; say "
+                              f"{said}")
         own = {"item", "period", "order", self.every, *["share"] * (role == "fill")}
-        self.found[role] = Column(heading, place, is_guess, "" if unit in own else unit)
+        self.columns[role] = replace(column, unit="" if unit in own else unit)
+
+
+def listed(heading: Sequence[str]) -> str:
+    """Returns the columns of a heading as a text."""
+    return ", ".join(name[:MOST_NAME] for name in heading if name) or "none"
+
+
+def stated_columns(heading: Sequence[str], names: Mapping[str, str]) -> tuple[dict[str, Column], list[str]]:
+    """Returns the columns that are stated for roles, and what is wrong with those that a heading doesn't have once."""
+    columns: dict[str, Column] = {}
+    wrong: list[str] = []
+    for role, name in names.items():
+        if heading.count(name) == 1:
+            columns[role] = Column(name, heading.index(name))
+            continue
+        how_many, advice = ("more than one", "; rename all but one") if name in heading else ("no", "")
+        wrong.append(f"{how_many} column {name!r} (stated as {role}); the columns are: {listed(heading)}"
+                     f"{advice}")
+    return columns, wrong
+
+
+@dataclass(frozen=True)
+class Source:
+    """A table whose heading is known: its sheet, and which column has which role. `line` is that of the heading."""
+
+    kind: str
+    sheet: Sheet
+    line: int
+    heading: tuple[str, ...]
+    columns: dict[str, Column] = field(default_factory=dict)
+    titles: tuple[tuple[int, tuple[str, ...]], ...] = ()
+    first_rows: tuple[tuple[str, ...], ...] = ()
+
+    @property
+    def name(self) -> str:
+        """Returns the name of the table in tables: that of the file without its folder."""
+        return Path(self.sheet.name).name
+
+    def rows(self) -> Iterator[Row]:
+        """Yields the line in which each row below the heading begins, and its cells."""
+        yield from itertools.dropwhile(lambda row: row[0] <= self.line, self.sheet.rows())
+
+    def said(self, every: str) -> Iterator[str]:
+        """Yields how the columns are converted whose unit is not that of their role."""
+        for role, column in self.columns.items():
+            if column.unit:
+                yield f"{self.name}: {column.converted(role, every)}"
+
+
+def headed(kind: str, sheet: Sheet, names: Sequence[str] = (), role_of: RoleOf = no_role) -> Source:
+    """Returns a table with its heading, which is empty if it has no row. `names` are wanted there."""
+    rows = sheet.head(names, role_of)
+    if not rows:
+        return Source(kind, sheet, 1, ())
+    texts = [texts_of(cells) for _, cells in rows]
+    place = heading_of(texts, names, role_of)
+    titles = tuple((line, tuple(cells)) for (line, _), cells in zip(rows[:place], texts))
+    return Source(kind, sheet, rows[place][0], tuple(texts[place]), {}, titles,
+                  tuple(tuple(map(shown, cells)) for cells in texts[place + 1:place + 1 + SHOWN_ROWS]))
+
+
+def open_source(kind: str, sheet: Sheet, stated: Stated, every: str) -> Source:
+    """Looks at the head of a table of a catalogue: its heading and columns, and its first rows.
+
+    `stated` is what is known of its columns. Raises RefusedFaults with all that is wrong with them.
+    """
+    known = {name: role for role, names in names_of(kind, stated).items() for name in names}
+    source = headed(kind, sheet, [*stated.columns.values()],
+                    lambda cell: known.get(plain_name(cell)) or known.get(bare_name(plain_name(cell))[0]))
+    if sheet.fault:
+        raise RefusedFaults([sheet.fault])
+    if not source.heading:
+        raise RefusedFaults([Fault(NO_ROW, sheet.name, 1)])
+    columns, wrong = Finder(kind, source.heading, stated, every).find()
+    if wrong:
+        raise RefusedFaults([Fault(what, sheet.name, source.line) for what in wrong])
+    return replace(source, columns=columns)

@@ -5,9 +5,8 @@ import re
 from collections.abc import Iterator, Sequence
 from dataclasses import dataclass
 from pathlib import Path
-from typing import NamedTuple
 
-from ..errors import Fault, RefusedFaults, argument
+from ..errors import Fault, RefusedFaults, argument, worded
 from ..files import faults_of, new_file
 from ..table import Cell, DataTable, text, whole
 from ..remarks import Remark, Value
@@ -17,15 +16,18 @@ from ..words import advice, sentence
 MOST_PRINTED = 20
 MOST_NAMED = 8
 UNPRINTABLE = re.compile(r"[\x00-\x1f\x7f-\x9f\u2028\u2029]+")
+# Words of a row that has the sum of those above.
+TOTAL = re.compile(r"\W*(?:grand |sub)?(?:totals?|totale|totaal|sum|summe|gesamt\w*|insgesamt|zwischensumme|somme|suma)"
+                   r"\b", re.IGNORECASE)
 
 
 class Unreadable(ValueError):
     """A cell that is no number or no date. Its remark says why."""
 
-    def __init__(self, code: str, **facts: Value) -> None:
-        """Takes the code of what is wrong, and its facts."""
+    def __init__(self, code: str, cell: object = None, **facts: Value) -> None:
+        """Takes the code of what is wrong, the cell, and other facts."""
         super().__init__(code)
-        self.remark = Remark(code, facts)
+        self.remark = Remark(code, facts if cell is None else {"text": shown(str(cell)), **facts})
 
     def __str__(self) -> str:
         """Returns why, and what to do."""
@@ -42,20 +44,6 @@ class Reject(Fault):
     """A fault of a row, with the text of that row."""
 
     row: str = ""
-
-
-class Place(NamedTuple):
-    """Where a number comes from: file, line, column, the name of the column, and how a message names the number."""
-
-    file: str
-    line: int
-    column: int
-    name: str
-    subject: str
-
-    def fault(self, reason: str) -> Fault:
-        """Returns the fault of the number."""
-        return Fault(f"column {self.name!r}: {self.subject} {reason}", self.file, self.line, self.column)
 
 
 def shown(text: str) -> str:
@@ -93,7 +81,7 @@ class RefusedFiles(RefusedFaults):
             advice = f"; correct them, or say {argument('leave_out')} to go on without bad rows" if has_rows else ""
             lines.append(f"{len(faults):,} faults in {rows:,} rows{advice}")
         self.notes = tuple(notes)
-        super().__init__(faults, "\n".join([*lines, *map(str, notes)]))
+        super().__init__(faults, "\n".join([*lines, *(it.message for it in notes)]))
 
 
 REJECTS = (text("file", "name of the file"), whole("line", "", "line of the fault, 0 if there is none"),
@@ -104,6 +92,6 @@ REJECTS = (text("file", "name of the file"), whole("line", "", "line of the faul
 def write_rejects(path: Path, faults: Sequence[Fault]) -> None:
     """Writes all faults as CSV: file, line and column (0 if there is none), what is wrong, and the text of the row."""
     rows: Iterator[Sequence[Cell]] = (
-        [it.file, it.line, it.column, str(it.what), str(getattr(it, "row", "")).replace("\r", "\\r")] for it in faults)
+        [it.file, it.line, it.column, worded(it.what), str(getattr(it, "row", "")).replace("\r", "\\r")] for it in faults)
     with faults_of(path), new_file(path) as file:
         file.writelines(DataTable(REJECTS, rows).lines)

@@ -1,26 +1,21 @@
-"""Reads a history of demand: a row for each period, or movements at dates, summed by day, ISO week or month."""
+"""Reads the record of one item: demand by period or by dated movements, and lead times or the dates of orders."""
 from __future__ import annotations
 
 import contextlib
 import datetime
-from collections import defaultdict
 from collections.abc import Mapping, Sequence
-from dataclasses import dataclass
 from itertools import compress
 from typing import Any
 
-from ..errors import Fault, Refused, RefusedFaults, argument
-from ..formats import MOST_WEIGHT
-from .dates import EVERY, NEED_PERIOD, DateReader, first_day, period_name, period_of
-from .faults import RefusedFiles, Unreadable, named_lines
-from .observed import History
-from .reading import Reading
-from .returned import net_of
-from .sources import Table, whole_table
-from .span import CHANGE, ends_of
-from .texts import Rules
+import numpy as np
 
-Day = datetime.date
+from ..errors import Fault, Refused, RefusedFaults, argument
+from .cells import EVERY, NEED_PERIOD, first_day, period_name, period_of
+from .columns import factor_of, headed, periods_of
+from .faults import RefusedFiles, Unreadable, named_lines
+from .observed import CHANGE, Day, History, LeadTimes, ends_of, summed, too_long
+from .reading import Reading
+from .sources import Rules, Sheet, Table, opened
 
 
 def read_history(table: Table, *, demand: str, returns: str | None = None, date: str | None = None,
@@ -29,7 +24,7 @@ def read_history(table: Table, *, demand: str, returns: str | None = None, date:
                  decimal: str | None = None, date_formats: Sequence[str] = (), item: Mapping[str, str] | None = None,
                  leave_out: bool = False) -> History:
     """Reads a history of demand from a CSV file (`-` is standard input), a sheet (FILE.xlsx!SHEET) or a DataFrame.
-    `demand`, `returns` and `date` name its columns.
+    `demand`, `returns` and `date` name its columns. Numbers are converted into items if a heading says `packs of 12`.
 
     Without `date` each row is a period. With it each row is a movement. They are summed by day, ISO week or month
     (`every`), and a period without one has the demand 0. The record is from `start` to `end`, else from the first to
@@ -40,21 +35,48 @@ def read_history(table: Table, *, demand: str, returns: str | None = None, date:
     Raises RefusedFaults with all faults of the file. With `leave_out` rows with faults are left out, and are in
     `faults`.
     """
-    rule = Rules(delimiter, encoding, decimal, tuple(date_formats), item or {}, leave_out)
-    names = [demand] if returns is None else [demand, returns]
+    rules = Rules(delimiter, encoding, decimal, tuple(date_formats), item or {}, leave_out)
+    names = {"quantity": demand} | ({} if returns is None else {"returned": returns})
     if date is None:
         _check_undated({("every",): every, ("net", "whole"): net or whole, ("start", "end"): start or end})
-        with whole_table(table, "history") as given:
-            return _undated(Reading(given, names, rule), names)
+        with opened(table, "history", rules) as sheet:
+            return _undated(Reading(sheet, names), [*names])
     if every not in EVERY:
         raise Refused(NEED_PERIOD)
     first, last = ends_of(start, end)
-    with whole_table(table, "history") as given:
-        movements = _movements(Reading(given, [*names, date], rule), names, date, every, net)
+    with opened(table, "history", rules) as sheet:
+        movements = Movements(sheet, names, date, every, net)
         movements.cut(first, last)
-        periods = _spanned(movements, first, last, whole)
-        movements.suspect()
-        return _summed(movements, periods)
+        periods = movements.spanned(first, last, whole)
+        movements.suspect_all()
+        return movements.summed(periods)
+
+
+def read_lead_times(table: Table, *, lead: str | None = None, every: str | None = None, ordered: str = "ordered",
+                    received: str = "received", delimiter: str | None = None, encoding: str | None = None,
+                    decimal: str | None = None, date_formats: Sequence[str] = (),
+                    item: Mapping[str, str] | None = None, leave_out: bool = False) -> LeadTimes:
+    """Reads lead times in whole periods from a CSV file (`-` is standard input), a sheet or a DataFrame.
+
+    With `lead`, the name of a column, each row is a lead time; if its heading names a unit of time, as `Days`, and
+    `every` is known, it is converted. Without it each row is an order, with the dates on which
+    it was placed and received, and `every` is day, week or month. An order that was placed on any day of period t and
+    received on any day of period t + L has lead time L, and 1 if both fell in one period. Orders not yet received are
+    left out, with a note. Further words are those of `Rules`. Raises RefusedFaults with all faults of the file.
+    """
+    rules = Rules(delimiter, encoding, decimal, tuple(date_formats), item or {}, leave_out)
+    if lead is None and every not in EVERY:
+        raise Refused(NEED_PERIOD)
+    with opened(table, "lead times" if lead else "orders", rules) as sheet:
+        if lead is not None:
+            return _lead_times(Reading(sheet, {"lead": lead}, own_item=True), every)
+        return _orders(Reading(sheet, {"ordered": ordered, "received": received}, own_item=True), str(every))
+
+
+def column_names(table: Table, rules: Rules) -> list[str]:
+    """Returns the names in the heading of a table, for a user who doesn't know them."""
+    with opened(table, "history", rules) as sheet:
+        return [*filter(None, headed("history", sheet).heading)][:100]
 
 
 def _check_undated(given: Mapping[tuple[str, ...], object]) -> None:
@@ -65,44 +87,54 @@ def _check_undated(given: Mapping[tuple[str, ...], object]) -> None:
                       f"column{more}")
 
 
-def _undated(reading: Reading, names: Sequence[str]) -> History:
-    """Returns the history of a file in which each row is a period."""
-    reading.check_rows(names[0])
-    below = (f"is negative; correct it ({argument('net')} takes it off its period, if each row has a date: "
-             f"{argument('date')} and {argument('every')})")
-    columns = {name: reading.amounts(name, below, 0) for name in names}
-    rows, numbers = reading.kept(columns)
-    reading.note_twins(rows, names)
-    for name in names:
-        reading.suspect(name, rows, numbers[name])
-    history, (notes, faults) = None, reading.finish()
-    for name in reversed(names):
-        places = reading.places([(row, name, reading.text(name, row)) for row in rows])
-        history = History(tuple(numbers[name]), places, notes, faults, None, 1, history)
+def _history(reading: Reading, parts: Mapping[str, tuple[Sequence[int], Sequence[tuple[int, str, str] | None]]],
+             every: str | None, first: int) -> History:
+    """Returns the history of a column, with that of returns in it if there is one: for each its counts and cells."""
+    notes, faults = reading.finish()
+    history: History | None = None
+    for counts, cells in reversed(parts.values()):
+        history = History(tuple(counts), reading.places(cells), notes, faults, every, first, history)
     assert history is not None
     return history
 
 
-@dataclass
-class _Movements:
-    """The movements of a file: for each of its rows a day, and the amounts of each column."""
+def _undated(reading: Reading, roles: Sequence[str]) -> History:
+    """Returns the history of a file in which each row is a period. A blank row is one whose amount is missing."""
+    reading.check_count(roles[0], "rows")
+    columns = {role: reading.amounts(role, "negative period", 0) for role in roles}
+    reading.miss_blank(roles)
+    rows, numbers = reading.kept(columns)
+    reading.note_twins(rows)
+    for role in roles:
+        reading.suspect(role, rows, numbers[role])
+    return _history(reading, {role: (numbers[role], [(row, role, reading.text(role, row)) for row in rows])
+                              for role in roles}, None, 1)
 
-    reading: Reading
-    reader: DateReader
-    date: str
-    every: str
-    rows: list[int]
-    # The day and the form of each date.
-    dates: list[tuple[Day, str]]
-    amounts: dict[str, list[int]]
 
-    def ends(self) -> tuple[Day, Day]:
-        """Returns the first and the last day of the record: of all items, if the rows are those of one."""
-        days = {day for day, _ in self.dates}
-        for cell in self.reading.columns[self.date].distinct if self.reading.rules.item else ():
-            with contextlib.suppress(Unreadable):
-                days.add(self.reader.read(cell)[0])
-        return min(days), max(days)
+class Movements(Reading):
+    """The dated movements of an item: for each row of use a day, and an amount in each column."""
+
+    def __init__(self, sheet: Sheet, names: Mapping[str, str], date: str, every: str, net: bool) -> None:
+        """Reads the movements. Raises RefusedFaults."""
+        super().__init__(sheet, {**names, "date": date})
+        self.every, self.reader = every, self.rows.date_reader()
+        self.has_rest = sum(map(bool, self.rows.source.heading)) > len(names)
+        self.skip_blank()
+        columns: dict[str, list[Any]] = {"date": self.read("date", self.reader.read)}
+        columns |= {role: self.amounts(role, "negative movement", None if net else 0) for role in names}
+        if columns["date"] and columns["date"][-1] is None:
+            self._name_total(columns["quantity"])
+        self.used, kept = self.kept(columns)
+        self.dates: list[tuple[Day, str]] = kept.pop("date")
+        self.taken: dict[str, list[int]] = kept
+
+    def _name_total(self, amounts: Sequence[int | None]) -> None:
+        """Says of a last row without a date that it looks like a total, if it does, in place of its other faults."""
+        row = self.chosen[-1]
+        reason = self.total_reason(row, amounts[-1], [it for it in amounts[:-1] if it is not None])
+        if reason:
+            self._faults = [it for it in self._faults if it[0] != self.lines[row]]
+            self.reject(row, "date", f"the row looks like a total of the rows above ({reason}); leave it out")
 
     def cut(self, start: Day | None, end: Day | None) -> None:
         """Takes movements before the start or after the end out, with notes."""
@@ -110,71 +142,83 @@ class _Movements:
             if bound is None:
                 continue
             inside = [sign * (day - bound).days >= 0 for day, _ in self.dates]
-            lines = [self.reading.lines[row] for row, is_in in zip(self.rows, inside) if not is_in]
+            lines = [self.lines[row] for row, is_in in zip(self.used, inside) if not is_in]
             if lines:
-                self.reading.note(f"rows {where} {argument(name, str(bound))} left out: {len(lines):,} ({named_lines(lines)})")
-            self.rows, self.dates = list(compress(self.rows, inside)), list(compress(self.dates, inside))
-            self.amounts = {name: list(compress(its, inside)) for name, its in self.amounts.items()}
-        if not self.rows:
-            raise self.refused_span(f"no row is from {start or 'the beginning'} to {end or 'the end'}; {CHANGE}")
+                self.note(f"rows {where} {argument(name, str(bound))} left out: {len(lines):,} ({named_lines(lines)})")
+            self.used, self.dates = list(compress(self.used, inside)), list(compress(self.dates, inside))
+            self.taken = {role: list(compress(its, inside)) for role, its in self.taken.items()}
+        if not self.used:
+            raise RefusedFaults([Fault(f"no row is from {start or 'the beginning'} to {end or 'the end'}; {CHANGE}",
+                                       self.sheet.name)])
 
-    def refused_span(self, reason: str, row: int | None = None) -> RefusedFaults:
-        """Returns the error of a record whose ends can't be meant, at the date of a row if there is one."""
-        if row is None:
-            return RefusedFaults([Fault(reason, self.reading.source.sheet.name)])
-        return self.reading.refused(row, self.date, reason)
+    def _ends(self) -> tuple[Day, Day]:
+        """Returns the first and the last day of the record: of all items, if the rows are those of one."""
+        days = {day for day, _ in self.dates}
+        for cell in self.rows.columns["date"].distinct if self.rules.item else ():
+            with contextlib.suppress(Unreadable):
+                days.add(self.reader.read(cell)[0])
+        return min(days), max(days)
 
-    def suspect(self) -> None:
+    def spanned(self, start: Day | None, end: Day | None, whole: bool) -> range:
+        """Returns the numbers of the periods of the record, with a note. Raises RefusedFaults for none, or for too
+        many."""
+        every, ends = self.every, self._ends()
+        first, last = period_of(start or ends[0], every), period_of(end or ends[1], every)
+        partial = [start is None or first_day(first, every) != start,
+                   end is None or first_day(last + 1, every) - datetime.timedelta(days=1) != end]
+        periods = range(first + (whole and partial[0]), last + 1 - (whole and partial[1]))
+        if not periods:
+            raise self.refused(self.used[0], "date", f"there is no {every} between the first and the last one; leave "
+                               f"{argument('whole')} out")
+        row = next((row for row, (day, _) in zip(self.used, self.dates) if day == ends[1]), None)
+        is_stated = start is not None or end is not None
+        wrong = too_long(len(periods), every, CHANGE if is_stated else "correct the first or the last date")
+        if wrong:
+            raise (RefusedFaults([Fault(wrong, self.sheet.name)]) if is_stated or row is None else
+                   self.refused(row, "date", wrong))
+        filled = len({*periods} - {period_of(day, every) for day in {day for day, _ in self.dates}})
+        self.note(f"{every}s from {period_name(periods[0], every)} to {period_name(periods[-1], every)}: "
+                  f"{len(periods)}, filled with 0: {filled}; {_ends_text(partial, whole)}")
+        return periods
+
+    def suspect_all(self) -> None:
         """Notes what is suspicious in the movements."""
-        self.reading.note_forms(self.date, self.rows, self.dates, self.reader)
-        self.reading.note_twins(self.rows, list(self.amounts))
-        for name, numbers in self.amounts.items():
-            self.reading.suspect(name, self.rows, numbers)
+        self.note_forms("date", self.used, self.dates)
+        self.note_twins(self.used)
+        for role, numbers in self.taken.items():
+            self.suspect(role, self.used, numbers)
 
+    def summed(self, periods: range) -> History:
+        """Returns the history of the movements: their sums by period, none of which may be negative."""
+        every, first = self.every, periods[0]
+        number_of = {day: period_of(day, every) - first for day in {day for day, _ in self.dates}}
+        numbers = np.array([number_of[day] for day, _ in self.dates])
+        inside = (numbers >= 0) & (numbers < len(periods))
+        counts: dict[str, list[int]] = {}
+        unmet: list[tuple[int, int, str]] = []
+        for role, amounts in reversed(self.taken.items()):
+            moves = np.array(amounts, np.int64)
+            counts[role], moved, place = summed(numbers[inside], moves[inside], len(periods))
+            if moved:
+                self.note(f"column {self.columns[role].name!r}: amounts below 0 that were taken off earlier {every}s: {moved}")
+            if place is not None:
+                row = int(np.flatnonzero(inside)[place])
+                name = period_name(periods[numbers[row]], every)
+                unmet.append(self._cell(self.used[row], role, f"{amounts[row]} is more than was asked for up to {every} "
+                                        f"{name}; correct the row, or leave it out"))
+        if unmet:
+            raise RefusedFiles(self.placed(unmet), self.finish()[0])
+        rows_of: dict[int, list[int]] = {}
+        for row, number in zip(self.used, numbers.tolist()):
+            rows_of.setdefault(number, []).append(row)
 
-def _movements(reading: Reading, names: Sequence[str], date: str, every: str, net: bool) -> _Movements:
-    """Reads the movements of a file. Raises RefusedFaults."""
-    reading.skip_blank()
-    reader = DateReader(reading.columns[date].distinct, reading.rules.date_formats)
-    below = (f"is negative; say {argument('net')} to take it off its {every}, or write items that came back into a "
-             f"column of their own ({argument('returns')})")
-    columns: dict[str, list[Any]] = {date: reading.read(date, reader.read, reading.rows)}
-    columns |= {name: reading.amounts(name, below, None if net else 0) for name in names}
-    _name_total(reading, date, columns[date], columns[names[0]])
-    rows, kept = reading.kept(columns)
-    return _Movements(reading, reader, date, every, rows, kept[date], {name: kept[name] for name in names})
-
-
-def _name_total(reading: Reading, date: str, days: Sequence[object], amounts: Sequence[int | None]) -> None:
-    """Says of a last row without a date that it looks like a total, if it does, in place of its other faults."""
-    if not days or days[-1] is not None:
-        return
-    row = reading.rows[-1]
-    reason = reading.total_reason(row, amounts[-1], [it for it in amounts[:-1] if it is not None])
-    if reason:
-        reading.found = [it for it in reading.found if it[0] != row]
-        reading.reject(row, date, f"the row looks like a total of the rows above ({reason}); leave it out")
-
-
-def _spanned(movements: _Movements, start: Day | None, end: Day | None, whole: bool) -> range:
-    """Returns the numbers of the periods of the record, with a note. Raises RefusedFaults for none, or for too many."""
-    every, ends = movements.every, (None, None) if start and end else movements.ends()
-    first, last = (period_of(it, every) for it in (start or ends[0], end or ends[1]) if it)
-    partial = [start is None or first_day(first, every) != start,
-               end is None or first_day(last + 1, every) - datetime.timedelta(days=1) != end]
-    periods = range(first + (whole and partial[0]), last + 1 - (whole and partial[1]))
-    if not periods:
-        raise movements.refused_span(f"there is no {every} between the first and the last one; leave {argument('whole')} out",
-                                     movements.rows[0])
-    if len(periods) > MOST_WEIGHT:
-        last_row = next((row for row, (day, _) in zip(movements.rows, movements.dates) if day == ends[1]), None)
-        advice = CHANGE if start or end else "correct the first or the last date"
-        raise movements.refused_span(f"{len(periods):,} {every}s are more than {MOST_WEIGHT:,}; {advice}, or take "
-                                     f"longer periods ({argument('every')})", None if start or end else last_row)
-    filled = len(set(periods) - {period_of(it, every) for it in {day for day, _ in movements.dates}})
-    movements.reading.note(f"{every}s from {period_name(periods[0], every)} to {period_name(periods[-1], every)}: "
-                           f"{len(periods)}, filled with 0: {filled}; {_ends_text(partial, whole)}")
-    return periods
+        def cell(role: str, number: int, count: int) -> tuple[int, str, str] | None:
+            """Returns the first cell of a period, and how a message names its sum."""
+            rows = rows_of.get(number)
+            what = f"{every} {period_name(first + number, every)}, which comes to {count} in"
+            return (rows[0], role, f"{what} {len(rows)} row{'s' * (len(rows) > 1)},") if rows else None
+        return _history(self, {role: (counts[role], [cell(role, *it) for it in enumerate(counts[role])])
+                               for role in self.taken}, every, first)
 
 
 def _ends_text(partial: Sequence[bool], whole: bool) -> str:
@@ -183,38 +227,53 @@ def _ends_text(partial: Sequence[bool], whole: bool) -> str:
     verb, pronoun = ("are", "them") if all(partial) else ("is", "it")
     if not named:
         return "all are whole"
-    return f"{named} one {verb} left out" if whole else f"{named} one may be partial ({argument('whole')} leaves {pronoun} out)"
+    return f"{named} one {verb} left out" if whole else (
+        f"{named} one may be partial ({argument('whole')} leaves {pronoun} out)")
 
 
-def _summed(movements: _Movements, periods: range) -> History:
-    """Returns the history of movements: their sums by period, none of which may be negative."""
-    reading, every = movements.reading, movements.every
-    parts: defaultdict[int, list[int]] = defaultdict(list)
-    for place, (day, _) in enumerate(movements.dates):
-        parts[period_of(day, every)].append(place)
-    history: History | None = None
-    faults: list[tuple[int, str, str]] = []
-    columns: dict[str, list[int]] = {}
-    for name, amounts in reversed(movements.amounts.items()):
-        moves = [(period_of(day, every) - periods[0], amount) for (day, _), amount in zip(movements.dates, amounts)]
-        columns[name], moved, unmet = net_of((it for it in moves if 0 <= it[0] < len(periods)), len(periods))
-        if moved:
-            reading.note(f"column {name!r}: amounts below 0 that were taken off earlier {every}s: {moved}")
-        if unmet:
-            place = next(it for it in parts[periods[unmet[0]]] if amounts[it] == -unmet[1])
-            faults.append((movements.rows[place], name, f"{-unmet[1]} is more than was asked for up to {every} "
-                           f"{period_name(periods[unmet[0]], every)}; correct the row, or leave it out"))
-    notes, left_out = reading.finish()
-    if faults:
-        raise RefusedFiles(reading.rejects([(row, reading.source.heading.index(name), f"column {name!r}: {what}")
-                                            for row, name, what in faults]), notes)
-    for name, counts in columns.items():
-        cells: list[tuple[int, str, str] | None] = []
-        for period, count in zip(periods, counts):
-            rows = parts.get(period)
-            how_many = "1 row" if rows and len(rows) == 1 else f"{len(rows or ())} rows"
-            subject = f"{every} {period_name(period, every)}, which comes to {count} in {how_many},"
-            cells.append((movements.rows[rows[0]], name, subject) if rows else None)
-        history = History(tuple(counts), reading.places(cells), notes, left_out, every, periods[0], history)
-    assert history is not None
-    return history
+def _lead_times(reading: Reading, every: str | None) -> LeadTimes:
+    """Returns the lead times of a column, converted from the unit in its heading if the period is known."""
+    reading.skip_blank()
+    reading.check_count("lead", "rows")
+    rows, columns = reading.kept({"lead": reading.amounts("lead", "below 1", 1, if_empty="no lead")})
+    numbers, column = columns["lead"], reading.columns["lead"]
+    reading.note_twins(rows)
+    reading.suspect("lead", rows, numbers)
+    leads: list[tuple[int, ...]] = [(number,) for number in numbers]
+    if column.unit and every is None:
+        reading.note(f"column {column.name!r}: its numbers are taken as periods")
+    elif column.unit and column.unit != every:
+        reading.note(column.converted("lead", str(every)))
+        leads = [periods_of(number * factor_of("lead", column.unit, str(every))) for number in numbers]
+    places = reading.places([(row, "lead", reading.text("lead", row)) for row, its in zip(rows, leads) for _ in its])
+    return LeadTimes(tuple(lead for its in leads for lead in its), places, *reading.finish(), None)
+
+
+def _orders(reading: Reading, every: str) -> LeadTimes:
+    """Returns the lead times between the dates of orders and of their receipts."""
+    reading.skip_blank()
+    orders = len(reading.chosen)
+    received = [row for row in reading.chosen if reading.text("received", row)]
+    if not received:
+        raise reading.refused(reading.chosen[0], "received", "no order has a date of receipt; take orders of longer ago")
+    reading.chosen, reading.count = received, reading.count - orders + len(received)
+    reading.check_count("ordered", "orders")
+    reader = reading.rows.date_reader()
+    dates = {role: reading.read(role, reader.read) for role in ("ordered", "received")}
+    numbers: list[int | None] = []
+    for row, placed, there in zip(reading.chosen, dates["ordered"], dates["received"]):
+        is_late = placed is not None and there is not None and there[0] < placed[0]
+        if is_late:
+            reading.reject(row, "received", f"{reading.text('received', row)!r} is before the order of "
+                           f"{reading.text('ordered', row)!r}; correct one of the dates, or leave the row out")
+        numbers.append(None if is_late or placed is None or there is None else
+                       max(1, period_of(there[0], every) - period_of(placed[0], every)))
+    rows, kept = reading.kept({**dates, "number": numbers})
+    reading.note(f"lead times in {every}s: {len(rows)}, orders not yet received and left out: {orders - len(received)}")
+    for role in dates:
+        reading.note_forms(role, rows, kept[role])
+    reading.has_rest = True
+    reading.note_twins(rows)
+    places = reading.places([(row, "received", f"the lead time of {number} {every}s since the order of "
+                              f"{reading.text('ordered', row)}") for row, number in zip(rows, kept["number"])])
+    return LeadTimes(tuple(kept["number"]), places, *reading.finish(), every)

@@ -1,11 +1,29 @@
-"""The facts of an item: what its plan depends on, and what is only shown of it."""
+"""The facts of an item, what its plan depends on and what is only shown of it; and the masters that say them: costs, a
+wanted share, lead times, today's levels and prices."""
 from __future__ import annotations
 
+import re
+from collections.abc import Callable, Mapping, Sequence
 from dataclasses import dataclass, fields
 from fractions import Fraction
+from typing import Any
 
-from ..formats import MOST_DEMAND
+from ..formats import MOST_DEMAND, MOST_LEAD
+from ..money import MOST_DECIMALS
 from ..remarks import Remark
+from .cells import AmountReader, Cell
+from .columns import DAYS, UNITS, Column, factor_of, periods_of
+from .faults import UNPRINTABLE, Unreadable
+
+# The roles with amounts by table, and those with money, whose decimals say what the smallest unit is.
+AMOUNTS = {"items": ("setup", "holding", "backlog", "fill", "s", "S", "stock", "price", "price_for"),
+           "demand": ("quantity", "returned"), "orders": ()}
+MONEY = ("setup", "holding", "backlog", "price")
+# From whom an item may learn its law of demand: from no other, from those of its class, or from all.
+BORROW = ("none", "class", "all")
+NEEDED = ("setup", "holding", "s", "S")
+CellFault = tuple[str, Cell, Remark]  # a role, its cell, and what is wrong
+LEAD = re.compile(r"([0-9]{1,4}(?:[.,][0-9]{1,2})?) *([^\W\d_]*)[ ;|/]*")
 
 
 @dataclass(frozen=True)
@@ -50,3 +68,115 @@ class Item:
 
 # The facts that a plan depends on.
 PLANNED = tuple(it.name for it in fields(Item))[:[it.name for it in fields(Item)].index("stock")]
+
+
+class Faulty(ValueError):
+    """A row with faults of its cells."""
+
+    def __init__(self, faults: Sequence[CellFault]) -> None:
+        """Keeps the faults."""
+        super().__init__()
+        self.faults = tuple(faults)
+
+
+def decimals_of(number: Fraction) -> int:
+    """Returns how many decimals an amount has."""
+    return next(it for it in range(MOST_DECIMALS + 1) if (number * 10**it).denominator == 1)
+
+
+def borrowed_from(cell: Cell) -> str:
+    """Returns from whom an item learns its law. Raises Unreadable."""
+    source = str(cell).casefold()
+    if source not in BORROW:
+        raise Unreadable("no borrow", cell, known=f"{', '.join(BORROW[:-1])} or {BORROW[-1]}")
+    return source
+
+
+def checked_lead(lead: int) -> int:
+    """Returns a lead time in periods. Raises Unreadable if a scenario can't have it."""
+    if not 1 <= lead <= MOST_LEAD:
+        raise Unreadable("lead range", lead=lead, most=MOST_LEAD)
+    return lead
+
+
+def leads_of(cell: Cell, unit: str, every: str) -> list[int]:
+    """Returns the lead times of a cell in periods: one, or several that were observed. `unit` is that of the column,
+    empty for periods; a number may have its own behind it, as 14D. Raises Unreadable."""
+    text, leads = str(cell), list[int]()
+    if not LEAD.match(text) or LEAD.sub("", text):
+        raise Unreadable("no lead time", cell)
+    for digits, word in LEAD.findall(text):
+        own = UNITS.get(word.casefold(), word) or unit
+        if own and own not in DAYS:
+            raise Unreadable("unit of lead", cell, word=word)
+        number, is_periods = Fraction(digits.replace(",", ".")), own in ("", every)
+        if is_periods and number.denominator > 1:
+            raise Unreadable("no lead time", cell)
+        is_whole = is_periods or number == 0
+        leads += [int(number)] if is_whole else periods_of(number * factor_of("lead", own, every))
+    return [checked_lead(lead) for lead in leads]
+
+
+class Masters:
+    """Reads the rows of masters, with the unit of each column."""
+
+    def __init__(self, amounts: Mapping[str, AmountReader], columns: Mapping[str, Column], every: str) -> None:
+        """Takes how the amounts of each role are read, and the columns."""
+        units = {role: column.unit for role, column in columns.items() if column.unit}
+        self.factors = {role: factor_of(role, unit, every) for role, unit in units.items() if role not in ("lead", "fill")}
+        self.share = units["holding"] if units.get("holding") in ("share", "percent") else ""
+        self.readers: dict[str, Callable[[Cell], Any]] = {
+            "setup": amounts["setup"].amount, "holding": lambda cell: self._holding(amounts["holding"], cell),
+            "lead": lambda cell: leads_of(cell, units.get("lead", ""), every), "backlog": amounts["backlog"].positive,
+            "fill": lambda cell: amounts["fill"].share(cell, "fill" in units), "s": amounts["s"].items,
+            "S": amounts["S"].items, "stock": amounts["stock"].number, "price": amounts["price"].amount,
+            "price_for": amounts["price_for"].positive, "borrow": borrowed_from}
+
+    def _holding(self, reader: AmountReader, cell: Cell) -> Fraction:
+        """Returns a holding cost: money, or a share of the price."""
+        text = str(cell)
+        is_percent = text.endswith("%")
+        if is_percent and not self.share:
+            raise Unreadable("is share", cell)
+        number = reader.positive(text.rstrip("% ") if is_percent else cell)
+        if self.share == "share" and number >= 1 and not is_percent:
+            raise Unreadable("small percent", cell, role="holding")
+        return number / 100 if is_percent and self.share == "share" else number
+
+    def item(self, name: str, line: int, cells: Mapping[str, Cell], observed: Sequence[int]) -> tuple[Item, int]:
+        """Returns an item without its demand, by its master, and the decimals of its money. `observed` are lead times
+        of orders, for a row that says none.
+
+        Raises Faulty with all that is wrong with the row.
+        """
+        read, faults = self._read(cells)
+        if "backlog" in read and "fill" in read and read["backlog"] is None and read["fill"] is None:
+            faults.append(("backlog", "", Remark("no goal")))
+        if "lead" in read and read["lead"] is None and not observed:
+            faults.append(("lead", "", Remark("nothing of leads")))
+        if "s" in read and "S" in read and read["s"] > read["S"]:
+            faults.append(("s", cells["s"], Remark("s above S", {"s": read["s"], "S": read["S"]})))
+        if self.share and "price" in read and not read["price"]:
+            faults.append(("holding", cells["holding"], Remark("no price for share")))
+        if faults:
+            raise Faulty(faults)
+        decimals = max(decimals_of(read[role]) for role in MONEY if read[role] is not None)
+        read["price"] = None if read["price"] is None else read["price"] / (read["price_for"] or 1)
+        read |= {role: read[role] * factor for role, factor in self.factors.items() if read[role] is not None}
+        holding = read["holding"] * read["price"] if self.share else read["holding"]
+        description, group = (UNPRINTABLE.sub(" ", str(cells.get(role, ""))) for role in ("description", "class"))
+        return Item(name, (), tuple(read["lead"] or observed), (int(read["s"]), int(read["S"])), read["setup"], holding,
+                    read["backlog"], read["fill"], group=group, borrow=read["borrow"] or "", stock=read["stock"],
+                    price=read["price"], description=description, line=line), decimals
+
+    def _read(self, cells: Mapping[str, Cell]) -> tuple[dict[str, Any], list[CellFault]]:
+        """Returns the values of the cells by role, without units, and the faults of those that have none."""
+        read: dict[str, Any] = {}
+        faults: list[CellFault] = []
+        for role, reader in self.readers.items():
+            cell = cells.get(role, "")
+            try:
+                read[role] = None if cell == "" and role not in NEEDED else reader(cell)
+            except Unreadable as why:
+                faults.append((role, cell, why.remark))
+        return read, faults

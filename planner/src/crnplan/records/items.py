@@ -1,52 +1,76 @@
 """Makes items of the rows of a catalogue: their demand by period, lead times and masters, or why they are left out."""
 from __future__ import annotations
 
+import contextlib
+import datetime
 from collections import Counter
-from collections.abc import Iterable, Iterator, Mapping, Sequence
+from collections.abc import Callable, Mapping, Sequence
 from dataclasses import dataclass, field, replace
-from typing import Any
 
 import numpy as np
 import numpy.typing as npt
 
-from ..formats import MOST_ITEMS
+from ..errors import Refused, argument
+from ..formats import MOST_ITEMS, MOST_LEAD
 from ..remarks import Remark
-from .amounts import AmountReader, Cell
 from .catalogued import Reject, Writer
-from .dates import DateReader, period_of
-from .faults import Unreadable, named_lines, on_one_line
-from .item import Item
-from .masters import Faulty, Found, Master, Masters, checked_lead
-from .returned import net_of
-from .rows import Numbers, Rows
-from .sources import text_of
-from .span import Record
-from .suspicions import MOST_FAR, TIMES_NEXT, TOTAL
-from .units import factor_of
+from .cells import EVERY, Cell, period_name, period_of, text_of
+from .columns import ROLES, Stated, factor_of, unit_fault
+from .faults import TOTAL, UNPRINTABLE, Unreadable, named_lines, on_one_line
+from .item import AMOUNTS, MONEY, CellFault, Faulty, Item, Masters
+from .observed import Day, ends_of, record_of, summed
+from .rows import Flags, Numbers, Rows, far_above
+from .sources import Rules
 
-# An amount is far above all others of its item if it is TIMES_NEXT times the next largest; if it has fewer others than
-# LEAST_OTHERS, so many times.
-LEAST_OTHERS, TIMES_OF_FEW = 4, 300
 KEEP, LEAVE_OUT = "keep", "leave-out"
-MOVED = ("date", "quantity", "returned")
 ITEMS_AT_ONCE = 1_000
-# Codes of remarks on an item, each with the names of its facts.
-EQUAL_MASTERS, LATE, BOXES = "equal masters", "late", "boxes"  # masters; period; items
-NETTED = "taken off earlier"  # amounts
-STOCK_BELOW, TWICE = "stock below 0", "rows twice"  # none; rows
 
 
 @dataclass(frozen=True)
-class Ways:
-    """How rows are taken: `net` takes amounts below 0 off the sales that they undo, `twice` and `far` are keep or
-    leave-out, and an item needs a history of `least` periods. A row in a unit of measure counts so many items as
-    `factors` says."""
+class Words(Rules):
+    """How the files of a catalogue are read: periods, columns with their units and usual names by file and role, the
+    ends of the record, how rows are taken, and how files are written. Raises Refused for what can't be meant.
 
+    `net` takes amounts below 0 off the sales that they undo, `twice` and `far` are keep or leave-out, and an item needs
+    a history of `least` periods. A row in a unit of measure counts so many items as `factors` says.
+    """
+
+    every: str = "week"
+    columns: Mapping[str, Mapping[str, str]] = field(default_factory=dict)
+    units: Mapping[str, Mapping[str, str]] = field(default_factory=dict)
+    names: Mapping[str, Mapping[str, Sequence[str]]] = field(default_factory=dict)
+    start: Day | str | None = None
+    end: Day | str | None = None
+    today: Day = field(default_factory=datetime.date.today)
     net: bool = False
     twice: str = KEEP
     far: str = LEAVE_OUT
     least: int = 13
     factors: Mapping[str, int] = field(default_factory=dict)
+
+    def __post_init__(self) -> None:
+        """Checks the words one by one."""
+        super().__post_init__()
+        if self.every not in EVERY:
+            raise Refused(f"{argument('every', self.every)} is not one of {', '.join(EVERY)}")
+        for name, value in (("twice", self.twice), ("far", self.far)):
+            if value not in (KEEP, LEAVE_OUT):
+                raise Refused(f"{argument(name, value)} is not {KEEP} or {LEAVE_OUT}")
+        for name, table in (("columns", self.columns), ("units", self.units), ("names", self.names)):
+            for kind, roles in table.items():
+                wrong = next((role for role in roles if role not in ROLES.get(kind, ())), None)
+                if kind not in ROLES or wrong is not None:
+                    known = ", ".join(f"{kind}.{role}" for kind in ROLES for role in ROLES[kind])
+                    place = f"{kind}.{wrong}" if wrong else kind
+                    raise Refused(f"{argument(name)}: there is no column {place}; they are {known}")
+        for kind, units in self.units.items():
+            for role, unit in units.items():
+                if reason := unit_fault(role, unit):
+                    raise Refused(f"{argument('units', f'{kind}.{role}={unit}')}: {reason}")
+
+    def stated(self, kind: str) -> Stated:
+        """Returns what is stated of the columns of a file."""
+        return Stated(self.columns.get(kind, {}), self.units.get(kind, {}), self.names.get(kind, {}))
 
 
 @dataclass
@@ -76,37 +100,16 @@ class Left(Exception):
 
 @dataclass(frozen=True)
 class Moves:
-    """The movements of all items, by item and in the order of their rows: lines, periods, amounts asked for and
-    back."""
+    """Movements in the order of their rows: lines, periods, amounts asked for and back."""
 
-    ends: Numbers
     lines: npt.NDArray[np.int32]
-    periods: npt.NDArray[np.int32]
+    periods: Numbers
     asked: Numbers
     back: Numbers
 
-    def of(self, item: int) -> Moves:
+    def of(self, span: slice) -> Moves:
         """Returns the movements of an item."""
-        span = slice(self.ends[item - 1] if item else 0, self.ends[item])
-        return Moves(self.ends, self.lines[span], self.periods[span], self.asked[span], self.back[span])
-
-
-def far_above(amounts: Iterable[int]) -> int:
-    """Returns how many amounts, at most 3, are far above all others."""
-    above = np.fromiter(amounts, np.int64) if not isinstance(amounts, np.ndarray) else amounts
-    most = MOST_FAR + LEAST_OTHERS
-    above = above[above > 0]
-    ranked = sorted((above if len(above) <= most else np.partition(above, -most)[-most:]).tolist(), reverse=True)
-    for far, next_largest in enumerate(ranked[1:1 + MOST_FAR], 1):
-        times = TIMES_NEXT if len(ranked) - far >= LEAST_OTHERS else TIMES_OF_FEW
-        if ranked[far - 1] >= times * next_largest:
-            return far
-    return 0
-
-
-def is_total(item: str, date: Cell) -> bool:
-    """Returns whether a row looks like a total of the rows above: it has no date, and no name of an item."""
-    return date == "" and TOTAL.match(item) is not None
+        return Moves(self.lines[span], self.periods[span], self.asked[span], self.back[span])
 
 
 def joined(remarks: Sequence[Remark]) -> Remark:
@@ -119,42 +122,73 @@ def joined(remarks: Sequence[Remark]) -> Remark:
 class Reader:
     """Makes the items of a catalogue, and writes them, and what is left out."""
 
-    def __init__(self, rows: Mapping[str, Rows], dates: Mapping[str, DateReader], amounts: Mapping[str, AmountReader],
-                 record: Record, ways: Ways, writer: Writer) -> None:
-        """Takes the rows, how dates and amounts are read, and the ways of taking rows."""
-        self.rows, self.dates, self.amounts, self.record, self.writer = rows, dates, amounts, record, writer
-        self.ways = ways
-        self.masters = Masters(amounts, rows["items"].source.columns, record.every)
-        self.factors = {role: int(factor_of(role, column.unit, record.every)) if column.unit else 1
-                        for role, column in rows["demand"].source.columns.items() if role in MOVED}
-        self.counts = Counts()
-        self.names = [str(name) for name in rows["items"].names.distinct]
-        self.twice: Counter[int] = Counter()
-        self.no_items: set[int] = set()
-        self.master_twins = rows["items"].twins()
-        self.measures = rows["demand"].by_item() if "measure" in rows["demand"].columns else None
+    def __init__(self, rows: Mapping[str, Rows], words: Words, writer: Writer) -> None:
+        """Looks at all dates and amounts, which decide how they are read, and at the ends of the record. Raises
+        Refused."""
+        self.rows, self.words, self.writer, self.counts = rows, words, writer, Counts()
+        self.names = [str(name) for name in rows["items"].columns["item"].distinct]
+        self.good = {kind: self._named(kind) for kind in rows}
+        self.dates = {kind: its.date_reader() for kind, its in rows.items()}
+        currencies: dict[str, str] = {}
+        self.amounts = {role: rows[kind].amount_reader(role, currencies if role in MONEY else None)
+                        for kind in rows for role in AMOUNTS[kind]}
+        days = Counter[Day]()
+        for cell, count in rows["demand"].counts("date"):
+            with contextlib.suppress(Unreadable):
+                days[self.dates["demand"].read(cell)[0]] += count
+        start, end = ends_of(words.start, words.end)
+        self.record = record_of(days, words.every, start, end, words.today)
+        self.masters = Masters(self.amounts, rows["items"].source.columns, words.every)
+        self.twice, self.master_twins = Counter[int](), rows["items"].twins()
+        self.measures = (rows["demand"].by_item(np.flatnonzero(self.good["demand"]))
+                         if "measure" in rows["demand"].columns else None)
 
     def column(self, kind: str, role: str) -> str:
         """Returns the name of a column; that of its role if the file has none."""
         columns = self.rows[kind].source.columns if kind in self.rows else {}
         return columns[role].name if role in columns else role
 
+    def _named(self, kind: str) -> Flags:
+        """Returns which rows of a table name an item. The others, and those with too many cells, are rejected."""
+        rows = self.rows[kind]
+        wrong = {code: name for code, name in enumerate(self.names) if not name or UNPRINTABLE.search(name)}
+        good = ~rows.having("item", wrong)
+        good[[*rows.wide]] = False
+        for row in np.flatnonzero(~good).tolist():
+            role, text, remark = "item", text_of(rows.cell("item", row)), Remark("no item")
+            if row in rows.wide:
+                role, (cells, text) = "", rows.wide[row]
+                remark = Remark("long", {"cells": cells, "columns": len(rows.source.heading), "sign": rows.source.sheet.sign})
+            elif text:
+                remark = Remark("unprintable name")
+            self._reject(kind, row, "", [(role, text, remark)])
+        return good
+
+    def _reject(self, kind: str, row: int, name: str, faults: Sequence[CellFault]) -> None:
+        """Rejects a row of an item with its faults."""
+        self.counts.rejected[kind] += 1
+        self.writer.reject(Reject("row", self.rows[kind].source.name, int(self.rows[kind].lines[row]), name,
+                                  *self._said(kind, faults), int(kind == "demand")))
+
+    def _said(self, kind: str, faults: Sequence[CellFault]) -> tuple[str, str, Remark]:
+        """Returns columns and texts of faults, each joined, and what is said of them."""
+        return (", ".join(self.column(kind, role) if role else "" for role, _, _ in faults),
+                ", ".join(on_one_line(text_of(cell)) for _, cell, _ in faults),
+                joined([remark for _, _, remark in faults]))
+
     def read(self) -> None:
         """Reads all items. Those of totals alone are none."""
-        moves = self._moves()
+        moves, move_ends, no_items = self._moves()
         leads, lead_ends, orders = self._leads()
-        masters, master_ends = self.rows["items"].by_item()
+        masters, master_ends = self.rows["items"].by_item(np.flatnonzero(self.good["items"]))
+        known = {code for kind, rows in self.rows.items() for code in np.unique(rows.codes("item")[self.good[kind]]).tolist()}
         waiting: list[Item] = []
-        for item in sorted(range(len(self.names)), key=self.names.__getitem__):
-            if item in self.no_items:
-                continue
-            span = slice(lead_ends[item - 1] if item else 0, lead_ends[item])
-            rows = masters[master_ends[item - 1] if item else 0:master_ends[item]].tolist()
-            mine = moves.of(item)
+        for item in sorted(known - no_items, key=self.names.__getitem__):
+            mine, rows = moves.of(_span(move_ends, item)), masters[_span(master_ends, item)].tolist()
             count = {"demand": len(mine.lines), "items": len(rows), "orders": int(orders[item])}
             self.counts.named += 1
             try:
-                waiting.append(self._item(item, mine, rows, leads[span].tolist()))
+                waiting.append(self._item(item, mine, rows, leads[_span(lead_ends, item)].tolist()))
             except Left as why:
                 self._leave(self.names[item], why, count)
                 continue
@@ -171,223 +205,168 @@ class Reader:
         self.counts.left_out += 1
         self.counts.with_item.update(count)
         self.writer.reject(Reject("item", self.rows[kind].source.name, line, name, column, on_one_line(text),
-                                  why.remark,
-                                  count["demand"]))
+                                  why.remark, count["demand"]))
 
-    def _values(self, kind: str, role: str) -> tuple[Numbers, dict[int, Remark]]:
-        """Returns the number of each value of a column, and what is wrong with those that have none."""
-        values = self.rows[kind].columns[role].distinct if role in self.rows[kind].columns else [""]
-        numbers, faults = np.zeros(len(values), np.int64), {}
-        for code, cell in enumerate(values):
-            try:
-                numbers[code] = self._period(kind, role, cell) if role in ("date", "ordered", "received") else \
-                    self._amount(role, cell)
-            except Unreadable as why:
-                faults[code] = why.remark
-        return numbers, faults
+    def _dates(self, kind: str, role: str) -> tuple[Numbers, Numbers, dict[int, Remark]]:
+        """Returns the day, as an ordinal number, and the period of each row's date, and what is wrong with values."""
+        def day_of(cell: Cell) -> Day:
+            """Reads one."""
+            day = self.dates[kind].read(cell)[0]
+            if kind == "demand":
+                self.record.check(day)
+            return day
+        days, faults = self.rows[kind].values(role, day_of, Day.min)
+        codes, every = self.rows[kind].codes(role), self.words.every
+        return (np.array([day.toordinal() for day in days], np.int64)[codes],
+                np.array([period_of(day, every) for day in days], np.int64)[codes], faults)
 
-    def _period(self, kind: str, role: str, cell: Cell) -> int:
-        """Returns the period of a date. Raises Unreadable."""
-        day = self.dates[kind].read(cell)[0]
-        if role == "date":
-            self.record.check(day)
-        return period_of(day, self.record.every)
+    def _amount(self, role: str) -> Callable[[Cell], int]:
+        """Returns what reads the amounts of movements in items."""
+        factor = int(factor_of(role, self.rows["demand"].source.columns[role].unit, self.words.every))
 
-    def _amount(self, role: str, cell: Cell) -> int:
-        """Returns an amount of a movement in items. Raises Unreadable."""
-        if role == "returned" and cell == "":
-            return 0
-        number = self.amounts[role].whole(cell) * self.factors.get(role, 1)
-        if number < 0 and (role == "returned" or not self.ways.net):
-            raise Unreadable("negative", text=text_of(cell))
-        return number
+        def read(cell: Cell) -> int:
+            """Reads one."""
+            if role == "returned" and cell == "":
+                return 0
+            number = self.amounts[role].whole(cell) * factor
+            if number < 0 and (role == "returned" or not self.words.net):
+                raise Unreadable("negative", cell)
+            return number
+        return read
 
-    def _moves(self) -> Moves:
-        """Returns the movements of all items. Rows with faults, and twins if they are to be left out, are rejected."""
-        rows, bad = self.rows["demand"], np.zeros(len(self.rows["demand"]), bool)
-        columns: dict[str, Numbers] = {}
-        faults: dict[str, dict[int, Remark]] = {}
-        for role in (it for it in MOVED if it in rows.columns):
-            values, faults[role] = self._values("demand", role)
-            codes = rows.codes(role)
-            columns[role] = values[codes]
-            if faults[role]:
-                is_bad = np.zeros(len(values), bool)
-                is_bad[[*faults[role]]] = True
-                bad |= is_bad[codes]
-        self._reject_rows(np.flatnonzero(bad), faults)
-        good = self._without_twins(~bad)
-        if "measure" in rows.columns and self.ways.factors:
-            factors = np.array([self.ways.factors.get(text_of(it), 1) for it in rows.columns["measure"].distinct],
-                               np.int64)
-            for role in columns.keys() - {"date"}:
-                columns[role] = columns[role] * factors[rows.codes("measure")]
+    def _moves(self) -> tuple[Moves, Numbers, set[int]]:
+        """Returns the movements of all items, by item, where those of each item end, and the items of totals alone.
+        Rows with faults, and twins if they are to be left out, are rejected."""
+        rows, good = self.rows["demand"], self.good["demand"]
+        bad = np.zeros(len(rows), bool)
+        _, periods, dated = self._dates("demand", "date")
+        faults, amounts = {"date": dated}, dict[str, Numbers]()
+        for role in (it for it in ("quantity", "returned") if it in rows.columns):
+            values, faults[role] = rows.values(role, self._amount(role), 0)
+            amounts[role] = np.array(values, np.int64)[rows.codes(role)]
+        for role, its in faults.items():
+            bad |= rows.having(role, its)
+        no_items = self._reject_moves(np.flatnonzero(good & bad), faults)
+        good = self._without_twins(good & ~bad)
+        if "measure" in rows.columns and self.words.factors:
+            units = rows.columns["measure"].distinct
+            factors = np.array([self.words.factors.get(text_of(it), 1) for it in units], np.int64)[rows.codes("measure")]
+            amounts = {role: its * factors for role, its in amounts.items()}
         order, ends = rows.by_item(np.flatnonzero(good))
-        nothing = np.broadcast_to(np.int64(0), len(order))
-        return Moves(ends, rows.lines[order], columns["date"][order].astype(np.int32), columns["quantity"][order],
-                     columns["returned"][order] if "returned" in columns else nothing)
+        back = amounts["returned"][order] if "returned" in amounts else np.broadcast_to(np.int64(0), len(order))
+        return Moves(rows.lines[order], periods[order], amounts["quantity"][order], back), ends, no_items
 
-    def _reject_rows(self, bad: Numbers, faults: Mapping[str, Mapping[int, Remark]]) -> None:
-        """Rejects rows of demand with what is wrong with their cells. An item of totals alone is none."""
-        rows, totals, totals_of = self.rows["demand"], 0, Counter[int]()
-        codes = {role: rows.codes(role)[bad].tolist() for role in MOVED if role in rows.columns}
-        items = rows.codes("item")[bad].tolist()
-        for place, (row, item) in enumerate(zip(bad.tolist(), items)):
-            found = [(role, rows.columns[role].distinct[its[place]], faults[role][its[place]]) for role,
-                     its in codes.items()
+    def _reject_moves(self, bad: Numbers, faults: Mapping[str, Mapping[int, Remark]]) -> set[int]:
+        """Rejects rows of demand with what is wrong with their cells, and returns the items that are no items: those of
+        totals alone. A row is one if it looks so, and has no date."""
+        rows, totals = self.rows["demand"], Counter[int]()
+        codes = {role: rows.codes(role)[bad].tolist() for role in faults}
+        for place, (row, item) in enumerate(zip(bad.tolist(), rows.codes("item")[bad].tolist())):
+            wrong = [(role, rows.cell(role, row), faults[role][its[place]]) for role, its in codes.items()
                      if its[place] in faults[role]]
-            if is_total(self.names[item], rows.cell("date", row)):
-                found = [("item", self.names[item], Remark("total"))]
-                totals_of[item] += 1
-            self._reject(rows, row, found)
-        of_item = np.bincount(rows.codes("item"), minlength=len(self.names))
-        elsewhere = {*(code for kind, its in self.rows.items() if kind != "demand"
-                       for code in its.codes("item").tolist())} \
-            if totals_of else set()
-        self.no_items = {item for item, count in totals_of.items() if of_item[item] == count and item not in elsewhere}
+            if rows.cell("date", row) == "" and TOTAL.match(self.names[item]):
+                wrong = [("item", self.names[item], Remark("total"))]
+                totals[item] += 1
+            self._reject("demand", row, self.names[item], wrong)
+        if not totals:
+            return set()
+        count = np.bincount(rows.codes("item"), minlength=len(self.names))
+        elsewhere = {code for kind, its in self.rows.items() if kind != "demand" for code in its.codes("item").tolist()}
+        return {item for item in totals if count[item] == totals[item] and item not in elsewhere}
 
-    def _reject(self, rows: Rows, row: int, found: Sequence[Found]) -> None:
-        """Rejects a row with its faults."""
-        kind = rows.source.kind
-        self.counts.rejected[kind] += 1
-        columns, texts, remark = self._said(kind, found)
-        self.writer.reject(Reject("row", rows.source.name, int(rows.lines[row]), self.names[rows.codes("item")[row]],
-                                  columns,
-                                  texts, remark, int(kind == "demand")))
-
-    def _said(self, kind: str, found: Sequence[Found]) -> tuple[str, str, Remark]:
-        """Returns columns and texts of faults, each joined, and what is said of them."""
-        return (", ".join(self.column(kind, role) for role, _, _ in found),
-                ", ".join(on_one_line(text_of(cell)) for _, cell, _ in found),
-                joined([remark for _, _, remark in found]))
-
-    def _without_twins(self, good: npt.NDArray[np.bool_]) -> npt.NDArray[np.bool_]:
+    def _without_twins(self, good: Flags) -> Flags:
         """Names the rows that are the same as others, once for each item, and takes them out if that is wanted."""
-        rows = self.rows["demand"]
+        rows, leaves = self.rows["demand"], self.words.twice == LEAVE_OUT
         first = rows.twins()
         again = np.flatnonzero(good & (first != np.arange(len(first))))
         order, ends = rows.by_item(again)
         for item in np.flatnonzero(np.diff(np.r_[0, ends])).tolist():
-            mine = order[ends[item - 1] if item else 0:ends[item]]
-            lines = rows.lines[mine].tolist()
+            mine = order[_span(ends, item)]
+            lines, name = rows.lines[mine].tolist(), self.names[item]
             self.twice[item] = len(lines)
-            leaves = self.ways.twice == LEAVE_OUT
-            remark = Remark("twin",
-                            {"count": len(lines), "lines": named_lines(lines),
-                             "first": int(rows.lines[first[mine[0]]])})
-            self.counts.rejected["demand"] += len(lines) * leaves
-            self.writer.reject(Reject("row" if leaves else "suspicious", rows.source.name, lines[0], self.names[item],
-                                      self.column("demand", "item"), self.names[item], remark, len(lines) * leaves))
+            remark = Remark("twin", {"count": len(lines), "lines": named_lines(lines),
+                                     "first": int(rows.lines[first[mine[0]]])})
+            self.writer.reject(Reject("row" if leaves else "suspicious", rows.source.name, lines[0], name,
+                                      self.column("demand", "item"), name, remark, len(lines) * leaves))
         self.counts.twice += len(again)
-        if self.ways.twice == LEAVE_OUT:
-            good = good.copy()
-            good[again] = False
-        return good
+        self.counts.rejected["demand"] += len(again) * leaves
+        return good & ~np.isin(np.arange(len(good)), again) if leaves else good
 
     def _leads(self) -> tuple[Numbers, Numbers, Numbers]:
         """Returns the lead times of orders by item, where those of each item end, and how many orders each item has."""
-        nothing = np.zeros(len(self.names), np.int64)
         if "orders" not in self.rows:
+            nothing = np.zeros(len(self.names), np.int64)
             return nothing[:0], nothing, nothing
-        rows = self.rows["orders"]
-        columns, faults = {}, {}
-        for role in ("ordered", "received"):
-            columns[role], faults[role] = self._values("orders", role)
-        leads, kept = [], []
-        for row, placed, there in zip(range(len(rows)), rows.codes("ordered").tolist(),
-                                      rows.codes("received").tolist()):
-            if rows.columns["received"].distinct[there] == "":
-                self.counts.open_orders += 1
-                leads.append(0)
-                kept.append(row)
-                continue
-            try:
-                leads.append(self._lead(row, placed, there, columns, faults))
-                kept.append(row)
-            except Faulty as why:
-                self._reject(rows, row, why.faults)
-        good, ends = rows.by_item(np.array(kept, np.int64))
-        by_row = np.zeros(len(rows), np.int64)
-        by_row[kept] = leads
-        received = good[by_row[good] > 0]
-        return by_row[received], np.cumsum(np.bincount(rows.codes("item")[received], minlength=len(nothing))), \
-            np.diff(np.r_[0, ends])
-
-    def _lead(self, row: int, placed: int, there: int, columns: Mapping[str, Numbers],
-              faults: Mapping[str, Mapping[int, Remark]]) -> int:
-        """Returns the lead time of an order in periods. Raises Faulty."""
-        rows = self.rows["orders"]
-        cells = {"ordered": rows.cell("ordered", row), "received": rows.cell("received", row)}
-        found = [(role, cells[role], faults[role][code]) for role, code in (("ordered", placed), ("received", there))
-                 if code in faults[role]]
-        if found:
-            raise Faulty(found)
-        days = [self.dates["orders"].read(cell)[0] for cell in cells.values()]
-        if days[1] < days[0]:
-            raise Faulty([("received", cells["received"],
-                           Remark("before order", {"ordered": text_of(cells["ordered"])}))])
-        try:
-            return checked_lead(max(1, int(columns["received"][there] - columns["ordered"][placed])))
-        except Unreadable as why:
-            raise Faulty([("received", cells["received"], why.remark)]) from why
+        rows, good = self.rows["orders"], self.good["orders"]
+        placed, first, placed_faults = self._dates("orders", "ordered")
+        there, last, there_faults = self._dates("orders", "received")
+        is_open = rows.having("received", {code: cell for code, cell in enumerate(rows.columns["received"].distinct)
+                                           if cell == ""})
+        leads = np.maximum(1, last - first)
+        bad = good & ~is_open & (rows.having("ordered", placed_faults) | rows.having("received", there_faults)
+                                 | (there < placed) | (leads > MOST_LEAD))
+        for row in np.flatnonzero(bad).tolist():
+            cells = {role: rows.cell(role, row) for role in ("ordered", "received")}
+            codes = ((role, int(rows.codes(role)[row]), its) for role, its in (("ordered", placed_faults),
+                                                                              ("received", there_faults)))
+            wrong = [(role, cells[role], its[code]) for role, code, its in codes if code in its]
+            late = Remark("before order", {"ordered": text_of(cells["ordered"])})
+            far = Remark("lead range", {"lead": int(leads[row]), "most": MOST_LEAD})
+            self._reject("orders", row, self.names[rows.codes("item")[row]],
+                         wrong or [("received", cells["received"], late if there[row] < placed[row] else far)])
+        self.counts.open_orders += int((good & is_open).sum())
+        _, ends = rows.by_item(np.flatnonzero(good & ~bad))
+        received, received_ends = rows.by_item(np.flatnonzero(good & ~bad & ~is_open))
+        return leads[received], received_ends, np.diff(np.r_[0, ends])
 
     def _item(self, item: int, moves: Moves, masters: Sequence[int], leads: Sequence[int]) -> Item:
         """Returns an item. Raises Left."""
-        name = self.names[item]
         self._check_measures(item)
-        master = self._master(name, masters, leads, moves)
+        master, decimals = self._master(self.names[item], masters, leads, moves)
         self._check_far(moves)
+        start = self.record.periods[0]
         first = self.record.first_of(int(moves.periods.min()))
-        periods = len(self.record.periods) - (first - self.record.periods[0])
-        asked, netted = self._asked(moves, first, periods)
+        periods = len(self.record.periods) - (first - start)
+        asked, netted, unmet = summed(moves.periods - first, moves.asked, periods)
+        if unmet is not None:
+            amount, period = -int(moves.asked[unmet]), period_name(int(moves.periods[unmet]), self.words.every)
+            raise Left("demand", int(moves.lines[unmet]), self.column("demand", "quantity"), str(-amount),
+                       Remark("unmet return", {"amount": amount, "period": period}))
         back = np.bincount(moves.periods - first, moves.back, periods).astype(np.int64).tolist()
         self._check_counts(asked, back)
-        self.counts.late += first > self.record.periods[0]
-        self.counts.decimals = max(self.counts.decimals, master.decimals)
-        its = Item(name, tuple(asked), master.leads, master.levels, master.setup, master.holding, master.backlog,
-                   master.fill,
-                   returns=tuple(back) if any(back) else (), group=master.group, borrow=master.borrow,
-                   stock=master.stock,
-                   price=master.price, description=master.description, first=first, line=master.line,
-                   rows=len(moves.lines))
+        self.counts.late += first > start
+        self.counts.decimals = max(self.counts.decimals, decimals)
+        its = replace(master, counts=tuple(asked), returns=tuple(back) if any(back) else (), first=first,
+                      rows=len(moves.lines))
         if round(its.levels[1] / its.box) > MOST_ITEMS:
-            raise Left("items", master.line, self.column("items", "S"), str(master.levels[1]),
+            raise Left("items", its.line, self.column("items", "S"), str(its.levels[1]),
                        Remark("S too large", {"most": MOST_ITEMS}))
-        return replace(its, remarks=tuple(self._remarks(item, its, len(masters), netted)))
-
-    def _asked(self, moves: Moves, first: int, periods: int) -> tuple[list[int], int]:
-        """Returns demand by period, and how many amounts below 0 were taken off earlier periods. Raises Left."""
-        asked = np.zeros(periods, np.int64)
-        np.add.at(asked, moves.periods - first, moves.asked)
-        if asked.min() >= 0:
-            return asked.tolist(), 0
-        counts, netted, unmet = net_of(zip((moves.periods - first).tolist(), moves.asked.tolist()), periods)
-        if unmet:
-            period, amount = unmet
-            row = next(row for row in range(len(moves.lines)) if (moves.periods[row] - first, moves.asked[row]) == (
-                period, -amount))
-            raise Left("demand", int(moves.lines[row]), self.column("demand", "quantity"), str(-amount),
-                       Remark("unmet return", {"amount": amount, "period": self.record.name(first + period)}))
-        return counts, netted
+        remarks: list[tuple[str, bool, Mapping[str, int | str]]] = [
+            ("equal masters", len(masters) > 1, {"masters": len(masters)}),
+                   ("late", first > start, {"period": period_name(first, self.words.every)}),
+                   ("boxes", its.box > 1, {"items": its.box}), ("taken off earlier", netted > 0, {"amounts": netted}),
+                   ("stock below 0", its.stock is not None and its.stock < 0, {}),
+                   ("rows twice", self.twice[item] > 0, {"rows": self.twice[item]})]
+        return replace(its, remarks=tuple(Remark(code, facts) for code, holds, facts in remarks if holds))
 
     def _check_measures(self, item: int) -> None:
         """Raises Left if the rows of an item are in several units of measure."""
         if self.measures is None:
             return
         rows, (order, ends) = self.rows["demand"], self.measures
-        mine = order[ends[item - 1] if item else 0:ends[item]]
-        values, codes = rows.columns["measure"].distinct, rows.codes("measure")[mine]
-        found, places = np.unique(codes, return_index=True)
-        rest = [(text_of(values[code]), int(rows.lines[mine[place]])) for code, place in zip(found, places)
-                if text_of(values[code]) not in self.ways.factors]
+        mine = order[_span(ends, item)]
+        units = [text_of(cell) for cell in rows.columns["measure"].distinct]
+        codes, places = np.unique(rows.codes("measure")[mine], return_index=True)
+        rest = sorted((int(rows.lines[mine[place]]), units[code]) for code, place in zip(codes, places)
+                      if units[code] not in self.words.factors)
         if len(rest) > 1:
-            both = " and ".join(repr(text) for text, _ in sorted(rest, key=lambda it: it[1]))
-            text, line = max(rest, key=lambda it: it[1])
-            raise Left("demand", line, self.column("demand", "measure"), text,
-                       Remark("measures", {"measures": both, "text": text}))
+            line, unit = rest[-1]
+            both = " and ".join(repr(text) for _, text in rest)
+            raise Left("demand", line, self.column("demand", "measure"), unit,
+                       Remark("measures", {"measures": both, "text": unit}))
 
-    def _master(self, name: str, rows: Sequence[int], leads: Sequence[int], moves: Moves) -> Master:
-        """Returns the master of an item that has demand. Raises Left."""
+    def _master(self, name: str, rows: Sequence[int], leads: Sequence[int], moves: Moves) -> tuple[Item, int]:
+        """Returns an item that has demand, by its master, and the decimals of its money. Raises Left."""
         table = self.rows["items"]
         if not rows:
             kind = "orders" if leads and not len(moves.lines) else "demand"
@@ -398,19 +377,17 @@ class Reader:
             raise Left("items", lines[1], self.column("items", "item"), name,
                        Remark("several masters", {"masters": len(rows), "lines": named_lines(lines)}))
         try:
-            master = self.masters.master(lines[0], table.cells(rows[0]), leads)
+            master = self.masters.item(name, lines[0], table.cells(rows[0]), leads)
         except Faulty as why:
-            columns, texts, remark = self._said("items", why.faults)
-            raise Left("items", lines[0], columns, texts, remark) from why
+            raise Left("items", lines[0], *self._said("items", why.faults)) from why
         if not len(moves.lines):
             raise Left("items", lines[0], self.column("items", "item"), name, Remark("no rows"))
         return master
 
     def _check_far(self, moves: Moves) -> None:
         """Raises Left if some amounts are far above all others, as if counted a thousand times too large."""
-        for role, amounts in (("quantity", moves.asked),
-                              ("returned", moves.back)) if self.ways.far == LEAVE_OUT else ():
-            far = far_above(amounts)
+        for role, amounts in (("quantity", moves.asked), ("returned", moves.back)):
+            far = far_above(amounts) if self.words.far == LEAVE_OUT else 0
             if far:
                 ranked = np.lexsort((moves.lines.astype(np.int64), -amounts))
                 lines, (least, below) = moves.lines[ranked[:far]].tolist(), amounts[ranked[far - 1:far + 1]].tolist()
@@ -419,27 +396,17 @@ class Reader:
 
     def _check_counts(self, asked: Sequence[int], back: Sequence[int]) -> None:
         """Raises Left if demand by period is none that a law can be made of."""
-        def left(number: int, code: str, **facts: int | str) -> Left:
-            """Returns the error."""
-            return Left("demand", 0, self.column("demand", "quantity"), str(number), Remark(code, facts))
-        if len(asked) < self.ways.least:
-            raise left(len(asked), "short", periods=len(asked), every=self.record.every)
-        if not sum(asked):
-            raise left(0, "nothing asked")
-        if sum(back) >= sum(asked):
-            raise left(sum(back), "all comes back", back=sum(back), asked=sum(asked))
+        facts: dict[str, int | str] = {}
+        number, code = 0, "nothing asked"
+        if len(asked) < self.words.least:
+            number, code, facts = len(asked), "short", {"periods": len(asked), "every": self.words.every}
+        elif sum(asked) and sum(back) >= sum(asked):
+            number, code, facts = sum(back), "all comes back", {"back": sum(back), "asked": sum(asked)}
+        elif sum(asked):
+            return
+        raise Left("demand", 0, self.column("demand", "quantity"), str(number), Remark(code, facts))
 
-    def _remarks(self, item: int, its: Item, masters: int, netted: int) -> Iterator[Remark]:
-        """Yields what is to be said of an item."""
-        if masters > 1:
-            yield Remark(EQUAL_MASTERS, {"masters": masters})
-        if its.first > self.record.periods[0]:
-            yield Remark(LATE, {"period": self.record.name(its.first)})
-        if its.box > 1:
-            yield Remark(BOXES, {"items": its.box})
-        if netted:
-            yield Remark(NETTED, {"amounts": netted})
-        if its.stock is not None and its.stock < 0:
-            yield Remark(STOCK_BELOW)
-        if self.twice[item]:
-            yield Remark(TWICE, {"rows": self.twice[item]})
+
+def _span(ends: Numbers, item: int) -> slice:
+    """Returns where what belongs to an item stands, in the order of items."""
+    return slice(int(ends[item - 1]) if item else 0, int(ends[item]))

@@ -1,15 +1,29 @@
-"""What was read from files: demand by period and lead times, with their places and with what is to be said of them."""
+"""Has what was observed of items: demand by period and lead times with their places, the record of a file, and sums by
+period."""
 from __future__ import annotations
 
+import datetime
+from collections.abc import Mapping, Sequence
 from dataclasses import dataclass, field
 from typing import TYPE_CHECKING
 
-from ..errors import Fault
-from .dates import first_day, period_name
-from .faults import Place
+import numpy as np
+import numpy.typing as npt
+
+from ..errors import Fault, Refused, argument
+from ..formats import MOST_WEIGHT
+from .cells import DateReader, first_day, period_name, period_of
+from .faults import Unreadable
 
 if TYPE_CHECKING:
     import pandas as pd
+
+Day = datetime.date
+# A row so many days away from the rest, if at most one row in so many is, has a wrong date.
+FAR_DAYS, RARE = 366, 1_000
+# An item that is first seen after so many periods begins at its first movement.
+HALF_YEAR = {"day": 183, "week": 26, "month": 6}
+CHANGE = f"change {argument('start')} or {argument('end')}"
 
 
 @dataclass(frozen=True)
@@ -20,7 +34,7 @@ class Observed:
     """
 
     counts: tuple[int, ...]
-    places: tuple[Place | None, ...] = field(repr=False, compare=False)
+    places: tuple[Fault | None, ...] = field(repr=False, compare=False)
     notes: tuple[Fault, ...] = field(repr=False, compare=False)
     faults: tuple[Fault, ...] = field(repr=False, compare=False)
 
@@ -60,3 +74,114 @@ class LeadTimes(Observed):
     periods."""
 
     every: str | None
+
+
+@dataclass(frozen=True)
+class Record:
+    """The first and the last day of the record of a catalogue, and the codes by which a day before or after it is left
+    out."""
+
+    every: str
+    first: Day
+    last: Day
+    before: str
+    after: str
+
+    @property
+    def periods(self) -> range:
+        """Returns the numbers of its periods."""
+        return range(period_of(self.first, self.every), period_of(self.last, self.every) + 1)
+
+    def check(self, day: Day) -> None:
+        """Raises Unreadable if a day is not in the record."""
+        if not self.first <= day <= self.last:
+            raise Unreadable(self.before if day < self.first else self.after, day=str(day), last=str(self.last))
+
+    def first_of(self, period: int) -> int:
+        """Returns where the history of an item begins that is first seen in a period."""
+        return self.periods[0] if period <= self.periods[0] + HALF_YEAR[self.every] else period
+
+
+def ends_of(start: Day | str | None, end: Day | str | None) -> tuple[Day | None, Day | None]:
+    """Returns the stated ends of a record. Raises Refused."""
+    ends: list[Day | None] = []
+    for name, day in (("start", start), ("end", end)):
+        try:
+            ends.append(DateReader([day]).read(day)[0] if isinstance(day, str) else day)
+        except Unreadable as fault:
+            raise Refused(f"{argument(name)}: {fault}") from fault
+    first, last = ends
+    if first and last and first > last:
+        raise Refused(f"{argument('start', str(first))} is after {argument('end', str(last))}; change one of them")
+    return first, last
+
+
+def _near(days: Sequence[Day], counts: Mapping[Day, int]) -> Day:
+    """Returns the first of these days, in order of their distance, that is not far before the rest."""
+    most = max(1, sum(counts[it] for it in days) // RARE)
+    passed, nearest = 0, days[0]
+    for day, later in zip(days, days[1:]):
+        passed += counts[day]
+        if passed > most:
+            break
+        if abs((later - day).days) > FAR_DAYS:
+            nearest = later
+    return nearest
+
+
+def too_long(periods: int, every: str, advice: str = CHANGE) -> str:
+    """Returns what is wrong with a record of more periods than a law can count; the empty text if nothing is."""
+    return "" if periods <= MOST_WEIGHT else (f"{periods:,} {every}s are more than {MOST_WEIGHT:,}; {advice}, or take "
+                                              f"longer periods ({argument('every')})")
+
+
+def record_of(counts: Mapping[Day, int], every: str, start: Day | None, end: Day | None, today: Day) -> Record:
+    """Returns the record of a file whose days have so many rows.
+
+    Without `start` and `end` it is from the first to the last movement, without rare days that are more than a year
+    away from all others, and without days after `today`. Raises Refused if no day is left, or for too many periods.
+    """
+    latest = end or today
+    days = sorted(day for day in counts if day <= latest and (start is None or day >= start))
+    if not days:
+        raise Refused(f"no row of demand has a date from {start or 'the beginning'} to {latest}; {CHANGE}")
+    first, last = start or _near(days, counts), end or _near(days[::-1], counts)
+    record = Record(every, first, last, "before start" if start else "far before", "after end" if end else "late date")
+    if wrong := too_long(len(record.periods), every):
+        raise Refused(wrong)
+    return record
+
+
+def _met(counts: list[int], period: int, amount: int) -> bool:
+    """Takes an amount off demand by period, which is changed: off its period if that has enough, else off the last
+    earlier one that has, else off the last earlier ones together. Returns whether they have enough."""
+    for place in range(period, -1, -1):
+        if counts[place] >= amount:
+            counts[place] -= amount
+            return True
+    for place in range(period, -1, -1):
+        taken = min(amount, counts[place])
+        counts[place] -= taken
+        amount -= taken
+    return amount == 0
+
+
+def summed(periods: npt.NDArray[np.int64], amounts: npt.NDArray[np.int64], count: int) -> tuple[list[int], int, int | None]:
+    """Returns demand by period without what was undone, how many amounts were taken off earlier periods, and the place
+    of the first movement that nothing can meet; None if there is none.
+
+    Each movement has a period from 0 and an amount, below 0 for one that undoes sales.
+    """
+    sums = np.zeros(count, np.int64)
+    np.add.at(sums, periods, amounts)
+    if sums.min() >= 0:
+        return sums.tolist(), 0, None
+    undone = np.flatnonzero(amounts < 0)
+    np.subtract.at(sums, periods[undone], amounts[undone])
+    counts, moved = sums.tolist(), 0
+    for place in undone[np.argsort(periods[undone], kind="stable")].tolist():
+        period, amount = int(periods[place]), -int(amounts[place])
+        moved += counts[period] < amount
+        if not _met(counts, period, amount):
+            return counts, moved, place
+    return counts, moved, None

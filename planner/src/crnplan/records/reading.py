@@ -1,185 +1,144 @@
-"""Reads the rows of one history as amounts and dates, and collects all faults and notes in one pass."""
+"""Reads the rows of one item as amounts and dates, and collects all faults and notes in one pass."""
 from __future__ import annotations
 
-import datetime
-import itertools
-from array import array
-from collections.abc import Callable, Iterable, Mapping, Sequence
+from collections.abc import Callable, Iterator, Mapping, Sequence
+from dataclasses import replace
+from itertools import compress
 from typing import Any, TypeVar
+
+import numpy as np
 
 from ..errors import Fault, Refused, RefusedFaults, argument
 from ..formats import MOST_WEIGHT
-from .amounts import AmountReader, Cell, other_reading
-from .columns import Stated
-from .dates import DateReader
-from .faults import MOST_NAMED, Place, RefusedFiles, Reject, Unreadable, named_lines, shown
-from .rows import Codes, bare_cell
-from .sources import NO_ROW, Given, Source, headed, text_of
-from .suspicions import LEAST_SUMMED, TOTAL, far_rows, rare_signs
-from .texts import Rules, no_role, title_note
+from .cells import Cell, other_reading, text_of
+from .columns import DAYS, NO_ROW, Column, bare_name, factor_of, headed, plain_name, stated_columns
+from .faults import MOST_NAMED, TOTAL, RefusedFiles, Reject, Unreadable, named_lines, said, shown
+from .observed import Day
+from .rows import TIMES_NEXT, Rows, far_above
+from .sources import Sheet
 
 Value = TypeVar("Value")
-
-
-def checked_heading(source: Source, wanted: Sequence[str]) -> None:
-    """Raises RefusedFaults for a heading that doesn't have each of the wanted columns once."""
-    found = ", ".join(map(shown, filter(None, source.heading))) or "none"
-    faults = []
-    for column in (it for it in dict.fromkeys(wanted) if source.heading.count(it) != 1):
-        how_many, advice = ("no", "") if column not in source.heading else ("more than one", "; rename all but one")
-        faults.append(Fault(f"{how_many} column {column!r}; the columns are: {found}{advice}", source.sheet.name,
-                            source.line))
-    if faults:
-        raise RefusedFaults(faults)
+# A way of writing that at most one row in so many has is suspicious.
+RARE = 10
+# A sum of fewer rows may well come again below them.
+LEAST_SUMMED = 6
 
 
 class Reading:
-    """A table while it is read: the rows that are of use, and what is wrong with them or to be said of them. Rows count
-    from 0 below the heading."""
+    """A table of one item while it is read: the rows that are of use, and what is wrong with them or to be said of
+    them."""
 
-    def __init__(self, given: Given, wanted: Sequence[str], rules: Rules, own_item: bool = False) -> None:
-        """Reads the cells. Only the history must have the columns of the item; other files may be of one item alone."""
-        wanted = [*wanted, *(() if own_item else rules.item)]
-        self.rules = rules
-        self.source = headed("history", given, rules, Stated({name: name for name in wanted}), no_role)
-        self.fault = self.source.sheet.fault
+    def __init__(self, sheet: Sheet, names: Mapping[str, str], *, own_item: bool = False) -> None:
+        """Reads the cells of the columns that are named for roles. Only the history must have the columns of the item;
+        other tables may be of one item alone. Raises RefusedFaults."""
+        self.sheet, self.rules = sheet, sheet.rules
+        source = headed("history", sheet, [*names.values(), *(() if own_item else self.rules.item)])
+        items = {f"item {name}": name for name in self.rules.item if not own_item or name in source.heading}
+        columns, wrong = stated_columns(source.heading, {**names, **items})
+        self.columns = {role: replace(column, unit=_unit_of(role, column)) for role, column in columns.items()}
         try:
-            checked_heading(self.source, wanted)
-            self._fill([name for name in (*wanted, *rules.item) if name in self.source.heading])
+            if wrong:
+                raise RefusedFaults([Fault(what, sheet.name, source.line) for what in wrong])
+            self.rows = Rows(replace(source, columns=self.columns))
+            if not len(self.rows):
+                raise RefusedFaults([Fault(NO_ROW, sheet.name, source.line + 1)])
         except RefusedFaults as refused:
             # What else is wrong may come from the encoding.
-            raise RefusedFaults([self.fault] if self.fault else refused.faults) from refused
-        # What is wrong with a cell, or is to be said of it: its row, its place in the row and a text.
-        self.found: list[tuple[int, int, str]] = []
-        self._said: list[Fault | tuple[int, str, str]] = [Fault(it, self.source.sheet.name)
-                                                          for it in title_note(self.source.titles)]
-        rows = self._item_rows()
-        self.long = {row: self.wide[row] for row in rows if row in self.wide}
-        self.rows = [row for row in rows if row not in self.long]
-        for row, cells in self.long.items():
-            width = len(self.source.heading)
-            self.found.append((row, width,
-                               f"there are {cells} cells, and {width} columns in the heading; put a cell with a "
-                               f"{self.source.sheet.sign} in quotes, or name each column in the heading"))
+            raise RefusedFaults([sheet.fault] if sheet.fault else refused.faults) from refused
+        self.lines, self.has_rest = self.rows.lines.tolist(), sum(map(bool, source.heading)) > len(names)
+        # What is wrong with a cell, or is to be said of it: its line, its place in the row and a text.
+        self._faults: list[tuple[int, int, str]] = []
+        self._notes: list[Fault | tuple[int, int, str]] = []
+        if source.titles:
+            texts = ", ".join(repr(shown(" ".join(filter(None, cells)))) for _, cells in source.titles)
+            self.note(f"{named_lines([line for line, _ in source.titles])} above the heading passed over: {texts}")
+        self.blank = [] if items else [line for line in self.rows.blank if line < self.lines[-1]]
+        self._choose(items)
 
-    def _fill(self, names: Sequence[str]) -> None:
-        """Fills the columns with the rows of the table. Blank rows at its end are left out."""
-        heading = self.source.heading
-        self.columns = {name: Codes(bare_cell) for name in names}
-        self.codes = {name: array("i") for name in names}
-        slots = [(heading.index(name), codes, self.codes[name].append) for name, codes in self.columns.items()]
-        self.lines, self.blank, self.wide, self.twice = array("q"), set[int](), dict[int, int](), dict[int, int]()
-        waiting: list[int] = []
-        # Rows are compared by a hash of 64 bits: see `Rows.twins`.
-        first_of: dict[int, int] = {}
-        width = len(heading)
-        for line, cells in self.source.rows():
-            if not any(map(text_of, cells)):
-                waiting.append(line)
-                continue
-            for blank in waiting:
-                self.blank.add(len(self.lines))
-                self._add(blank, (), slots)
-            waiting.clear()
-            row = len(self.lines)
-            self._add(line, cells, slots)
-            if len(cells) > width and any(map(text_of, cells[width:])):
-                self.wide[row] = len(cells)
-            first = first_of.setdefault(hash(tuple(cells)), row)
-            if first != row:
-                self.twice[row] = first
-        if not self.lines:
-            raise RefusedFaults([Fault(NO_ROW, self.source.sheet.name, self.source.line + 1)])
-
-    def _add(self, line: int, cells: Sequence[Cell], slots: Iterable[tuple[int, Codes, Callable[[int], None]]]) -> None:
-        """Adds a row."""
-        self.lines.append(line)
-        for place, codes, append in slots:
-            append(codes[cells[place] if place < len(cells) else ""])
-
-    def text(self, name: str, row: int) -> str:
-        """Returns the text of a cell."""
-        return text_of(self.columns[name].distinct[self.codes[name][row]])
-
-    def _item_rows(self) -> Sequence[int]:
-        """Returns the rows of the item, which are all rows if none is asked for. Raises Refused if there are none."""
-        rows = range(len(self.lines))
-        asked = {name: text for name, text in self.rules.item.items() if name in self.columns}
-        wanted: dict[str, set[int]] = {}
-        for name, text in asked.items():
-            values = list(map(text_of, self.columns[name].distinct))
-            wanted[name] = {code for code, value in enumerate(values) if value == text}
-            if not wanted[name]:
+    def _choose(self, items: Mapping[str, str]) -> None:
+        """Chooses the rows of the item, which are all rows if none is asked for. Those with too many cells have a fault.
+        Raises Refused if there are none."""
+        is_chosen = np.ones(len(self.rows), bool)
+        for role, name in items.items():
+            text, values = self.rules.item[name], list(map(text_of, self.rows.columns[role].distinct))
+            if text not in values:
                 others = [repr(shown(it)) for it in values if it]
-                raise Refused(f"{self.source.sheet.name}: no row has {text!r} in column {name!r}, which has "
-                              f"{len(others):,} others: {', '.join(others[:MOST_NAMED])}"
-                              + ", .." * (len(others) > MOST_NAMED))
-        if not asked:
-            return rows
-        found = [row for row in rows if all(self.codes[name][row] in codes for name, codes in wanted.items())]
-        named = " and ".join(f"{name} = {text}" for name, text in asked.items())
-        self.note(f"rows with {named}: {len(found):,} of {len(rows):,}")
-        return found
+                raise Refused(f"{self.sheet.name}: no row has {text!r} in column {name!r}, which has {len(others):,} "
+                              f"others: {', '.join(others[:MOST_NAMED])}" + ", .." * (len(others) > MOST_NAMED))
+            is_chosen &= self.rows.having(role, {code: value for code, value in enumerate(values) if value == text})
+        if items:
+            asked = " and ".join(f"{name} = {self.rules.item[name]}" for name in items.values())
+            self.note(f"rows with {asked}: {is_chosen.sum():,} of {len(self.rows):,}")
+        width = len(self.rows.source.heading)
+        for row in (row for row in self.rows.wide if is_chosen[row]):
+            why = Unreadable("long", cells=self.rows.wide[row][0], columns=width, sign=self.sheet.sign)
+            self._faults.append((self.lines[row], width, str(why)))
+        self.count = int(is_chosen.sum())
+        is_chosen[[*self.rows.wide]] = False
+        self.chosen: list[int] = np.flatnonzero(is_chosen).tolist()
+
+    def text(self, role: str, row: int) -> str:
+        """Returns the text of a cell."""
+        return text_of(self.rows.cell(role, row))
 
     def note(self, what: str) -> None:
         """Adds a note on the file."""
-        self._said.append(Fault(what, self.source.sheet.name))
+        self._notes.append(Fault(what, self.sheet.name))
 
-    def note_cell(self, row: int, name: str, what: str) -> None:
+    def _cell(self, row: int, role: str, what: str) -> tuple[int, int, str]:
+        """Returns what is wrong with a cell, or is to be said of it."""
+        column = self.columns[role]
+        return self.lines[row], column.place, f"column {column.name!r}: {what}"
+
+    def note_cell(self, row: int, role: str, what: str) -> None:
         """Adds a note on a cell."""
-        self._said.append((row, name, what))
+        self._notes.append(self._cell(row, role, what))
+
+    def reject(self, row: int, role: str, what: str) -> None:
+        """Adds the fault of a cell."""
+        self._faults.append(self._cell(row, role, what))
+
+    def refused(self, row: int, role: str, what: str) -> RefusedFaults:
+        """Returns the error of a cell for which the whole file is refused."""
+        return RefusedFaults(self.placed([self._cell(row, role, what)]))
 
     def skip_blank(self) -> None:
         """Passes over blank rows, with a note."""
-        blank = [row for row in self.rows if row in self.blank]
-        if blank:
-            lines = named_lines([self.lines[it] for it in blank])
-            self.note(f"blank rows passed over: {len(blank):,} ({lines})")
-            self.rows = [row for row in self.rows if row not in self.blank]
+        if self.blank:
+            self.note(f"blank rows passed over: {len(self.blank):,} ({named_lines(self.blank)})")
 
-    def read(self, name: str, read: Callable[[Cell], Value], rows: Sequence[int]) -> list[Value | None]:
-        """Returns the values of a column, None for each cell that can't be read; that is a fault."""
-        codes, values = self.codes[name], self.columns[name].distinct
-        read_values: dict[int, Value | None] = {}
-        reasons: dict[int, str] = {}
-        for code in {codes[row] for row in rows}:
-            try:
-                read_values[code] = read(values[code])
-            except Unreadable as why:
-                read_values[code], reasons[code] = None, str(why)
-        for row in rows if reasons else ():
-            if codes[row] in reasons:
-                self.reject(row, name, reasons[codes[row]])
-        return [read_values[codes[row]] for row in rows]
+    def miss_blank(self, roles: Sequence[str]) -> None:
+        """Rejects blank rows, each of which is a period whose amounts are missing."""
+        for line, role in ((line, role) for line in self.blank for role in roles):
+            column = self.columns[role]
+            self._faults.append((line, column.place, f"column {column.name!r}: {Unreadable('no quantity')}"))
+        self.count += len(self.blank)
 
-    def reject(self, row: int, name: str, reason: str) -> None:
-        """Adds the fault of a cell."""
-        self.found.append((row, self.source.heading.index(name), f"column {name!r}: {reason}"))
+    def read(self, role: str, read: Callable[[Cell], Value]) -> list[Value | None]:
+        """Returns the values of a column in the chosen rows, None for each cell that can't be read; that is a fault."""
+        values, faults = self.rows.values(role, read, None)
+        codes = self.rows.codes(role)[self.chosen].tolist()
+        for row, code in zip(self.chosen, codes) if faults else ():
+            if code in faults:
+                self.reject(row, role, said(faults[code]))
+        return [values[code] for code in codes]
 
-    def rejects(self, found: Sequence[tuple[int, int, str]]) -> list[Fault]:
-        """Returns faults of cells with their places and the texts of their rows, by place."""
-        texts = self.source.sheet.texts({self.lines[row] for row, _, _ in found})
-        faults = []
-        for row, place, what in found:
-            text = texts.get(self.lines[row], "")
-            faults.append(Reject(what, self.source.sheet.name, *self.source.sheet.place(text, self.lines[row], place),
-                                 text))
-        return sorted(faults, key=lambda it: (it.line, it.column))
+    def amounts(self, role: str, code: str, least: int | None, if_empty: str = "no quantity") -> list[int | None]:
+        """Returns the amounts of a column. One that is below the least is a fault, with this code."""
+        reader, column = self.rows.amount_reader(role), self.columns[role]
+        if reader.decided:
+            self.note(f"column {column.name!r}: the decimal sign is {reader.decided}")
+        packs = column.unit if column.unit.isdecimal() else ""
+        if packs:
+            self.note(column.converted(role, ""))
 
-    def refused(self, row: int, name: str, reason: str) -> RefusedFaults:
-        """Returns the error of a cell for which the whole file is refused."""
-        return RefusedFaults(self.rejects([(row, self.source.heading.index(name), f"column {name!r}: {reason}")]))
-
-    def finish(self) -> tuple[tuple[Fault, ...], tuple[Fault, ...]]:
-        """Returns all notes, and the faults of the rows that were left out."""
-        cells = [(row, self.source.heading.index(name), f"column {name!r}: {what}") for row, name, what in (
-            it for it in self._said if not isinstance(it, Fault))]
-        texts = self.source.sheet.texts({self.lines[row] for row, _, _ in cells})
-        placed = (Fault(what, self.source.sheet.name,
-                        *self.source.sheet.place(texts.get(self.lines[row], ""), self.lines[row], place))
-                  for row, place, what in cells)
-        notes = tuple(it if isinstance(it, Fault) else next(placed) for it in self._said)
-        return notes, tuple(self.rejects(self.found))
+        def amount(cell: Cell) -> int:
+            """Reads one."""
+            number = reader.whole(cell, if_empty)
+            if least is not None and number < least:
+                raise Unreadable(code, cell)
+            return number * int(factor_of(role, packs, ""))
+        return self.read(role, amount)
 
     def kept(self, columns: Mapping[str, Sequence[Any]]) -> tuple[list[int], dict[str, list[Any]]]:
         """Returns the rows in which each of these columns was read, and their values.
@@ -187,108 +146,115 @@ class Reading:
         Raises RefusedFaults for faults. If rows with faults are to be left out, this is noted, and one at least must be
         left.
         """
-        places = [place for place, values in enumerate(zip(*columns.values())) if None not in values]
-        rows = [self.rows[it] for it in places]
-        of_file = [self.fault] if self.fault else []
-        if of_file or self.found and not self.rules.leave_out:
+        good = [None not in values for values in zip(*columns.values())]
+        of_file = [self.sheet.fault] if self.sheet.fault else []
+        if of_file or self._faults and not self.rules.leave_out:
             notes, faults = self.finish()
             raise RefusedFiles([*of_file, *faults], notes)
-        if self.found:
-            lines = list(dict.fromkeys(self.lines[row] for row in sorted({*self.rows, *self.long} - set(rows))))
-            self.note(f"rows left out: {len(lines):,} of {len(self.rows) + len(self.long):,} ({named_lines(lines)})")
-        if not rows:
-            raise RefusedFiles([*self.finish()[1], Fault("no row is left; correct the file", self.source.sheet.name)])
-        return rows, {name: [values[it] for it in places] for name, values in columns.items()}
+        if self._faults:
+            lines = sorted({line for line, _, _ in self._faults})
+            self.note(f"rows left out: {len(lines):,} of {self.count:,} ({named_lines(lines)})")
+        if not any(good):
+            raise RefusedFiles([*self.finish()[1], Fault("no row is left; correct the file", self.sheet.name)])
+        return list(compress(self.chosen, good)), {role: list(compress(its, good)) for role, its in columns.items()}
+
+    def placed(self, cells: Sequence[tuple[int, int, str]]) -> list[Fault]:
+        """Returns what is said of cells with their places and the texts of their rows, by place."""
+        texts = self.sheet.texts({line for line, _, _ in cells})
+        faults = [Reject(what, self.sheet.name, *self.sheet.place(texts.get(line, ""), line, place), texts.get(line, ""))
+                  for line, place, what in cells]
+        return sorted(faults, key=lambda fault: (fault.line, fault.column))
+
+    def finish(self) -> tuple[tuple[Fault, ...], tuple[Fault, ...]]:
+        """Returns all notes, and the faults of the rows that were left out."""
+        cells = [it for it in self._notes if not isinstance(it, Fault)]
+        texts = self.sheet.texts({line for line, _, _ in cells})
+        notes = (it if isinstance(it, Fault) else
+                 Fault(it[2], self.sheet.name, *self.sheet.place(texts[it[0]], it[0], it[1])) for it in self._notes)
+        return tuple(notes), tuple(self.placed(self._faults))
+
+    def places(self, cells: Sequence[tuple[int, str, str] | None]) -> tuple[Fault | None, ...]:
+        """Returns the places of numbers, each a row, a role and how a message names the number; None for no row."""
+        texts = self.sheet.texts({self.lines[cell[0]] for cell in cells if cell})
+        places: list[Fault | None] = []
+        for cell in cells:
+            line, place, what = self._cell(*cell) if cell else (0, 0, "")
+            places.append(Fault(what, self.sheet.name, *self.sheet.place(texts[line], line, place)) if cell else None)
+        return tuple(places)
 
     def total_reason(self, row: int, number: int | None, others: Sequence[int]) -> str | None:
         """Returns why a row looks like a total of the rows above, the numbers of which are given; None if it
         doesn't."""
-        cells = self.source.sheet.cells(self.source.sheet.texts([self.lines[row]])[self.lines[row]])
+        cells = self.sheet.cells(self.sheet.texts([self.lines[row]])[self.lines[row]])
         word = next((it for it in cells if TOTAL.match(it)), None)
         if word is not None:
             return f"it has {shown(word)!r}"
-        summed = len(others) >= LEAST_SUMMED and number == sum(others) and sum(map(bool, others)) > 1
-        return f"{number} is the sum of all others" if summed else None
+        is_sum = len(others) >= LEAST_SUMMED and number == sum(others) and sum(map(bool, others)) > 1
+        return f"{number} is the sum of all others" if is_sum else None
 
-    def suspect(self, name: str, rows: Sequence[int], numbers: Sequence[int]) -> None:
+    def suspect(self, role: str, rows: Sequence[int], numbers: Sequence[int]) -> None:
         """Notes what is suspicious in a column of amounts: a last row that looks like a total, amounts far above all
         others, and amounts that few rows write so, which another decimal sign would change."""
         if rows and rows[-1] == len(self.lines) - 1:
             reason = self.total_reason(rows[-1], numbers[-1], numbers[:-1])
             if reason:
-                self.note_cell(rows[-1], name,
-                               f"the last row looks like a total of the rows above ({reason}); if it is, remove "
-                               "it")
+                self.note_cell(rows[-1], role, f"the last row looks like a total of the rows above ({reason}); if it is, "
+                               "remove it")
                 rows, numbers = rows[:-1], numbers[:-1]
-        for row, number, below, next_row in far_rows(rows, numbers):
-            self.note_cell(row, name, f"{number} is {number // below} times {below}, the next largest (line "
-                           f"{self.lines[next_row]}); if it is wrong, correct it")
+        far = far_above(np.array(numbers, np.int64), TIMES_NEXT)
+        ranked = sorted(range(len(numbers)), key=lambda place: -numbers[place]) if far else []
+        for place in sorted(ranked[:far]):
+            number, below = numbers[place], numbers[ranked[far]]
+            self.note_cell(rows[place], role, f"{number} is {number // below} times {below}, the next largest (line "
+                           f"{self.lines[rows[ranked[far]]]}); if it is wrong, correct it")
         decimal = self.rules.decimal
-        for place, how_many in rare_signs([self.text(name, row) for row in rows], decimal) if decimal else ():
-            text = self.text(name, rows[place])
-            self.note_cell(rows[place], name,
-                           f"{shown(text)!r} is read as {numbers[place]} ({how_many} of {len(rows)} rows are "
-                           f"written so; with another decimal sign it would be {other_reading(text, decimal)})")
+        for place, how_many in rare_signs([self.text(role, row) for row in rows], decimal) if decimal else ():
+            text = self.text(role, rows[place])
+            self.note_cell(rows[place], role, f"{shown(text)!r} is read as {numbers[place]} ({how_many} of {len(rows)} rows "
+                           f"are written so; with another decimal sign it would be {other_reading(text, decimal)})")
 
-    def note_twins(self, rows: Sequence[int], amounts: Sequence[str]) -> None:
+    def note_twins(self, rows: Sequence[int]) -> None:
         """Notes rows that are the same as others. Rows of nothing but amounts can't be told apart, so they are not
         named."""
-        kept = set(rows) if len([it for it in self.source.heading if it]) > len(amounts) else set()
-        again = [row for row, first in self.twice.items() if row in kept and first in kept]
+        used, first = np.array(rows), self.rows.twins()[rows]
+        again = used[(first != used) & np.isin(first, used)].tolist() if self.has_rest else []
         if again:
-            more = named_lines([self.lines[it] for it in again[1:]])
-            others = f", and {len(again) - 1} more as others above them ({more})" if again[1:] else ""
-            first = self.lines[self.twice[again[0]]]
-            self._said.append(Fault(f"the row is the same as that of line {first}{others}; if they were exported "
-                                    "twice, remove them", self.source.sheet.name, self.lines[again[0]]))
+            others = f", and {len(again) - 1} more as others above them ({named_lines([self.lines[it] for it in again[1:]])})"
+            line = self.lines[first[rows.index(again[0])]]
+            self._notes.append(Fault(f"the row is the same as that of line {line}{others * (len(again) > 1)}; if they were "
+                                     "exported twice, remove them", self.sheet.name, self.lines[again[0]]))
 
-    def note_forms(self, name: str, rows: Sequence[int], dates: Sequence[tuple[datetime.date, str]],
-                   reader: DateReader) -> None:
+    def note_forms(self, role: str, rows: Sequence[int], dates: Sequence[tuple[Day, str]]) -> None:
         """Notes if the dates of a column have several forms."""
-        first_rows: dict[str, int] = {}
-        for row, (_, form) in zip(rows, dates):
-            first_rows.setdefault(form, row)
-        if len(first_rows) > 1:
-            named = ", ".join(f"{shown(self.text(name, row))!r} (line {self.lines[row]}) is "
-                              f"{reader.read(self.text(name, row))[0]}" for row in first_rows.values())
-            self.note_cell(max(first_rows.values()), name,
-                           f"the dates have {len(first_rows)} forms: {named}; if one is wrong, "
-                           f"say {argument('date_formats')}")
+        firsts: dict[str, tuple[int, Day]] = {}
+        for row, (day, form) in zip(rows, dates):
+            firsts.setdefault(form, (row, day))
+        if len(firsts) > 1:
+            named = ", ".join(f"{shown(self.text(role, row))!r} (line {self.lines[row]}) is {day}"
+                              for row, day in firsts.values())
+            self.note_cell(max(row for row, _ in firsts.values()), role, f"the dates have {len(firsts)} forms: {named}; "
+                           f"if one is wrong, say {argument('date_formats')}")
 
-    def places(self, cells: Sequence[tuple[int, str, str] | None]) -> tuple[Place | None, ...]:
-        """Returns the places of numbers, each a row, a column and how a message names the number."""
-        texts = self.source.sheet.texts({self.lines[cell[0]] for cell in cells if cell})
-        places: list[Place | None] = []
-        for cell in cells:
-            if cell is None:
-                places.append(None)
-                continue
-            row, name, subject = cell
-            line, column = self.source.sheet.place(texts[self.lines[row]], self.lines[row],
-                                                   self.source.heading.index(name))
-            places.append(Place(self.source.sheet.name, line, column, name, subject))
-        return tuple(places)
-
-    def amounts(self, name: str, below: str, least: int | None, if_empty: str = "no quantity") -> list[int | None]:
-        """Returns the amounts of a column. One that is below the least is a fault, with this reason."""
-        reader = AmountReader(self.rules.decimal).look(self.columns[name].distinct)
-        if reader.decided:
-            self.note(f"column {name!r}: the decimal sign is {reader.decided}")
-        values = self.read(name, lambda cell: reader.whole(cell, if_empty), self.rows)
-        for place, (row, value) in enumerate(zip(self.rows, values)):
-            if value is not None and least is not None and value < least:
-                self.reject(row, name, f"{shown(self.text(name, row))} {below}")
-                values[place] = None
-        return values
-
-    def check_rows(self, name: str) -> None:
+    def check_count(self, role: str, what: str) -> None:
         """Rejects more rows than a table can count, each of which would count 1."""
-        if len(self.rows) > MOST_WEIGHT:
-            raise self.refused(self.rows[MOST_WEIGHT], name,
-                               f"{len(self.rows):,} rows are more than {MOST_WEIGHT:,}; leave the "
-                               "oldest out")
+        if len(self.chosen) > MOST_WEIGHT:
+            raise self.refused(self.chosen[MOST_WEIGHT], role, f"{len(self.chosen):,} {what} are more than {MOST_WEIGHT:,}; "
+                               "leave the oldest out")
 
 
-def column_names(given: Given, rules: Rules) -> list[str]:
-    """Returns the names in the heading of a table, for a user who doesn't know them."""
-    return list(itertools.islice(filter(None, headed("history", given, rules, Stated(), no_role).heading), 100))
+def rare_signs(texts: Sequence[str], decimal: str) -> Iterator[tuple[int, int]]:
+    """Yields the place of the first number that another decimal sign would make a thousand times smaller, or larger,
+    and how many are written so, if they are few."""
+    group = "." if decimal == "," else ","
+    signed = {it for it in {*texts} if ("," in it or "." in it) and other_reading(it, decimal)}
+    for is_grouped in (True, False):
+        places = [place for place, text in enumerate(texts) if text in signed and (group in text) == is_grouped]
+        if 0 < len(places) <= max(1, len(texts) // RARE):
+            yield places[0], len(places)
+
+
+def _unit_of(role: str, column: Column) -> str:
+    """Returns the unit that the heading of a column names: a number of items in a pack, or a time of lead times. Others
+    are those of the item itself, as kilograms."""
+    unit = bare_name(plain_name(column.name))[1]
+    return unit if role in ("quantity", "returned") and unit.isdecimal() or role == "lead" and unit in DAYS else ""

@@ -1,27 +1,32 @@
 """Holds the rows of a table by role: each column keeps its distinct values once, and a whole number for each row.
 
-So each value is read as a number or a date once, and a row takes some thirty bytes.
+So each value is read as a number or a date once, and a row takes some thirty bytes. Rows are numbered from 0, without
+blank ones.
 """
 from __future__ import annotations
 
 import datetime
 import sys
 from array import array
-from collections.abc import Callable, Iterator, Mapping, Sequence
+from collections.abc import Callable, Iterator, Mapping
+from typing import TypeVar
 
 import numpy as np
 import numpy.typing as npt
 
-from ..remarks import Value
-from .amounts import Cell
-from .dates import bare_date
-from .faults import UNPRINTABLE
-from .sources import Source, text_of
+from ..remarks import Remark
+from .cells import AmountReader, Cell, DateReader, bare_date, text_of
+from .columns import Source
+from .faults import Unreadable
 
 Numbers = npt.NDArray[np.int64]
+Flags = npt.NDArray[np.bool_]
+Value = TypeVar("Value")
 MOST_KEPT = 100_000  # cells whose value is remembered
 DATES = ("date", "ordered", "received")
-RejectRow = Callable[[int, str, str, str, Mapping[str, Value]], None]
+# An amount is far above all others if it is so many times the next largest; TIMES_OF_FEW times if it has fewer others
+# than LEAST_OTHERS. At most MOST_FAR are.
+TIMES_NEXT, TIMES_OF_FEW, LEAST_OTHERS, MOST_FAR = 30, 300, 4, 3
 
 
 class Codes(dict[Cell, int]):
@@ -60,59 +65,41 @@ def dated_cell(cell: Cell) -> Cell:
 
 
 class Rows:
-    """The rows of a table that name an item."""
+    """The rows of a table, but for blank ones, whose lines are in `blank`. `wide` has how many cells those rows have
+    that have more than the heading, and their texts."""
 
-    def __init__(self, source: Source, roles: Sequence[str], names: Codes, has_patterns: bool) -> None:
-        """Takes the table, the roles that are kept, and the names of items, which all tables share. With patterns of
-        dates, times of day are kept."""
-        self.source, self.names = source, names
-        roles = [role for role in roles if role in source.columns]
-        self.columns: dict[str, Codes] = {role: names if role == "item" else Codes(
-            dated_cell if role in DATES and not has_patterns else bare_cell) for role in roles}
-        self._codes = {role: array("i") for role in roles}
-        self._lines, self._twins = array("i"), array("q")
-        self.blank = self.rejected = 0
+    def __init__(self, source: Source, names: Codes | None = None) -> None:
+        """Reads all rows, in the columns of the table. Tables of one catalogue share the names of items. With patterns
+        of dates, times of day are kept."""
+        self.source, self.patterns = source, source.sheet.rules.date_formats
+        dated = bare_cell if self.patterns else dated_cell
+        self.columns = {role: names if role == "item" and names is not None else
+                        Codes(dated if role in DATES else bare_cell) for role in source.columns}
+        self._codes = {role: array("i") for role in self.columns}
+        self._lines, self._hashes = array("i"), array("q")
+        self.blank = array("i")
+        self.wide: dict[int, tuple[int, str]] = {}
+        self._fill()
 
-    def fill(self, reject: RejectRow) -> None:
-        """Reads all rows. Those without an item, and with too many cells, are rejected."""
-        width, place_of_item = len(self.source.heading), self.source.columns["item"].place
-        slots = [(self.source.columns[role].place, codes, self._codes[role].append) for role,
-                 codes in self.columns.items()]
-        add_line, add_twin, names = self._lines.append, self._twins.append, self.names
-        known = names.places
+    def _fill(self) -> None:
+        """Reads all rows."""
+        width = len(self.source.heading)
+        slots = [(column.place, self.columns[role], self._codes[role].append)
+                 for role, column in self.source.columns.items()]
+        first_place = slots[0][0]
+        add_line, add_hash = self._lines.append, self._hashes.append
         for line, cells in self.source.rows():
             if len(cells) != width:
                 if any(map(text_of, cells[width:])):
-                    self._reject(reject, line, "long", "", ",".join(map(text_of, cells)),
-                                 {"cells": len(cells), "columns": width, "sign": self.source.sheet.sign})
-                    continue
+                    self.wide[len(self._lines)] = len(cells), ",".join(map(text_of, cells))
                 cells = [*cells[:width], *[""] * (width - len(cells))]
-            name = cells[place_of_item]
-            if name not in names:
-                name = text_of(name)
-                if not name:
-                    self._without_name(reject, line, cells)
-                    continue
-                if name not in known and UNPRINTABLE.search(name):
-                    self._reject(reject, line, "unprintable name", "item", name, {})
-                    continue
+            if not text_of(cells[first_place]) and len(self._lines) not in self.wide and not any(map(text_of, cells)):
+                self.blank.append(line)
+                continue
             for place, codes, append in slots:
                 append(codes[cells[place]])
             add_line(line)
-            add_twin(hash(tuple(cells)))
-
-    def _without_name(self, reject: RejectRow, line: int, cells: Sequence[Cell]) -> None:
-        """Rejects a row without an item, unless it is blank."""
-        if any(map(text_of, cells)):
-            self._reject(reject, line, "no item", "item", "", {})
-        else:
-            self.blank += 1
-
-    def _reject(self, reject: RejectRow, line: int, code: str, role: str, text: str,
-                facts: Mapping[str, Value]) -> None:
-        """Rejects a row."""
-        self.rejected += 1
-        reject(line, code, role, text, facts)
+            add_hash(hash(tuple(cells)))
 
     def __len__(self) -> int:
         """Returns how many rows there are."""
@@ -131,43 +118,75 @@ class Rows:
         """Returns for each row the first row with the same cells, which is itself for most, and forgets the hashes.
         Rows are compared by a hash of 64 bits: in a million rows, two different ones collide once in 37 million
         files."""
-        hashes = np.frombuffer(self._twins, np.int64) if len(self) else np.zeros(0, np.int64)
+        hashes = np.frombuffer(self._hashes, np.int64) if len(self) else np.zeros(0, np.int64)
         order = np.argsort(hashes, kind="stable")
         starts = np.flatnonzero(np.r_[True, np.diff(hashes[order]) != 0]) if len(order) else order
         first = np.empty(len(order), np.int64)
         first[order] = np.repeat(order[starts], np.diff(np.r_[starts, len(order)]))
-        self._twins = array("q")
+        self._hashes = array("q")
         return first
 
     def cell(self, role: str, row: int) -> Cell:
         """Returns the value of a row's cell; the empty text if the table has no such column."""
-        if role not in self.columns:
-            return ""
-        return self.columns[role].distinct[self._codes[role][row]]
+        return self.columns[role].distinct[self._codes[role][row]] if role in self.columns else ""
 
     def cells(self, row: int) -> dict[str, Cell]:
         """Returns the values of a row by role."""
-        return {role: codes.distinct[self._codes[role][row]] for role, codes in self.columns.items()}
+        return {role: self.cell(role, row) for role in self.columns}
 
     def counts(self, role: str) -> Iterator[tuple[Cell, int]]:
         """Yields each value of a column, and how many rows have it."""
-        codes = self.columns[role]
-        yield from zip(codes.distinct, np.bincount(self.codes(role), minlength=len(codes.distinct)).tolist())
+        distinct = self.columns[role].distinct
+        yield from zip(distinct, np.bincount(self.codes(role), minlength=len(distinct)).tolist())
 
-    def by_item(self, rows: Numbers | None = None) -> tuple[Numbers, Numbers]:
+    def by_item(self, rows: Numbers) -> tuple[Numbers, Numbers]:
         """Returns rows in the order of their items' codes, and where those of each item end. Rows of one item stay in
-        their order. By default it is all rows."""
-        codes = self.codes("item") if rows is None else self.codes("item")[rows]
+        their order."""
+        codes = self.codes("item")[rows]
         order = np.argsort(codes, kind="stable")
-        ends = np.cumsum(np.bincount(codes, minlength=len(self.names.distinct)))
-        return (order if rows is None else rows[order]), ends
+        return rows[order], np.cumsum(np.bincount(codes, minlength=len(self.columns["item"].distinct)))
+
+    def date_reader(self) -> DateReader:
+        """Returns what reads the dates of the table, after a look at all of them."""
+        return DateReader([cell for role in DATES if role in self.columns for cell in self.columns[role].distinct],
+                          self.patterns)
+
+    def amount_reader(self, role: str, currencies: dict[str, str] | None = None) -> AmountReader:
+        """Returns what reads the amounts of a column, after a look at all of them."""
+        cells = self.columns[role].distinct if role in self.columns else ()
+        return AmountReader(self.source.sheet.rules.decimal, currencies).look(cells)
+
+    def values(self, role: str, read: Callable[[Cell], Value], default: Value) -> tuple[list[Value], dict[int, Remark]]:
+        """Returns what a function reads in each distinct value of a column, the default in one that can't be read, and
+        what is wrong with those, by code."""
+        values, faults = [], dict[int, Remark]()
+        for code, cell in enumerate(self.columns[role].distinct):
+            try:
+                values.append(read(cell))
+            except Unreadable as why:
+                values.append(default)
+                faults[code] = why.remark
+        return values, faults
+
+    def having(self, role: str, codes: Mapping[int, object]) -> Flags:
+        """Returns which rows have one of these values in a column."""
+        has = np.zeros(len(self.columns[role].distinct), bool)
+        has[[*codes]] = True
+        return has[self.codes(role)]
 
 
-def read_rows(sources: Mapping[str, Source], roles: Mapping[str, Sequence[str]], has_patterns: bool,
-              reject: Callable[[Source], RejectRow]) -> dict[str, Rows]:
+def read_rows(sources: Mapping[str, Source]) -> dict[str, Rows]:
     """Returns the rows of all tables, which share the names of items."""
     names = Codes(text_of, sys.maxsize)
-    rows = {kind: Rows(source, roles[kind], names, has_patterns) for kind, source in sources.items()}
-    for kind, its in rows.items():
-        its.fill(reject(sources[kind]))
-    return rows
+    return {kind: Rows(source, names) for kind, source in sources.items()}
+
+
+def far_above(amounts: Numbers, times_of_few: int = TIMES_OF_FEW) -> int:
+    """Returns how many amounts, at most MOST_FAR, are far above all others."""
+    above, most = amounts[amounts > 0], MOST_FAR + LEAST_OTHERS
+    ranked = sorted((above if len(above) <= most else np.partition(above, -most)[-most:]).tolist(), reverse=True)
+    for far, next_largest in enumerate(ranked[1:1 + MOST_FAR], 1):
+        times = TIMES_NEXT if len(ranked) - far >= LEAST_OTHERS else times_of_few
+        if ranked[far - 1] >= times * next_largest:
+            return far
+    return 0

@@ -1,77 +1,226 @@
-"""Opens tables, each as rows of cells: a CSV file, a sheet of a workbook, or a DataFrame.
+"""Opens tables as rows of cells: CSV files, sheets of workbooks and DataFrames; and finds their headings.
 
-Cells of a file are texts. Those of a sheet or a frame are as these store them: texts, numbers, dates, or None.
+Cells of a file are texts. Those of a sheet or a frame are as these store them: texts, numbers, dates, or None. No file
+is ever whole in memory, and no line is longer than MOST_LETTERS.
 """
 from __future__ import annotations
 
+import codecs
 import contextlib
 import csv
 import datetime
+import functools
 import io
 import itertools
+import os
 import re
+import shutil
+import sys
+import tempfile
 import zipfile
-from collections.abc import Iterable, Iterator, Sequence
-from dataclasses import dataclass, field, replace
+from collections import Counter
+from collections.abc import Callable, Iterable, Iterator, Mapping, Sequence
+from dataclasses import dataclass, field
 from decimal import Decimal
 from pathlib import Path
 from typing import TYPE_CHECKING, Any, Union
 
-from ..errors import Fault, Refused, RefusedFaults
-from .amounts import Cell
-from .columns import Column, Finder, Stated, role_of
+from ..errors import Fault, Refused, RefusedFaults, argument
+from .cells import DECIMALS, Cell, checked_format, text_of
 from .faults import shown
-from .texts import (DELIMITERS, HEAD_BYTES, SAMPLE_ROWS, Rules, RoleOf, byte_fault, delimiter_of, head_of, heading_of,
-                    lines_of,
-                    nul_fault, rows_of_lines, sample, state_of, unchanged, whole_file)
-from .units import said
 
 if TYPE_CHECKING:
     import pandas as pd
 
 Row = tuple[int, Sequence[Cell]]
 Table = Union[str, Path, "pd.DataFrame"]
-NO_ROW = "there is no row below the heading; export the file again, with its rows"
-SHOWN_ROWS, MOST_LISTED = 3, 30
+RoleOf = Callable[[str], str | None]
+HEAD_BYTES, MOST_LETTERS = 1_000_000, 2_000_000
+SAMPLE_ROWS, TITLE_ROWS, MOST_LISTED = 1_000, 50, 30
+DELIMITERS = {",": ",", ";": ";", "tab": "\t", "\t": "\t"}
 BOOKS = (".xlsx", ".xlsm")
+MARKS = ((codecs.BOM_UTF8, "utf-8-sig"), (codecs.BOM_UTF16_LE, "utf-16"), (codecs.BOM_UTF16_BE, "utf-16"))
+EXPORT = "or export the file as CSV in UTF-8"
+# Bytes beside letters that are letters in cp1250, and signs or rare letters in cp1252; and the reverse.
+CENTRAL = b"\x8c\x8d\x8f\x9c\x9d\x9f\xa3\xa5\xaf\xb3\xb9\xbe\xbf\xe6\xec"
+WESTERN = b"\xe0\xe2\xe5\xe8\xea\xf1\xf2\xf8\xfb"
 
 
-class Sheet:
-    """A table before its columns are known: its name in messages, how it is written, and what is wrong with its
-    bytes."""
+@dataclass(frozen=True)
+class Rules:
+    """How files are read. None and nothing mean that the file says it. Raises Refused for what can't be meant."""
 
-    def __init__(self, name: str, written: str) -> None:
-        """Takes the name and how the table is written."""
-        self.name, self.written, self.sign = name, written, ","
-        self.fault: Fault | None = None
+    delimiter: str | None = None
+    encoding: str | None = None
+    decimal: str | None = None
+    date_formats: tuple[str, ...] = ()
+    # The text that each of these columns has in the rows of the item.
+    item: Mapping[str, str] = field(default_factory=dict)
+    # Whether reading goes on without the rows that have a fault.
+    leave_out: bool = False
 
-    def head(self, wanted: Sequence[str], role: RoleOf) -> list[Row]:
-        """Returns the first rows, with the lines in which they begin."""
-        return [(line, texts_of(cells)) for line, cells in itertools.islice(self.rows(), SAMPLE_ROWS)]
-
-    def rows(self) -> Iterator[Row]:
-        """Yields the line in which each row begins, and its cells."""
-        raise NotImplementedError
-
-    def texts(self, lines: Iterable[int]) -> dict[int, str]:
-        """Returns the text of each of the rows that begin in these lines."""
-        wanted = {*lines}
-        return {line: ",".join(texts_of(cells)) for line, cells in self.rows() if line in wanted} if wanted else {}
-
-    def place(self, text: str, line: int, place: int) -> tuple[int, int]:
-        """Returns the line and the column in which a cell of a row begins, by the text of the row."""
-        return line, place + 1
-
-    def cells(self, text: str) -> list[str]:
-        """Returns the cells of a row, by its text."""
-        return [cell.strip() for cell in text.split(",")]
+    def __post_init__(self) -> None:
+        """Checks the rules one by one."""
+        if self.delimiter is not None and self.delimiter not in DELIMITERS:
+            raise Refused(f"{argument('delimiter', self.delimiter)} is not one of , and ; (in quotes) and tab")
+        if self.decimal is not None and self.decimal not in DECIMALS:
+            raise Refused(f"{argument('decimal', self.decimal)} is not one of . and ,")
+        try:
+            b"a".decode(self.encoding or "utf-8", "replace")
+        except (LookupError, ValueError) as fault:
+            raise Refused(f"{argument('encoding', str(self.encoding))} is no encoding of texts; say utf-8, latin-1 or "
+                          "cp1252") from fault
+        for pattern in self.date_formats:
+            checked_format(pattern)
 
 
-def text_of(cell: Cell) -> str:
-    """Returns a cell as a text without blanks around it."""
-    if isinstance(cell, str):
-        return cell.strip()
-    return "" if cell is None else str(cell)
+def likely_encoding(data: bytes) -> str:
+    """Returns the encoding that bytes which are not UTF-8 are likely in: gb18030, cp1250, cp1252 or latin-1."""
+    runs = re.findall(b"[\x81-\xfe]+", data)
+    paired = sum(len(run) for run in runs if len(run) % 2 == 0 and min(run) >= 0xA1)
+    within_words = len(re.findall(b"(?<=[a-z])[\x81-\xfe]+|[\x81-\xfe]+(?=[a-z])", data))
+    if paired >= 0.9 * sum(map(len, runs)) and within_words <= 0.1 * len(runs):
+        with contextlib.suppress(UnicodeError):
+            data[:data.rfind(b"\n") + 1 or None].decode("gb18030")
+            return "gb18030"
+    beside = re.findall(b"(?<=[A-Za-z])[\x80-\xff]|[\x80-\xff](?=[A-Za-z])", data)
+    if sum(byte in CENTRAL for byte in beside) > sum(byte in WESTERN for byte in beside):
+        return "cp1250"
+    return "cp1252" if re.search(b"[\x80-\x9f]", data) else "latin-1"
+
+
+def text_faults(name: str, data: bytes, encoding: str, line: int = 1) -> Iterator[Fault]:
+    """Yields what is wrong with bytes that begin in a line: the first that is not of an encoding, else a NUL character,
+    as UTF-16 without a byte order mark has."""
+    try:
+        text = data.decode(encoding)
+        before = text.partition("\0")[0]
+        if before == text:
+            return
+        zeros = [data[place::2].count(0) for place in (0, 1)]
+        wide = argument("encoding", "utf-16-be" if zeros[0] > zeros[1] else "utf-16-le")
+        what = f"there is a NUL character, as in UTF-16; say {wide}"
+    except UnicodeError as fault:
+        start, is_utf_8 = getattr(fault, "start", 0), encoding[:5] == "utf-8"
+        before = data[:start].decode(encoding, "replace")
+        other = argument("encoding", likely_encoding(data)) if is_utf_8 else f"another {argument('encoding')}"
+        what = f"the byte 0x{data[start:start + 1].hex()} is not {'UTF-8' if is_utf_8 else encoding}; say {other}"
+    yield Fault(f"{what}, {EXPORT}", name, line + before.count("\n"), len(before) - before.rfind("\n"))
+
+
+def head_of(path: Path, name: str, rules: Rules) -> tuple[str, str, Fault | None]:
+    """Returns the encoding of a file, the text of its first lines, and what is wrong with its bytes.
+
+    The encoding is that of a byte order mark, else the stated one, else UTF-8. If nobody has stated it and the bytes
+    are not UTF-8, it is the likely one, with a fault: so the rest of the file can be checked too. Raises Refused, and
+    RefusedFaults for other bytes that can't be decoded.
+    """
+    try:
+        with path.open("rb") as file:
+            data = file.read(HEAD_BYTES)
+    except OSError as fault:
+        raise Refused(f"{name}: {fault.strerror}; check the name of the file") from fault
+    encoding = next((its for mark, its in MARKS if data.startswith(mark)), rules.encoding or "utf-8")
+    if len(data) == HEAD_BYTES and not re.search(b"[\r\n]", data):
+        raise RefusedFaults([Fault(f"the first line has more than {HEAD_BYTES:,} bytes; end each row with a line feed",
+                                   name, 1)])
+    if len(data) == HEAD_BYTES and not encoding.startswith("utf-16"):
+        data = data[:data.rfind(b"\n") + 1] or data
+    faults: list[Fault] = []
+    try:
+        text = codecs.getincrementaldecoder(encoding)().decode(data, len(data) < HEAD_BYTES)
+    except UnicodeError as wrong:
+        faults = [*text_faults(name, data, encoding)]
+        if rules.encoding or encoding != "utf-8":
+            raise RefusedFaults(faults) from wrong
+        encoding = likely_encoding(data)
+        text = data.decode(encoding, "replace")
+    if "\0" in text:
+        raise RefusedFaults([*text_faults(name, data, encoding)])
+    return encoding, text, faults[0] if faults else None
+
+
+def state_of(path: Path) -> tuple[int, int]:
+    """Returns the size of a file and the time of its last change; zeros if there is none."""
+    try:
+        state = os.stat(path)
+    except OSError:
+        return 0, 0
+    return state.st_size, state.st_mtime_ns
+
+
+@contextlib.contextmanager
+def unchanged(path: Path, name: str, state: tuple[int, int]) -> Iterator[None]:
+    """Raises Refused after the block if a file is no longer in a state: others have changed it."""
+    yield
+    if state_of(path) != state:
+        raise Refused(f"{name}: the file was changed while it was read; run again when it is whole")
+
+
+def rows_of_lines(name: str, lines: Iterable[str], delimiter: str) -> Iterator[tuple[int, list[str]]]:
+    """Yields the line in which each row begins, and its cells. `lines` keep their ends. Raises RefusedFaults for quotes
+    that can't be read."""
+    reader = csv.reader(lines, delimiter=delimiter, strict=True, skipinitialspace=True)
+    line = 1
+    try:
+        for texts in reader:
+            yield line, texts
+            line = reader.line_num + 1
+    except csv.Error as fault:
+        advice = f"check the quotes and the length of the cells in this row, or say {argument('delimiter')}"
+        raise RefusedFaults([Fault(f"{fault}; {advice}", name, line)]) from fault
+
+
+def sample(text: str, delimiter: str) -> list[tuple[int, list[str]]]:
+    """Returns the first rows with their lines, without blanks around the cells, up to one that can't be read."""
+    rows: list[tuple[int, list[str]]] = []
+    with contextlib.suppress(RefusedFaults):
+        for line, texts in itertools.islice(rows_of_lines("", io.StringIO(text, newline=""), delimiter), SAMPLE_ROWS):
+            rows.append((line, [cell.strip() for cell in texts]))
+    return rows
+
+
+def no_role(cell: str) -> None:
+    """Says of any cell that it is no usual name of a column."""
+
+
+def heading_of(rows: Sequence[Sequence[str]], wanted: Iterable[str], role_of: RoleOf) -> int:
+    """Returns the place of the heading among the first rows: the row with most of the wanted names, else with usual
+    names of most roles, else with most texts.
+
+    A cell that other rows have in the same column is data and no name, unless the whole row comes again.
+    """
+    cells = Counter(cell for row in rows for cell in enumerate(row))
+    again = Counter(tuple(row) for row in rows)
+    fits = []
+    for row in rows[:TITLE_ROWS]:
+        names = {cell for place, cell in enumerate(row) if cells[place, cell] == again[tuple(row)]}
+        roles = {role_of(cell) for cell in names} - {None}
+        fits.append((sum(name in row for name in wanted), len(roles), sum(map(bool, row))))
+    return fits.index(max(fits)) if fits else 0
+
+
+def fit_of(rows: Sequence[Sequence[str]], wanted: Iterable[str], role_of: RoleOf) -> tuple[int, int, bool, float]:
+    """Returns how well a delimiter fits, to compare: the wanted columns that the heading has, those with usual names,
+    whether it has several columns, and the share of rows with as many cells as the heading."""
+    place = heading_of(rows, wanted, role_of)
+    heading, rows = (rows[place], rows[place + 1:]) if rows else ([], [])
+    alike = sum(len(row) == len(heading) for row in rows)
+    roles = {role_of(cell) for cell in heading} - {None}
+    return sum(name in heading for name in wanted), len(roles), len(heading) > 1, alike / max(1, len(rows))
+
+
+def delimiter_of(name: str, text: str, wanted: Iterable[str], role_of: RoleOf) -> str:
+    """Returns the delimiter that fits the heading and the rows best. Raises RefusedFaults if two do."""
+    fits = {delimiter: fit_of([row for _, row in sample(text, delimiter)], wanted, role_of)
+            for delimiter in (",", ";", "\t")}
+    best = max(fits.values())
+    fitting = [delimiter for delimiter, fit in fits.items() if fit == best]
+    if len(fitting) > 1 and best[2]:
+        named = [word for word, sign in DELIMITERS.items() if sign in fitting and word != "\t"]
+        raise RefusedFaults([Fault(f"{' and '.join(named)} may both be the delimiter; say "
+                                   + " or ".join(argument("delimiter", sign) for sign in named[:2]), name, 1)])
+    return fitting[0]
 
 
 def texts_of(cells: Iterable[Cell]) -> list[str]:
@@ -94,21 +243,52 @@ def stored(cell: Any) -> Cell:
     return cell if isinstance(cell, (int, datetime.date)) else None if repr(cell) == "<NA>" else str(cell)
 
 
+class Sheet:
+    """A table before its columns are known: its name in messages, how it is written, the rules by which it is read, and
+    what is wrong with its bytes. This one has no text of its own: its cells are parted by commas in messages."""
+
+    def __init__(self, name: str, written: str, rules: Rules) -> None:
+        """Takes the name and how the table is written."""
+        self.name, self.written, self.rules, self.sign = name, written, rules, ","
+        self.fault: Fault | None = None
+
+    def head(self, wanted: Sequence[str], role_of: RoleOf) -> list[Row]:
+        """Returns the first rows, with the lines in which they begin."""
+        return [(line, texts_of(cells)) for line, cells in itertools.islice(self.rows(), SAMPLE_ROWS)]
+
+    def rows(self) -> Iterator[Row]:
+        """Yields the line in which each row begins, and its cells."""
+        raise NotImplementedError
+
+    def texts(self, lines: Iterable[int]) -> dict[int, str]:
+        """Returns the text of each of the rows that begin in these lines."""
+        wanted = {*lines}
+        return {line: ",".join(texts_of(cells)) for line, cells in self.rows() if line in wanted} if wanted else {}
+
+    def place(self, text: str, line: int, place: int) -> tuple[int, int]:
+        """Returns the line and the column in which a cell of a row begins, by the text of the row."""
+        return line, place + 1
+
+    def cells(self, text: str) -> list[str]:
+        """Returns the cells of a row, by its text."""
+        return [cell.strip() for cell in text.split(",")]
+
+
 class TextSheet(Sheet):
     """A CSV file."""
 
     def __init__(self, path: Path, name: str, rules: Rules) -> None:
         """Looks at the head of the file."""
-        self.path, self.rules, self.state = path, rules, state_of(path)
+        self.path, self.state = path, state_of(path)
         self.encoding, self.text, fault = head_of(path, name, rules)
-        super().__init__(name, self.encoding)
+        super().__init__(name, self.encoding, rules)
         self.fault = fault
         self.delimiter = DELIMITERS[rules.delimiter] if rules.delimiter else ","
 
-    def head(self, wanted: Sequence[str], role: RoleOf) -> list[Row]:
+    def head(self, wanted: Sequence[str], role_of: RoleOf) -> list[Row]:
         """Returns the first rows, by the delimiter that fits best."""
         if not self.rules.delimiter:
-            self.delimiter = delimiter_of(self.name, self.text, wanted, role)
+            self.delimiter = delimiter_of(self.name, self.text, wanted, role_of)
         self.sign = "tab" if self.delimiter == "\t" else self.delimiter
         self.written = f"{self.encoding}, delimiter {self.sign}"
         return list(sample(self.text, self.delimiter))
@@ -120,53 +300,56 @@ class TextSheet(Sheet):
 
     @contextlib.contextmanager
     def _lines(self) -> Iterator[Iterator[str]]:
-        """Gives the lines of the file, which nobody may change meanwhile."""
+        """Gives the lines of the file with their ends. Nobody may change it meanwhile."""
         errors = "replace" if self.fault else "strict"
         try:
             with unchanged(self.path, self.name, self.state), self.path.open(encoding=self.encoding, errors=errors,
                                                                              newline="") as file:
-                yield lines_of(self.name, file)
+                yield self._short_lines(file)
         except UnicodeError as fault:
-            raise RefusedFaults([self._undecodable(fault)]) from fault
+            raise RefusedFaults([self._undecodable()]) from fault
         except OSError as fault:
             raise Refused(f"{self.name}: {fault.strerror}; check the name of the file") from fault
 
-    def _undecodable(self, fault: UnicodeError) -> Fault:
+    def _short_lines(self, file: io.TextIOBase) -> Iterator[str]:
+        """Yields the lines of a file. Raises RefusedFaults for one that is too long."""
+        read = functools.partial(file.readline, MOST_LETTERS)
+        for number, line in enumerate(iter(read, ""), 1):
+            if len(line) == MOST_LETTERS:
+                raise RefusedFaults([Fault(f"the line has more than {MOST_LETTERS - 1:,} letters; end each row with a "
+                                           "line feed", self.name, number)])
+            yield line
+
+    def _undecodable(self) -> Fault:
         """Returns the fault of the first line that can't be decoded."""
-        wide = self.encoding.startswith("utf-16")
         with self.path.open("rb") as file:
-            for number, line in enumerate(iter(lambda: file.readline(HEAD_BYTES), b"") if not wide else (), 1):
-                try:
-                    if "\0" in line.decode(self.encoding):
-                        return nul_fault(self.name, line, line.decode(self.encoding), number)
-                except UnicodeError as wrong:
-                    return byte_fault(self.name, line, wrong, self.encoding, number)
-            file.seek(0)
-            return byte_fault(self.name, file.read(HEAD_BYTES), fault, self.encoding)
+            lines = iter(lambda: file.readline(HEAD_BYTES), b"")
+            faults = (fault for number, line in enumerate(lines, 1)
+                      for fault in text_faults(self.name, line, self.encoding, number))
+            if not self.encoding.startswith("utf-16"):
+                return next(faults)
+            unknown = Fault(f"a byte is not {self.encoding}; say another {argument('encoding')}, {EXPORT}", self.name)
+            return next(text_faults(self.name, file.read(HEAD_BYTES), self.encoding), unknown)
 
     def texts(self, lines: Iterable[int]) -> dict[int, str]:
         """Returns the text of each of the rows that begin in these lines, as it stands in the file."""
-        wanted, begun = {*lines}, 0
-        texts: dict[int, str] = {}
-        if not wanted:
-            return texts
-        kept: list[str] = []
+        wanted, texts, kept = {*lines}, dict[int, str](), list[str]()
 
         def heard(given: Iterator[str]) -> Iterator[str]:
             """Yields the lines, and keeps those of the row that is read."""
             for line in given:
                 kept.append(line)
                 yield line
+        if not wanted:
+            return texts
         with self._lines() as given:
             for number, _ in rows_of_lines(self.name, heard(given), self.delimiter):
                 if number in wanted:
                     texts[number] = "".join(kept).rstrip("\r\n")
                 kept.clear()
-                begun += number in wanted
-                if begun == len(wanted):
+                if len(texts) == len(wanted):
                     break
         return texts
-
 
     def place(self, text: str, line: int, place: int) -> tuple[int, int]:
         """Returns the line and the column in which a cell begins. One that isn't there begins at the end of its row."""
@@ -185,7 +368,7 @@ class TextSheet(Sheet):
 class BookSheet(Sheet):
     """A sheet of a workbook."""
 
-    def __init__(self, path: Path, sheet: str | None) -> None:
+    def __init__(self, path: Path, sheet: str | None, rules: Rules) -> None:
         """Opens the workbook. Raises Refused for one that can't be read, or if it isn't clear which sheet is meant."""
         import openpyxl
         try:
@@ -199,7 +382,7 @@ class BookSheet(Sheet):
             raise Refused(f"{path}: which sheet is meant is not clear; say {path}!SHEET; the sheets are: {known}")
         self.sheet = self.book[sheet or names[0]]
         self.path, self.state = path, state_of(path)
-        super().__init__(f"{path}{f'!{sheet}' if sheet else ''}", f"sheet {sheet or names[0]}")
+        super().__init__(f"{path}{f'!{sheet}' if sheet else ''}", f"sheet {sheet or names[0]}", rules)
 
     def rows(self) -> Iterator[Row]:
         """Yields the rows of the sheet that have a cell, with their numbers."""
@@ -212,11 +395,11 @@ class BookSheet(Sheet):
 class FrameSheet(Sheet):
     """A DataFrame. Its heading is line 1, so that its first row is line 2."""
 
-    def __init__(self, frame: pd.DataFrame, name: str) -> None:
+    def __init__(self, frame: pd.DataFrame, name: str, rules: Rules) -> None:
         """Takes the frame, and its index as columns if that has names."""
-        super().__init__(name, "DataFrame")
-        named = [it for it in frame.index.names if it is not None]
-        self.frame = frame.reset_index() if named else frame
+        super().__init__(name, "DataFrame", rules)
+        has_names = any(it is not None for it in frame.index.names)
+        self.frame = frame.reset_index() if has_names else frame
 
     def rows(self) -> Iterator[Row]:
         """Yields the rows of the frame."""
@@ -225,89 +408,26 @@ class FrameSheet(Sheet):
             yield number, [stored(cell) for cell in cells]
 
 
-@dataclass(frozen=True)
-class Given:
-    """A table that can be read several times, and its name in messages."""
-
-    table: Table
-    name: str
-
-
 @contextlib.contextmanager
-def whole_table(table: Table, kind: str, folder: Path | None = None) -> Iterator[Given]:
-    """Gives a table that can be read several times: see `whole_file`. A DataFrame has the name of its kind."""
-    if not isinstance(table, (str, Path)):
-        yield Given(table, kind)
-        return
-    with whole_file(table, folder) as path:
-        yield Given(path, "standard input" if str(table) == "-" else str(table))
+def opened(table: Table, kind: str, rules: Rules, folder: Path | None = None) -> Iterator[Sheet]:
+    """Gives a table that can be read several times: a sheet of a workbook is FILE.xlsx!SHEET, the only one FILE.xlsx.
 
-
-def sheet_of(given: Given, rules: Rules) -> Sheet:
-    """Returns a table as a sheet. A sheet of a workbook is named as FILE.xlsx!SHEET, the only one by FILE.xlsx."""
-    table, name = given.table, given.name
-    if not isinstance(table, (str, Path)):
-        return FrameSheet(table, name)
-    path, sign, sheet = name.rpartition("!")
-    if sign and Path(path).suffix.lower() in BOOKS:
-        return BookSheet(Path(path), sheet)
-    return BookSheet(Path(table), None) if Path(name).suffix.lower() in BOOKS else TextSheet(Path(table), name, rules)
-
-
-@dataclass(frozen=True)
-class Source:
-    """A table of a catalogue: its sheet, and which column has which role. `line` is that of the heading."""
-
-    kind: str
-    sheet: Sheet
-    line: int
-    heading: tuple[str, ...]
-    columns: dict[str, Column] = field(default_factory=dict)
-    titles: tuple[tuple[int, tuple[str, ...]], ...] = ()
-    first_rows: tuple[tuple[str, ...], ...] = ()
-
-    @property
-    def name(self) -> str:
-        """Returns the name of the table in tables: that of the file without its folder."""
-        return Path(self.sheet.name).name
-
-    def rows(self) -> Iterator[Row]:
-        """Yields the line in which each row below the heading begins, and its cells."""
-        yield from itertools.dropwhile(lambda row: row[0] <= self.line, self.sheet.rows())
-
-    def said(self, every: str) -> Iterator[str]:
-        """Yields how the columns are converted whose unit is not that of their role."""
-        for role, column in self.columns.items():
-            if column.unit:
-                yield f"{self.name}: column {column.name!r}: {said(role, column.unit, every)}"
-
-
-def headed(kind: str, given: Given, rules: Rules, stated: Stated, role: RoleOf) -> Source:
-    """Returns a table with its heading, which is empty if it has no row."""
-    sheet = sheet_of(given, rules)
-    names = [*stated.columns.values()]
-    rows = sheet.head(names, role)
-    if not rows:
-        return Source(kind, sheet, 1, ())
-    texts = [texts_of(cells) for _, cells in rows]
-    place = heading_of(texts, names, role)
-    titles = tuple((line, tuple(cells)) for (line, _), cells in zip(rows[:place], texts))
-    return Source(kind, sheet, rows[place][0], tuple(texts[place]), {}, titles,
-                  tuple(tuple(map(shown, cells)) for cells in texts[place + 1:place + 1 + SHOWN_ROWS]))
-
-
-def open_source(kind: str, given: Given, rules: Rules, stated: Stated, every: str) -> Source:
-    """Looks at the head of a table: its heading and columns, and its first rows.
-
-    `stated` is what is known of its columns. Raises Refused if it can't be read, and RefusedFaults with all that is
-    wrong with its columns.
+    What a pipe gives once is copied, into a folder, or for the time of the block; `-` is standard input. A DataFrame
+    has the name of its kind. Raises Refused and RefusedFaults for what can't be read.
     """
-    source = headed(kind, given, rules, stated, role_of(kind, stated))
-    if source.sheet.fault:
-        raise RefusedFaults([source.sheet.fault])
-    if not source.heading:
-        raise RefusedFaults([Fault(NO_ROW, source.sheet.name, 1)])
-    columns, wrong = Finder(kind, source.heading, stated, every).find()
-    if wrong:
-        raise RefusedFaults([Fault(what, source.sheet.name, source.line) for what in wrong])
-    return replace(source, columns=columns)
+    if not isinstance(table, (str, Path)):
+        yield FrameSheet(table, kind, rules)
+        return
+    name, path = "standard input" if str(table) == "-" else str(table), Path(table)
+    book, sign, sheet = name.rpartition("!")
+    if sign and Path(book).suffix.lower() in BOOKS:
+        yield BookSheet(Path(book), sheet, rules)
+        return
+    with contextlib.ExitStack() as stack:
+        if str(table) == "-" or path.exists() and not (path.is_file() or path.is_dir()):
+            room = stack.enter_context(tempfile.TemporaryDirectory(prefix="crnplan-", dir=folder))
+            stream = sys.stdin.buffer if str(table) == "-" else stack.enter_context(path.open("rb"))
+            path = Path(room) / Path(name).name
+            with path.open("xb") as copy:
+                shutil.copyfileobj(stream, copy)
+        yield BookSheet(path, None, rules) if path.suffix.lower() in BOOKS else TextSheet(path, name, rules)

@@ -92,7 +92,7 @@ def test_first_command_says_all(export: Export, path: Path, answer: Callable[...
             "no day": "'31.02.2026' is no day of the calendar; correct it, or leave the row out",
             "empty": "the cell is empty; write 0 where nothing was asked for",
             "n/a": "'n/a' is not a number; write digits, as 12\n",
-            "correction": "-1,000 is negative; say --net to take it off its week",
+            "correction": "'-1,000' is negative; say --net to take it off its period",
             "total": "the row looks like a total of the rows above (it has 'Summe'); leave it out"}.items():
         assert f":{odd[name]}{places.get(name, MENGE)}: {what}" in errors
     assert f":{odd['correction']}:26: the byte 0xfc is not UTF-8; say --encoding latin-1" in errors

@@ -84,7 +84,7 @@ def test_columns_are_named(file: Files, answer: Answers) -> None:
 def test_all_missing_columns_are_named(file: Files, answer: Answers) -> None:
     """Each column that isn't there has a fault, at the line that is most like a heading."""
     errors = answer([file("Report 7\nday,n\n2026-01-01,1\n"), "--demand", "m", "--date", "at", "--every", "day"]).errors
-    assert ":2: no column 'm'; the columns are: day, n\n" in errors and ":2: no column 'at'; " in errors
+    assert ":2: no column 'm' (stated as quantity); the columns are: day, n\n" in errors and ":2: no column 'at' (stated as date); " in errors
 
 
 @pytest.mark.parametrize("titles, note", [
@@ -165,7 +165,7 @@ def test_one_item(file: Files, answer: Answers) -> None:
 
 
 @pytest.mark.parametrize("word, part", [
-    ("part=C", ": no row has 'C' in column 'part', which has 2 others: 'A', 'B'"), ("port=A", ":1: no column 'port'; "),
+    ("part=C", ": no row has 'C' in column 'part', which has 2 others: 'A', 'B'"), ("port=A", ":1: no column 'port' (stated as item port); "),
     ("part", "'part' is not COLUMN=VALUE, as part=A-17"), ("=A", "is not COLUMN=VALUE")])
 def test_no_such_item(word: str, part: str, file: Files, answer: Answers) -> None:
     """An item that isn't there is refused, with those that are."""

@@ -14,8 +14,8 @@ from hypothesis import given
 from hypothesis import strategies as st
 
 from crnplan.records import read_history
-from crnplan.records.amounts import AmountReader, other_reading, readings
-from crnplan.records.dates import DateReader, first_day, period_name, period_of
+from crnplan.records.cells import AmountReader, other_reading, readings
+from crnplan.records.cells import DateReader, first_day, period_name, period_of
 from crnplan.records.faults import Unreadable
 
 DAYS = st.dates(datetime.date(1980, 1, 1), datetime.date(2199, 12, 31))

@@ -1,17 +1,18 @@
-"""Reads numbers as people write them: 3, 3.0, 1,234.5, 1 234, 1'234, -5. All numbers of a column together decide its
-decimal sign.
+"""Reads the cells of a table as numbers and dates, as people write them. All cells of a column together decide its
+decimal sign, and all dates of a table whether the day or the month comes first.
 
-A number that could mean two things is rejected, never guessed: 1,234 is read only if its column has a number such as
-0.05 or 1,234,567, which has one reading alone, or if the sign is stated.
+A cell that could mean two things is rejected, never guessed: 1,234 is read only if its column has a number such as 0.05
+or 1,234,567, which has one reading alone, or if the sign is stated. The time of day and its zone are read over.
 """
 from __future__ import annotations
 
 import datetime
 import re
-from collections.abc import Iterable
+from collections.abc import Iterable, Sequence
 from fractions import Fraction
 from typing import Union
 
+from ..errors import Refused, argument
 from ..money import MOST_DECIMALS, exact
 from .faults import Unreadable, shown
 
@@ -78,6 +79,13 @@ def split_money(text: str) -> tuple[str, str]:
     return (parts["sign"] + parts["number"] if currency else unwrapped(text)), SIGNS.get(currency, currency)
 
 
+def text_of(cell: Cell) -> str:
+    """Returns a cell as a text without blanks around it."""
+    if isinstance(cell, str):
+        return cell.strip()
+    return "" if cell is None else str(cell)
+
+
 class AmountReader:
     """Reads the amounts of a column: texts, or numbers as a sheet stores them. `sides` has the first text for each
     decimal sign that has one reading alone.
@@ -129,9 +137,9 @@ class AmountReader:
             raise Unreadable(if_empty)
         number = self._read(cell) if isinstance(cell, str) else exact(cell)
         if number is None:
-            raise Unreadable("no number", text=shown(str(cell)))
+            raise Unreadable("no number", cell)
         if abs(number) >= 10**MOST_DIGITS:
-            raise Unreadable("digits", text=shown(str(cell)), digits=MOST_DIGITS)
+            raise Unreadable("digits", cell, digits=MOST_DIGITS)
         return number
 
     def _read(self, text: str) -> Fraction:
@@ -146,27 +154,27 @@ class AmountReader:
             numbers = {sign: number for sign, number in numbers.items() if sign == self.sign}
             if not numbers:
                 signs = " and ".join(repr(shown(it)) for it in self.sides.values())
-                raise Unreadable("two readings", text=shown(text), large=large, small=small, signs=signs)
+                raise Unreadable("two readings", text, large=large, small=small, signs=signs)
         if not numbers:
             other = DECIMALS[self.stated == "."]
             is_other = self.stated is not None and FORMS[other].fullmatch(text) is not None
-            raise Unreadable("no number", text=shown(text), other=other if is_other else None)
+            raise Unreadable("no number", text, other=other if is_other else None)
         return next(iter(numbers.values()))
 
     def whole(self, cell: Cell, if_empty: str = "no quantity") -> int:
         """Returns the whole number of a cell, which may be negative. Raises Unreadable."""
         number = self.number(cell, if_empty)
         if number.denominator != 1:
-            raise Unreadable("not whole", text=shown(str(cell)))
+            raise Unreadable("not whole", cell)
         return int(number)
 
     def amount(self, cell: Cell) -> Fraction:
         """Returns an amount of money that is not below 0. Raises Unreadable."""
         number = self.number(cell)
         if number < 0:
-            raise Unreadable("below 0", text=shown(str(cell)))
+            raise Unreadable("below 0", cell)
         if (number * 10**MOST_DECIMALS).denominator != 1:
-            raise Unreadable("decimals", text=shown(str(cell)), decimals=MOST_DECIMALS)
+            raise Unreadable("decimals", cell, decimals=MOST_DECIMALS)
         return number
 
     def positive(self, cell: Cell) -> Fraction:
@@ -181,18 +189,18 @@ class AmountReader:
         has_sign = isinstance(cell, str) and cell.endswith("%")
         number = self.number(cell.rstrip("% ") if isinstance(cell, str) else cell)
         if in_percent and not has_sign and 0 < number < 1:
-            raise Unreadable("small percent", text=shown(str(cell)), role="fill")
+            raise Unreadable("small percent", cell, role="fill")
         if has_sign or in_percent:
             number /= 100
         if not 0 < number < 1:
-            raise Unreadable("no share", text=shown(str(cell)))
+            raise Unreadable("no share", cell)
         return number
 
     def items(self, cell: Cell) -> int:
         """Returns a whole number of items. Raises Unreadable."""
         number = self.number(cell)
         if number < 0 or number.denominator != 1:
-            raise Unreadable("no whole items", text=shown(str(cell)))
+            raise Unreadable("no whole items", cell)
         return int(number)
 
 
@@ -212,3 +220,129 @@ def other_reading(text: str, decimal: str | None) -> str | None:
         return f"{whole}.{part}".rstrip("0").rstrip(".")
     could_be_group = len(form["part"] or "") == 3 and re.fullmatch("[1-9][0-9]{0,2}", form["whole"]) is not None
     return form["whole"] + form["part"] if could_be_group else None
+
+
+EVERY = ("day", "week", "month")
+NEED_PERIOD = ("dates of movements and of orders need the period: say "
+               + ", ".join(argument("every", every) for every in EVERY[:-1]) + f" or {argument('every', EVERY[-1])}")
+FIRST_YEAR, LAST_YEAR = 1980, 2199
+# The forms, each as a date of its kind is written. A year of two digits is from 1969 to 2068, as in POSIX.
+YEAR = "(?P<year>[0-9]{4}|[0-9]{2})"
+ISO = re.compile("(?P<year>[0-9]{4})-(?P<month>[0-9]{1,2})-(?P<day>[0-9]{1,2})")
+DOTTED = re.compile(rf"(?P<day>[0-9]{{1,2}})\.(?P<month>[0-9]{{1,2}})\.{YEAR}")
+SLASHED = re.compile(f"(?P<first>[0-9]{{1,2}})/(?P<second>[0-9]{{1,2}})/{YEAR}")
+TIME = re.compile(r"(?:T| +)(?:[01]?[0-9]|2[0-3]):[0-5][0-9](?::[0-5][0-9](?:[.,][0-9]+)?)?(?: ?[AaPp][Mm])?"
+                  r"(?: ?(?:Z|[+-][0-9]{2}:?[0-9]{2}))?$")
+PROBES = (datetime.date(2026, 3, 31), datetime.date(1999, 12, 4))
+
+
+def checked_format(pattern: str) -> str:
+    """Returns a pattern of strptime if it says a whole date. Raises Refused."""
+    try:
+        whole = all(datetime.datetime.strptime(it.strftime(pattern), pattern).date() == it for it in PROBES)
+    except (ValueError, re.error):
+        whole = False
+    if not whole:
+        raise Refused(f"{argument('date_formats', pattern)}: this is no pattern of a whole date; write one such as %d.%m.%Y (%d "
+                      "is the day, %m the month, %Y the year, %y its last two digits)")
+    return pattern
+
+
+def bare_date(text: str) -> str | None:
+    """Returns a text without its time of day if it is a date in a usual form, else None."""
+    bare = TIME.sub("", text)
+    return bare if any(form.fullmatch(bare) for form in (ISO, DOTTED, SLASHED)) else None
+
+
+class DateReader:
+    """Reads the dates of a file. All its dates together decide whether a date with slashes has the day or the month
+    first."""
+
+    def __init__(self, texts: Iterable[Cell] = (), patterns: Sequence[str] = ()) -> None:
+        """Looks at all dates of the file. Patterns of strptime, if there are any, stand in place of the usual forms."""
+        self.patterns = patterns
+        # The first date that has the day first, and the first that has the month first.
+        self.sides: dict[bool, str] = {}
+        for text in (it for it in texts if isinstance(it, str) and "/" in it and not patterns):
+            found = SLASHED.fullmatch(TIME.sub("", text))
+            if found and (int(found["first"]) > 12) != (int(found["second"]) > 12):
+                self.sides.setdefault(int(found["first"]) > 12, text)
+
+    def read(self, cell: Cell) -> tuple[datetime.date, str]:
+        """Returns a date and its form, named by an example or by a pattern; one that a sheet stores is of the first.
+        Raises Unreadable."""
+        if cell == "" or cell is None:
+            raise Unreadable("no date")
+        if isinstance(cell, datetime.date):
+            date, form = cell, "2026-03-31"
+        else:
+            date, form = self._by_pattern(str(cell)) if self.patterns else self._by_form(str(cell))
+        if not FIRST_YEAR <= date.year <= LAST_YEAR:
+            raise Unreadable("year", cell, first=FIRST_YEAR, last=LAST_YEAR)
+        return date, form
+
+    def _by_pattern(self, text: str) -> tuple[datetime.date, str]:
+        """Returns the date of a text that is written by a pattern, with or without a time of day behind it."""
+        dates: dict[datetime.date, str] = {}
+        for pattern in self.patterns:
+            for it in (text, TIME.sub("", text)):
+                try:
+                    dates.setdefault(datetime.datetime.strptime(it, pattern).date(), pattern)
+                except ValueError:
+                    continue
+        if len(dates) > 1:
+            raise Unreadable("two patterns", text, dates=" or ".join(map(str, dates)))
+        if not dates:
+            raise Unreadable("other pattern", text, patterns=" or ".join(self.patterns))
+        return next(iter(dates.items()))
+
+    def _by_form(self, text: str) -> tuple[datetime.date, str]:
+        """Returns the date of a text that is written in a usual form."""
+        bare = TIME.sub("", text)
+        found, form = ISO.fullmatch(bare), "2026-03-31"
+        if found is None:
+            found, form = DOTTED.fullmatch(bare), "31.03.2026"
+        month, day = (int(found["month"]), int(found["day"])) if found else (0, 0)
+        if found is None:
+            found = SLASHED.fullmatch(bare)
+            if found is None:
+                raise Unreadable("no form", text, is_number=int(bare.isdecimal()))
+            month, day, form = self._slashed(text, int(found["first"]), int(found["second"]))
+        year = int(found["year"])
+        if len(found["year"]) == 2:
+            year, form = year + (2000 if year < 69 else 1900), form.replace("2026", "26")
+        try:
+            return datetime.date(year, month, day), form
+        except ValueError as fault:
+            raise Unreadable("no day", text) from fault
+
+    def _slashed(self, text: str, first: int, second: int) -> tuple[int, int, str]:
+        """Returns the month, the day and the form of a date with slashes."""
+        day_first = first > 12 if (first > 12) != (second > 12) else True in self.sides
+        if first <= 12 and second <= 12 and first != second and len(self.sides) != 1:
+            raise Unreadable("day or month", text,
+                             sides=" and ".join(repr(shown(it)) for it in self.sides.values()))
+        return (second, first, "31/03/2026") if day_first else (first, second, "03/31/2026")
+
+
+def period_of(date: datetime.date, every: str) -> int:
+    """Returns the number of the day, ISO week (from Monday) or month of a date; the next one has the next number."""
+    if every == "month":
+        return 12 * date.year + date.month - 1
+    return date.toordinal() if every == "day" else (date.toordinal() - 1) // 7
+
+
+def first_day(period: int, every: str) -> datetime.date:
+    """Returns the first day of a period."""
+    if every == "month":
+        return datetime.date(period // 12, period % 12 + 1, 1)
+    return datetime.date.fromordinal(period if every == "day" else 7 * period + 1)
+
+
+def period_name(period: int, every: str) -> str:
+    """Returns the name of a period: 2026-03-31, 2026-W14 or 2026-03."""
+    first = first_day(period, every)
+    if every == "week":
+        year, week, _ = first.isocalendar()
+        return f"{year}-W{week:02}"
+    return first.isoformat()[:10 if every == "day" else 7]
