@@ -32,7 +32,7 @@ SORTS, MARKS = ("stated", "kept", "private", "proof", "unused"), {"stated": "", 
 # The contracts from which docs/READING.md goes down.
 CHAIN = ("crn_engines::simulate", "crn_run::run_all", "crn_run::run_policy", "crn_ring::Reader::take_batch",
          "crn_ring::laws::steps_are_a_run", "crn_proto::laws::every_schedule", "crn_cipher::block",
-         "crn_proto::laws::progress")
+         "crn_proto::laws::progress", "crn_proto::laws::progress_in_batches")
 IMPL = re.compile(r"impl\s*(?:<(?:[^<>]|<[^<>]*>)*>)?\s*(?:(\S+?)(?:<.*>)?\s+for\s+)?[&\s]*([\w:]+)", re.DOTALL)
 
 
