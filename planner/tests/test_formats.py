@@ -80,11 +80,7 @@ def test_commands_and_statuses() -> None:
     assert [formats.status_of(it) for it in ("", "scenario 6", "command line")] == [0, 3, 2]
 
 
-def test_least_scenario_is_of_its_version() -> None:
-    """Checks the keys of the least scenario, and the version that a document's keys need."""
-    for version in formats.VERSIONS:
-        tree = formats.least_scenario(version)
-        assert tree.keys() == formats.SHAPES[version].keys()
-        assert formats.version_with(tree) == tree["version"] == version
-    with pytest.raises(LookupError, match="no key colour in table costs"):
-        formats.key_of("costs", "colour")
+def test_keys_need_a_version() -> None:
+    """The keys of a version need that one, and others of the document none."""
+    assert [formats.version_with(formats.SHAPES[it]) for it in formats.VERSIONS] == list(formats.VERSIONS)
+    assert formats.version_with(["colour"]) == formats.VERSIONS[0]

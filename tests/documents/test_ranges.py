@@ -17,6 +17,7 @@ from crnplan.formats import Key
 
 from tests.documents.conftest import Ask
 from tests.documents.markdown import numbers_of, text_of
+from tests.hostile.range_ends import least_scenario
 
 Judge = Callable[[str, int], bool | str]
 # Other values at keys of a table, and the number of the rule that is then broken. A value None: the key is left out.
@@ -36,7 +37,7 @@ def value_text(value: Any) -> str:
 
 def scenario_of(table: str = "", changes: dict[str, Any] | None = None) -> str:
     """Returns the text of the least scenario with other values at keys of a table."""
-    tree = formats.least_scenario()
+    tree = least_scenario()
     holder = tree["policy"][0] if table == "policy" else tree[table] if table else tree
     holder.update(changes or {})
     return "".join(f"{key} = {value_text(value)}\n" for key, value in tree.items() if value is not None)
@@ -108,7 +109,7 @@ def with_key(tree: dict[str, Any], key: Key, value: Any) -> dict[str, Any]:
     tree = copy.deepcopy(tree)
     holder = tree["policy"][0] if key.table == "policy" else tree.get(key.table) if key.table else tree
     if holder is None:
-        return {**tree, key.table: formats.least_scenario()[key.table]}
+        return {**tree, key.table: least_scenario()[key.table]}
     holder[key.name] = value
     if value is None:
         del holder[key.name]
@@ -117,9 +118,9 @@ def with_key(tree: dict[str, Any], key: Key, value: Any) -> dict[str, Any]:
 
 def version_ends(_: Key) -> Changed:
     """Yields each version, also with a key of a later one and without one that it adds, and versions on either side."""
-    known, newest, first = formats.VERSIONS, formats.least_scenario(), formats.SHAPES[formats.VERSIONS[0]]
+    known, newest, first = formats.VERSIONS, least_scenario(), formats.SHAPES[formats.VERSIONS[0]]
     for version in known:
-        its = {**dict.fromkeys(newest), **formats.least_scenario(version)}
+        its = {**dict.fromkeys(newest), **least_scenario(version)}
         yield its, 0
         for key in (it for it in formats.KEYS if it.since > known[0]):
             is_known = key.since <= version
@@ -148,7 +149,7 @@ LOW, HIGH = formats.POLICIES
 @pytest.mark.parametrize("count, number", [(LOW - 1, 13), (LOW, 0), (HIGH, 0), (HIGH + 1, 13)])
 def test_number_of_policies(judge: Judge, count: int, number: int) -> None:
     """So many policies are accepted, or not."""
-    policy = formats.least_scenario()["policy"][0]
+    policy = least_scenario()["policy"][0]
     assert judge(scenario_of("", {"policy": [{**policy, "name": f"P{it}"} for it in range(count)]}), number) is True
 
 

@@ -17,9 +17,27 @@ WEIGHTS = [[0, 0], [0, 1], [MOST_WEIGHT, 0], [MOST_WEIGHT - 1, 1], [MOST_WEIGHT,
            [1, 1, 1], []]
 
 
+def least_value(kind: str, *more: Any) -> Any:
+    """Returns a small value of a kind, without a fault."""
+    if kind in ("table", "draws"):
+        least = {name: least_value(*its) for name, its in more[0].items()}
+        return {**least, "weights": [1]} if kind == "draws" else least
+    if kind == "policies":
+        return [least_value("table", more[0])]
+    if kind in formats.OWN_KINDS:
+        return {"version": formats.VERSIONS[-1], "key": ["0" * formats.DIGITS_OF_WORD] * formats.WORDS_OF_KEY,
+                "ring": 1, "name": "A"}[kind]
+    return [more[0] + 1] if kind == "numbers" else more[0]
+
+
+def least_scenario(version: int = formats.VERSIONS[-1]) -> dict[str, Any]:
+    """Returns a scenario's tree of a version: each number is at its least, each list has one entry."""
+    return {**least_value("table", formats.SHAPES[version]), "version": version}
+
+
 def a_scenario(version: int) -> Tree:
     """Returns a scenario of a version: two values in each list, costs that differ, and two policies."""
-    tree = formats.least_scenario(version)
+    tree = least_scenario(version)
     for table in (it for it in formats.DRAWS if it in tree):
         low = tree[table]["values"][0]
         tree[table] = {"values": [low, low + 3], "weights": [2, 1]}

@@ -32,17 +32,10 @@ class Key:
     since: int
 
 
-def key_of(table: str, name: str) -> Key:
-    """Returns a key of a table. Raises LookupError if there is none."""
-    for key in KEYS:
-        if (key.table, key.name) == (table, name):
-            return key
-    raise LookupError(f"there is no key {name} in table {table or 'of the document'}")
-
-
 def limits(table: str, name: str) -> tuple[int, int]:
-    """Returns the least and the greatest of a key. If the least is another key's value, it is that key's least."""
-    low, high = key_of(table, name).ranges[0]
+    """Returns the least and the greatest of a key. If the least is another key's value, it is that key's least. Raises
+    KeyError if there is no such key."""
+    low, high = _RANGES[table, name][0]
     return (limits(table, low)[0] if isinstance(low, str) else low), high
 
 
@@ -51,12 +44,12 @@ def _shape(version: int) -> Shape:
 
     A table has the kind `table`, `draws` (values with weights) or `policies`, and its keys in the same way.
     """
-    document: Shape = {}
     tables: dict[str, Shape] = {}
-    for key in (it for it in KEYS if it.since <= version):
-        kind = key.name if key.name in OWN_KINDS else "numbers" if key.table in DRAWS else "number"
-        its = (kind,) if kind in OWN_KINDS else (kind, *limits(key.table, key.name))
-        (tables.setdefault(key.table, {}) if key.table else document)[key.name] = its
+    for key in (key for key in KEYS if key.since <= version):
+        kind = "numbers" if key.table in DRAWS else "number"
+        rule = (key.name,) if key.name in OWN_KINDS else (kind, *limits(key.table, key.name))
+        tables.setdefault(key.table, {})[key.name] = rule
+    document = tables.pop("")
     for name, shape in tables.items():
         document[name] = ("policies" if name == "policy" else "draws" if name in DRAWS else "table", shape)
     return document
@@ -64,26 +57,8 @@ def _shape(version: int) -> Shape:
 
 def version_with(names: Iterable[str]) -> int:
     """Returns the first version that has all those of these keys of the document that some version has."""
-    named = set(names)
-    return next(it for it in VERSIONS if not (SHAPES[VERSIONS[-1]].keys() - SHAPES[it].keys()) & named)
-
-
-def _least_value(kind: str, *more: Any) -> Any:
-    """Returns a small value of a kind, without a fault."""
-    if kind in ("table", "draws"):
-        least = {name: _least_value(*its) for name, its in more[0].items()}
-        return {**least, "weights": [1]} if kind == "draws" else least
-    if kind == "policies":
-        return [_least_value("table", more[0])]
-    if kind in OWN_KINDS:
-        return {"version": VERSIONS[-1], "key": ["0" * DIGITS_OF_WORD] * WORDS_OF_KEY, "ring": 1, "name": "A"}[kind]
-    return [more[0] + 1] if kind == "numbers" else more[0]
-
-
-def least_scenario(version: int | None = None) -> dict[str, Any]:
-    """Returns a scenario's tree of a version, by default the newest: each number is at its least, each list has one."""
-    version = version or VERSIONS[-1]
-    return {**_least_value("table", SHAPES[version]), "version": version}
+    known = SHAPES[VERSIONS[-1]].keys() & set(names)
+    return next(version for version in VERSIONS if known <= SHAPES[version].keys())
 
 
 def status_of(fault: str) -> int:
@@ -91,33 +66,28 @@ def status_of(fault: str) -> int:
     return STATUSES[re.sub(" [0-9]+$", "", fault)] if fault else 0
 
 
-def _key_from(its: dict[str, Any]) -> Key:
-    """Returns a key from its table in formats.toml."""
-    ranges = tuple((low, high) for low, high in its.get("ranges", []))
-    return Key(its.get("table", ""), its["name"], ranges, its.get("since", 1))
-
-
 _FORMATS = tomllib.loads(Path(__file__).with_name("formats.toml").read_text("utf-8"))
 _SCENARIO, _CHECKPOINT = _FORMATS["scenario"], _FORMATS["checkpoint"]
 
 # Scenarios. DRAWS are the tables of values and weights, each of which has a stream of random words.
 VERSIONS: tuple[int, ...] = tuple(_SCENARIO["versions"])
-KEYS: tuple[Key, ...] = tuple(map(_key_from, _SCENARIO["keys"]))
-DRAWS: tuple[str, ...] = tuple(it.table for it in KEYS if it.name == "values")
-COSTS: tuple[str, ...] = tuple(it.name for it in KEYS if it.table == "costs")
-SHAPES: dict[int, Shape] = {it: _shape(it) for it in VERSIONS}
-LIMITS: dict[str, dict[str, tuple[int, int]]] = {
-    table: {it.name: limits(table, it.name) for it in KEYS if it.table == table and it.ranges}
-    for table in dict.fromkeys(it.table for it in KEYS)}
+KEYS: tuple[Key, ...] = tuple(
+    Key(key.get("table", ""), key["name"], tuple((low, high) for low, high in key.get("ranges", [])),
+        key.get("since", 1)) for key in _SCENARIO["keys"])
+_RANGES = {(key.table, key.name): key.ranges for key in KEYS}
+DRAWS: tuple[str, ...] = tuple(key.table for key in KEYS if key.name == "values")
+COSTS: tuple[str, ...] = tuple(key.name for key in KEYS if key.table == "costs")
+SHAPES: dict[int, Shape] = {version: _shape(version) for version in VERSIONS}
 POLICIES: tuple[int, int] = (_SCENARIO["policies"][0], _SCENARIO["policies"][1])
-WEIGHT_SUMS: tuple[int, int] = (int(key_of("demand", "weights").ranges[1][0]), key_of("demand", "weights").ranges[1][1])
+WEIGHT_SUMS: tuple[int, int] = (int(_RANGES["demand", "weights"][1][0]), _RANGES["demand", "weights"][1][1])
 WORDS_OF_KEY: int = _SCENARIO["words_of_key"]
 DIGITS_OF_WORD: int = _SCENARIO["digits_of_word"]
 WORD = re.compile(f"[0-9a-f]{{{DIGITS_OF_WORD}}}")
 NAME = re.compile("[{}]{{{},{}}}".format(
-    "".join(re.escape(it) if len(it) == 1 else it for it in _SCENARIO["name_characters"]), *limits("policy", "name")))
+    "".join(re.escape(sign) if len(sign) == 1 else sign for sign in _SCENARIO["name_characters"]),
+    *limits("policy", "name")))
 _LEAST_RING, _MOST_RING = limits("", "ring")
-RING_SIZES: tuple[int, ...] = tuple(2**it for it in range(64) if _LEAST_RING <= 2**it <= _MOST_RING)
+RING_SIZES: tuple[int, ...] = tuple(2**power for power in range(64) if _LEAST_RING <= 2**power <= _MOST_RING)
 MOST_LEVELS: int = _SCENARIO["most_levels"]
 MOST_BYTES: int = _SCENARIO["most_bytes"]
 MOST_PERIODS = limits("", "periods")[1]

@@ -38,7 +38,7 @@ Policies = Iterable[object] | Mapping[str, tuple[int, int]] | Result
 # What is said of all figures of a scenario.
 BY_ITS_LAWS = "by this law of demand, and this law of lead times; crnplan doubt says what else a history allows"
 # The fields that `Scenario.changed` takes.
-CHANGEABLE = (*(it for it in formats.SHAPES[formats.VERSIONS[-1]] if it != "policy"), "policies")
+CHANGEABLE = (*(name for name in formats.SHAPES[formats.VERSIONS[-1]] if name != "policy"), "policies")
 
 
 @dataclass(frozen=True)
@@ -89,11 +89,10 @@ class Scenario:
     @classmethod
     def of_tree(cls, tree: Mapping[str, object], source: str | None = None) -> Scenario:
         """Makes a scenario from a tree as tomllib gives it, which is known to have no fault."""
-        its: Tree = {**tree}
-        plain = {name: its[name] for name in ("version", "periods", "replications", "initial", "ring")}
-        return cls(**plain, key=tuple(its["key"]), costs=Costs(**its["costs"]), demand=Law.of_tree(its["demand"]),
-                   lead=Law.of_tree(its["lead"]), policies=tuple(Policy(**it) for it in its["policy"]),
-                   returns=Law.of_tree(its["returns"]) if "returns" in its else None, source=source)
+        fields: Tree = {**tree}
+        fields |= {name: Law.of_tree(fields[name]) for name in formats.DRAWS if name in fields}
+        fields |= {"key": tuple(fields["key"]), "costs": Costs(**fields["costs"])}
+        return cls(policies=tuple(Policy(**policy) for policy in fields.pop("policy")), source=source, **fields)
 
     @property
     def tree(self) -> dict[str, Json]:
@@ -102,7 +101,7 @@ class Scenario:
         return {"version": self.version, "key": list(self.key), "periods": self.periods,
                 "replications": self.replications, "initial": self.initial, "ring": self.ring,
                 "costs": dataclasses.asdict(self.costs), "demand": self.demand.tree, "lead": self.lead.tree, **returns,
-                "policy": [dataclasses.asdict(it) for it in self.policies]}
+                "policy": [dataclasses.asdict(policy) for policy in self.policies]}
 
     @classmethod
     def read(cls, path: str | Path) -> Scenario:
@@ -154,21 +153,19 @@ class Scenario:
         tree: Tree = {**self.tree}
         given: Tree = changes
         for name, value in given.items():
-            if name == "policies":
-                tree["policy"] = [dataclasses.asdict(it) for it in policies_of(value)]
-            elif name == "costs":
-                its = dataclasses.asdict(value) if isinstance(value, Costs) else value
-                tree["costs"] |= {cost: whole(its[cost], f"costs: {cost}") for cost in its}
-            elif name in formats.DRAWS:
-                tree[name] = None if value is None else _table(value, name).tree
-            elif name == "key":
-                tree["key"] = key_words(value)
-            elif name in formats.LIMITS[""] or name == "version":
-                tree[name] = whole(value, name)
-            else:
+            if name not in CHANGEABLE:
                 raise Refused(f"a scenario has no field {name!r}; it has {', '.join(CHANGEABLE)}")
-        if tree.get("returns") is None:
-            tree.pop("returns", None)
+            if name == "policies":
+                tree["policy"] = [dataclasses.asdict(policy) for policy in policies_of(value)]
+            elif name == "costs":
+                costs = dataclasses.asdict(value) if isinstance(value, Costs) else value
+                tree["costs"] |= {cost: whole(costs[cost], f"costs: {cost}") for cost in costs}
+            elif name in formats.DRAWS and value is not None:
+                tree[name] = _table(value, name).tree
+            elif name in formats.DRAWS:
+                tree.pop(name, None)
+            else:
+                tree[name] = key_words(value) if name == "key" else whole(value, name)
         if "returns" in changes and "version" not in changes:
             tree["version"] = formats.version_with(tree)
         return dataclasses.replace(Scenario.of_tree(checked_tree(tree), self.source), scale=self.scale)
@@ -193,7 +190,7 @@ class Scenario:
         """Returns the scenario with its first policy and then these, each pair of levels once unless it is named."""
         base = self.policies[0]
         unnamed = Policy.of_levels(base.s, base.S)
-        others = (it for it in policies_of(policies) if it not in (base, unnamed))
+        others = (policy for policy in policies_of(policies) if policy not in (base, unnamed))
         return self.with_policies(dict.fromkeys([base, *others]))
 
     def run(self, policies: Policies | None = None, *, program: str | Path | None = None) -> Report:
@@ -235,8 +232,8 @@ def _table(law: Any, name: str) -> Law:
         numbers = law.tolist() if hasattr(law, "tolist") else law
         if not isinstance(numbers, Iterable):
             raise Refused(f"{name}: {type(law).__name__} is not a law; fit one, or give observed whole numbers")
-        law = Counter(whole(it, f"{name}: entry {place}") for place, it in enumerate(numbers, 1))
-    return Law.of({whole(it, f"{name}: value"): whole(law[it], f"{name}: weight of {it}") for it in law})
+        law = Counter(whole(number, f"{name}: entry {place}") for place, number in enumerate(numbers, 1))
+    return Law.of({whole(value, f"{name}: value"): whole(law[value], f"{name}: weight of {value}") for value in law})
 
 
 def _levels(pair: Any, name: str) -> tuple[int, int]:
@@ -260,7 +257,7 @@ def policies_of(given: Policies) -> list[Policy]:
         return [Policy.of_levels(*_levels(pair, "policies"), name) for name, pair in pairs]
     if isinstance(policies, Mapping):
         return [Policy.of_levels(*_levels(pair, f"policies: {name}"), name) for name, pair in policies.items()]
-    return [it if isinstance(it, Policy) else Policy.of_levels(*_levels(it, "policies")) for it in policies]
+    return [one if isinstance(one, Policy) else Policy.of_levels(*_levels(one, "policies")) for one in policies]
 
 
 def read_policies(word: str) -> list[Policy]:
@@ -273,21 +270,18 @@ def read_policies(word: str) -> list[Policy]:
         return [Policy.of_levels(int(pair[1]), int(pair[2]))]
     if word.endswith(".toml"):
         return list(Scenario.read(word).policies)
-    data = read_bytes(word)
+    data, policies = read_bytes(word), list[Policy]()
     try:
         rows = csv.DictReader(io.StringIO(data.decode("utf-8-sig"), newline=""))
         missing = [name for name in "sS" if name not in (rows.fieldnames or [])]
         if missing:
             raise Refused(f"{word}:1: there is no column {' and no column '.join(missing)}; name them policy, s and S")
-        return [_policy_of_row(row, f"{word}:{rows.line_num}") for row in rows]
+        for row in rows:
+            for name in "sS":
+                if not re.fullmatch("[0-9]{1,9}", row[name] or ""):
+                    raise Refused(f"{word}:{rows.line_num}: column {name}: {shown(row[name] or '')} is not a whole "
+                                  "number; write the level in items")
+            policies.append(Policy.of_levels(int(row["s"]), int(row["S"]), row.get("policy") or ""))
     except (UnicodeDecodeError, csv.Error) as fault:
         raise Refused(f"{word}: this is no table of policies: {fault}; save it as CSV in UTF-8") from fault
-
-
-def _policy_of_row(row: Mapping[str, str | None], place: str) -> Policy:
-    """Returns the policy of a row of a table."""
-    for name in "sS":
-        if not re.fullmatch("[0-9]{1,9}", row[name] or ""):
-            cell = shown(row[name] or "")
-            raise Refused(f"{place}: column {name}: {cell} is not a whole number; write the level in items")
-    return Policy.of_levels(int(row["s"] or 0), int(row["S"] or 0), row.get("policy") or "")
+    return policies
