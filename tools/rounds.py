@@ -9,10 +9,14 @@ if its proof file only names something that the edit took away, if only a functi
 check gives no verdict on it. An edit that another one hides is tried again in a later round, at last alone. An edit
 that names a function that is not there fails, and the others of its round are tried without it.
 
+What was refused is kept, and judged again only after a change of what that depends on (tools/refused.py). One kept
+verdict in twenty, drawn by the commit, is judged anew each time: it fails if the edit is no longer refused.
+
+    --anew           judges all edits, whatever is kept
     --names A,B      only the edits with these names
     --must-fail      also the edits of must-fail/, which `rt ci` tries one by one
     --tested         the edits of tested/ in place of these: they are proved, and a test must see each (tools/tested.py)
-    --alone          each edit in a check of its own, which shows what it costs
+    --alone          each edit anew, in a check of its own, which shows what it costs
     --goals          prints for each edit the goal that is open
     --list           prints the edits as a table and tries none
     --proved         no control first: `rt ci` has just proved the same files
@@ -25,8 +29,8 @@ With no crate: all of them. The libraries below a crate must stand built in crat
 `rt ci` leave them. The control checks each crate without an edit: it must prove every function that an edit names. A
 check asks for the functions that its edits name and what they call, over what the crate's checks have kept.
 
-Prints a line for each check and each failure. Seconds are of processor time. The last line is `N passed, M failed`,
-counted in edits.
+Prints a line for each check and each failure. Seconds are of processor time. The last line is
+`N passed, M failed (J judged, K kept)`, counted in edits.
 """
 import argparse
 import collections
@@ -45,6 +49,7 @@ import time
 sys.dont_write_bytecode = True
 import tested
 from edits import FOLDERS, TOP, BadEdit, changes_of, crates, edits_of, functions_of, text_of
+from refused import Refused, sum_of
 
 MEMORY_OF_A_CHECK = 3_000_000_000
 # What a check says of a function, or of another item.
@@ -92,20 +97,20 @@ def link(one, other):
 class Prover:
     """Checks copies of one crate, over kept work that all checks of the crate share."""
 
-    def __init__(self, kit, name, room, options):
-        self.name, self.folder, self.kept = name, f"{TOP}/crates/{name}", f"{room}/{name}"
-        crate = kit.Crate(self.folder, TOP, {})
+    def __init__(self, kit, crate, room, options):
+        self.crate, self.name, self.folder, self.work = crate, crate.name, crate.folder, f"{room}/{crate.name}"
         for below in crate.below():
-            if not os.path.isfile(f"{below.rlib}/format"):
-                sys.exit(f"tools/rounds.py: {name} needs the library {below.name}, which is not built: "
-                         f"run `rt check` in crates/{name} first")
+            stamp = kit.text_of(f"{below.folder}/out/rlib/stamp")
+            if not os.path.isfile(f"{below.rlib}/format") or stamp not in (None, below.stamp()):
+                sys.exit(f"tools/rounds.py: {self.name} needs the library {below.name}, which is not built of its "
+                         f"files as they are: run `rt check` in crates/{self.name} first")
         self.words = [options.prover or kit.RATTLE, "check", *crate.words(["--jobs", "1"], keeps=False)]
         self.parts, self.limit = [it for it in kit.PARTS if os.path.isdir(f"{self.folder}/{it}")], options.limit
-        if os.path.isdir(f"{self.folder}/out/incremental"):
-            link(f"{self.folder}/out/incremental", self.kept)
 
     def check(self, tries, functions):
         """Checks a copy of the crate with these edits, and asks for these functions."""
+        if os.path.isdir(f"{self.folder}/out/incremental") and not os.path.isdir(self.work):
+            link(f"{self.folder}/out/incremental", self.work)
         with tempfile.TemporaryDirectory(prefix="round-") as room:
             for part in self.parts:
                 shutil.copytree(f"{self.folder}/{part}", f"{room}/{part}")
@@ -113,7 +118,7 @@ class Prover:
                 with open(f"{room}/{file}", "w", encoding="utf-8") as written:
                     written.write(text)
             only = [word for name in functions for word in ("--only", name)]
-            return self.run([*self.words, "--incremental", self.kept, *only], room)
+            return self.run([*self.words, "--incremental", self.work, *only], room)
 
     def texts(self, tries):
         """The files that the edits change, as they are then."""
@@ -136,6 +141,11 @@ class Prover:
             said.seek(0)
             lines = said.read().rstrip("\n").split("\n")
         return Ran(lines, *read(lines), fault_of(lines, process.returncode), used.ru_utime + used.ru_stime)
+
+
+def label_of(edit):
+    """What an edit is called in the lines of this tool."""
+    return f"{edit.crate}/{edit.name}"
 
 
 def read(lines):
@@ -245,10 +255,11 @@ def packed(left, is_alone):
 
 
 class Rounds:
-    """All rounds of one crate."""
+    """All rounds of one crate. The verdicts "refused" are kept, under the digest of the crate and of the edit."""
 
-    def __init__(self, prover, options):
-        self.prover, self.options, self.passed, self.failed = prover, options, 0, []
+    def __init__(self, prover, refused, digest, options):
+        self.prover, self.refused, self.digest, self.options = prover, refused, digest, options
+        self.passed, self.kept, self.failed = 0, 0, []
 
     def control(self, tries):
         """Checks the crate as it stands; why edits cannot be tried, by the function that they name."""
@@ -265,8 +276,29 @@ class Rounds:
         self.tell(f"control, {len(functions)} functions", ran, f", {len(lost)} not proved" if lost else "")
         return lost
 
+    def judge(self, tries):
+        """Judges all edits but those that a kept verdict passes."""
+        left = [it for it in tries if not self.is_kept(it.edit)]
+        if self.kept:
+            print(f"{self.prover.name}: {self.kept} edits refused as before, {len(left)} to judge", flush=True)
+        if left:
+            self.run(left)
+
+    def is_kept(self, edit):
+        """Whether a kept verdict passes an edit."""
+        goal = self.refused.goal(self.key(edit), label_of(edit))
+        is_kept = goal is not None and not self.refused.is_drawn(label_of(edit))
+        if is_kept:
+            self.kept += 1
+            self.succeed(edit, goal)
+        return is_kept
+
+    def key(self, edit):
+        """The digest of all that the verdict on an edit depends on."""
+        return sum_of(self.digest, repr(edit))
+
     def run(self, tries):
-        """Tries all edits."""
+        """Judges edits, in as few checks as can be."""
         lost = {} if self.options.proved else self.control(tries)
         for each in [it for it in tries if it.edit.refused_by in lost]:
             self.fail(each, lost[each.edit.refused_by])
@@ -282,6 +314,8 @@ class Rounds:
         """Tries some edits in one check; those that others hid."""
         functions = sorted({it.edit.refused_by for it in chosen})
         ran, hidden = self.prover.check(chosen, functions), []
+        # What was checked is what the digest says only if nothing has changed since.
+        can_keep = self.refused.digest(self.prover.crate) == self.digest
         if unknown := unknown_of(ran, functions):
             for each in [it for it in chosen if it.edit.refused_by == unknown]:
                 self.fail(each, f"there is no function {unknown}")
@@ -292,18 +326,32 @@ class Rounds:
             if outcome is HIDDEN:
                 hidden.append(each)
             elif outcome:
-                self.fail(each, outcome)
+                self.fail(each, outcome if ran.fault else self.contradicted(each.edit, outcome))
             else:
-                self.passed += 1
-                if self.options.goals:
-                    print(f"{self.prover.name}/{each.edit.name}: {goal_of(ran, each.edit)[:300]}", flush=True)
+                goal = goal_of(ran, each.edit)
+                if can_keep:
+                    self.refused.keep(self.key(each.edit), label_of(each.edit), goal)
+                self.succeed(each.edit, goal)
         self.tell(f"{len(chosen)} edits", ran, f", again: {' '.join(it.edit.name for it in hidden)}" if hidden else "")
         return hidden
+
+    def contradicted(self, edit, why):
+        """Why an edit fails. If a verdict that it is refused was kept, that is removed, and this says so."""
+        if self.refused.drop(self.key(edit)):
+            why += (". But A KEPT VERDICT SAID THAT IT IS REFUSED: the digest of tools/refused.py lacks something. "
+                    "Judge all by tools/rounds.py --anew")
+        return why
+
+    def succeed(self, edit, goal):
+        """Counts an edit that is refused."""
+        self.passed += 1
+        if self.options.goals:
+            print(f"{label_of(edit)}: {goal[:300]}", flush=True)
 
     def fail(self, each, why):
         """Notes and prints a failure."""
         self.failed.append(each)
-        print(f"FAILED {self.prover.name}/{each.edit.name}: {why}", flush=True)
+        print(f"FAILED {label_of(each.edit)}: {why}", flush=True)
 
     def tell(self, what, ran, more):
         """Prints the line of a check."""
@@ -317,22 +365,30 @@ def free_memory():
 
 
 def try_all(names, options):
-    """Tries the edits of these crates, those with most edits first; how many passed and failed."""
-    kit, passed, failed, jobs = load_kit(), 0, 0, []
+    """Tries the edits of these crates, those with most edits first; how many passed, failed and passed by a kept
+    verdict."""
+    kit, failed, jobs = load_kit(), 0, []
+    refused = Refused(kit, options.prover or kit.RATTLE, options.anew or options.alone)
     lanes = options.lanes or max(1, min(len(os.sched_getaffinity(0)), free_memory() // MEMORY_OF_A_CHECK))
     with tempfile.TemporaryDirectory(prefix="rounds-") as room:
         for name in names:
+            crate = kit.Crate(f"{TOP}/crates/{name}", TOP, {})
+            digest = refused.digest(crate)
             tries, bad = tries_of(name, options)
             for edit, why in bad:
                 print(f"FAILED {name}/{edit}: {why}")
             failed += len(bad)
             if tries:
-                jobs.append((Rounds(Prover(kit, name, room, options), options), tries))
+                jobs.append((Rounds(Prover(kit, crate, room, options), refused, digest, options), tries))
         jobs.sort(key=lambda it: -len(it[1]) * len(it[0].prover.words))
         with concurrent.futures.ThreadPoolExecutor(lanes) as pool:
-            for future in [pool.submit(rounds.run, tries) for rounds, tries in jobs]:
+            for future in [pool.submit(rounds.judge, tries) for rounds, tries in jobs]:
                 future.result()
-    return passed + sum(it.passed for it, _ in jobs), failed + sum(len(it.failed) for it, _ in jobs)
+    refused.remove_old()
+    if refused.fault:
+        print(refused.fault)
+    failed += sum(len(it.failed) for it, _ in jobs)
+    return sum(it.passed for it, _ in jobs), failed, sum(it.kept for it, _ in jobs)
 
 
 def table(names):
@@ -353,7 +409,7 @@ def options_of(words):
     parser.add_argument("--limit", type=float, default=1200)
     parser.add_argument("--prover")
     parser.add_argument("--builder")
-    for flag in ("--must-fail", "--tested", "--alone", "--goals", "--list", "--proved"):
+    for flag in ("--must-fail", "--tested", "--anew", "--alone", "--goals", "--list", "--proved"):
         parser.add_argument(flag, action="store_true")
     return parser.parse_args(words)
 
@@ -369,12 +425,13 @@ def main(words):
         table(names)
         return 0
     began = time.monotonic()
-    passed, failed = tested.try_tested(names, options, link) if options.tested else try_all(names, options)
+    passed, failed, kept = tested.try_tested(names, options, link) if options.tested else try_all(names, options)
+    judged_now = passed + failed - kept
     if not passed and not failed:
         print("FAILED there is no edit to try")
         failed = 1
     print(f"rounds: {time.monotonic() - began:.0f} s of wall time")
-    print(f"{passed} passed, {failed} failed")
+    print(f"{passed} passed, {failed} failed ({judged_now} judged, {kept} kept)")
     return 1 if failed else 0
 
 

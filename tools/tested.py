@@ -239,15 +239,15 @@ class Tested:
 
 
 def try_tested(names, options, link):
-    """Tries the edits of these crates; how many passed and failed."""
+    """Tries the edits of these crates; how many passed and failed, and that none passed by a kept verdict."""
     found = [tries_of(name, options.names) for name in names]
     bad = [it for _, failed in found for it in failed]
     for label, why in bad:
         print(f"FAILED {label}: {why}")
     tries = [it for each, _ in found for it in each]
     if not tries:
-        return 0, len(bad)
+        return 0, len(bad), 0
     with tempfile.TemporaryDirectory(prefix="tested-") as room:
         tested = Tested(Copy(room, options, link), tries)
         tested.run()
-    return tested.passed, tested.failed + len(bad)
+    return tested.passed, tested.failed + len(bad), 0

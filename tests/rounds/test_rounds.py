@@ -7,6 +7,7 @@ program and tests that are scripts.
 from __future__ import annotations
 
 import fcntl
+import os
 import shutil
 import subprocess
 from collections.abc import Callable, Iterator
@@ -255,7 +256,7 @@ def write(path: Path, text: str, mode: int = 0o644) -> None:
 
 def make_repository(room: Path, top: Path) -> None:
     """Makes a repository with the small crate and the tool, and proves the crate."""
-    for tool in ("rounds.py", "edits.py", "tested.py"):
+    for tool in ("rounds.py", "edits.py", "tested.py", "refused.py"):
         (room / "tools").mkdir(parents=True, exist_ok=True)
         shutil.copy2(top / "tools" / tool, room / "tools")
     write(room / "crates.txt", "tiny:\n")
@@ -299,7 +300,8 @@ def edit_text(function: str, old: str, new: str) -> str:
 def run_tool(repository: Path, *words: str | Path) -> Said:
     """Runs the tool with these words."""
     done = subprocess.run([repository / "tools" / "rounds.py", *words], stdin=subprocess.DEVNULL,
-                          stdout=subprocess.PIPE, stderr=subprocess.STDOUT, text=True, check=False)
+                          stdout=subprocess.PIPE, stderr=subprocess.STDOUT, text=True, check=False,
+                          env={**os.environ, "XDG_CACHE_HOME": str(repository / "caches")})
     return Said(done.returncode, done.stdout.splitlines())
 
 
@@ -310,9 +312,9 @@ def of_edit(edit: str, lines: list[str], part: str) -> bool | str:
 
 
 def last_line(wanted: dict[str, str]) -> str:
-    """Returns the last line, by what becomes of each edit."""
+    """Returns the last line, by what becomes of each edit, if none is kept."""
     failed = sum(map(bool, wanted.values()))
-    return f"{len(wanted) - failed} passed, {failed} failed"
+    return f"{len(wanted) - failed} passed, {failed} failed ({len(wanted)} judged, 0 kept)"
 
 
 @pytest.mark.timeout(600)
@@ -341,7 +343,7 @@ def test_wrong_implementations(repository: Path, check_all: CheckAll, edits: dic
 def test_no_edits(repository: Path) -> None:
     """No edit at all is a failure."""
     status, lines = run_tool(repository)
-    assert (status, lines[-1]) == (1, "0 passed, 1 failed")
+    assert (status, lines[-1]) == (1, "0 passed, 1 failed (0 judged, 0 kept)")
 
 
 def test_edit_without_a_head(repository: Path) -> None:
@@ -388,4 +390,4 @@ def test_list_of_edits_that_a_test_must_see(tested: Path) -> None:
 
 def test_tested_edits_are_not_run_unasked(tested: Path) -> None:
     """Without its word the tool runs no edit that a test must see."""
-    assert run_tool(tested).lines[-1] == "0 passed, 1 failed"
+    assert run_tool(tested).lines[-1] == "0 passed, 1 failed (0 judged, 0 kept)"

@@ -27,7 +27,7 @@ PART = 'part={}; echo "$part: $*" >>"$LOG"' + SAYS
 # What each part says if all is well, and how it counts.
 WELL = {"setup": "tools/setup: all is there", "types": "Success: no issues found in 40 source files",
         "sources": "........\n8 passed in 1.20s", "proofs": "proved\n20 passed, 0 failed",
-        "rounds": "4 passed, 0 failed",
+        "rounds": "4 passed, 0 failed (1 judged, 3 kept)",
         "suites": "....\ntests/program: 300 cases\n100 passed, 3 deselected, 1 warning in 61.20s (0:01:01)",
         "serial": "3 passed, 100 deselected in 2.10s"}
 PASSED = 1 + 1 + 8 + 20 + 4 + 100 + 3
@@ -89,7 +89,7 @@ def test_tests_run_once_each(machine: Machine) -> None:
 @pytest.mark.parametrize("part, status, text, counts", [
     pytest.param("types", 1, "x.py:1: error: no\nFound 1 error in 1 file", (PASSED - 1, 1), id="types are wrong"),
     pytest.param("proofs", 1, "18 passed, 2 failed", (PASSED - 2, 2), id="a proof fails"),
-    pytest.param("rounds", 1, "3 passed, 1 failed", (PASSED - 1, 1), id="a round fails"),
+    pytest.param("rounds", 1, "3 passed, 1 failed (4 judged, 0 kept)", (PASSED - 1, 1), id="a round fails"),
     pytest.param("sources", 1, "1 failed, 7 passed in 1.20s", (PASSED - 1, 1), id="a test fails"),
     pytest.param("suites", 1, "98 passed, 2 errors in 1.20s", (PASSED - 2, 2), id="tests have errors"),
     pytest.param("suites", 1, "2 failed, 97 passed, 1 error in 61.20s (0:01:01)", (PASSED - 3, 3), id="all kinds"),
@@ -118,6 +118,24 @@ def test_skipped_test_is_counted_and_fails(machine: Machine, part: str, text: st
 def test_set_up_that_fails_ends_the_gate(machine: Machine) -> None:
     assert last(gate(machine, setup=(1, "tools/setup: no network"))) == (1, "0 passed, 1 failed")
     assert len(machine.logged()) == 1
+
+
+def test_rounds_may_read_no_kept_verdict(machine: Machine) -> None:
+    gate(machine)
+    machine.run(".ci/run", "--anew")
+    asked = [it for it in machine.logged() if it.startswith("rounds: ")]
+    assert asked == ["rounds: --proved", "rounds: --proved --anew"]
+    ran = machine.run(".ci/run", "--any")
+    assert (ran.returncode, ran.stderr) == (2, ".ci/run: it takes no word but --anew\n")
+    assert len(machine.logged()) == 2 * len(PARTS)
+
+
+def test_rounds_judge_over_libraries_that_are_proved(machine: Machine) -> None:
+    library = machine.top / "crates" / "tiny" / "out" / "rlib" / "tiny.rlib"
+    library.mkdir(parents=True)
+    machine.fake("rt", f'[[ -e "{library}" ]] && echo "rt finds a library" >>"$LOG"\n' + PART.format("proofs"))
+    gate(machine)
+    assert "rt finds a library" not in machine.logged()
 
 
 def test_missing_command_is_a_failure(machine: Machine) -> None:
