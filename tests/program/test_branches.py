@@ -7,6 +7,7 @@ so that nothing has to wait (figures.py).
 """
 from __future__ import annotations
 
+import subprocess
 from pathlib import Path
 
 import pytest
@@ -43,10 +44,26 @@ def instructions_of(program: Path, built: Path, room: Path, initial: int, low: i
     return instructions_in(room / "callgrind", program.resolve(), THREAD)
 
 
-def test_no_branch_depends_on_the_stock(program: Path, preload_library: Path, room: Path) -> None:
-    """The thread takes as many instructions under all levels, and others for more periods."""
+def counts_of(program: Path, built: Path, room: Path) -> dict[tuple[int, int, int], int]:
+    """Returns the instructions of the policy's thread under each of the levels."""
     if not can_count_instructions():
         pytest.skip("there is no valgrind for x86_64, which counts the instructions")
-    counts = {it: instructions_of(program, preload_library, room, *it) for it in LEVELS}
+    return {it: instructions_of(program, built, room, *it) for it in LEVELS}
+
+
+def test_no_branch_depends_on_the_stock(program: Path, preload_library: Path, room: Path) -> None:
+    """The thread takes as many instructions under all levels, and others for more periods."""
+    counts = counts_of(program, preload_library, room)
     assert len(set(counts.values())) == 1 and counts[LEVELS[0]] > 4 * 200, counts
     assert instructions_of(program, preload_library, room, *LEVELS[0], periods=204) > counts[LEVELS[0]]
+
+
+@pytest.mark.parametrize("branch, is_seen", [("NONE", False), ("ON_POSITION", True), ("ON_STOCK", True)])
+def test_branch_is_seen(preload_library: Path, room: Path, branch: str, is_seen: bool) -> None:
+    """A thread with a branch on the position or on the stock takes other numbers of instructions, one without does
+    not."""
+    program = room / "program"
+    subprocess.run(["cc", "-O1", "-pthread", f"-D{branch}", "-o", program, Path(__file__).with_name("branches.c")],
+                   check=True)
+    counts = counts_of(program, preload_library, room)
+    assert (len(set(counts.values())) > 1) == is_seen and counts[LEVELS[0]] > 4 * 200, counts
