@@ -9,7 +9,7 @@ from crnplan.crnsim import long_run as exact_long_run
 from crnplan.crnsim import report, trajectory
 from crnplan.curve import exchange_curve
 from crnplan.decide import doubt, sensitivity, verdicts
-from crnplan.pages import catalogue_tables, item_tables, laws, reasons
+from crnplan.pages import catalogue_tables, item_tables
 from crnplan.table import Column, page_of
 from crnplan.theory import suggestions
 
@@ -24,7 +24,7 @@ cell stands for no figure.
 TABLES: Mapping[str, tuple[str, Sequence[Column]]] = {
     "decisions.csv": ("A planned catalogue: a row for each item, by name.", catalogue_tables.DECISION_COLUMNS),
     "exact.csv": ("The run of each item, exactly: fractions stand as `3/4`.", catalogue_tables.EXACT_COLUMNS),
-    "rejects.csv": ("What was left out of a catalogue, or only named.", reasons.REJECT_COLUMNS),
+    "rejects.csv": ("What was left out of a catalogue, or only named.", catalogue_tables.REJECT_COLUMNS),
     "curve.csv": ("The exchange curve: named points, then the curve by rising price.", exchange_curve.COLUMNS),
     "curve_policies.csv": ("The policies of one point of the curve.", exchange_curve.POLICY_COLUMNS),
     "curve_left_out.csv": ("Items that are not on the curve.", exchange_curve.LEFT_OUT_COLUMNS),
@@ -34,7 +34,7 @@ TABLES: Mapping[str, tuple[str, Sequence[Column]]] = {
                                  doubt.COLUMNS),
     "sensitivity.csv": ("How the best policy of an item moves.", sensitivity.MOVES),
     "trajectory.csv, crnplan trajectory": ("Policies period by period.", trajectory.COLUMNS),
-    "laws.csv": ("The laws of an item.", laws.LAW_COLUMNS),
+    "laws.csv": ("The laws of an item.", item_tables.LAW_COLUMNS),
     "crnplan suggest": ("Suggested policies.", [*suggestions.COLUMNS, suggestions.REASONS]),
     "crnplan run": ("A report of crnsim, exactly.", report.COLUMNS),
     "crnplan decide, crnplan check": ("Policies beside the base, over the coming periods.", verdicts.COLUMNS),

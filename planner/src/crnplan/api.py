@@ -13,14 +13,12 @@ from typing import TYPE_CHECKING
 from .crnsim.program import find_program
 from .errors import Refused, argument
 from .files import Folder, own_folder
-from .pages.catalogue_summary import catalogue_summary
+from .pages.catalogue_tables import catalogue_summary, decisions_of, faults_of, rejects_of
 from .pages.exports import CATALOGUE_FILES, report
-from .pages.item_page import ItemPage
-from .pages.item_summary import item_summary
-from .pages.item_tables import doubt_of, moves_of, policies_of
-from .pages.item_words import ItemWords, decimals_of
-from .pages.reasons import rejects_of
-from .plan.catalogue import Done, Lost, Totals, plan_into, planned_folder
+from .pages.item_page import item_page
+from .pages.item_tables import doubt_of, policies_of
+from .pages.item_words import ItemWords, item_summary
+from .plan.catalogue import Lost, Totals, plan_into, planned_folder
 from .plan.depth import Depth
 from .plan.item import plan_item as plan_one_item
 from .plan.question import Settings
@@ -90,7 +88,7 @@ class PlannedItem(Result):
     def moves(self) -> Figures:
         """Returns how the best policy moves if a cost, the demand or the lead time differs, and what the chosen one
         costs then."""
-        return Figures(moves_of(self.words), self.words.moves.notes)
+        return Figures(self.words.moves.table, self.words.moves.notes)
 
     def plot(self) -> Figure:
         """Returns a picture of stock, position and orders of today's and the chosen policy in one run."""
@@ -104,7 +102,7 @@ class PlannedItem(Result):
     @property
     def page(self) -> str:
         """Returns the page of the item as HTML, which asks for no other file."""
-        return ItemPage(self.words).text
+        return item_page(self.words)
 
 
 @dataclass(frozen=True)
@@ -120,7 +118,6 @@ class Plan(Result):
     @cached_property
     def table(self) -> DataTable:
         """Returns the decisions, by item."""
-        from .pages.catalogue_tables import decisions_of
         with planned_folder(self.path) as folder:
             table = decisions_of(folder)
             return DataTable(table.columns, [*table.rows], table.decimals, table.missing)
@@ -135,7 +132,6 @@ class Plan(Result):
     @cached_property
     def rejects(self) -> pd.DataFrame:
         """Returns what was left out or is suspicious: kind, file, line, item, column, text, reason, advice, rows."""
-        from .pages.catalogue_tables import faults_of
         with planned_folder(self.path) as folder:
             return rejects_of(folder.read.rejects(faults_of(folder))).frame
 
@@ -149,7 +145,7 @@ class Plan(Result):
     def text(self) -> str:
         """Returns what became of all rows and items, and the totals."""
         with planned_folder(self.path) as folder:
-            return catalogue_summary(folder, Done(0, 0, self.totals, self.learned, ()))
+            return catalogue_summary(folder, self.totals, self.learned)
 
     @property
     def notes(self) -> str:
@@ -264,6 +260,4 @@ def plan_item(history: str | Path, settings: str | Path, *, out: str | Path | No
     `history` is a CSV file, `settings` a TOML file. With `out`, all tables and the page are written into that folder.
     Raises RefusedFaults with all faults of the settings or of the history, Refused and ProgramError.
     """
-    planned = plan_one_item(history, settings, out, program=program)
-    facts = planned.facts
-    return PlannedItem(ItemWords(planned.depth, facts.period, decimals_of(facts.item), planned.coming, facts.notes))
+    return PlannedItem(ItemWords.of(plan_one_item(history, settings, out, program=program)))

@@ -10,7 +10,7 @@ from pathlib import Path
 import pytest
 
 from crnplan.pages.exports import report
-from crnplan.pages.item_files import file_of
+from crnplan.pages.catalogue_page import file_of
 from crnplan import plan
 from crnplan.plan.item import plan_item
 from crnplan.records.catalogue_reading import read_catalogue

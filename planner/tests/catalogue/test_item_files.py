@@ -8,7 +8,7 @@ import pytest
 from hypothesis import example, given
 from hypothesis import strategies as st
 
-from crnplan.pages.item_files import file_name, file_of
+from crnplan.pages.catalogue_page import file_name, file_of
 
 NAMES = st.text(st.characters(blacklist_categories=["Cs"]), min_size=1, max_size=60)
 # Names that a careless spelling would give one file, or a file elsewhere.

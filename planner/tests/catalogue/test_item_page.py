@@ -14,7 +14,7 @@ import crnplan
 from crnplan import plan
 from crnplan.records.catalogue_reading import read_catalogue
 from crnplan.pages.exports import report
-from crnplan.pages.item_files import file_of
+from crnplan.pages.catalogue_page import file_of
 from crnplan.errors import CrnplanError, Refused
 from planner.tests.catalogue.conftest import FILES, SETTINGS
 from planner.tests.catalogue.made import NO_PLAN, TODAY, made

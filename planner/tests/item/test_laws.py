@@ -9,7 +9,8 @@ from crnplan.demand.fitted import FittedLaw
 from crnplan.demand.fitting import fit_demand
 from crnplan.demand.fitted import Diagnostics
 from crnplan.law import Law
-from crnplan.pages.laws import LAW_COLUMNS, law_rows, law_words
+from crnplan.pages.item_tables import LAW_COLUMNS, law_rows
+from crnplan.pages.item_words import law_words
 from crnplan.plan.question import Settings, question_of
 from planner.tests.plan.items import item_of
 

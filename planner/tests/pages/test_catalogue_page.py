@@ -25,10 +25,9 @@ from hypothesis import HealthCheck, given, settings, strategies as st
 
 import crnplan as crn
 from crnplan.files import own_folder
-from crnplan.pages import exports
-from crnplan.pages.catalogue_page import COLUMNS, LARGE, MEANING, NO_CURVE, OLD_CURVE, clipped
-from crnplan.pages.item_files import file_of
-from crnplan.pages.reasons import reasons_of
+from crnplan.pages import catalogue_page
+from crnplan.pages.catalogue_page import COLUMNS, LARGE, MEANING, NO_CURVE, OLD_CURVE, clipped, file_of
+from crnplan.pages.catalogue_tables import reasons_of
 from crnplan.plan.answer import CHEAPER, DEARER, SAME, SERVICE, UNDECIDED, Answer
 from crnplan.plan.catalogue import ANSWERS, Totals
 from crnplan.records.catalogued import CATALOGUE, READ, Reject, Writer
@@ -284,7 +283,7 @@ def test_bytes_are_the_same(hostile: Path, tmp_path: Path) -> None:
 
 def test_greatest_are_shown_of_very_many(hostile: Path, folder: Path, monkeypatch: pytest.MonkeyPatch) -> None:
     """If there are too many items, those with the greatest saving or loss are shown, and it is said where all are."""
-    monkeypatch.setattr(exports, "MOST_ROWS", 10)
+    monkeypatch.setattr(catalogue_page, "MOST_ROWS", 10)
     page, rows = Page(crn.report(folder)), rows_of(folder / "decisions.csv")
     assert set(page.items) == {row["item"] for row in sorted(rows, key=lambda row: -abs(float(row["saving"])))[:10]}
     assert "The 10 items with the greatest saving or loss are shown. The other 50 stand in decisions.csv" in page.text

@@ -14,10 +14,9 @@ from ..curve.exchange_curve import exchange_curve
 from ..demand import METHODS
 from ..errors import CrnplanError, Refused, spelt
 from ..files import Folder, faults_of, new_file, own_folder
-from ..pages.catalogue_summary import counted_rows
+from ..pages.catalogue_page import file_of
+from ..pages.catalogue_tables import counted_rows, reasons_of, rejects_of
 from ..pages.exports import CATALOGUE_FILES, FOUND, report as write_report
-from ..pages.item_files import file_of
-from ..pages.reasons import reasons_of, rejects_of
 from ..plan.catalogue import Lost, plan_into
 from ..plan.item import plan_item
 from ..plan.question import Settings

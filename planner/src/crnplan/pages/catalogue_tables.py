@@ -1,17 +1,18 @@
-"""The tables of a planned catalogue: decisions, exact figures, and what was left out."""
+"""The tables of a planned catalogue (decisions, exact figures, what was left out), and its summary as a text."""
 from __future__ import annotations
 
-from collections.abc import Iterator
+from collections.abc import Iterable, Iterator, Mapping, Sequence
+from dataclasses import dataclass, field
 from fractions import Fraction
 
-from ..files import Folder
 from ..plan.answer import RUN, THEORY, Answer, Figures
-from ..plan.catalogue import PlannedFolder
-from ..records.catalogued import Catalogued, Reject
+from ..plan.catalogue import PlannedFolder, Totals
+from ..records.catalogue_reading import FileCounts
+from ..records.catalogued import Reject
 from ..records.item import Item
 from ..remarks import Remark
 from ..table import MONEY, Cell, Column, DataTable, exact, number, text, whole
-from ..words import sentence
+from ..words import advice, pattern, sentence
 
 DECISIONS, EXACT, REJECTS = "decisions.csv", "exact.csv", "rejects.csv"
 PLANNED_BY = {THEORY: "theory", RUN: "crnsim"}
@@ -20,16 +21,6 @@ PLANNED_BY = {THEORY: "theory", RUN: "crnsim"}
 def money(name: str, meaning: str) -> Column:
     """Returns a column of money a period."""
     return number(name, "money a period", meaning, MONEY)
-
-
-def share(name: str, meaning: str) -> Column:
-    """Returns a column of shares."""
-    return number(name, "share", meaning, ".4f")
-
-
-def figure(name: str, unit: str, meaning: str) -> Column:
-    """Returns a column of figures with five digits."""
-    return number(name, unit, meaning, ".5g")
 
 
 DECISION_COLUMNS = (
@@ -43,19 +34,20 @@ DECISION_COLUMNS = (
     text("by", "theory where it is exact, else crnsim: whose figures costs and saving are"),
     money("run_saving", "the saving by crnsim, less the bias of the start by theory"),
     money("run_low", "the low end of its interval; empty if it has none"), money("run_high", "the high end"),
-    share("fill_wanted", "of demand to be met at once"), share("fill_today", "of demand met at once, by theory"),
-    share("fill_chosen", "of demand met at once, by theory"),
-    *(figure(f"stock_{it}", "items", "the mean stock, by theory") for it in ("today", "chosen")),
+    number("fill_wanted", "share", "of demand to be met at once", ".4f"),
+    number("fill_today", "share", "of demand met at once, by theory", ".4f"),
+    number("fill_chosen", "share", "of demand met at once, by theory", ".4f"),
+    *(number(f"stock_{it}", "items", "the mean stock, by theory", ".5g") for it in ("today", "chosen")),
     *(number(f"value_{it}", "money", "that stock at the price of the masters", MONEY) for it in ("today", "chosen")),
-    *(figure(f"orders_{it}", "orders a period", "by theory") for it in ("today", "chosen")),
+    *(number(f"orders_{it}", "orders a period", "by theory", ".5g") for it in ("today", "chosen")),
     money("cost_confidence", "what the confidence in the wanted fill costs, by theory"),
     whole("s_alone", "items", "s of the policy by the item's own history alone"), whole("S_alone", "items", "its S"),
     money("cost_alone", "what that policy costs under the law that the item has, by theory"),
-    share("fill_alone", "of demand that it meets at once"),
-    figure("demand", "items a period", "the mean of the law"), whole("periods", "periods", "of the history"),
+    number("fill_alone", "share", "of demand that it meets at once", ".4f"),
+    number("demand", "items a period", "the mean of the law", ".5g"), whole("periods", "periods", "of the history"),
     whole("periods_with_demand", "periods", "of the history"), text("law", "the family of the law"),
-    figure("law_share", "share", "of the family in the law; the rest is what was seen"),
-    figure("log10_bayes", "log10", "of the Bayes factor for what was learned from others"),
+    number("law_share", "share", "of the family in the law; the rest is what was seen", ".5g"),
+    number("log10_bayes", "log10", "of the Bayes factor for what was learned from others", ".5g"),
     text("codes", "codes of all that must be said of the item"), text("warnings", "the same in words"))
 EXACT_COLUMNS = (
     text("item", "the item"),
@@ -68,6 +60,19 @@ EXACT_COLUMNS = (
     *(exact(f"cost_{it}", "money a period", "of the run, with the bias of its start") for it in ("today", "chosen")),
     exact("saving", "money a period", "of the run, with the bias of its start"),
     exact("saving_variance", "money squared", "of that saving"))
+REJECT_COLUMNS = (
+    text("kind", "`row`, `item`, or `suspicious`: a row that counts all the same"), text("file", "its name"),
+    whole("line", "lines", "the line of the file, from 1"), text("item", "the item"),
+    text("column", "the column of what is wrong"), text("text", "the cell as it stands in the file"),
+    text("reason", "what is wrong"), text("advice", "what to do"),
+    whole("rows", "rows", "rows of demand that are left out"))
+NOTES = (
+    "Costs and savings: by theory where it is exact but for rounding (column by), else by crnsim. The run of crnsim "
+    "beside is proved for its stream (exact.csv), less the bias of the start by theory.",
+    "Fill, stock, orders and the policies: by theory, rounded and unproved. Fill: the share of demand met at once.",
+    "All of it holds for the laws fitted to the histories. The interval is that of the runs alone, which are "
+    "independent from item to item.",
+    "The greatest savings are also where a wrong master or a wrong row shows first. Look at these items first.")
 
 
 def policy_cells(figures: Figures | None) -> tuple[Cell, Cell]:
@@ -86,8 +91,7 @@ def decision_row(item: Item, answer: Answer) -> list[Cell]:
             estimate.low, estimate.high, None if item.fill is None else float(item.fill), today.fill, chosen.fill,
             today.stock, chosen.stock, *prices, today.orders, chosen.orders, answer.confidence_cost,
             *policy_cells(alone), *((alone.cost, alone.fill) if alone else (None, None)), answer.law.mean,
-            answer.periods,
-            answer.demands, answer.law.family, answer.law.share, answer.law.log10_bayes, codes, words]
+            answer.periods, answer.demands, answer.law.family, answer.law.share, answer.law.log10_bayes, codes, words]
 
 
 def exact_row(item: Item, answer: Answer) -> list[Cell]:
@@ -122,3 +126,90 @@ def faults_of(folder: PlannedFolder) -> Iterator[Reject]:
     for item, fault in folder.answers():
         if isinstance(fault, Remark):
             yield Reject("item", masters, item.line, item.name, "", "", fault, item.rows)
+
+
+@dataclass
+class Reason:
+    """Why rows or items were left out or named: how often, the items and the rows of demand, and the first of them."""
+
+    kind: str
+    column: str
+    first: Reject
+    count: int = 0
+    rows: int = 0
+    items: set[str] = field(default_factory=set)
+
+    @property
+    def pattern(self) -> str:
+        """Returns the words that all of them share."""
+        return pattern(self.first.remark)
+
+    @property
+    def example(self) -> str:
+        """Returns the first of them: file and line, item, what is wrong, and what to do."""
+        first = self.first
+        place = ":".join(str(it) for it in (first.file, first.line) if it)
+        return (f"{place}{f', item {first.item}' if first.item else ''}: {sentence(first.remark)}"
+                + f"; {advice(first.remark)}" * bool(advice(first.remark)))
+
+
+def reasons_of(rejects: Iterable[Reject]) -> list[Reason]:
+    """Returns the reasons by kind, column and code, the most frequent of each kind first."""
+    reasons: dict[tuple[object, ...], Reason] = {}
+    for reject in rejects:
+        key = reject.kind, reject.column, reject.remark.code, reject.remark.facts.get("what")
+        reason = reasons.setdefault(key, Reason(reject.kind, reject.column, reject))
+        reason.count += 1
+        reason.rows += reject.rows
+        reason.items.add(reject.item)
+    return sorted(reasons.values(), key=lambda reason: (reason.kind, -reason.count, reason.column,
+                                                        reason.first.remark.code))
+
+
+def rejects_of(rejects: Iterable[Reject]) -> DataTable:
+    """Returns what was left out or named, with the reason and what to do."""
+    rows = ([reject.kind, reject.file, reject.line or None, reject.item, reject.column, reject.text,
+             sentence(reject.remark), advice(reject.remark), reject.rows] for reject in rejects)
+    return DataTable(REJECT_COLUMNS, rows, missing="")
+
+
+def counted_rows(files: Mapping[str, FileCounts]) -> Iterator[str]:
+    """Yields a line for each file on what became of its rows."""
+    for counts in files.values():
+        yield (f"{counts['name']}: {counts['read']:,} rows = {counts['used']:,} used + {counts['rejected']:,} rejected "
+               f"+ {counts['with_item']:,} left out with their item"
+               + f"; {counts['blank']:,} blank rows" * (counts["blank"] > 0))
+
+
+def catalogue_summary(folder: PlannedFolder, totals: Totals, learned: Sequence[Remark],
+                      missing: Iterable[str] = ()) -> str:
+    """Returns as a text what became of all rows and items, what was learned, the totals, and what is lost."""
+    settings, every, items = folder.settings, folder.every, folder.counts["items"]
+    half, saving = totals.half_width(settings.level), totals["run_saving"]
+
+    def money(amount: float) -> str:
+        """Returns an amount."""
+        return f"{amount:z,.{min(folder.decimals, 2)}f}"
+    verdicts = ", ".join(f"{count:,} {verdict}" for verdict, count in sorted(totals.verdicts.items()))
+    by_run = f" ({totals.by_run:,} items by crnsim)" * bool(totals.by_run)
+    lines = [
+        *counted_rows(folder.counts["files"]),
+        f"items: {items['named']:,} named = {totals.planned:,} planned + {items['left_out'] + totals.faults:,} left "
+        f"out ({REJECTS} says why)",
+        f"rows that stand twice: {items['twice']:,}; orders not yet received: {items['open_orders']:,}; items that "
+        f"begin with their first movement: {items['late']:,}", "",
+        f"verdicts: {verdicts or 'none'}",
+        f"a {every} in the long run, all planned items: {money(totals['cost_today'])} today, "
+        f"{money(totals['cost_chosen'])} chosen{by_run}",
+        f"saved: {money(totals['saving'])} a {every}; by crnsim's runs {money(saving)}, {settings.level:g} interval "
+        f"{money(saving - half)} to {money(saving + half)}",
+        f"stock value: {money(totals['value_today'])} today, {money(totals['value_chosen'])} chosen, by theory"]
+    if settings.confidence is not None:
+        lines.append(f"fill rates kept under {settings.confidence:.0%} of the laws that the histories allow: "
+                     f"{totals.promised:,} items, which cost {money(totals['confidence_cost'])} a {every} more than "
+                     "without, by theory")
+    lines += ["", *([f"Laws: {'; '.join(map(sentence, learned))}."] if learned else []), *NOTES]
+    if totals.without_interval:
+        lines.append(f"{totals.without_interval:,} items have no interval, since one of their policies hardly orders; "
+                     "their savings by crnsim are in the sum, but not in its interval.")
+    return "\n".join([*lines, *(f"\nLOST: {line}" for line in missing)]) + "\n"

@@ -2,18 +2,20 @@
 """
 from __future__ import annotations
 
-from collections.abc import Mapping
+from collections.abc import Iterator, Mapping
 
 from ..crnsim.trajectory import COLUMNS as PERIOD_COLUMNS
 from ..decide.doubt import COLUMNS as DOUBT_COLUMNS
 from ..decide.verdicts import POLICY
+from ..demand import EMPIRICAL
+from ..demand.fitted import QUANTILES, FittedLaw
 from ..plan.answer import TODAY
+from ..plan.question import Question
 from ..table import MONEY, Cell, DataTable, number, text, whole
 from .catalogue_tables import EXACT_COLUMNS, exact_row
-from .item_words import ItemWords
-from .laws import LAW_COLUMNS, law_rows
+from .item_words import ItemWords, law_words
 
-POLICIES, DOUBT, PERIODS, COMING = "policies.csv", "doubt.csv", "trajectory.csv", "coming.csv"
+ALONE = "the law of this item alone"
 VERDICT = text("verdict", f"beside {TODAY}: base, better, worse or undecided")
 POLICY_COLUMNS = (
     *POLICY, number("cost", "money a period", "cost in the long run: by theory if exact, else by crnsim", MONEY),
@@ -33,38 +35,40 @@ COMING_COLUMNS = (
     number("difference", "money a period", "that cost less today's", MONEY),
     number("low", "money a period", "low end of the interval of that difference; all hold together", MONEY),
     number("high", "money a period", "high end of that interval", MONEY), VERDICT)
+LAW_COLUMNS = (
+    text("table", "demand, returns or lead"), text("law", "what was seen, or the law that was fitted to it"),
+    number("mean", "boxes or periods", "its mean", ".4f"), number("variance", "squared", "its variance", ".4f"),
+    *(whole(f"{share:.1%}", "boxes or periods", "what this share of periods does not exceed") for share in QUANTILES),
+    whole("largest", "boxes or periods", "its largest value"))
 
 
 def policies_of(words: ItemWords) -> DataTable:
     """Returns all policies, the cheapest first."""
-    def row(place: int) -> list[Cell]:
-        """Returns the row of a policy."""
-        it = words.compared[place]
-        its, run = it.figures, it.run
-        own, ends = it.own_ends or (None, None), it.ends or (None, None)
-        return [it.name, its.point, its.level, it.cost, it.difference, it.verdict, its.cost, its.fill, its.short,
-                its.stock,
-                its.orders, run.cost, *own, run.difference, *ends, "; ".join(it.reasons)]
-    return DataTable(POLICY_COLUMNS, [*map(row, range(len(words.compared)))], words.decimals, index="policy")
+    rows = []
+    for policy in words.compared:
+        figures, run = policy.figures, policy.run
+        own, ends = policy.own_ends or (None, None), policy.ends or (None, None)
+        rows.append([policy.name, figures.point, figures.level, policy.cost, policy.difference, policy.verdict,
+                     figures.cost, figures.fill, figures.short, figures.stock, figures.orders, run.cost, *own,
+                     run.difference, *ends, "; ".join(policy.reasons)])
+    return DataTable(POLICY_COLUMNS, rows, words.decimals, index="policy")
 
 
 def doubt_of(words: ItemWords) -> DataTable:
     """Returns what each policy costs and meets under the laws that the history allows, the least mean cost first."""
     names: Mapping[str, float] = next(iter(words.doubted.values()), {})
-    columns = [number(it.name, it.unit, it.meaning, MONEY) if it.name == "cost" else it
-               for it in DOUBT_COLUMNS if it in POLICY or it.name in names]
-    figures = {it.name: it.figures for it in words.compared}
+    columns = [number(column.name, column.unit, column.meaning, MONEY) if column.name == "cost" else column
+               for column in DOUBT_COLUMNS if column in POLICY or column.name in names]
     rows: list[list[Cell]] = [
-        [name, figures[name].point, figures[name].level, *(words.question.money(value) if column == "cost" else value
-                                                           for column, value in row.items())]
+        [name, words.figures[name].point, words.figures[name].level,
+         *(words.question.money(value) if column == "cost" else value for column, value in row.items())]
         for name, row in words.doubted.items()]
     return DataTable(columns, rows, words.decimals, index="policy")
 
 
 def periods_of(words: ItemWords) -> DataTable:
     """Returns today's and the chosen policy period by period."""
-    box = words.item.box
-    rows: list[list[Cell]] = [[name, place, *(box * count for count in period)]
+    rows: list[list[Cell]] = [[name, place, *(words.item.box * count for count in period)]
                               for name, periods in words.periods.items() for place, period in enumerate(periods)]
     return DataTable(PERIOD_COLUMNS, rows)
 
@@ -73,10 +77,9 @@ def coming_of(words: ItemWords) -> DataTable | None:
     """Returns the policies over the coming periods; None if they were not asked for."""
     if words.coming is None:
         return None
-    figures = {it.name: it.figures for it in words.compared}
     rows: list[list[Cell]] = [
-        [it.policy, figures[it.policy].point, figures[it.policy].level, words.question.money(it.cost),
-         *words.ends_of(it), it.verdict] for it in words.coming.rows]
+        [row.policy, words.figures[row.policy].point, words.figures[row.policy].level,
+         words.question.money(row.cost), *words.ends_of(row), row.verdict] for row in words.coming.rows]
     return DataTable(COMING_COLUMNS, rows, words.decimals, index="policy")
 
 
@@ -87,14 +90,23 @@ def demand_of(words: ItemWords) -> DataTable:
     return DataTable([text("period", "its name"), whole("demand", "items", "what was asked for"), *returns], [*counts])
 
 
+def law_rows(question: Question, single: FittedLaw | None) -> Iterator[list[Cell]]:
+    """Yields the rows of a table of laws: for each the figures of what was seen, and its own if it was fitted. Below a
+    law that is learned from other items stands that of the item alone, `single`, if there is one."""
+    for name, law in {"demand": question.demand, "returns": question.returns, "lead": question.lead}.items():
+        if law is None:
+            continue
+        seen, named = law.diagnostics.history, law_words(law)
+        rows = {named: seen} if law.family == EMPIRICAL else {"what was seen": seen, named: law.figures}
+        if name == "demand" and single is not None:
+            rows[ALONE] = single.figures
+        for title, figures in rows.items():
+            yield [name, title, figures.mean, figures.variance, *figures.quantiles.values(), figures.most]
+
+
 def laws_of(words: ItemWords) -> DataTable:
     """Returns the figures of the laws."""
     return DataTable(LAW_COLUMNS, law_rows(words.question, words.depth.single))
-
-
-def moves_of(words: ItemWords) -> DataTable:
-    """Returns how the best policy moves."""
-    return words.moves.table
 
 
 def exact_of_item(words: ItemWords) -> DataTable:
@@ -104,4 +116,4 @@ def exact_of_item(words: ItemWords) -> DataTable:
 
 def leads_of(words: ItemWords) -> DataTable:
     """Returns the lead times that were seen."""
-    return DataTable([whole("lead time", "periods", "a lead time")], [[it] for it in words.item.leads])
+    return DataTable([whole("lead time", "periods", "a lead time")], [[lead] for lead in words.item.leads])

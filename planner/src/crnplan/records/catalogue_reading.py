@@ -91,7 +91,7 @@ class Catalogue:
     def rejects(self) -> pd.DataFrame:
         """Returns what was left out or is suspicious: kind (row, item, suspicious), file, line, item, column, text,
         reason, advice, and rows (of demand that are left out)."""
-        from ..pages.reasons import rejects_of
+        from ..pages.catalogue_tables import rejects_of
         with self.opened() as its:
             return rejects_of(its.rejects()).frame
 
