@@ -294,14 +294,19 @@ def test_item_reads_a_pipe_once(item: Answers, tmp_path: Path) -> None:
     assert answer.status == 2 and f"{WEEKS // 2} faults in {WEEKS // 2} rows" in answer.errors
 
 
-@pytest.mark.parametrize("heading, words", [
-    ("item,date,quantity,kind", ()),
-    ("part id,when,pieces,kind", ("--column", "demand.item=part id", "--column", "demand.date=when",
-                                  "--column", "demand.quantity=pieces")),
-    ("sku,when,pieces,kind", ("--column", "demand.date=when", "--column", "demand.quantity=pieces"))])
-def test_names_of_columns_as_data(heading: str, words: Sequence[str], check: Checked) -> None:
-    """Cells that say `sales` in each row are not taken for a heading."""
-    answer, rejects = check(demand_of(["2", "3"], heading, ",sales"), *words)
+STATED = ("--column", "demand.date=when", "--column", "demand.quantity=pieces")
+
+
+@pytest.mark.parametrize("heading, more, words", [
+    ("item,date,quantity,kind", ",sales", ()), ("sku,when,pieces,kind", ",sales", STATED),
+    ("part id,when,pieces,kind", ",sales", (*STATED, "--column", "demand.item=part id")),
+    # Each row has more usual names than the heading, but the same ones again and again.
+    ("item,date,quantity sold today,kind,what,in", ",sales,returns,uom", ()),
+    # A line above has more usual names than the stated heading.
+    ("item,date,quantity,uom\nsku,when,pieces,kind", ",sales", STATED)])
+def test_names_of_columns_as_data(heading: str, more: str, words: Sequence[str], check: Checked) -> None:
+    """A heading is told from data by names that come once, and a stated one always wins."""
+    answer, rejects = check(demand_of(["2", "3"], heading, more), *words)
     assert answer.status == 0 and f"{WEEKS} rows = {WEEKS} used" in answer.output and not rejects
 
 

@@ -219,3 +219,20 @@ def test_units_of_lead_times(heading: str, every: str | None, leads: tuple[int, 
     (tmp_path / "leads.csv").write_text(f"{heading}\n14\n10\n", "utf-8")
     read = read_lead_times(tmp_path / "leads.csv", lead=heading, every=every)
     assert read.counts == leads and (said in " ".join(map(str, read.notes)) if said else not read.notes)
+
+
+@pytest.mark.parametrize("heading, factor", [
+    ("quantity (packs of 12)", 12), ("Menge je 100", 100), ("demand (dozen)", 12), ("quantity (kg)", 1),
+    ("quantity in 2025", 1), ("units sold", 1)])
+def test_units_of_demand(heading: str, factor: int, tmp_path: Path) -> None:
+    """Numbers of packs are converted in a history as in a catalogue, whether its rows have dates or not."""
+    rows = f"item,date,{heading}\n{weekly([1, 2, 3] * 5)}".encode()
+    units = {"demand": {"quantity": "item"}} if factor == 1 else {}
+    catalogue = read(tmp_path, rows, columns={"demand": {"quantity": heading}}, units=units)
+    history, dated = (read_history(tmp_path / "demand.csv", demand=heading, **words)
+                      for words in ({}, {"date": "date", "every": "week"}))
+    counts = tuple(factor * amount for amount in [1, 2, 3] * 5)
+    assert history.counts == dated.counts == items_of(catalogue)["A"].counts == counts
+    said = f"column '{heading}': quantity: converted from packs of {factor} to items"
+    for notes in (history.notes, dated.notes):
+        assert any(said in str(note) for note in notes) == (factor > 1)
