@@ -1,11 +1,12 @@
-"""The words of what laws, checks of a history, theory and decisions say as codes with facts: for `words.WORDS`.
+"""The words of what checks of a history and fits say as codes with facts: for `words.WORDS`.
 
 A pair has what is said of a code, and what to do about it.
 """
 from __future__ import annotations
 
 import math
-from collections.abc import Callable, Mapping, Sequence
+from collections.abc import Callable, Mapping
+from functools import partial
 from typing import Any
 
 from .errors import argument
@@ -19,13 +20,7 @@ WEEKDAYS = ("Monday", "Tuesday", "Wednesday", "Thursday", "Friday", "Saturday", 
 QUARTERS = ("January to March", "April to June", "July to September", "October to December")
 
 
-def joined(parts: Sequence[str]) -> str:
-    """Returns parts as a list in words."""
-    return " and ".join([", ".join(parts[:-1]), parts[-1]] if len(parts) > 1 else parts)
-
-
 def _compared(change: float) -> str:
-    """Returns how a mean differs from another one."""
     return f"{abs(change):.0%} {'above' if change >= 0 else 'below'}"
 
 
@@ -39,7 +34,6 @@ def _part(facts: Facts, name: str) -> str:
 
 
 def _season(facts: Facts) -> str:
-    """Returns the fullest and the emptiest part of a season."""
     most, least = _part(facts, "most"), _part(facts, "least")
     return f"{facts['most']:.2g} times the mean {most}, {facts['least']:.2g} times {least}"
 
@@ -63,34 +57,26 @@ TESTS = {
                         "and plan that apart")}
 
 
-def _warned(name: str) -> Callable[[Facts], str]:
-    """Returns what makes the words of a warning."""
-    return lambda facts: f"{TESTS[name][0]}: {FOUND[name](facts)} (p {facts['p']:.3f})"
+def _warned(name: str, facts: Facts) -> str:
+    return f"{TESTS[name][0]}: {FOUND[name](facts)} (p {facts['p']:.3f})"
 
 
-def _heeded(name: str) -> Callable[[Facts], str]:
-    """Returns what makes the advice of a warning, with what was lost in a study by those who did not heed one."""
-    def advised(facts: Facts) -> str:
-        """Returns the advice."""
-        if facts["study"] is None:
-            return ("What the other warnings say may be why" if facts["beside"] else "High and low periods take turns, "
-                    "so a plan from the table holds too much; ask who orders in turns")
-        since, period = facts.get("since"), facts.get("name")
-        words = TESTS[name][1].format(argument("start", since) if since else f"leave out the rows before {period}")
-        return f"{words}. {_lost(facts)}"
-    return advised
-
-
-def _lost(facts: Facts) -> str:
-    """Returns a sentence about what was lost in a study."""
-    kind, size = facts["effect"], facts["effect_size"]
+def _heeded(name: str, facts: Facts) -> str:
+    """Returns the advice of a warning, with what was lost in a study by those who did not heed one."""
+    if facts["study"] is None:
+        return ("What the other warnings say may be why" if facts["beside"] else "High and low periods take turns, "
+                "so a plan from the table holds too much; ask who orders in turns")
+    since, size = facts.get("since"), facts["effect_size"]
+    advice = TESTS[name][1].format(argument("start", since) if since else
+                                   f"leave out the rows before {facts.get('name')}")
     effect = {"autocorrelation": f"autocorrelation {size / 100:g}",
-              "season": f"season of ±{size}% in {facts['effect_length']} periods"}.get(kind, f"{kind} {size:+}%")
+              "season": f"season of ±{size}% in {facts['effect_length']} periods"}.get(
+                  facts["effect"], f"{facts['effect']} {size:+}%")
     side, error = "higher" if facts["level"] >= 0 else "lower", "low" if facts["promise"] < 0 else "high"
     regret, promise, level = (f"{abs(facts[name]):.{int(abs(facts[name]) < 10)}f}%"
                               for name in ("regret", "promise", "level"))
-    return (f"In a study ({STUDIED[facts['study']]}; {effect}) such a plan cost {regret} more than the best policy, "
-            f"whose S was {level} {side}, and promised a cost {promise} too {error}")
+    return (f"{advice}. In a study ({STUDIED[facts['study']]}; {effect}) such a plan cost {regret} more than the best "
+            f"policy, whose S was {level} {side}, and promised a cost {promise} too {error}")
 
 
 def _largest(facts: Facts) -> str:
@@ -111,30 +97,28 @@ def _silent(facts: Facts) -> str:
     """Returns what silent tests would have seen."""
     seen = [_effect(name, size) for name, size in facts.items() if size != math.inf]
     unseen = [_effect(name, 1.0) for name, size in facts.items() if size == math.inf]
-    parts = [f"{head} {joined(them)}" for head, them in (("the tests see", seen), ("not even", unseen)) if them]
-    return f"no warning is no proof: in 8 of 10 such histories {', but '.join(parts)}"
+    lists = (f"{head} {', '.join(effects[:-1])}{' and ' * (len(effects) > 1)}{effects[-1]}"
+             for head, effects in (("the tests see", seen), ("not even", unseen)) if effects)
+    return f"no warning is no proof: in 8 of 10 such histories {', but '.join(lists)}"
 
 
-CHECKS: dict[str, tuple[Say, Say]] = {
-    **{f"found {name}": (found, "") for name, found in FOUND.items()},
-    **{name: (_warned(name), _heeded(name)) for name in TESTS},
-    "no demand": ("no period has demand", ""),
-    "packs": ("all demands are multiples of {pack}; with " + argument("box", "{pack}") + " the tables count in packs", ""),
-    "no recent demand": ("the last {periods:,} periods, after {last}, have no demand; by luck as many come with chance "
-                         "{chance:.3f}", "Ask whether the item is still sold"),
-    "few demands in record": (lambda it: f"{it['demands']} of {it['periods']} periods have demand, fewer than "
-                              f"{it['least']}: the largest ({_largest(it)}) decides what a high service costs; take a "
-                              "longer record if there is one", ""),
-    "far demands": (lambda it: f"far above all others (the next is {it['next']}): {_largest(it)}; if that is a mistake "
-                    "or will not come again, correct it or leave it out, else keep it", ""),
-    "decisive demand": (lambda it: f"one period ({_largest(it)}) makes {it['share']:.0%} of the variance and decides "
-                        "the result; plan with and without it", ""),
-    "few periods": ("{periods} periods are too few to test whether they are independent and of one law", ""),
-    "silent tests": (_silent, ""),
-    "season untested without dates": (f"no season was tested, as the periods have no dates; say {argument('season')} "
-                                      "with its number of periods (52 if they are weeks, 12 if months)", ""),
-    "season untested": (lambda it: f"{'weekdays are' if it['season'] == 'weekday' else 'a season is'} tested from "
-                        f"{it['periods']} {it['unit']}s on", "")}
+CHECKS: dict[str, Say] = {
+    **{f"found {name}": found for name, found in FOUND.items()},
+    "no demand": "no period has demand",
+    "packs": "all demands are multiples of {pack}; with " + argument("box", "{pack}") + " the tables count in packs",
+    "few demands in record": lambda it: f"{it['demands']} of {it['periods']} periods have demand, fewer than "
+    f"{it['least']}: the largest ({_largest(it)}) decides what a high service costs; take a longer record if there is "
+    "one",
+    "far demands": lambda it: f"far above all others (the next is {it['next']}): {_largest(it)}; if that is a mistake "
+    "or will not come again, correct it or leave it out, else keep it",
+    "decisive demand": lambda it: f"one period ({_largest(it)}) makes {it['share']:.0%} of the variance and decides "
+    "the result; plan with and without it",
+    "few periods": "{periods} periods are too few to test whether they are independent and of one law",
+    "silent tests": _silent,
+    "season untested without dates": f"no season was tested, as the periods have no dates; say {argument('season')} "
+    "with its number of periods (52 if they are weeks, 12 if months)",
+    "season untested": lambda it: f"{'weekdays are' if it['season'] == 'weekday' else 'a season is'} tested from "
+    f"{it['periods']} {it['unit']}s on"}
 
 # How a law was fitted (demand/fitted.py).
 ALONE = {"nothing borrowed": "nothing is borrowed", "demand in boxes": "demand is counted in boxes of {box}",
@@ -145,7 +129,6 @@ ALONE = {"nothing borrowed": "nothing is borrowed", "demand in boxes": "demand i
 
 
 def _plural(count: int, noun: str) -> str:
-    """Returns a count with its noun."""
     return f"{count} {noun}{'s' * (count != 1)}"
 
 
@@ -155,57 +138,47 @@ def _seen(facts: Facts) -> str:
 
 
 def _learned(facts: Facts) -> str:
-    """Returns from whom an item has learned its law."""
     source = "the whole catalogue" if facts["prior"] == "all" else f"class {facts['prior']}"
     return f"learned from {source}, with {_plural(facts['demands'], 'demand')} seen{_seen(facts)}"
 
 
-def _likelier(facts: Facts) -> str:
-    """Returns what the Bayes factor for the catalogue says."""
-    unlike = ": unlike the catalogue; look at it" * facts["unlike"]
-    return f"the history is 10^{facts['log10_bayes']:.1f} times as likely under what was learned as without it{unlike}"
-
-
 def _families(facts: Facts) -> str:
-    """Returns the families of a law with their weights."""
     named = (f"{name} {weight:.0%}" for name, weight in facts.items() if name not in ("seen", "cap", "most"))
     return f"{', '.join(named)}{_seen(facts)}; at most {facts['cap']}, as {facts['most']} is the largest demand seen"
 
 
 def _guard(facts: Facts) -> str:
-    """Returns how the drawn histories of a law look."""
     return (f"guard: a history of {facts['family']} varies as much with chance {facts['as_much']:.2f}, as little with "
             f"{facts['as_little']:.2f}, is as far off with {facts['as_far']:.2f}, has no larger demand with "
             f"{facts['as_low']:.2f}, as large a one with {facts['as_high']:.2f}" + ": rejected" * (not facts["passes"]))
 
 
 def _figures(facts: Facts) -> str:
-    """Returns the figures of a law."""
     variance = "-" if facts["variance"] is None else f"{facts['variance']:.4g}"
     quantiles = ", ".join(f"{name} {value}" for name, value in facts.items() if name.endswith("%"))
     return (f"{facts['title']}: mean {facts['mean']:.4g}, variance {variance}, quantiles {quantiles}, largest "
             f"{facts['most']}")
 
 
-def _few_leads(facts: Facts) -> str:
-    """Returns what a short record of lead times costs."""
-    costs = (f"{facts[f'least_{count}']:g} to {facts[f'most_{count}']:g}% after {count}" for count in (5, 10, 20))
-    return f"by a study, a policy chosen after few lead times costs more than the best: {', '.join(costs)}"
+FITS: dict[str, Say] = {
+    **{code: f"its law is learned from no others: {reason}" for code, reason in ALONE.items()},
+    "alone": lambda it: f"{ALONE[it['reason']].format_map(it)}, so the law is that of the item alone",
+    "learned law": _learned, "guard": _guard, "families": _families, "figures of a law": _figures,
+    "law of the catalogue": "with so few demands the law is all but that of the catalogue; look at it",
+    "likelier by the catalogue": lambda it: f"the history is 10^{it['log10_bayes']:.1f} times as likely under what was "
+    f"learned as without it{': unlike the catalogue; look at it' * it['unlike']}",
+    "packs are fitted": "all demands are packs of {pack}, so packs are fitted",
+    "no family": "no family gives back this history, so it stays as it is", "family": "{family}",
+    "bulks": lambda it: f"for the family bulk, the {_plural(it['count'], 'demand')} of at least {it['least']} are "
+    "bulks",
+    "BIC": lambda it: "BIC above the least: " + ", ".join(f"{name} {value:.1f}" for name, value in it.items()),
+    "blurred lead times": "of each of the {observed} lead times seen, {side:.1%} count one period earlier, and as much "
+    "one later",
+    "few lead times": "by a study, a policy chosen after few lead times costs more than the best: {least_5:g} to "
+    "{most_5:g}% after 5, {least_10:g} to {most_10:g}% after 10, {least_20:g} to {most_20:g}% after 20"}
 
-
-FITS: dict[str, tuple[Say, Say]] = {
-    **{code: (f"its law is learned from no others: {reason}", "") for code, reason in ALONE.items()},
-    "alone": (lambda it: f"{ALONE[it['reason']].format_map(it)}, so the law is that of the item alone", ""),
-    "learned law": (_learned, ""),
-    "law of the catalogue": ("with so few demands the law is all but that of the catalogue; look at it", ""),
-    "likelier by the catalogue": (_likelier, ""), "guard": (_guard, ""), "families": (_families, ""),
-    "packs are fitted": ("all demands are packs of {pack}, so packs are fitted", ""),
-    "no family": ("no family gives back this history, so it stays as it is", ""), "family": ("{family}", ""),
-    "bulks": (lambda it: f"for the family bulk, the {_plural(it['count'], 'demand')} of at least {it['least']} are "
-              "bulks", ""),
-    "BIC": (lambda it: "BIC above the least: " + ", ".join(f"{name} {value:.1f}" for name, value in it.items()), ""),
-    "figures of a law": (_figures, ""),
-    "blurred lead times": ("of each of the {observed} lead times seen, {side:.1%} count one period earlier, and as "
-                           "much one later", ""),
-    "few lead times": (_few_leads, "")}
-LAWS = {**CHECKS, **FITS}
+LAWS: dict[str, tuple[Say, Say]] = {
+    **{code: (said, "") for code, said in (*CHECKS.items(), *FITS.items())},
+    **{name: (partial(_warned, name), partial(_heeded, name)) for name in TESTS},
+    "no recent demand": ("the last {periods:,} periods, after {last}, have no demand; by luck as many come with chance "
+                         "{chance:.3f}", "Ask whether the item is still sold")}

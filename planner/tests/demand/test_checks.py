@@ -209,14 +209,14 @@ def test_autocorrelation() -> None:
 def test_losses() -> None:
     """The figure that is cited is the nearest by law, length of a season, and size."""
     kinds = ("autocorrelation", "trend", "shift", "season")
-    assert {(it.kind, it.law) for it in losses()} == {(kind, law) for kind in kinds for law in STUDIED}
+    assert {it[:2] for it in losses()} == {(kind, law) for kind in kinds for law in STUDIED}
     for kind, size, variation, length, expected in (
             ("autocorrelation", 0.33, 0.3, 0, ("steady", 30, 0)), ("autocorrelation", 0.9, 1.5, 0, ("erratic", 60, 0)),
             ("trend", -0.4, 0.5, 0, ("steady", -50, 0)), ("shift", math.inf, 3, 0, ("erratic", 100, 0)),
             ("season", 0.5, 0.6, 7, ("erratic", 60, 7)), ("season", 0.31, 0.1, 365, ("steady", 30, 52)),
             ("season", 0.4, 0.1, 14, ("steady", 30, 12)), ("season", 0.31, 0, 4, ("steady", 30, 7))):
         loss = loss_of(kind, size, variation, length)
-        assert (loss.law, loss.size, loss.length) == expected and loss.kind == kind
+        assert (loss.study, loss.effect_size, loss.effect_length) == expected and loss.effect == kind
 
 
 def test_words_of_losses() -> None:

@@ -13,7 +13,7 @@ from scipy import integrate, optimize, special, stats
 
 from crnplan.chances import DEMANDS, Floats
 from crnplan.demand import families, fitting, sample as guard
-from crnplan.demand.families import beta_negative_binomial, divided, fits_of, greatest_mean, predictive_of
+from crnplan.demand.families import beta_negative_binomial, parts_of, fits_of, greatest_mean, predictive_of
 from crnplan.demand.fitting import fit_demand
 from crnplan.demand.posterior import allowed_laws
 from crnplan.demand.sample import Sample
@@ -89,7 +89,7 @@ def test_bic_is_in_order(numbers: Sequence[int]) -> None:
     hurdle = 0 in numbers
     counts = {"poisson": 1, "negative-binomial": 2, "hurdle-geometric": 1 + hurdle, "hurdle-poisson": 1 + hurdle,
               "hurdle-negative-binomial": 2 + hurdle, "hurdle-lognormal": 2 + hurdle}
-    if parts := divided(Sample.of(numbers)):
+    if parts := parts_of(Sample.of(numbers)):
         ordinary = fits_of(parts[0])
         counts["bulk"] = 3 + (1 if "negative-binomial" not in ordinary or [*ordinary].index("poisson")
                               < [*ordinary].index("negative-binomial") else 2)
@@ -157,7 +157,7 @@ def test_parts(numbers: list[int]) -> None:
         return float(law.logpmf(ordinary).sum() + normal.logpdf(bulks).sum() + shares.sum())
     allowed = [it for it in {*numbers} if sum(other >= it for other in numbers) <= len(numbers) / 2
                and any(0 < other < it for other in numbers)]
-    parts = divided(Sample.of(numbers))
+    parts = parts_of(Sample.of(numbers))
     assert (parts is None) == (not allowed)
     if parts:
         assert sorted(np.repeat(np.append(parts[0].values, parts[1].values),
@@ -168,7 +168,7 @@ def test_parts(numbers: list[int]) -> None:
 def test_bulk() -> None:
     """The law is a mixture of ordinary demand and scipy's normal law of bulks, with the likelihood of the mixture."""
     ordinary, bulks = [it for it in BULKY if it < 10], [it for it in BULKY if it >= 10]
-    assert [*divided(Sample.of(BULKY))[1].values] == sorted(bulks)
+    assert [*parts_of(Sample.of(BULKY))[1].values] == sorted(bulks)
     count, mean, squares = bulk_figures(bulks)
     normal = stats.norm(mean, math.sqrt(squares / (count + 2)))
     sizes = np.diff([0, *normal.cdf(np.arange(1, 41) + 0.5)], prepend=0.0)

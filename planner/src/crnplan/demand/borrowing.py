@@ -1,8 +1,8 @@
 """Lets items with few orders learn their law of demand from the whole catalogue (empirical Bayes).
 
 Five orders in a year cannot show their law; thousands of items show which laws there are. `learning.learn` estimates
-from all histories a prior over the share of periods with demand, the mean size of a demand and its dispersion. `law_of`
-gives an item the law that this prior and its own history say (Robbins, An empirical Bayes approach to statistics, 1956).
+from all histories a prior over the share of periods with demand, the mean size of a demand and its dispersion. An item
+has the law that this prior and its own history say (Robbins, An empirical Bayes approach to statistics, 1956).
 """
 from __future__ import annotations
 
@@ -66,16 +66,19 @@ class Borrowed:
 
 @dataclass(frozen=True, eq=False)
 class Posterior:
-    """A prior (cells of the share, cells of sizes), and the likelihoods of one history (cells, points) of both."""
+    """What is known of an item under a prior (cells of the share, cells of sizes): its history, counted in packs, and
+    the likelihoods of that (cells, points) of both. No demand is above `most`."""
 
+    packs: Sample
     prior: Floats
     shares: Floats
     sizes: Floats
+    most: int = MOST_DEMAND
 
     @classmethod
-    def of(cls, sample: Sample, prior: Floats) -> Posterior:
+    def of(cls, packs: Sample, prior: Floats) -> Posterior:
         """Computes the likelihoods of a history."""
-        return cls(prior, share_likelihoods([sample])[0], size_likelihoods([sample])[0])
+        return cls(packs, prior, share_likelihoods([packs])[0], size_likelihoods([packs])[0])
 
     def likelihood(self, prior: Floats) -> float:
         """Returns the likelihood of the history under a prior, but for a factor that all priors share."""
@@ -111,7 +114,22 @@ class Posterior:
         chances = np.zeros(max(laws[cell].shape[1] for cell in cells))
         for cell in cells:
             chances[:laws[cell].shape[1]] += weights[cell] @ laws[cell]
-        return cut(np.concatenate([[1 - share], share * scaled(chances)]))
+        return scaled(cut(np.concatenate([[1 - share], share * scaled(chances)]))[:self.most + 1])
+
+    @cached_property
+    def share(self) -> float:
+        """Returns the share of the predictive law in its mixture with the history."""
+        return share_of(self.packs, self.predictive)
+
+    @property
+    def law(self) -> Floats:
+        """Returns the mixture of both."""
+        return mixture([(self.share, self.predictive), (1 - self.share, self.packs.law)])
+
+    def laws_round(self, uniform: Floats, random: np.random.Generator) -> list[Floats]:
+        """Draws laws round which the mixture lies, as many as there are columns of uniform numbers."""
+        return [round_history(scaled(law[:self.most + 1]), self.packs, self.share, random)
+                for law in self.drawn(uniform)]
 
     def drawn(self, uniform: Floats) -> list[Floats]:
         """Draws laws of demand, one for each column of uniform numbers. Its three rows choose the cell, the point of
@@ -131,37 +149,6 @@ def places(weights: Floats, uniform: Floats) -> Whole:
     return drawn
 
 
-@dataclass(frozen=True, eq=False)
-class Part:
-    """A part of an item's law, with its weight: the posterior of the history, counted in packs. No demand is above
-    `most`."""
-
-    packs: Sample
-    posterior: Posterior
-    weight: float
-    most: int = MOST_DEMAND
-
-    @cached_property
-    def base(self) -> Floats:
-        """Returns the posterior predictive law."""
-        return scaled(self.posterior.predictive[:self.most + 1])
-
-    @cached_property
-    def share(self) -> float:
-        """Returns the share of that law in its mixture with the history."""
-        return share_of(self.packs, self.base)
-
-    @property
-    def law(self) -> Floats:
-        """Returns the mixture of both."""
-        return mixture([(self.share, self.base), (1 - self.share, self.packs.law)])
-
-    def drawn(self, uniform: Floats, random: np.random.Generator) -> list[Floats]:
-        """Draws laws round which the mixture lies, as many as there are columns of uniform numbers."""
-        return [round_history(scaled(law[:self.most + 1]), self.packs, self.share, random)
-                for law in self.posterior.drawn(uniform)]
-
-
 def why_alone(prior: Prior, sample: Sample, box: int) -> Remark | None:
     """Returns why an item learns from no others, without a look at its law; None if it does."""
     if prior.borrow == NONE:
@@ -175,10 +162,11 @@ def why_alone(prior: Prior, sample: Sample, box: int) -> Remark | None:
     return None
 
 
-def looked_at(prior: Prior, sample: Sample, item_class: str | None, box: int) -> tuple[Borrowed, list[Part]]:
+def looked_at(prior: Prior, sample: Sample, item_class: str | None,
+              box: int) -> tuple[Borrowed, list[tuple[float, Posterior]]]:
     """Returns what is known of an item, and the parts of its law; none if the law of the item alone is to be taken.
 
-    A part is that of the learned prior, the other that of the flat one, each as likely as it is after the history.
+    The parts, by the learned prior and by the flat one, have the weights that they are likely with after the history.
     Under the flat prior, demands are at most as large as in `fit_demand`.
     """
     name, learned = prior.of_item(item_class, sample.pack)
@@ -191,11 +179,11 @@ def looked_at(prior: Prior, sample: Sample, item_class: str | None, box: int) ->
     known = replace(known, guard=guard, log10_bayes=posterior.log10_bayes)
     if guard and min(guard) <= LEVEL:
         return replace(known, alone=Remark("unlike histories")), []
-    parts = [Part(packs, posterior, 1.0)]
+    alike, parts = 1.0, [(1.0, posterior)]
     if not known.few:
-        alike, flat = posterior.alike, replace(posterior, prior=FLAT)
-        parts = [Part(packs, posterior, alike), Part(packs, flat, 1 - alike, cap_of(packs))]
-    return replace(known, share=parts[0].weight * parts[0].share), parts
+        alike = posterior.alike
+        parts = [(alike, posterior), (1 - alike, replace(posterior, prior=FLAT, most=cap_of(packs)))]
+    return replace(known, share=alike * posterior.share), parts
 
 
 def law_of(prior: Prior, observed: Observed | Iterable[Any], item_class: str | None = None, *, box: int = 1,
@@ -219,7 +207,7 @@ def law_of(prior: Prior, observed: Observed | Iterable[Any], item_class: str | N
         known = replace(known, single=family_law(boxes, "auto", box))
     if known.single and not parts:
         return replace(known.single, diagnostics=replace(known.single.diagnostics, borrowed=known))
-    law = in_items(mixture((part.weight, part.law) for part in parts), sample.pack)
+    law = in_items(mixture((weight, part.law) for weight, part in parts), sample.pack)
     return FittedLaw.made(Law.of_chances(law), FAMILY, Diagnostics(Law.of_numbers(boxes), FAMILY, borrowed=known))
 
 
@@ -238,7 +226,7 @@ def borrowed_laws(prior: Prior, observed: Observed | Iterable[Any], item_class: 
     if not parts:
         return allowed_laws(boxes, times=times, seed=seed)
     *uniform, choice = stratified(random, ROWS, times)
-    chosen = np.searchsorted(np.cumsum([part.weight for part in parts])[:-1], choice, side="right")
-    laws = (law for place, part in enumerate(parts)
-            for law in part.drawn(np.array(uniform)[:, chosen == place], random))
+    chosen = np.searchsorted(np.cumsum([weight for weight, _ in parts])[:-1], choice, side="right")
+    laws = (law for place, (_, part) in enumerate(parts)
+            for law in part.laws_round(np.array(uniform)[:, chosen == place], random))
     return AllowedLaws({FAMILY: times}, tuple(law_of_chances(in_items(law, sample.pack), sample.most) for law in laws))

@@ -25,8 +25,8 @@ from ..records.observed import History, Observed
 from ..remarks import Remark, Value
 from ..words import advised, sentence
 from .fitted import numbers_of
-from .permutation import (Orders, Tilted, autocorrelation_seen, autocorrelations, bound_of, centred, least_seen, p_value,
-                          places_of, season_seen, squares_of, statistics_of, steps, trend, trend_seen)
+from .permutation import (Orders, Tilted, autocorrelation_seen, autocorrelations, bound_of, centred, least_seen,
+                          p_value, places_of, season_seen, squares_of, statistics_of, steps, trend, trend_seen)
 from .sample import Sample
 
 if TYPE_CHECKING:
@@ -51,8 +51,8 @@ Effect = tuple[float, dict[str, Value]]  # its size, and the facts for its words
 
 @dataclass(frozen=True)
 class Season:
-    """A season of a history: its name, how many periods it has, the part of each period, and what each part is: its
-    first and its last weekday, quarter or place in the season, from 1 on. `unit` says which of these."""
+    """A season of a history: its name, how many periods it has, the part of each period, and of each part its first and
+    its last weekday, quarter or place in the season, from 1 on. `unit` says which of these."""
 
     name: str
     length: int
@@ -62,7 +62,7 @@ class Season:
 
 
 def _by_place(length: int, size: int) -> Season:
-    """Returns a season of a named length, which begins with the first period."""
+    """Returns a season of so many periods, which begins with the first one."""
     count = length if length <= MOST_PARTS else PARTS
     parts = [place * count // length for place in range(length)]
     ends = ((parts.index(part) + 1, length - parts[::-1].index(part)) for part in range(count))
@@ -144,7 +144,6 @@ class Facts:
 
     @cached_property
     def mean(self) -> float:
-        """Returns the mean."""
         return float(self.rows.mean())
 
     @cached_property
@@ -152,21 +151,13 @@ class Facts:
         """Returns the sum of the squared distances from the mean."""
         return float(squares_of(centred(self.rows))[0])
 
-    @property
-    def variation(self) -> float:
-        """Returns the coefficient of variation. The mean is above 0."""
-        return math.sqrt(self.squares / len(self.numbers)) / self.mean
-
     @cached_property
-    def explained(self) -> Floats:
-        """Returns the sums of squares that a step explains, by its place."""
-        explained: Floats = steps(centred(self.rows))[0]
-        return explained
-
-    @property
-    def is_step(self) -> bool:
-        """Returns whether the best step explains more than a straight line does."""
-        return float(self.explained.max()) / self.squares > float(trend(centred(self.rows))[0])
+    def step(self) -> tuple[int, float]:
+        """Returns the place of the first period after the step that explains most, and the sum of squares that it
+        explains."""
+        explained = steps(centred(self.rows))[0]
+        best = int(np.argmax(explained))
+        return int(places_of(len(self.numbers))[best]), float(explained[best])
 
 
 def autocorrelation_of(facts: Facts) -> Effect:
@@ -188,7 +179,7 @@ def trend_of(facts: Facts) -> Effect:
 
 def shift_of(facts: Facts) -> Effect:
     """Returns the mean after the step that explains most over the mean before it, less 1."""
-    numbers, place = facts.rows[0], places_of(len(facts.numbers)).start + int(np.argmax(facts.explained))
+    numbers, place = facts.rows[0], facts.step[0]
     before, after = float(numbers[:place].mean()), float(numbers[place:].mean())
     since = first_day(facts.first + place, facts.every).isoformat() if facts.every else None
     change = after / before - 1 if before > 0 else None
@@ -315,32 +306,40 @@ def _checked(numbers: Sequence[int], every: str | None, first: int, season: int 
     seasons, untested = seasons_of(every, first, len(numbers), season)
     facts = Facts(numbers, seasons, every, first)
     checks = Checks(len(numbers), sum(number > 0 for number in numbers), tests_of(facts, in_full))
+    unknown = [Remark("few periods", {"periods": checks.periods})] if checks.periods < LEAST_PERIODS else []
+    seen = {test.name: test.least_seen for test in checks.tests
+            if test.name not in checks.warned and test.least_seen is not None}
+    if seen:
+        unknown.append(Remark("silent tests", seen))
     return replace(checks, warnings=tuple(_warnings(facts, checks)), notes=tuple(_notes(facts)),
-                   unknown=tuple(_unknown(checks, untested)))
+                   unknown=(*unknown, *untested) if checks.tests else tuple(unknown))
 
 
 def _warnings(facts: Facts, checks: Checks) -> Iterator[Remark]:
     """Yields a warning for each test that warns. Of a trend and a shift, the one that explains more is named."""
     kinds = {test.name: test for test in checks.tests if test.name in checks.warned}
     if {*LEVELS} <= {*kinds}:
-        del kinds["trend" if replace(facts, taken=tuple(kinds)).is_step else "shift"]
+        rest = replace(facts, taken=tuple(kinds))
+        is_step = rest.step[1] / rest.squares > float(trend(centred(rest.rows))[0])
+        del kinds["trend" if is_step else "shift"]
     for name in (*LEVELS, "season", "weekday", "autocorrelation"):
         if name in kinds:
             yield Remark(name, {"p": kinds[name].p, **kinds[name].facts, **_lost(facts, kinds[name], len(kinds) > 1)})
 
 
 class Loss(NamedTuple):
-    """What the study planner/studies/dependence.py measured, in percent, as means over twelve settings.
+    """What a study, planner/studies/dependence.py, measured of an effect on one of its laws, in percent, as means over
+    twelve settings.
 
-    `size` is the effect; `length` is that of a season, in periods, else 0. `regret` is how much more the planned policy
-    costs than the best one, `promise` how much its promised cost is above the true one, and `level` how much higher S
-    is in the best policy.
+    The effect's length is that of a season, in periods, else 0. `regret` is how much more the planned policy costs than
+    the best one, `promise` how much its promised cost is above the true one, and `level` how much higher S is in the
+    best policy.
     """
 
-    kind: str
-    law: str
-    size: int
-    length: int
+    effect: str
+    study: str
+    effect_size: int
+    effect_length: int
     regret: float
     promise: float
     level: float
@@ -348,7 +347,6 @@ class Loss(NamedTuple):
 
 @functools.cache
 def losses() -> tuple[Loss, ...]:
-    """Returns all that was measured."""
     return tuple(Loss(*row) for row in tomllib.loads(Path(__file__).with_name("study.toml").read_text("utf-8"))["rows"])
 
 
@@ -358,10 +356,10 @@ def loss_of(kind: str, size: float, variation: float, length: int = 0) -> Loss:
     `variation` is the coefficient of variation of a period's demand.
     """
     law = min(STUDIED, key=lambda name: abs(math.log(max(variation, 1e-9) / STUDIED[name])))
-    near = [loss for loss in losses() if (loss.kind, loss.law) == (kind, law)]
-    of_length = min((loss.length for loss in near), key=lambda own: abs(math.log(max(own, 1) / max(length, 1))))
-    return min((loss for loss in near if loss.length == of_length),
-               key=lambda loss: abs(loss.size / 100 - min(size, 10.0)))
+    near = [loss for loss in losses() if loss[:2] == (kind, law)]
+    of_length = min((loss.effect_length for loss in near), key=lambda own: abs(math.log(max(own, 1) / max(length, 1))))
+    return min((loss for loss in near if loss.effect_length == of_length),
+               key=lambda loss: abs(loss.effect_size / 100 - min(size, 10.0)))
 
 
 def _lost(facts: Facts, test: Check, beside_others: bool) -> dict[str, Value]:
@@ -370,10 +368,9 @@ def _lost(facts: Facts, test: Check, beside_others: bool) -> dict[str, Value]:
     if test.name == "autocorrelation" and (beside_others or test.size < 0):
         return {"beside": int(beside_others), "study": None}
     lengths = {season.name: season.length for season in facts.seasons}
-    kind = "season" if test.name in lengths else test.name
-    loss = loss_of(kind, test.size, facts.variation, lengths.get(test.name, 0))
-    return {"beside": int(beside_others), "study": loss.law, "effect": loss.kind, "effect_size": loss.size,
-            "effect_length": loss.length, "regret": loss.regret, "promise": loss.promise, "level": loss.level}
+    kind, variation = "season" if test.name in lengths else test.name, math.sqrt(facts.squares / len(facts.numbers))
+    loss = loss_of(kind, test.size, variation / facts.mean, lengths.get(test.name, 0))
+    return {"beside": int(beside_others), **loss._asdict()}
 
 
 def _notes(facts: Facts) -> Iterator[Remark]:
@@ -410,18 +407,6 @@ def _largest(facts: Facts, count: int) -> dict[str, Value]:
     places = sorted(range(len(facts.numbers)), key=lambda place: -facts.numbers[place])[:count]
     demands: dict[str, Value] = {f"demand_{rank}": facts.numbers[place] for rank, place in enumerate(places, 1)}
     return demands | {f"period_{rank}": facts.name(place) for rank, place in enumerate(places, 1)}
-
-
-def _unknown(checks: Checks, untested: Sequence[Remark]) -> Iterator[Remark]:
-    """Yields what silent tests would have seen, and what was not tested."""
-    if checks.periods < LEAST_PERIODS:
-        yield Remark("few periods", {"periods": checks.periods})
-    seen = {test.name: test.least_seen for test in checks.tests
-            if test.name not in checks.warned and test.least_seen is not None}
-    if seen:
-        yield Remark("silent tests", seen)
-    if checks.tests:
-        yield from untested
 
 
 def rosner_bound(size: int, above: int, level: float) -> float:

@@ -82,8 +82,8 @@ class Family(ABC):
     def drawn(self, sample: Sample, uniform: Floats, counted: float = 1.0) -> Parameters:
         """Draws members from the posterior law of their parameters.
 
-        `uniform` has rows of uniform numbers, with a column for each member. `counted` is how much each number of the
-        sample counts: 1 for the posterior, less for a coarsened one.
+        `uniform` has rows of uniform numbers, with a column for each member. Each number of the sample counts as
+        `counted` numbers: 1 for the posterior, less for a coarsened one.
         """
 
     @abstractmethod
@@ -131,8 +131,7 @@ class Poisson(Counts):
         return (sample.mean,) if sample.total else None
 
     def logarithms(self, values: Whole, *parameters: Any) -> Floats:
-        mean, = parameters
-        return np.asarray(special.xlogy(values, mean) - special.gammaln(values + 1) - mean)
+        return np.asarray(special.xlogy(values, parameters[0]) - special.gammaln(values + 1) - parameters[0])
 
     def predictive(self, sample: Sample) -> Floats:
         """Returns the law of a number whose mean has a gamma law: it is negative binomial."""
@@ -150,8 +149,7 @@ class Geometric(Counts):
         return (1 / (1 + sample.mean),) if sample.total else None
 
     def logarithms(self, values: Whole, *parameters: Any) -> Floats:
-        chance, = parameters
-        return np.asarray(np.log(chance) + special.xlog1py(values, -chance))
+        return np.asarray(np.log(parameters[0]) + special.xlog1py(values, -parameters[0]))
 
     def predictive(self, sample: Sample) -> Floats:
         """Returns the law of a number whose p has a beta law, from a flat prior of p."""
@@ -298,8 +296,7 @@ class Lognormal(Family):
         mean, deviation = self._moments(sample)
         if deviation < LEAST_DEVIATION:
             return None
-        chances = self._mixed(mean, np.array([deviation]))
-        return Fit(_likelihood(sample, chances), 2, chances)
+        return fit_of(sample, 2, self._mixed(mean, np.array([deviation])))
 
     def predictive(self, sample: Sample) -> Floats:
         """Returns the predictive law: the logarithm has Student's law.
@@ -339,9 +336,10 @@ class Lognormal(Family):
         return np.diff(below, prepend=0.0)
 
 
-def _likelihood(sample: Sample, chances: Floats) -> float:
-    """Returns the logarithm of the likelihood of a sample."""
-    return float(sample.counts @ np.log(np.maximum(chances[sample.values], LEAST_CHANCE)))
+def fit_of(sample: Sample, parameters: int, chances: Floats) -> Fit:
+    """Returns the fit of a member with these chances."""
+    likelihood = float(sample.counts @ np.log(np.maximum(chances[sample.values], LEAST_CHANCE)))
+    return Fit(likelihood, parameters, chances)
 
 
 class Parts(NamedTuple):
@@ -366,18 +364,18 @@ class Bulk(Family):
 
     def fit(self, sample: Sample) -> Fit | None:
         """Fits both parts, each for itself. The likelihood is that of their mixture. None if there are no two parts."""
-        parts = self._parts(sample)
+        parts = parts_of(sample)
         if parts is None:
             return None
         bulks = parts.bulks
         share = bulks.size / sample.size
         chances = share * sizes_of(bulks.mean, math.sqrt(parts.squares() / (bulks.size + BULK_FREEDOM)))
         chances += (1 - share) * parts.fit.chances
-        return Fit(_likelihood(sample, chances), parts.fit.parameters + 3, chances)
+        return fit_of(sample, parts.fit.parameters + 3, chances)
 
     def predictive(self, sample: Sample) -> Floats:
         """Returns the predictive law of ordinary demand and of bulks, whose size has Student's law."""
-        parts = self._parts(sample)
+        parts = parts_of(sample)
         assert parts is not None
         bulks, freedom = parts.bulks, parts.bulks.size - 1 + BULK_FREEDOM
         deviation = math.sqrt(parts.squares() / freedom * (1 + 1 / bulks.size))
@@ -386,7 +384,7 @@ class Bulk(Family):
         return np.asarray(share * sizes + (1 - share) * scaled(parts.family.predictive(parts.ordinary)))
 
     def drawn(self, sample: Sample, uniform: Floats, counted: float = 1.0) -> Parameters:
-        parts = self._parts(sample)
+        parts = parts_of(sample)
         assert parts is not None
         bulks = counted * parts.bulks.size
         share = special.betaincinv(bulks, counted * parts.ordinary.size + 1, uniform[-1])
@@ -402,21 +400,10 @@ class Bulk(Family):
         ordinary = (POISSON if len(parameters) == 4 else NEGATIVE_BINOMIAL).chances(parameters[3:], values)
         return np.asarray(share * np.where(values > 0, sizes, 0.0) + (1 - share) * ordinary)
 
-    @staticmethod
-    def _parts(sample: Sample) -> Parts | None:
-        """Divides a sample. None if it has no such parts."""
-        parts = divided(sample)
-        if parts is None:
-            return None
-        ordinary, bulks = parts
-        fits = ((family, family.fit(ordinary)) for family in (POISSON, NEGATIVE_BINOMIAL))
-        best = min(((family, fit) for family, fit in fits if fit), key=lambda pair: pair[1].bic(ordinary.size))
-        return Parts(ordinary, bulks, *best)
 
-
-def divided(sample: Sample) -> tuple[Sample, Sample] | None:
-    """Returns ordinary numbers and bulks: the most likely parts (Scott and Symons, Clustering methods based on
-    likelihood ratio criteria, 1971). None if there is no ordinary number above 0 below at most half of all."""
+def parts_of(sample: Sample) -> Parts | None:
+    """Divides a sample into the most likely parts (Scott and Symons, Clustering methods based on likelihood ratio
+    criteria, 1971). None if there is no ordinary number above 0 below at most half of all."""
     values, counts = sample.values.astype(float), sample.counts.astype(float)
     bulks = sample.size - np.cumsum(counts)[:-1]
     allowed = (bulks <= MOST_BULKS * sample.size) & (values[:-1] > 0)
@@ -425,7 +412,10 @@ def divided(sample: Sample) -> tuple[Sample, Sample] | None:
     shares = special.xlogy(bulks, bulks / sample.size) + special.xlog1py(sample.size - bulks, -bulks / sample.size)
     likelihoods = _ordinary_likelihoods(values, counts) + _bulk_likelihoods(values, counts) + shares
     place = int(np.argmax(np.where(allowed, likelihoods, -np.inf))) + 1
-    return Sample(sample.values[:place], sample.counts[:place]), Sample(sample.values[place:], sample.counts[place:])
+    ordinary = Sample(sample.values[:place], sample.counts[:place])
+    fits = ((family, family.fit(ordinary)) for family in (POISSON, NEGATIVE_BINOMIAL))
+    best = min(((family, fit) for family, fit in fits if fit), key=lambda pair: pair[1].bic(ordinary.size))
+    return Parts(ordinary, Sample(sample.values[place:], sample.counts[place:]), *best)
 
 
 def _ordinary_likelihoods(values: Floats, counts: Floats) -> Floats:

@@ -3,7 +3,6 @@ from __future__ import annotations
 
 from collections.abc import Callable, Iterable, Iterator, Mapping
 from dataclasses import dataclass, field, replace
-from fractions import Fraction
 from functools import cached_property
 from typing import TYPE_CHECKING, Any, cast
 
@@ -42,19 +41,15 @@ class Figures:
     @classmethod
     def of(cls, law: Law, *, is_sample: bool = False) -> Figures:
         """Computes the figures of a law. A sample has its unbiased variance."""
-        shares, below = np.array(law.weights) / law.size, np.cumsum(law.weights)
+        shares, below, size = np.array(law.weights) / law.size, np.cumsum(law.weights), law.size
         mean = float(shares @ law.values)
-        places = (int(np.searchsorted(below, np.ceil(share * below[-1] - 1e-6))) for share in QUANTILES)
-        variance = _unbiased(law) if is_sample else float(shares @ (np.array(law.values) - mean)**2)
+        places = np.searchsorted(below, [np.ceil(share * below[-1] - 1e-6) for share in QUANTILES])
         quantiles = {share: law.values[place] for share, place in zip(QUANTILES, places)}
+        variance: float | None = float(shares @ (np.array(law.values) - mean)**2)
+        if is_sample:
+            exact = sum(value**2 * count for value, count in zip(law.values, law.weights)) - law.mean**2 * size
+            variance = float(exact / (size - 1)) if size > 1 else None
         return cls(mean, variance, law.values[-1], quantiles)
-
-
-def _unbiased(law: Law) -> float | None:
-    """Returns the unbiased variance of observed numbers; None of a single one."""
-    total = sum(value * count for value, count in zip(law.values, law.weights))
-    squares = law.size * sum(value**2 * count for value, count in zip(law.values, law.weights)) - total**2
-    return float(Fraction(squares, law.size * (law.size - 1))) if law.size > 1 else None
 
 
 @dataclass(frozen=True)
@@ -97,12 +92,11 @@ class FittedLaw(Law):
 
     @classmethod
     def made(cls, law: Law, family: str, diagnostics: Diagnostics, box: int = 1) -> FittedLaw:
-        """Makes a fitted law of a law."""
         return cls(law.values, law.weights, family, diagnostics, box)
 
     @cached_property
     def figures(self) -> Figures:
-        """Returns the figures of the law."""
+        """Returns mean, variance, quantiles and the largest value of the law."""
         return Figures.of(self)
 
     @property
@@ -170,7 +164,6 @@ def fit_remarks(law: FittedLaw) -> Iterator[Remark]:
 
 
 def _of_borrowed(borrowed: Borrowed) -> Iterator[Remark]:
-    """Yields what is said of what an item has learned from its catalogue."""
     if borrowed.alone:
         yield Remark("alone", {"reason": borrowed.alone.code, **borrowed.alone.facts})
     else:
@@ -184,7 +177,6 @@ def _of_borrowed(borrowed: Borrowed) -> Iterator[Remark]:
 
 
 def _of_families(law: FittedLaw) -> Iterator[Remark]:
-    """Yields what is said of the families of a law of demand."""
     fit = law.diagnostics
     if fit.pack > 1:
         yield Remark("packs are fitted", {"pack": fit.pack})

@@ -21,7 +21,7 @@ from ..law import Law
 from ..money import Number
 from ..records.observed import Observed
 from . import EMPIRICAL, LEAD_METHODS, METHODS
-from .families import REGISTRY, divided, fits_of, predictive_of
+from .families import REGISTRY, fits_of, parts_of, predictive_of
 from .fitted import Diagnostics, FittedLaw, check, numbers_of
 from .sample import Sample, shares_of
 
@@ -115,9 +115,9 @@ def family_law(boxes: Sequence[int], method: str, box: int = 1) -> FittedLaw:
     weights, cap = weights_of(bic, names), cap_of(sample)
     law = mixture((weight, in_items(predictive_of(name, packs), pack)) for name, weight in weights.items())
     law = scaled(law[:cap + 1])
-    share, parts = share_of(sample, law), divided(packs) if "bulk" in names else None
+    share, parts = share_of(sample, law), parts_of(packs) if "bulk" in names else None
     diagnostics = replace(diagnostics, families=weights, cap=cap, share=share,
-                          bulks=parts and (parts[1].size, pack * int(parts[1].values[0])))
+                          bulks=parts and (parts.bulks.size, pack * int(parts.bulks.values[0])))
     law = mixture([(share, law), (1 - share, sample.law)])
     return FittedLaw.made(Law.of_chances(law), names[0], diagnostics, box)
 

@@ -8,10 +8,10 @@ so on. The likelihood of a history is the product of one of the share and one of
 
 The prior that makes the histories most likely is a mixture of few points (Kiefer and Wolfowitz, Consistency of the
 maximum likelihood estimator in the presence of infinitely many incidental parameters, 1956; Laird, Nonparametric
-maximum likelihood estimation of a mixing distribution, 1978); on a grid it is found by EM or by convex optimization
-(Koenker and Mizera, Convex optimization, shape constraints, compound decisions, and empirical Bayes rules, 2014).
-It follows the histories too closely, so after each step a part of each cell goes to its neighbours (Silverman, Jones,
-Wilson and Nychka, A smoothed EM approach to indirect estimation problems, 1990).
+maximum likelihood estimation of a mixing distribution, 1978); on a grid it is found by EM (Koenker and Mizera, Convex
+optimization, shape constraints, compound decisions, and empirical Bayes rules, 2014). It follows the histories too
+closely, so after each step a part of each cell goes to its neighbours (Silverman, Jones, Wilson and Nychka, A smoothed
+EM approach to indirect estimation problems, 1990).
 """
 from __future__ import annotations
 
@@ -26,6 +26,7 @@ from scipy import special
 
 from ..chances import DEMANDS, Floats, Whole
 from ..formats import MOST_DEMAND
+from .families import ways
 from .sample import Sample
 
 LOGITS = (-5.5, 6.5)  # of the share: from 0.4% to 99.8% of periods
@@ -64,10 +65,7 @@ SLOPES: Floats = np.log(SIZE_MEANS / (SIZE_DISPERSIONS + SIZE_MEANS))
 def rises() -> Floats:
     """Returns what the logarithms of negative binomial chances have apart from the mean: a row for each number from 0,
     a column for each dispersion."""
-    numbers = DEMANDS[:, None]
-    rows: Floats = (special.gammaln(numbers + DISPERSIONS) - special.gammaln(DISPERSIONS)
-                    - special.gammaln(numbers + 1))
-    return rows
+    return ways(DEMANDS[:, None], DISPERSIONS)
 
 
 @cache
@@ -127,8 +125,9 @@ class Cells(NamedTuple):
         """Computes the likelihoods of histories, of which those of a group stand together."""
         groups = [[*group] for _, group in groupby(samples, group_of)]
         counts = np.array([len(group) for group in groups])
-        return cls(share_likelihoods([group[0] for group in groups]).mean(axis=2), size_likelihoods(samples).mean(axis=2),
-                   np.cumsum(counts) - counts, np.repeat(np.arange(len(counts)), counts))
+        shares = share_likelihoods([group[0] for group in groups])
+        return cls(shares.mean(axis=2), size_likelihoods(samples).mean(axis=2), np.cumsum(counts) - counts,
+                   np.repeat(np.arange(len(counts)), counts))
 
     def marginal(self, prior: Floats) -> Floats:
         """Returns the likelihood of each history under a prior (cells of the share, cells of sizes).

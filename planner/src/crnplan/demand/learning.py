@@ -4,7 +4,7 @@ from __future__ import annotations
 import json
 from collections import defaultdict
 from collections.abc import Iterable, Mapping, Sequence
-from dataclasses import dataclass
+from dataclasses import asdict, dataclass, field
 from functools import cached_property
 from pathlib import Path
 from typing import Any
@@ -57,13 +57,7 @@ class Learned:
     @cached_property
     def chances(self) -> Floats:
         """Returns the chances of the cells."""
-        shares: Floats = self.units / self.units.sum()
-        return shares
-
-    @property
-    def tree(self) -> dict[str, Any]:
-        """Returns what a file has of it."""
-        return {"items": self.items, "sampled": self.sampled, "gain": self.gain, "units": self.units.ravel().tolist()}
+        return np.asarray(self.units / self.units.sum())
 
     @classmethod
     def from_tree(cls, tree: Mapping[str, Any]) -> Learned:
@@ -80,8 +74,8 @@ class Prior:
 
     `borrow` is "all", "class" or "none": each item learns from the whole catalogue, from its class, or from nothing.
     `outside` is how many items were left out, since their sizes are larger than those of the grid. `whole` is the prior
-    of the catalogue (None with "none"), `classes` has those of the classes by name. `packs` is the prior of all items
-    in packs, counted in packs; None if there are too few of them.
+    of the catalogue (None with "none"), `classes` has those of the classes, in the order of their names. `packs` is the
+    prior of all items in packs, counted in packs; None if there are too few of them.
     """
 
     borrow: str
@@ -89,7 +83,7 @@ class Prior:
     items: int = 0
     outside: int = 0
     whole: Learned | None = None
-    classes: Mapping[str, Learned] | None = None
+    classes: Mapping[str, Learned] = field(default_factory=dict)
     packs: Learned | None = None
 
     def of_item(self, item_class: str | None, pack: int = 1) -> tuple[str, Learned | None]:
@@ -97,17 +91,15 @@ class Prior:
         the catalogue, and an item in packs that of all items in packs."""
         if pack > 1:
             return ALL, self.packs
-        own = (self.classes or {}).get(item_class or "")
+        own = self.classes.get(item_class or "")
         return (str(item_class), own) if own else (ALL, self.whole)
 
     @property
     def text(self) -> str:
         """Returns the text of a file: JSON in one line, of the same bytes each time."""
-        tree = {"kind": KIND, "version": VERSION, "borrow": self.borrow, "seed": self.seed, "items": self.items,
-                "outside": self.outside, "whole": self.whole.tree if self.whole else None,
-                "classes": {name: learned.tree for name, learned in sorted((self.classes or {}).items())},
-                "packs": self.packs.tree if self.packs else None}
-        return json.dumps(tree, ensure_ascii=False, separators=(",", ":")) + "\n"
+        tree = {"kind": KIND, "version": VERSION, **asdict(self)}
+        text = json.dumps(tree, ensure_ascii=False, separators=(",", ":"), default=lambda units: units.ravel().tolist())
+        return text + "\n"
 
     def write(self, path: Path | str) -> None:
         """Writes a file, whole. Raises OSError."""
@@ -134,7 +126,8 @@ class Prior:
                 raise ValueError("something is learned unless nothing is borrowed")
             classes = {name: Learned.from_tree(learned) for name, learned in tree["classes"].items()}
             whole, packs = (Learned.from_tree(tree[part]) if tree[part] else None for part in ("whole", "packs"))
-            return cls(tree["borrow"], int(tree["seed"]), int(tree["items"]), int(tree["outside"]), whole, classes, packs)
+            seed, items, outside = (int(tree[part]) for part in ("seed", "items", "outside"))
+            return cls(tree["borrow"], seed, items, outside, whole, classes, packs)
         except (ValueError, TypeError, LookupError, AttributeError, OverflowError):
             raise Refused(f"{name}: the {KIND} is damaged", "learn it anew") from None
 

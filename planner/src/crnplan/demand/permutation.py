@@ -41,14 +41,12 @@ BLOCKS, BLOCKS_OF_PART = 104, 13
 
 def centred(rows: Floats) -> Floats:
     """Returns the distances from the mean of each row."""
-    far: Floats = rows - rows.mean(axis=-1, keepdims=True)
-    return far
+    return np.asarray(rows - rows.mean(axis=-1, keepdims=True))
 
 
 def squares_of(far: Floats) -> Floats:
     """Returns the sum of the squares of each row."""
-    sums: Floats = np.einsum("ij,ij->i", far, far)
-    return sums
+    return np.asarray(np.einsum("ij,ij->i", far, far))
 
 
 def shares(parts: Floats, wholes: Floats) -> Floats:
@@ -66,9 +64,7 @@ def autocorrelations(far: Floats) -> Floats:
 def ljung_box(far: Floats) -> Floats:
     """Returns the statistic of Ljung and Box (On a measure of lack of fit in time series models, 1978, section 1)."""
     size, rows = far.shape[1], autocorrelations(far)
-    weights = size * (size + 2) / (size - 1 - np.arange(len(rows)))
-    statistics: Floats = weights @ rows**2
-    return statistics
+    return np.asarray(size * (size + 2) / (size - 1 - np.arange(len(rows))) @ rows**2)
 
 
 def trend(ranks: Floats) -> Floats:
@@ -77,10 +73,10 @@ def trend(ranks: Floats) -> Floats:
     return shares((ranks @ time)**2, squares_of(ranks) * (time @ time))
 
 
-def places_of(size: int) -> slice:
+def places_of(size: int) -> Whole:
     """Returns the numbers of periods after which a shift is looked for."""
     least = max(1, math.ceil(EDGE * size))
-    return slice(least, size - least + 1)
+    return np.arange(least, size - least + 1)
 
 
 def steps(far: Floats) -> Floats:
@@ -89,9 +85,8 @@ def steps(far: Floats) -> Floats:
     The share of the sum that a step explains rises with the difference of the means before and after it, divided by its
     standard error.
     """
-    size, places = far.shape[1], places_of(far.shape[1])
-    sums = np.cumsum(far, axis=1)[:, places.start - 1:places.stop - 1]
-    before = np.arange(places.start, places.stop)
+    size, before = far.shape[1], places_of(far.shape[1])
+    sums = np.cumsum(far, axis=1)[:, before[0] - 1:before[-1]]
     explained: Floats = np.square(sums, out=sums)
     explained *= size / (before * (size - before))
     return explained
@@ -127,7 +122,6 @@ class Drawn:
     """Drawn orders of the places of so many periods, from the number of the first of them on."""
 
     def __init__(self, size: int, first: int) -> None:
-        """Draws none yet."""
         self.random, self.rows = np.random.default_rng([SEED, first]), np.empty((0, size), np.int64)
 
     def orders(self, start: int, end: int) -> Whole:
@@ -220,8 +214,7 @@ class Tilted:
         """Returns the chances of the values, a row for each rate."""
         powers = self.logarithms + rates[:, None] * self.values
         chances = np.exp(powers - powers.max(axis=1, keepdims=True))
-        rows: Floats = chances / chances.sum(axis=1, keepdims=True)
-        return rows
+        return np.asarray(chances / chances.sum(axis=1, keepdims=True))
 
     def scores(self, factors: Floats) -> tuple[Floats, Floats, float]:
         """Returns the mean and the variance of a number's rank for each factor of the mean, which stays within the

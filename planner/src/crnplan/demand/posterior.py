@@ -1,9 +1,9 @@
 """Draws the laws of demand and of lead times that a history allows.
 
-A history is one of many that its law could have brought, so it leaves a doubt about the law. Each law here is a draw
-from what is known after the history: a mixture of Dirichlet processes round the families of `families` (Antoniak,
-Mixtures of Dirichlet processes with applications to Bayesian nonparametric problems, 1974). So a law is that of a
-family, or as unlike it as the history is. Drawn are, one after the other,
+A history leaves a doubt about its law. Each law here is a draw from what is known after the history: a mixture of
+Dirichlet processes round the families of `families` (Antoniak, Mixtures of Dirichlet processes with applications to
+Bayesian nonparametric problems, 1974). So a law is that of a family, or as unlike it as the history is. Drawn are, one
+after the other,
 
 - the family, and for how many periods it counts beside the history (the concentration), by their likelihood;
 - the parameters of the family, with the priors of its predictive law;
@@ -14,8 +14,7 @@ family, or as unlike it as the history is. Drawn are, one after the other,
 
 No family is quite right, so a period of the history counts less than one (`COUNTED`): a coarsened posterior (Miller and
 Dunson, Robust Bayesian inference via coarsening, 2019). `COUNTED` and the ends were chosen on some laws such that what
-is said of the doubt holds about as often as it says. How often it does is on the page planner/studies/README.md,
-"Doubt".
+is said of the doubt holds about as often as it says: see planner/studies/README.md, "Doubt".
 """
 from __future__ import annotations
 
@@ -66,8 +65,7 @@ def stratified(random: np.random.Generator, rows: int, times: int) -> Floats:
     Source: McKay, Beckman and Conover, A comparison of three methods for selecting values of input variables, 1979.
     """
     strata = np.array([random.permutation(times) for _ in range(rows)])
-    uniform: Floats = (strata + random.random((rows, times))) / times
-    return uniform
+    return np.asarray((strata + random.random((rows, times))) / times)
 
 
 def round_history(base: Floats, sample: Sample, share: float, random: np.random.Generator,

@@ -14,7 +14,6 @@ from functools import cached_property
 from typing import NamedTuple
 
 import numpy as np
-import numpy.typing as npt
 
 from ..chances import Floats, Whole
 
@@ -33,7 +32,6 @@ class Sample:
 
     @classmethod
     def of(cls, numbers: Iterable[int]) -> Sample:
-        """Counts numbers."""
         values, counts = np.unique(np.fromiter(numbers, np.int64), return_counts=True)
         return cls(values, counts)
 
@@ -44,17 +42,14 @@ class Sample:
 
     @cached_property
     def total(self) -> int:
-        """Returns the sum of the numbers."""
         return int(self.values @ self.counts)
 
     @property
     def most(self) -> int:
-        """Returns the largest number."""
         return int(self.values[-1])
 
     @property
     def mean(self) -> float:
-        """Returns the mean."""
         return self.total / self.size
 
     @property
@@ -96,7 +91,6 @@ class Sample:
         return shares
 
     def in_packs(self, pack: int) -> Sample:
-        """Returns the numbers of packs."""
         return Sample(self.values // pack, self.counts)
 
 
@@ -135,9 +129,7 @@ def distances(histories: Whole, chances: Floats) -> Floats:
 @functools.lru_cache(maxsize=8)
 def uniforms(size: int) -> Floats:
     """Returns uniform numbers for drawn histories of a size, rising in each row."""
-    rows = np.sort(np.random.default_rng(SEED).random((TIMES, size)), axis=1)
-    rows.flags.writeable = False
-    return rows
+    return np.sort(np.random.default_rng(SEED).random((TIMES, size)), axis=1)
 
 
 def variances_of(histories: Whole) -> Floats:
@@ -157,11 +149,8 @@ def shares_of(sample: Sample, chances: Floats) -> Shares:
     variances = variances_of(drawn)
     far = distances(np.vstack([drawn, np.repeat(sample.values, sample.counts)]), law)
 
-    def share(holds: npt.NDArray[np.bool_]) -> float:
-        """Returns a share in which the history itself counts."""
-        return float((holds.sum() + 1) / (TIMES + 1))
+    alike = (variances >= sample.variance * (1 - ROUNDING), variances <= sample.variance * (1 + ROUNDING),
+             far[:-1] >= far[-1] * (1 - ROUNDING))
+    as_much, as_little, as_far = (float((holds.sum() + 1) / (TIMES + 1)) for holds in alike)  # with the history itself
     before = below[sample.most - 1] if sample.most else 0.0
-    return Shares(share(variances >= sample.variance * (1 - ROUNDING)),
-                  share(variances <= sample.variance * (1 + ROUNDING)),
-                  share(far[:-1] >= far[-1] * (1 - ROUNDING)),
-                  float(below[sample.most]**sample.size), float(1 - before**sample.size))
+    return Shares(as_much, as_little, as_far, float(below[sample.most]**sample.size), float(1 - before**sample.size))

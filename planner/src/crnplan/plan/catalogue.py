@@ -273,7 +273,7 @@ def learned_of(answers: Store[Answer], read: Catalogued, settings: Settings, aga
     others = sum(count for word, count in said.items() if word not in ("", usual))
     own = [Remark(OWN_LAWS, {"reason": ""})] if usual == NONE else []
     otherwise = [Remark(OTHERWISE, {"items": others})] if others else []
-    remark = Remark(LEARNED, {"items": learners, "classes": len(prior.classes or {}), "earlier": prior is earlier})
+    remark = Remark(LEARNED, {"items": learners, "classes": len(prior.classes), "earlier": prior is earlier})
     return Learned(prior, usual, (*own, remark, *otherwise))
 
 
