@@ -5,7 +5,7 @@
 
 For each law and number of periods histories are drawn as in `laws.py`. A policy is the cheapest with a fill rate of
 98%: by what was seen (`empirical`), by the fit of `fit_demand` (`auto`), and by that fit and under 80% or 90% of 100
-laws that the history allows (`sure 80%`, `sure 90%`: `theory.confidence`). There are two settings: lead time 2 and an
+laws that the history allows (`sure 80%`, `sure 90%`: `theory.many_laws`). There are two settings: lead time 2 and an
 order for 8 periods of demand, lead time 6 and an order for 2; backlog costs 9 times holding. Of each policy the exact
 long-run fill rate and cost under the true law are computed. `below` is the share of histories and settings with a fill
 rate below 97%, `price` how much more a policy costs than the cheapest that has 98% in truth. All are in percent, with
@@ -27,10 +27,10 @@ from crnplan.demand.fitting import fit_demand
 from crnplan.demand.posterior import allowed_laws
 from crnplan.law import Law
 from crnplan.scenario import Costs, Policy, Scenario
-from crnplan.theory.confidence import FillLevels, Promises
 from crnplan.theory.lattice import theories_of
 from crnplan.chances import Floats
 from crnplan.theory.long_run import Candidate, LongRun
+from crnplan.theory.many_laws import Promises
 from planner.studies.laws import DESIGNED, GROUPS, LAWS, PERIODS, Truth
 from planner.studies.page import markdown
 
@@ -70,9 +70,12 @@ def chosen(history: Sequence[int], mean: float) -> Iterator[list[Candidate]]:
     for by_history, own in zip(seen, fitted):
         theory = theory_of(own)
         plain = theory.best_with_fill(SHARE)
-        levels = FillLevels(own, theory, theory.gap_of(plain.point, plain.level), laws, (), [SHARE])
-        yield [theory_of(by_history).best_with_fill(SHARE), plain,
-               *(Promises(levels, theory, it).cheapest(plain, SHARE) for it in CONFIDENCES)]
+        promises = Promises(own, theory, theory.gap_of(plain.point, plain.level), laws, (), [SHARE])
+        policies = [theory_of(by_history).best_with_fill(SHARE), plain]
+        for confidence in CONFIDENCES:
+            promises.confidence = confidence
+            policies.append(promises.cheapest(plain, SHARE))
+        yield policies
 
 
 def theory_of(scenario: Scenario) -> LongRun:

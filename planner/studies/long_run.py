@@ -7,7 +7,7 @@ Each item has today's policy and the best by theory. The saving of the long run 
 single items. Three intervals are compared with it:
 
 - own starts: 48 keys, a drawn start for each policy (`Scenario.long_run`);
-- one run of 24 replications of 1,024 periods, less the exact bias of the start (`theory.start_bias`);
+- one run of 24 replications of 1,024 periods, less the exact bias of the start (`theory.run_effects`);
 - the same run as it is.
 """
 from __future__ import annotations
@@ -32,7 +32,7 @@ from crnplan.formats import MOST_ITEMS, MOST_PERIODS
 from crnplan.table import aligned
 from crnplan.scenario import Costs, Policy, Scenario
 from crnplan.theory.lattice import late_work, shape_of, theories_of, theory_on, values_of
-from crnplan.theory.start_bias import start_bias
+from crnplan.theory.run_effects import start_bias
 from planner.studies.long_run_items import Item, items_of
 
 STORED = Path(__file__).with_name("long_run.txt")

@@ -12,8 +12,7 @@ from __future__ import annotations
 
 import itertools
 import math
-from collections.abc import Callable, Iterable, Iterator, Sequence
-from functools import partial
+from collections.abc import Iterable, Iterator, Sequence
 from pathlib import Path
 from typing import Any
 
@@ -23,7 +22,7 @@ import pandas as pd
 from crnplan.demand.fitting import fit_demand
 from crnplan.law import Law
 from crnplan.theory.lattice import theories_of
-from crnplan.theory.long_run import Candidate, LongRun, search
+from crnplan.theory.long_run import Candidate, search
 from crnplan.theory.suggestions import FILLS
 from planner.studies.fills import HOLDING, scenario_of
 from planner.studies.laws import COVERS, Truth
@@ -37,24 +36,20 @@ SMALL: dict[str, Any] = {"laws": ("P2", "INT"), "leads": ((2,), (1, 2, 3)), "his
 OVER = 0.5  # percent
 
 
-def sought(theory: LongRun) -> dict[str, Callable[[int], Candidate]]:
-    """Returns what is sought by name: the cheapest policy of each gap."""
-    return {"best": theory.best_of_gap,
-            **{f"fill_{name}": partial(theory.filling, share=share) for name, share in FILLS.items()}}
-
-
-def all_gaps(theory: LongRun, policy_of: Callable[[int], Candidate], known: float) -> float:
-    """Returns the least cost of all gaps, if a policy with this cost is known."""
-    return min(policy_of(gap).cost for gap in range(theory.widest(known, 0) + 1))
+# The share of demand to meet at once, by the name of what is sought.
+SOUGHT = {"best": 0.0, **{f"fill_{name}": share for name, share in FILLS.items()}}
 
 
 def excesses(demand: Law, leads: Sequence[int], setup: float) -> Iterator[tuple[str, float]]:
     """Yields what is sought, and how much dearer a search finds it."""
     scenario = scenario_of(demand, leads, setup)
     theory, _ = theories_of(scenario)
-    for name, policy_of in sought(theory).items():
-        found = search(lambda gaps: map(policy_of, gaps), theory.most).cost
-        yield name, 100 * (found / all_gaps(theory, policy_of, found) - 1)
+    for name, share in SOUGHT.items():
+        def policy_of(gap: int, share: float = share) -> Candidate:
+            """Returns the cheapest policy of a gap."""
+            return theory.cheapest_of_gaps([gap], share)
+        cost = search(lambda gaps: map(policy_of, gaps), theory.most).cost
+        yield name, 100 * (cost / min(policy_of(gap).cost for gap in range(theory.widest(cost, 0) + 1)) - 1)
 
 
 def study(laws: Iterable[str] = TRUE_LAWS, leads: Iterable[Sequence[int]] = LEADS,

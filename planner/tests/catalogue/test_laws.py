@@ -22,7 +22,7 @@ from crnplan.words import sentence
 from crnplan.demand.borrowing import law_of
 from crnplan.demand.learning import Prior
 from crnplan.files import own_folder
-from crnplan.theory.confidence import Promises
+from crnplan.theory.many_laws import Promises
 from crnplan.theory.long_run import NO_POLICY
 from planner.tests.theory.long_run_costs import fills_of, shortfall_of
 

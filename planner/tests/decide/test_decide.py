@@ -12,7 +12,7 @@ from pathlib import Path
 import pytest
 
 from crnplan.scenario import Scenario
-from crnplan.theory.end_effect import end_effects
+from crnplan.theory.run_effects import end_effects
 from planner.tests.conftest import Command
 from planner.tests.decide.answers import changed, priced
 

@@ -12,7 +12,7 @@ from hypothesis import strategies as st
 from crnplan.errors import Refused
 from crnplan.law import Law
 from crnplan.scenario import Costs, Scenario
-from crnplan.theory import confidence
+from crnplan.theory import many_laws
 from crnplan.theory.suggestions import FILLS, Suggestions, suggestions_of
 
 from planner.tests.theory.long_run_costs import costs_of, fills_of, shortfall_of
@@ -120,7 +120,7 @@ def test_a_coarser_lattice_promises_about_the_same(monkeypatch: pytest.MonkeyPat
     demand = range(41), [41 - it for it in range(41)]
     scenario, laws = scenario_of(demand, ([2], [1]), costs=COSTS), laws_near(demand, 10, 2)
     fine = promised(suggestions_of(scenario, laws))
-    monkeypatch.setattr(confidence, "MOST_LEVELS", 100)
+    monkeypatch.setattr(many_laws, "MOST_LEVELS", 100)
     found = suggestions_of(scenario, laws)
     assert "their fill rates are rounded to steps of" in found.notes
     for name, (point, level) in promised(found).items():

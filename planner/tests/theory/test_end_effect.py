@@ -6,9 +6,8 @@ from collections.abc import Sequence
 import pytest
 
 from crnplan.scenario import Costs, Policy, Scenario
-from crnplan.theory import lattice
-from crnplan.theory.end_effect import end_effects
-from crnplan.theory.lattice import walk_of
+from crnplan.theory import run_effects
+from crnplan.theory.run_effects import end_effects, walk_of
 
 from planner.tests.theory.chain import chances_of
 from planner.tests.theory.scenarios import Pair, scenario_of
@@ -67,7 +66,7 @@ def test_steps_of_several_items(monkeypatch: pytest.MonkeyPatch) -> None:
         return [it - positions[0] for it in positions]
 
     exact = differences()
-    monkeypatch.setattr(lattice, "MOST_PRODUCTS", 30_000)
+    monkeypatch.setattr(run_effects, "MOST_PRODUCTS", 30_000)
     assert 1e-9 < max(abs(a - b) for a, b in zip(differences(), exact)) < 1
 
 

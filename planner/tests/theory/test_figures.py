@@ -11,7 +11,7 @@ from hypothesis import strategies as st
 from crnplan.scenario import Costs, Policy, Scenario
 from crnplan.theory import one_lead
 from crnplan.theory.lattice import theories_of
-from crnplan.theory.long_run import LongRun, search
+from crnplan.theory.long_run import FEW, LongRun, gap_grid
 from crnplan.theory.one_lead import OneLead
 from crnplan.theory.suggestions import figures_of
 
@@ -108,8 +108,8 @@ def test_the_best_of_all_pairs(lead: Pair) -> None:
 def test_the_best_if_the_first_found_has_a_high_level(scenario: Scenario) -> None:
     theory = theory_of(scenario)
     assert isinstance(theory, OneLead)
-    first, best = search(lambda gaps: map(theory.best_of_gap, gaps), theory.most), theory.best()
-    assert theory.stock_costs(np.array([first.level]))[0] > first.cost
+    first, best = theory.cheapest_of_gaps(gap_grid(theory.most)[::FEW], 0.0), theory.best()
+    assert theory.figures_from(np.array([first.level]))[0, 0] > first.cost
     gap = best.level - best.point
     shorts = {it: shortfall_of(scenario, it) for it in range(gap - 20, gap + 20)}
     levels = range(best.level - 20, best.level + 20)
@@ -120,17 +120,17 @@ def test_the_best_if_the_first_found_has_a_high_level(scenario: Scenario) -> Non
 
 def test_the_best_looks_at_few_levels(monkeypatch: pytest.MonkeyPatch) -> None:
     """A level far above the demand of a lead time costs more than any good policy, so it is not priced."""
-    most, priced = 0, OneLead.stock_costs
+    most, priced = 0, OneLead.figures_from
 
     def spy(self: OneLead, levels: one_lead.Whole) -> one_lead.Floats:
         nonlocal most
         most = max(most, len(levels))
         return priced(self, levels)
 
-    monkeypatch.setattr(OneLead, "stock_costs", spy)
+    monkeypatch.setattr(OneLead, "figures_from", spy)
     theory = theory_of(scenario_of(([0, 1, 5], [5, 3, 2]), ([2], [1]), costs=Costs(20, 0, 2, 9)))
     best = theory.best()
-    assert best.level < most < 100
+    assert best.level < most < 200
 
 
 @settings(max_examples=25)

@@ -76,19 +76,11 @@ def test_a_lattice_keeps_mean_and_sum(table: Law, step: int) -> None:
 @given(laws, st.integers(1, 9), st.integers(-300, 300))
 def test_surpluses_equal_direct_sums(law: LatticeLaw, step: int, level: int) -> None:
     surplus, amounts = Surplus(law, step), {cell * step: chance for cell, chance in as_dict(law).items()}
-    assert surplus.left(level) == pytest.approx(sum(max(level - it, 0) * p for it, p in amounts.items()), abs=1e-9)
-    assert surplus.lacking(level) == pytest.approx(sum(max(it - level, 0) * p for it, p in amounts.items()), abs=1e-9)
-    assert surplus.chance_lacking(level) == pytest.approx(sum(p for it, p in amounts.items() if it > level), abs=1e-12)
-    assert surplus.left(np.array([level, level + 1]))[0] == surplus.left(level)
-
-
-@given(laws, st.integers(1, 9), st.floats(0.001, 0.999))
-def test_a_quantile_is_the_least_level(law: LatticeLaw, step: int, share: float) -> None:
-    surplus = Surplus(law, step)
-    level = surplus.quantile(share)
-    assert level % step == 0
-    assert surplus.chance_lacking(level) <= 1 - share + 1e-9
-    assert level == law.low * step or surplus.chance_lacking(level - step) >= 1 - share - 1e-9
+    levels = np.array([level, level + 1])
+    left, lacking = ([sum(max(sign * (it - amount), 0) * p for amount, p in amounts.items()) for it in levels]
+                     for sign in (1, -1))
+    assert surplus.left(levels) == pytest.approx(left, abs=1e-9)
+    assert surplus.lacking(levels) == pytest.approx(lacking, abs=1e-9)
 
 
 @given(st.integers(1, 1 << 20))

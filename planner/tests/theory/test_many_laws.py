@@ -62,16 +62,11 @@ def test_figures_of_any_small_scenario(demand: Pair, lead: Pair, back: Pair | No
 @pytest.mark.parametrize("demand", [WIDE, SKEWED], ids=["wide", "skewed"])
 @pytest.mark.parametrize("step", [1, 3])
 @pytest.mark.parametrize("rates", [(1, 9), (9, 1)], ids=["backlog", "holding"])  # With high holding costs, s is 0.
-def test_figures_are_those_of_the_theory_of_one_law(demand: Pair, lead: Pair, step: int,
-                                                    rates: tuple[int, int]) -> None:
-    """Also on a lattice that is not exact, and the best policy costs as much."""
+def test_the_least_cost_is_that_of_the_best(demand: Pair, lead: Pair, step: int, rates: tuple[int, int]) -> None:
+    """Also on a lattice that is not exact."""
     scenario = scenario_of(demand, lead, costs=Costs(90, 1, *rates))
     shape = shape_of(scenario)
     theory = theory_on(scenario, shape, step, step == 1)
-    policies = [Policy.of_levels(20, 20 + gap) for gap in (32, 1, 12, 0, 56, 12)] + [Policy.of_levels(3000, 3007)]
-    cost, fill = theory.costs_and_fills(policies)
-    expected = np.array([theory.figures(it.s, it.S)[:2] for it in policies])
-    assert cost == pytest.approx(expected[:, 0], rel=1e-8) and fill == pytest.approx(expected[:, 1], rel=1e-8)
     assert least_cost(theory, int(2 * shape.order) // step) == pytest.approx(theory.best().cost, rel=1e-3)
 
 
@@ -87,8 +82,7 @@ def test_coarse_lattice(monkeypatch: pytest.MonkeyPatch) -> None:
     assert fine.step == 1 and fine.error is None and coarse.step > 2 and coarse.error is not None
     assert 0 < np.abs(coarse.cost / fine.cost - 1).max() <= coarse.error < 0.2
     monkeypatch.setattr(many_laws, "LEAST_ROOM", 5)
-    with pytest.raises(NoTheory, match="too far apart"):
-        many_laws.run_of(scenario, 80)
+    assert many_laws.run_of(scenario, shape_of(scenario), 80) is None
 
 
 def test_laws_in_order() -> None:

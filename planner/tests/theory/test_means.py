@@ -1,44 +1,55 @@
-"""Tests means for many gaps at once against sums level by level."""
+"""Tests means for many gaps at once against the figures of single policies."""
 from __future__ import annotations
 
 import numpy as np
 import pytest
-from hypothesis import given
-from hypothesis import strategies as st
 
 from crnplan.scenario import Costs
 from crnplan.theory.lattice import shape_of, theory_on
-from crnplan.theory.means import Means
+from crnplan.theory.long_run import LongRun, Means
 
 from planner.tests.theory.scenarios import Pair, scenario_of
 
 DEMANDS = (range(21), [1 + it % 5 for it in range(21)])
+GAPS = [0, 1, 7, 30]
 
 
-@given(rows=st.lists(st.lists(st.integers(0, 9), min_size=1, max_size=6), min_size=1, max_size=4),
-       low=st.integers(-3, 3), data=st.data())
-def test_means(rows: list[list[int]], low: int, data: st.DataObject) -> None:
-    """Each mean is a sum over the chances of its row."""
-    levels = data.draw(st.lists(st.integers(-1, 8), min_size=len(rows), max_size=len(rows)))
-    means = Means(lambda cells: np.array([cells, cells**2]), low, [np.array(row, float) for row in rows], 8)
-    for place in range(2):
-        wanted = [sum(chance * (level - low - it)**(place + 1) for it, chance in enumerate(row))
-                  for row, level in zip(rows, levels)]
-        assert means.at(np.array(levels), slice(place, place + 1))[0] == pytest.approx(wanted)
+@pytest.fixture(params=[1, 3])
+def step(request: pytest.FixtureRequest) -> int:
+    """Returns the items of a cell."""
+    return int(request.param)
 
 
-@pytest.mark.parametrize("step", [1, 3])
-@pytest.mark.parametrize("back", [None, ([0, 1, 2], [4, 2, 1])], ids=["no returns", "returns"])
-@pytest.mark.parametrize("lead", [([2], [1]), ([2, 3, 5], [1, 2, 1])], ids=["one lead time", "several"])
-def test_tables(step: int, back: Pair | None, lead: Pair) -> None:
-    """Mean stock and unmet demand of all levels are those of the law of each gap, up to one that owes nothing."""
-    scenario = scenario_of(DEMANDS, lead, back, Costs(90, 0, 1, 9))
-    theory = theory_on(scenario, shape_of(scenario), step, step == 1)
-    gaps = np.array([0, 1, 7, 30])
-    levels, stock, unmet = theory.tables_of(gaps)
-    assert levels.tolist() == [*range(0, levels[-1] + 1, step)]
-    for row, gap in enumerate(gaps.tolist()):
-        after, before = theory.surpluses(gap)
-        assert after.chance_lacking(levels[-1]) == pytest.approx(0, abs=1e-12)
-        assert stock[row] == pytest.approx(after.left(levels), abs=1e-9)
-        assert unmet[row] == pytest.approx(after.lacking(levels) - before.lacking(levels), abs=1e-9)
+@pytest.fixture(params=[None, ([0, 1, 2], [4, 2, 1])], ids=["no returns", "returns"])
+def back(request: pytest.FixtureRequest) -> Pair | None:
+    """Returns what comes back."""
+    pair: Pair | None = request.param
+    return pair
+
+
+@pytest.fixture(params=[([2], [1]), ([2, 3, 5], [1, 2, 1])], ids=["one lead time", "several"])
+def theory(step: int, back: Pair | None, request: pytest.FixtureRequest) -> LongRun:
+    """Returns a theory."""
+    scenario = scenario_of(DEMANDS, request.param, back, Costs(90, 0, 1, 9))
+    return theory_on(scenario, shape_of(scenario), step, step == 1)
+
+
+def test_means(theory: LongRun) -> None:
+    """Each mean is that of one gap alone. With the level below the top nothing is ever owed."""
+    means = Means(theory, np.array(GAPS))
+    for levels in ([0, means.top // 2, 3, means.top], [1, means.top, means.top - 1, 0]):
+        for column, gap, level in zip(means.at(np.array(levels), slice(0, 4)).T, GAPS, levels):
+            its = theory.figures_of_gap(gap, theory.step * level)
+            wanted = [its.cost - theory.setup * its.orders, (1 - its.fill) * theory.asked, 1 - its.short, its.stock]
+            assert column == pytest.approx(wanted, abs=1e-9)
+    assert theory.figures_of_gap(GAPS[-1], theory.step * (means.top - 1)).short == pytest.approx(0, abs=1e-12)
+
+
+@pytest.mark.parametrize("figure", [1, 3])
+def test_means_of_all_levels(theory: LongRun, figure: int) -> None:
+    """The table of all levels has the means of each level."""
+    means = Means(theory, np.array(GAPS))
+    table = means.of_all_levels(figure)
+    assert table.shape == (len(GAPS), means.top)
+    wanted = [means.at(np.full(len(GAPS), level), slice(figure, figure + 1))[0] for level in range(means.top)]
+    assert table == pytest.approx(np.transpose(wanted), abs=1e-9)

@@ -7,9 +7,8 @@ from hypothesis import given, settings
 from hypothesis import strategies as st
 
 from crnplan.chances import Floats
-from crnplan.theory.review_sums import ReviewSums, reciprocal
 from crnplan.theory.lattice_law import NOTHING, LatticeLaw
-from crnplan.theory.reviews import Falling, Start
+from crnplan.theory.reviews import ReviewSums, Start, falling, reciprocal
 
 WEIGHTS = st.lists(st.integers(0, 9), min_size=1, max_size=9).filter(any)
 # Nets that are never 0, nearly always 0, always the same, and wide.
@@ -94,11 +93,9 @@ def test_reviews(weights: list[int], low: int, gap: int, cell: int, share: float
     ordered = data.draw(st.booleans())
     first = LatticeLaw(min(cell, gap), np.array([1 - share, share])[:gap - min(cell, gap) + 1])
     start = Start(NOTHING if ordered else LatticeLaw.scaled(first.low, first.chances + 1e-3), ordered)
-    reviews = Falling(ReviewSums(net, gap - min(start.law.low, 0), count), start, gap, counted)
+    told, mean, last = falling(ReviewSums(net, gap - min(start.law.low, 0), count), start, gap, counted)
     orders, laws = walked(net, start, gap, count)
-    assert reviews.placing == pytest.approx(orders, abs=1e-12)
-    assert reviews.orders == pytest.approx(orders.sum(), abs=1e-11)
-    mean, last = reviews.mean_law(), reviews.last_law()
+    assert told == pytest.approx(orders.sum(), abs=1e-11)
     wanted = sum(chances_of(it, mean.low, gap) for it in laws[:counted]) / counted
     assert mean.chances == pytest.approx(wanted, abs=1e-12)
     assert last.chances == pytest.approx(chances_of(laws[-1], last.low, gap), abs=1e-12)

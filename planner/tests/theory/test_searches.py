@@ -11,7 +11,6 @@ from hypothesis import strategies as st
 from crnplan.scenario import Costs, Scenario
 from crnplan.theory.lattice import shape_of, theories_of, theory_on
 from crnplan.theory.long_run import Candidate, LongRun, search
-from crnplan.theory.several_leads import SEARCHED
 
 from planner.tests.theory.chain import by_chain
 from planner.tests.theory.long_run_costs import costs_of, fills_of, shortfall_of
@@ -100,9 +99,9 @@ def test_the_best_of_a_lattice(step: int, lead: list[int], costs: Costs) -> None
     theory = theory_on(scenario, shape_of(scenario), step, False)
     found = theory.best()
     assert (found.point < step) == (costs.backlog == 2)
-    theory.prepare(range(1200 // step))
+    theory.rows_of(np.arange(1200 // step))
     every = [theory.policy(gap, level) for gap in range(1200 // step)
-             for level in (found.level, found.level + 1, theory.items(gap), theory.best_of_gap(gap).level)]
+             for level in (found.level, found.level + 1, theory.items(gap), theory.cheapest_of_gaps([gap], 0.0).level)]
     assert found.cost == pytest.approx(min(every).cost, rel=1e-9)
 
 
@@ -121,21 +120,22 @@ def test_the_first_of_equal_gaps(demand: list[int], setup: int, lead: list[int])
 @pytest.mark.parametrize("share", (0.95, 0.995))
 @pytest.mark.parametrize("step", [3, 10])
 def test_no_gap_of_a_lattice_is_cheaper(step: int, share: float) -> None:
-    """On a coarse lattice too: each gap has one cheapest policy with a fill rate, which `filling` finds by itself."""
+    """On a coarse lattice too: each gap has one cheapest policy with a fill rate, which is computed by itself too."""
     scenario = scenario_of((range(41), [1 + it % 5 for it in range(41)]), ([3], [1]), costs=Costs(700, 0, 1, 5))
     theory = theory_on(scenario, shape_of(scenario), step, step == 1)
     found = theory.best_with_fill(share)
-    by_gap = [theory.filling(gap, share) for gap in range(600 // step)]
+    by_gap = [theory.cheapest_of_gaps([gap], share) for gap in range(600 // step)]
     assert found.cost == pytest.approx(min(by_gap).cost, rel=1e-9)
     gap = theory.gap_of(found.point, found.level)
-    assert theory.fill(gap, found.level) >= share - 1e-9 > theory.fill(gap, found.level - 1) - 2e-9
+    fills = [theory.figures_of_gap(gap, level).fill for level in (found.level, found.level - 1)]
+    assert fills[0] >= share - 1e-9 > fills[1] - 2e-9
 
 
 def test_several_valleys() -> None:
     """A case in which a search on a grid of gaps that gets finer around the best ends in a wrong valley."""
     scenario = scenario_of(([3, 8], [6, 2]), ([3], [1]), costs=Costs(30, 0, 1, 9))
     theory = theory_of(scenario)
-    by_gap = [theory.filling(gap, 0.98) for gap in range(200)]
+    by_gap = [theory.cheapest_of_gaps([gap], 0.98) for gap in range(200)]
     found = theory.best_with_fill(0.98).cost
     assert found == pytest.approx(min(by_gap).cost, rel=1e-12)
     assert search(lambda gaps: map(by_gap.__getitem__, gaps), 40).cost > 1.02 * found
@@ -157,7 +157,7 @@ def test_several_lead_times_that_take_too_long() -> None:
     theories = [theory_of(scenario_of(it, ([1, 9], [1, 1]), costs=Costs(9, 0, 1, 9))) for it in demands]
     costs = [theory.best().cost for theory in theories]
     assert costs[0] < costs[1]
-    assert [it.search_text == SEARCHED for it in theories] == [False, True]
+    assert [it.is_searched for it in theories] == [False, True]
 
 
 @pytest.mark.parametrize("share", [0, 0.98])
@@ -166,8 +166,8 @@ def test_the_greatest_level(share: float) -> None:
     scenario = scenario_of(([9_000, 10_000], [1, 1]), ([32], [1]), costs=Costs(10**8, 0, 1, 10_000))
     theory = theory_on(scenario, shape_of(scenario), 900, False)
     found = theory.best_with_fill(share) if share else theory.best()
-    fills = [theory.fill(gap, 10**6) for gap in range(10**6 // 900)]
+    fills = [theory.figures_of_gap(gap, 10**6).fill for gap in range(10**6 // 900)]
     at_end = min(theory.policy(gap, 10**6) for gap, fill in enumerate(fills) if fill >= share)
-    below = min(theory.filling(gap, share) for gap in range(10**6 // 900))
+    below = min(theory.cheapest_of_gaps([gap], share) for gap in range(10**6 // 900))
     assert found.level == 10**6 and found.cost == pytest.approx(at_end.cost, rel=1e-9)
     assert found.cost < below.cost

@@ -13,7 +13,7 @@ from hypothesis import strategies as st
 
 from crnplan.scenario import Costs, Policy, Scenario
 from crnplan.theory.lattice import NoTheory
-from crnplan.theory.start_bias import Runs, start_bias, theory_of
+from crnplan.theory.run_effects import Runs, start_bias, theory_of
 from planner.tests.theory.chain import by_chain
 from planner.tests.theory.finite import expected
 from planner.tests.theory.scenarios import Pair, scenario_of
@@ -45,7 +45,7 @@ def test_biases_are_those_of_a_chain(case: str, start: tuple[int, int, int], per
     net = asked.demand.mean - (asked.returns.mean if asked.returns else 0)
     usual = by_chain(asked)[0]
     assert found.costs == pytest.approx([usual], rel=1e-8)
-    assert found.exactness == "exact but for rounding"
+    assert found.theory.exact
     wanted = sum(expected(asked)) - periods * (usual + COSTS.unit * float(net))
     assert found.biases == pytest.approx([wanted], abs=1e-5 * periods)
 
@@ -74,11 +74,11 @@ def test_steps_of_several_items(case: str, monkeypatch: pytest.MonkeyPatch) -> N
                     costs=Costs(900, 0, 1, 9),
                     policies=(Policy("low", 300, 700), Policy("high", 700, 1300)))
     exact = start_bias(asked)
-    monkeypatch.setattr("crnplan.theory.start_bias.MOST_BIAS_GAPS", 150)
+    monkeypatch.setattr("crnplan.theory.run_effects.MOST_BIAS_GAPS", 150)
     monkeypatch.setattr("crnplan.theory.lattice.MOST_WORK", 600_000)
-    monkeypatch.setattr("crnplan.theory.start_bias.MOST_WORK", 0)
+    monkeypatch.setattr("crnplan.theory.run_effects.MOST_WORK", 0)
     coarse = start_bias(asked)
-    assert coarse.exactness == f"rounded to steps of {coarse.theory.step} items" and coarse.theory.step > 3
+    assert coarse.theory.step > 3 and not coarse.theory.exact
     assert coarse.biases == pytest.approx(exact.biases, rel=0.02, abs=100 * 900 / 1e3)
     assert coarse.biases != pytest.approx(exact.biases, rel=1e-9)
 
@@ -113,7 +113,7 @@ def test_many_periods(case: str, monkeypatch: pytest.MonkeyPatch) -> None:
     """All ways to compute many reviews agree with single reviews, and the bias settles as the periods grow."""
     asked = replace(CASES[case], periods=1024, initial=30, policies=(Policy("it", 4, 11), Policy("other", 9, 9)))
     found, shorter = start_bias(asked), start_bias(replace(asked, periods=900))
-    monkeypatch.setattr("crnplan.theory.start_bias.MOST_WIDTH", 0)
+    monkeypatch.setattr("crnplan.theory.run_effects.MOST_WIDTH", 0)
     assert start_bias(asked).biases == pytest.approx(found.biases, abs=1e-7)
     monkeypatch.setattr("crnplan.theory.reviews.MOST_DENSE", 0)
     assert start_bias(asked).biases == pytest.approx(found.biases, abs=1e-7)

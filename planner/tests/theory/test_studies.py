@@ -8,7 +8,7 @@ import numpy as np
 import pandas as pd
 import pytest
 
-from crnplan.theory import several_leads
+from crnplan.theory import suggestions
 from crnplan.theory.lattice import theories_of
 from planner.studies import fills, search
 from planner.studies.laws import PERIODS, Truth
@@ -57,5 +57,5 @@ def test_stored_searches(top: Path) -> None:
     """What the notes of suggestions say is the greatest stored excess."""
     stored = pd.read_csv(top / "planner/studies/search.csv", dtype={"leads": str})
     several = stored.loc[stored["leads"].str.contains(" "), "excess"]
-    assert several_leads.MOST_EXCESS == pytest.approx(several.max(), abs=0.051)
+    assert suggestions.MOST_EXCESS == pytest.approx(several.max(), abs=0.051)
     assert stored["excess"].min() > -1e-6

@@ -6,8 +6,8 @@ import pytest
 from hypothesis import given, settings
 from hypothesis import strategies as st
 
-from crnplan.theory.wiener_hopf import factors_of, renewal_sequence
 from crnplan.theory.lattice_law import LatticeLaw, sum_of
+from crnplan.theory.walk import factors_of, renewal_sequence
 
 from planner.tests.theory.scenarios import table
 

@@ -291,7 +291,7 @@ def suggest(**asked: Any) -> None:
     Nothing of this is proved; crnsim's figures are.
     """
     from ..demand.posterior import allowed_laws, allowed_leads
-    from ..theory.confidence import CONFIDENCE
+    from ..theory.many_laws import CONFIDENCE
     from ..theory.suggestions import suggestions_of
     context, laws, leads = click.get_current_context(), tuple[Law, ...](), tuple[Law, ...]()
     of_history = [option.opts[0] for option in context.command.params if option.name and option.name not in OWN

@@ -21,7 +21,7 @@ from ..plan.one import or_fault
 from ..plan.question import Question, Settings, question_of
 from ..records.item import Item
 from ..remarks import Remark
-from ..theory.long_run import LongRun, gap_grid
+from ..theory.long_run import STOCK_LEFT, UNMET, LongRun, Means, gap_grid
 
 Floats = npt.NDArray[np.float64]
 Whole = npt.NDArray[np.int64]
@@ -110,7 +110,9 @@ class Policies:
 
     def best_of(self, gaps: Whole) -> Best:
         """Returns rising gaps with their best levels."""
-        levels, stock, unmet = self.theory.tables_of(gaps)
+        means = Means(self.theory, gaps)
+        levels = self.theory.step * np.arange(means.top)
+        stock, unmet = means.of_all_levels(STOCK_LEFT), np.maximum(means.of_all_levels(UNMET), 0)
         owner, place = np.nonzero(self.may_be_best(gaps, levels, stock, unmet))
         stock, unmet = stock[owner, place], unmet[owner, place]
         kept = vertices(owner, stock, unmet, np.arange(len(owner)))

@@ -20,10 +20,9 @@ from ..crnsim.report import Row
 from ..errors import Refused
 from ..scenario import Policy, Scenario
 from ..table import names_of
-from ..theory.end_effect import end_effects
 from ..theory.lattice import NoTheory
 from ..theory.long_run import exactness_of
-from ..theory.start_bias import StartBias, exactness, start_bias, theory_of
+from ..theory.run_effects import StartBias, end_effects, start_bias, theory_of
 from .intervals import FEWEST_ORDERS, Compared, Estimate, compared, estimates_of, t_quantile
 from .verdicts import MOST_ROWS, Decision, decided, horizon_of
 
@@ -77,7 +76,7 @@ def long_run_decision(report: LongRunReport, level: float = 0.95) -> Decision:
     try:
         theory = theory_of(report.scenario)
         costs = [theory.figures(policy.s, policy.S).cost for policy in report.scenario.policies]
-        said = exactness(theory) + ", so not compared with the intervals" * (not theory.exact)
+        said = exactness_of(theory.step, theory.exact) + ", so not compared with the intervals" * (not theory.exact)
         off = _disagreeing(estimates, costs, report.keys) if theory.exact else []
         if off:
             warnings.append(f"crnsim and theory differ by more than chance allows for {names_of(off, MOST_ROWS)}: one "
@@ -179,7 +178,7 @@ def corrected_decision(rows: Sequence[Row], scenario: Scenario, level: float = 0
                         f"its effect is above {MOST_EFFECT} standard errors")
     runs = (f"from a common stock of {scenario.initial:,} over {periods:,} periods, less the bias of that start by "
             "theory, which so is no check of it")
-    said = bias.exactness
+    said = exactness_of(bias.theory.step, bias.theory.exact)
     if not bias.theory.exact:
         said += ", and so is the bias of the start"
     elif not bias.on_lattice:

@@ -21,10 +21,9 @@ from ..errors import Refused
 from ..formats import MOST_ITEMS, POLICIES
 from ..law import Law
 from ..scenario import Policy, Scenario
-from ..theory.confidence import CONFIDENCE, FillLevels, Promises
 from ..theory.lattice import NoTheory
 from ..theory.long_run import Candidate, Figures as TheoryFigures, LongRun
-from ..theory.many_laws import figures_of_laws
+from ..theory.many_laws import CONFIDENCE, Promises, figures_of_laws
 from ..theory.suggestions import FILLS, Chosen, add_fills, chosen_policies
 from .answer import ALONE, CHOSEN, THEORY, TODAY, Answer, Figures
 from .one import LAWS, Sample, allowed_by, choice_of, figures_of, interval, quantile, sample_of
@@ -105,8 +104,8 @@ class Depth:
         """Returns further policies with the reasons for each: those that keep fill rates, by the law of the item and
         under most of the allowed ones, and with a backlog cost the neighbours of the best."""
         scenario, levels, theory = self.question.scenario(), self.levels[CHOSEN], self.theory
-        fills = FillLevels(scenario, theory, theory.gap_of(*levels), *self.allowed, [*FILLS.values()])
-        promises = Promises(fills, theory, self.confidence)
+        promises = Promises(scenario, theory, theory.gap_of(*levels), *self.allowed, [*FILLS.values()],
+                            self.confidence)
         if self.question.has_backlog and self.question.item.fill is None:
             best = Candidate(theory.figures(*levels).cost, *levels)
             return chosen_policies(scenario, theory, best, promises)

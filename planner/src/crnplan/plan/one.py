@@ -33,9 +33,9 @@ from ..law import Law
 from ..records.item import Item
 from ..remarks import Remark
 from ..scenario import Policy, Scenario, key_words
-from ..theory.confidence import FillLevels, Promises
 from ..theory.long_run import LongRun
-from ..theory.start_bias import start_bias
+from ..theory.many_laws import Promises
+from ..theory.run_effects import start_bias
 from ..words import advice, sentence
 from .answer import (ALONE, CHEAPER, CHOSEN, DEARER, DISAGREES, FAILED, FEW_DEMANDS, NO_INTERVAL, NO_POLICY, NO_PROMISE,
                      REFUSED, ROUNDED_COSTS, RUN, SAME, SERVICE, STEPS, THEORY, TODAY, UNDECIDED, UNLIKE, Answer,
@@ -102,8 +102,8 @@ def choice_of(theory: LongRun, question: Question) -> Choice:
         raise NoPolicy(Remark(NO_POLICY, {"fill": fill}))
     if fill is None or confidence is None:
         return Choice(plain, plain)
-    levels = FillLevels(question.scenario(), theory, theory.gap_of(*plain), *allowed_by(question), [fill])
-    sure = Promises(levels, theory, confidence).cheapest(best, fill)
+    gap = theory.gap_of(*plain)
+    sure = Promises(question.scenario(), theory, gap, *allowed_by(question), [fill], confidence).cheapest(best, fill)
     return Choice(plain, plain, False) if sure.cost == math.inf else Choice((sure.point, sure.level), plain)
 
 
@@ -196,7 +196,7 @@ def rare_cost(question: Question, theory: LongRun, levels: Levels, scenario: Sce
     orders = min(theory.figures(point, level).orders, expected / periods)
     rare, owed = expected * (max(scenario.lead.values) + 1) / periods, 0.0
     for gap, share in theory.gaps_of(point, level):
-        law = theory.surpluses(gap)[0].law
+        law = theory.below(gap)
         above = np.cumsum(law.chances[::-1]) - law.chances[::-1]
         part = np.clip(rare - above, 0, law.chances[::-1])
         owed += share * float(part @ np.maximum(law.cells[::-1] * theory.step - level, 0))

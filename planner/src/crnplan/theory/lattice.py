@@ -16,19 +16,17 @@ from ..errors import Refused
 from ..formats import MOST_ITEMS
 from ..law import Law
 from ..scenario import Scenario
-from .wiener_hopf import DIGITS, decay_of
 from .lattice_law import LatticeLaw, sum_of
 from .long_run import LongRun, gap_grid
 from .one_lead import OneLead
 from .several_leads import SeveralLeads, work_of
-from .walk import Walk
+from .walk import DIGITS, decay_of
 
 # Tables of this size are searched in at most half a second: gaps with one lead time, and work for late orders with
 # several, by `work_of`.
 MOST_GAPS = 60_000
 MOST_WORK = 60_000_000
 MOST_CELLS = 150_000  # of a law, or of levels
-MOST_PRODUCTS = 300_000_000  # of cells of gaps and of demands, for a walk alone
 MOST_TRANSFORM = 1 << 20  # cells of a transform
 CELLS_OF_SHAPE = 400  # in which a scenario's shape is looked at
 LEAST_CELLS = 8  # of the largest net demand or order
@@ -189,23 +187,6 @@ def lattice_of(scenario: Scenario, shape: Shape, widest: int, most_gaps: int = M
 def theory_on(scenario: Scenario, shape: Shape, step: int, exact: bool) -> LongRun:
     """Returns the theory of a scenario on a lattice."""
     return (OneLead if shape.leads == 1 else SeveralLeads)(scenario, step, exact, -(-shape.gap // step))
-
-
-def walk_of(scenario: Scenario, gap: int) -> Walk | None:
-    """Returns the position of a scenario on a lattice that is fine enough for gaps up to so many items.
-
-    None if nothing is to be ordered in the long run, or if the tables of such a lattice are too large.
-    """
-    tables = net_tables(scenario)
-    (demand, _), (back, _) = moments_of(scenario.demand), moments_of(scenario.returns)
-    if demand - back <= 1e-9 * demand:
-        return None
-    high = max(max(it.values) for it in tables)
-    height = height_of(scenario, high)
-    base = math.gcd(*(value for it in tables for value in it.values))
-    step = finest(base, max(high, gap), lambda step: max(gap / step * min(high, gap) / step / MOST_PRODUCTS,
-                                                         4 * height / step / MOST_TRANSFORM), lambda excess: 2)
-    return None if step is None else Walk(scenario, step, step == base)
 
 
 def theories_of(scenario: Scenario, widest: int | None = None) -> tuple[LongRun, LongRun | None]:

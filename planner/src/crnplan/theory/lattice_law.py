@@ -114,28 +114,16 @@ class Surplus:
         self.below = np.concatenate([[0], np.cumsum(law.chances)])
         self.taken = np.concatenate([[0], np.cumsum(law.chances * law.cells)]) * step
 
-    def place(self, level: Places) -> Places:
+    def place(self, level: Whole) -> Whole:
         """Returns how many cells of the law are at most a level."""
-        cells = level // self.step - self.law.low + 1
-        if isinstance(cells, int):
-            return min(max(cells, 0), len(self.law.chances))
-        return np.minimum(np.maximum(cells, 0), len(self.law.chances))
+        return np.minimum(np.maximum(level // self.step - self.law.low + 1, 0), len(self.law.chances))
 
-    def left(self, level: Places) -> Floats:
+    def left(self, level: Whole) -> Floats:
         """Returns the expected surplus of a level over the amount, in items."""
         place = self.place(level)
         surplus: Floats = level * self.below[place] - self.taken[place]
         return surplus
 
-    def lacking(self, level: Places) -> Floats:
+    def lacking(self, level: Whole) -> Floats:
         """Returns the expected surplus of the amount over a level, in items."""
         return self.left(level) - level + self.mean
-
-    def chance_lacking(self, level: int) -> float:
-        """Returns the chance that the amount is above a level."""
-        return float(1 - self.below[self.place(level)])
-
-    def quantile(self, share: float) -> int:
-        """Returns the least level, in items, that the amount does not exceed with this chance."""
-        cell = int(np.searchsorted(self.below[1:], share * (1 - 1e-12)))
-        return self.step * (self.law.low + min(cell, len(self.law.chances) - 1))

@@ -17,22 +17,25 @@ from __future__ import annotations
 import math
 from abc import ABC, abstractmethod
 from collections.abc import Callable, Iterable, Iterator, Sequence
+from functools import partial
 from typing import NamedTuple
 
 import numpy as np
+from numpy.lib.stride_tricks import sliding_window_view
 from scipy import fft
 
 from ..chances import Floats, Whole
 from ..formats import MOST_ITEMS
-from ..scenario import Policy, Scenario
+from ..scenario import Scenario
 from .lattice_law import LatticeLaw, Places, Surplus, room_for, sum_of
-from .means import GapLevels, Levels, LevelsOf, Means
 from .walk import Walk
 
 GRID_GROWTH = 1.15
 SMALL_GAP = 8
+FEW = 4  # Of the gaps of a grid, one in so many is looked at for a first policy.
 MOST_CELLS = 50_000  # of tables with a row for each of many gaps
 CLOSE = 1 + 1e-9  # Costs whose ratio is at most this are equal but for rounding.
+UNMET, STOCK_LEFT = 1, 3  # rows of `LongRun.figures_from`
 NEAR = 1e-12  # Shares, and costs by their ratio, that differ by less are equal but for rounding.
 
 
@@ -56,6 +59,58 @@ class Candidate(NamedTuple):
 
 NO_POLICY = Candidate(math.inf, 0, 0)
 
+# For each of some gaps a level in items, and what it costs.
+Levels = tuple[Whole, Floats]
+
+
+class GapLevels(NamedTuple):
+    """A level for each of some gaps, in cells, with the number of lows and the sums over them, here and a cell below.
+
+    Sums are of stock costs, unmet demand and chances of no backlog, in this order.
+    """
+
+    gaps: Whole
+    levels: Whole
+    totals: Floats
+    here: Floats
+    below: Floats
+
+    def joined(self, other: GapLevels) -> GapLevels:
+        """Returns these and others."""
+        return GapLevels(*(np.concatenate(columns, axis=-1) for columns in zip(self, other)))
+
+
+class Means:
+    """Means of the figures of `LongRun.figures_from`, with a level for each of some rising gaps, in cells.
+
+    Levels are at most `top`: with the one below it, nothing is ever owed.
+    """
+
+    def __init__(self, theory: LongRun, gaps: Whole) -> None:
+        """Computes for each gap the chances of how far a low is below S, and the figures of all levels of lows."""
+        self.gaps = gaps
+        low, self.chances = theory.rows_of(gaps)
+        self.width = self.chances.shape[1]
+        self.top = max(int(theory.floor(gaps[-1])), low + self.width + theory.after.high) + 1
+        self.figures = theory.figures_from(theory.step * np.arange(-self.width - low, self.top - low + 1))
+        self.windows = sliding_window_view(self.figures[:, ::-1].copy(), self.width, axis=1)
+
+    def at(self, levels: Whole, figures: slice) -> Floats:
+        """Returns the means of some figures, a row for each figure, with a level for each gap."""
+        means: Floats = np.einsum("fgx,gx->fg", self.windows[figures, self.top - levels], self.chances)
+        return means
+
+    def of_all_levels(self, figure: int) -> Floats:
+        """Returns the means of a figure, a row for each gap, with each level from 0 on up to the one below the top."""
+        room = room_for(self.figures.shape[1])  # what is beyond comes round to the places before the first level
+        moved = fft.rfft(self.chances, room) * fft.rfft(self.figures[figure], room)
+        means: Floats = fft.irfft(moved, room)[:, self.width:self.width + self.top]
+        return means
+
+
+LevelsOf = Callable[[Means], Levels]
+
+
 def exactness_of(step: int, exact: bool) -> str:
     """Returns how exact figures on a lattice are, for a reader."""
     return "exact but for rounding" if exact else f"rounded to steps of {step} items"
@@ -77,22 +132,22 @@ def search(policies_of: Callable[[Sequence[int]], Iterable[Candidate]], most: in
     much is measured by `planner.studies.search`. Of costs that are equal but for rounding the first is taken.
     """
     grid = gap_grid(most)
-    found = dict(zip(grid, policies_of(grid)))
+    known = dict(zip(grid, policies_of(grid)))
     while True:
-        gaps, least = sorted(found), min(found.values()).cost
-        place, best = next((place, gap) for place, gap in enumerate(gaps) if found[gap].cost <= CLOSE * least)
+        gaps, least = sorted(known), min(known.values()).cost
+        place, best = next((place, gap) for place, gap in enumerate(gaps) if known[gap].cost <= CLOSE * least)
         below, above = gaps[max(place - 1, 0)], gaps[min(place + 1, len(gaps) - 1)]
-        between = sorted({(below + best) // 2, (best + above + 1) // 2} - found.keys())
+        between = sorted({(below + best) // 2, (best + above + 1) // 2} - known.keys())
         if not between:
-            return found[best]
-        found.update(zip(between, policies_of(between)))
+            return known[best]
+        known.update(zip(between, policies_of(between)))
 
 
 class LongRun(Walk, ABC):
     """The figures of a scenario's policies on a lattice, and searches for the cheapest ones."""
 
-    # What is known of the policies that the searches found, for a reader.
-    search_text = "each is the best of all pairs with s >= 0 that its reason allows"
+    # Whether a search looked at a grid of gaps alone. Else its policy is the best of all pairs with s of at least 0.
+    is_searched = False
 
     def __init__(self, scenario: Scenario, step: int, exact: bool, most: int) -> None:
         """Makes the laws of a scenario. `most` is the largest gap that a search looks at."""
@@ -100,9 +155,7 @@ class LongRun(Walk, ABC):
         costs = scenario.costs
         self.setup, self.holding, self.backlog = costs.setup, costs.holding, costs.backlog
         self.most = most
-        self.known: dict[int, tuple[Surplus, Surplus]] = {}
-        self.unmet: dict[int, Floats] = {}
-        self.bests: dict[int, Candidate] = {}
+        self.asked = self.demand.mean * step  # the mean demand of a period, in items
         # How far the mean stock less the mean backlog is below the mean low, in items.
         self.offset = step * (self.above_low.mean + self.net.mean * float(scenario.lead.mean + 1))
 
@@ -115,39 +168,29 @@ class LongRun(Walk, ABC):
         """Takes the law of what is independently lost of a stock before a period's net demand. A gap's row in a table
         has about so many cells beside those of the gap."""
         self.beside = beside
-        self.after, self.before = sum_of(under_way, self.net), sum_of(under_way, self.back.reflected)
-        self.one_period, self.one_before = Surplus(self.after, self.step), Surplus(self.before, self.step)
+        self.after = sum_of(under_way, self.net)
+        self.one_period = Surplus(self.after, self.step)
+        self.one_before = Surplus(sum_of(under_way, self.back.reflected), self.step)
 
-    def stock_costs(self, levels: Whole) -> Floats:
-        """Returns the mean cost of stock and backlog in a period that starts from lows at these levels."""
-        return self.holding * self.one_period.left(levels) + self.backlog * self.one_period.lacking(levels)
-
-    def unmet_at(self, levels: Whole) -> Floats:
-        """Returns the mean demand that is not met at once in a period that starts from lows at these levels, in items.
-        """
-        return self.one_period.lacking(levels) - self.one_before.lacking(levels)
-
-    def figures_from(self, cells: Whole) -> Floats:
-        """Returns rows with stock costs, unmet demand and the chance of no backlog of a period that starts from these
-        levels, in cells."""
-        levels = self.step * cells
-        held = self.one_period.below[self.one_period.place(levels)]
-        return np.array([self.stock_costs(levels), self.unmet_at(levels), held])
+    def figures_from(self, levels: Whole) -> Floats:
+        """Returns rows with stock costs, unmet demand, the chance of no backlog and the stock at the end of a period
+        that starts from lows at these levels, in items."""
+        place = self.one_period.place(levels)
+        held = self.one_period.below[place]
+        stock = levels * held - self.one_period.taken[place]
+        owed = stock - levels + self.one_period.mean
+        costs = self.holding * stock + self.backlog * owed
+        return np.array([costs, owed - self.one_before.lacking(levels), held, stock])
 
     @abstractmethod
-    def prepare(self, gaps: Iterable[int]) -> None:
-        """Computes what `levels_with_fill` needs of many gaps at once, which is faster than one by one."""
+    def rows_of(self, gaps: Whole) -> tuple[int, Floats]:
+        """Returns the chances of how far a low of `figures_from` is below S, a row for each of some rising gaps, and
+        their first cell."""
 
-    @abstractmethod
-    def laws(self, gap: int) -> tuple[LatticeLaw, LatticeLaw]:
-        """Returns the laws of how far the stock is below S at the end of a period, and just before its demand."""
-
-    def surpluses(self, gap: int) -> tuple[Surplus, Surplus]:
-        """Returns both laws summed up. They are kept for the next call."""
-        if gap not in self.known:
-            after, before = self.laws(gap)
-            self.known[gap] = Surplus(after, self.step), Surplus(before, self.step)
-        return self.known[gap]
+    def below(self, gap: int) -> LatticeLaw:
+        """Returns the law of how far the stock at the end of a period is below S, in cells."""
+        low, rows = self.rows_of(np.array([gap]))
+        return sum_of(LatticeLaw.scaled(low, rows[0]), self.after)
 
     def reach(self, cost: float) -> float:
         """Returns how high the lows of a policy are at most on average, in items, if it costs no more."""
@@ -161,37 +204,23 @@ class LongRun(Walk, ABC):
         """Returns S - s of a gap; if the lattice is not exact, the middle of those that have this gap."""
         return gap * self.step + (0 if self.exact else (self.step - 1) // 2)
 
+    def floor(self, gap: Places) -> Places:
+        """Returns the least level of a gap with s of at least 0, in cells."""
+        return -(-self.items(gap) // self.step)
+
     def figures(self, point: int, level: int) -> Figures:
         """Returns the figures of a policy; if the lattice is not exact, between those of the gaps beside its own."""
         parts = [(share, self.figures_of_gap(gap, level)) for gap, share in self.gaps_of(point, level)]
-        return Figures(*(sum(share * it[place] for share, it in parts) for place in range(len(Figures._fields))))
+        return Figures(*(sum(share * figure for (share, _), figure in zip(parts, column))
+                         for column in zip(*(figures for _, figures in parts))))
 
     def figures_of_gap(self, gap: int, level: int) -> Figures:
         """Returns the figures of a gap and an order-up-to level."""
-        after, _ = self.surpluses(gap)
-        stock, owed, orders = float(after.left(level)), float(after.lacking(level)), 1 / self.periods(gap)
-        return Figures(self.setup * orders + self.holding * stock + self.backlog * owed, self.fill(gap, level),
-                       after.chance_lacking(level), stock, orders)
-
-    def costs_and_fills(self, policies: Sequence[Policy]) -> tuple[Floats, Floats]:
-        """Returns cost and fill of many policies at once: those of `figures`, but for rounding."""
-        parts = sorted((gap, policy.S, share, row) for row, policy in enumerate(policies)
-                       for gap, share in self.gaps_of(policy.s, policy.S))
-        gaps, levels, shares, rows = (np.array(column) for column in zip(*parts))
-        low, chances = self.rows_of(gaps)
-        means = Means(self.figures_from, low, chances, self.top_of(gaps, low, chances))
-        cells = np.minimum(-(-levels // self.step), means.top)
-        places = self.places(means, gaps, cells)
-        _, costs = self.costs_of(places, cells * self.step - levels)
-        unmet = places.here[1] + (cells - levels / self.step) * (places.below[1] - places.here[1])
-        fills = 1 - unmet / places.totals / (self.demand.mean * self.step)
-        costs, fills = (np.asarray(np.bincount(rows, shares * figures), float) for figures in (costs, fills))
-        return costs, fills
-
-    def fill(self, gap: int, level: int) -> float:
-        """Returns the share of demand that is met at once: what is not adds to what is owed before the demand."""
-        after, before = self.surpluses(gap)
-        return 1 - float(after.lacking(level) - before.lacking(level)) / (self.demand.mean * self.step)
+        low, rows = self.rows_of(np.array([gap]))
+        lows = level - self.step * np.arange(low, low + rows.shape[1])
+        stock_cost, unmet, held, stock = (self.figures_from(lows) @ rows[0]).tolist()
+        orders = 1 / self.periods(gap)
+        return Figures(self.setup * orders + stock_cost, 1 - unmet / self.asked, 1 - held, stock, orders)
 
     def policy(self, gap: int, level: int) -> Candidate:
         """Returns the policy of a gap with a level; none if s or S is out of its range."""
@@ -200,43 +229,24 @@ class LongRun(Walk, ABC):
             return NO_POLICY
         return Candidate(self.figures_of_gap(gap, level).cost, point, level)
 
-    def best_of_gap(self, gap: int) -> Candidate:
-        """Returns the cheapest policy of a gap: its level is a newsvendor's, or the least with a reorder point of 0."""
-        if gap not in self.bests:
-            level = self.surpluses(gap)[0].quantile(self.backlog / (self.backlog + self.holding))
-            self.bests[gap] = self.policy(gap, max(level, self.items(gap)))
-        return self.bests[gap]
-
-    def unmet_of(self, gap: int) -> Floats:
-        """Returns the mean demand of a period that is not met at once, in items, for each level S of 0 cells and more.
-        """
-        if gap not in self.unmet:
-            after, before = self.surpluses(gap)
-            levels = self.step * np.arange(max(after.law.high, 0) + 1)
-            self.unmet[gap] = after.lacking(levels) - before.lacking(levels)
-        return self.unmet[gap]
-
     def allowed(self, share: float) -> float:
         """Returns how much demand of a period may not be met at once, in items, if this share is to be met."""
-        return (1 - share) * self.demand.mean * self.step * (1 + NEAR)
+        return (1 - share) * self.asked * (1 + NEAR)
 
-    def levels_with_fill(self, gap: int, shares: Sequence[float]) -> list[int]:
-        """Returns the least order-up-to level of a gap, in items, that meets each of these shares of demand at once."""
-        unmet, found = self.unmet_of(gap), []
-        for share in shares:
-            allowed = self.allowed(share)
-            place = len(unmet) - max(1, int(np.searchsorted(unmet[::-1], allowed, "right")))
-            spare = 0.0
-            if place and unmet[place - 1] > unmet[place]:
-                spare = self.step * (allowed - unmet[place]) / (unmet[place - 1] - unmet[place])
-            found.append(place * self.step - min(int(spare + NEAR), self.step - 1))
-        return found
+    def levels_with_fill(self, gaps: Sequence[int], shares: Sequence[float]) -> Iterable[tuple[int, list[float]]]:
+        """Yields rising gaps, each with the least order-up-to levels, in items, that meet these shares of demand at
+        once."""
+        for some in self.parts(gaps):
+            for gap, unmet in zip(some.tolist(), Means(self, some).of_all_levels(UNMET)):
+                yield gap, [self._level_with(unmet, self.allowed(share)) for share in shares]
 
-    def filling(self, gap: int, share: float) -> Candidate:
-        """Returns the cheapest policy of a gap that meets this share of demand at once."""
-        level, = self.levels_with_fill(gap, [share])
-        best = self.best_of_gap(gap)
-        return best if level <= best.level else self.policy(gap, level)
+    def _level_with(self, unmet: Floats, allowed: float) -> int:
+        """Returns the least level in items with so much unmet demand, from that of all levels in cells."""
+        place = len(unmet) - max(1, int(np.searchsorted(unmet[::-1], allowed, "right")))
+        spare = 0.0
+        if place and unmet[place - 1] > unmet[place]:
+            spare = self.step * (allowed - unmet[place]) / (unmet[place - 1] - unmet[place])
+        return place * self.step - min(int(spare + NEAR), self.step - 1)
 
     def rests(self, point: int) -> list[int]:
         """Returns what levels of a point and a gap may have beyond their least one, in items, to cost least.
@@ -249,17 +259,9 @@ class LongRun(Walk, ABC):
         """Returns the policy of a point and a level that has this gap; none if S is out of its range."""
         return Candidate(self.figures_of_gap(gap, level).cost, point, level) if level <= MOST_ITEMS else NO_POLICY
 
-    def floor(self, gap: Places) -> Places:
-        """Returns the least level of a gap with s of at least 0, in cells."""
-        return -(-self.items(gap) // self.step)
-
     def first_gap(self, cost: float, most: int) -> int:
         """Returns the first gap up to the most whose orders alone cost no more."""
         return int(np.argmax(np.cumsum(self.lows_of(most)) * self.span * cost * CLOSE >= self.setup))
-
-    @abstractmethod
-    def rows_of(self, gaps: Whole) -> tuple[int, list[Floats]]:
-        """Returns for each gap the chances of how far a level of `figures_from` is below S, and their first cell."""
 
     def parts(self, gaps: Sequence[int]) -> Iterator[Whole]:
         """Yields rising gaps in parts, whose tables are small."""
@@ -271,53 +273,30 @@ class LongRun(Walk, ABC):
             left = left[count:]
 
     def costed(self, levels_of: LevelsOf, gaps: Sequence[int]) -> Levels:
-        """Returns levels of rising gaps with their costs. They are found part by part."""
-        found = []
-        for some in self.parts(gaps):
-            low, rows = self.rows_of(some)
-            found.append(levels_of(Means(self.figures_from, low, rows, self.top_of(some, low, rows)), some))
-        levels, costs = zip(*found)
+        """Returns levels of rising gaps with their costs. They are computed part by part."""
+        levels, costs = zip(*(levels_of(Means(self, some)) for some in self.parts(gaps)))
         return np.concatenate(levels), np.concatenate(costs)
 
-    def top_of(self, gaps: Whole, low: int, rows: Sequence[Floats]) -> int:
-        """Returns the highest level that is looked at, in cells: with the one below it, nothing is ever owed."""
-        return max(int(self.floor(gaps[-1])), low + max(map(len, rows)) + self.after.high) + 1
-
-    def tables_of(self, gaps: Whole) -> tuple[Whole, Floats, Floats]:
-        """Returns levels S from 0 on, in items, in steps of a cell and up to one with which nothing is ever owed, and
-        their mean stock and unmet demand in a period, in items: a row for each of some rising gaps."""
-        low, rows = self.rows_of(gaps)
-        width = max(map(len, rows))
-        top = self.top_of(gaps, low, rows) - 1
-        chances, stocks = np.zeros((len(rows), width)), self.step * np.arange(1 - width - low, top - low + 1)
-        for row, its in zip(chances, rows):
-            row[:len(its)] = its
-        room = room_for(len(stocks))  # what is beyond comes round to the places before the first level
-        moved = fft.rfft(chances, room)
-        stock, unmet = (fft.irfft(moved * fft.rfft(its, room), room)[:, width - 1:len(stocks)]
-                        for its in (self.one_period.left(stocks), self.unmet_at(stocks)))
-        return self.step * np.arange(top + 1), stock, np.maximum(unmet, 0)
-
-    def best_levels(self, means: Means, gaps: Whole, share: float) -> Levels:
+    def best_levels(self, means: Means, share: float) -> Levels:
         """Returns the cheapest levels that meet a share of demand at once: those, or the newsvendor's if higher."""
-        allowed, low, high = self.allowed(share), self.floor(gaps), np.full(len(gaps), means.top)
+        allowed, low, high = self.allowed(share), self.floor(means.gaps), np.full(len(means.gaps), means.top)
         while (low < high).any():
             middle = (low + high) // 2
             unmet, held = means.at(middle, slice(1, 3))
             is_enough = (unmet <= allowed) & (held >= self.ratio)
             low, high = np.where(is_enough, low, np.minimum(middle + 1, high)), np.where(is_enough, middle, high)
-        places = self.places(means, gaps, low)
+        places = self.places(means, low)
         return self.costs_of(places, self.spare_of(places, allowed))
 
-    def fixed_levels(self, means: Means, gaps: Whole, levels: Whole) -> Levels:
+    def fixed_levels(self, means: Means, levels: Whole) -> Levels:
         """Returns these levels, with their costs. Beyond the highest one, each item more is one more in stock."""
         cells = np.minimum(-(-levels // self.step), means.top)
-        return self.costs_of(self.places(means, gaps, cells), cells * self.step - levels)
+        return self.costs_of(self.places(means, cells), cells * self.step - levels)
 
-    def places(self, means: Means, gaps: Whole, levels: Whole) -> GapLevels:
+    def places(self, means: Means, levels: Whole) -> GapLevels:
         """Returns levels of gaps, in cells, with the sums over the lows."""
-        totals = np.cumsum(self.lows_of(int(gaps[-1])))[gaps]
-        return GapLevels(gaps, levels, totals, totals * means.at(levels), totals * means.at(levels - 1))
+        totals, sums = np.cumsum(self.lows_of(int(means.gaps[-1])))[means.gaps], slice(0, 3)
+        return GapLevels(means.gaps, levels, totals, totals * means.at(levels, sums), totals * means.at(levels - 1, sums))
 
     def spare_of(self, places: GapLevels, allowed: float) -> Whole:
         """Returns how far below these places a level can be, in items, less than a cell, if so much may be unmet."""
@@ -332,13 +311,23 @@ class LongRun(Walk, ABC):
         costs = self.setup / self.span + places.here[0] + spare / self.step * (places.below[0] - places.here[0])
         return levels, np.where(levels <= MOST_ITEMS, costs / places.totals, math.inf)
 
-    @abstractmethod
+    def cheapest_of_gaps(self, gaps: Sequence[int], share: float) -> Candidate:
+        """Returns the cheapest policy of rising gaps that meets a share of demand at once, the first one of equals."""
+        levels, costs = self.costed(partial(self.best_levels, share=share), gaps)
+        best = int(np.argmax(costs <= costs.min() * (1 + NEAR)))
+        return self.policy(gaps[best], int(levels[best]))
+
     def best(self) -> Candidate:
         """Returns the cheapest policy."""
+        return self.best_with_fill(0.0)
 
-    @abstractmethod
     def best_with_point(self, point: int) -> Candidate:
         """Returns the cheapest policy with a reorder point."""
+        return min(self.best_with_rest(point, rest) for rest in self.rests(point))
+
+    @abstractmethod
+    def best_with_rest(self, point: int, rest: int) -> Candidate:
+        """Returns the cheapest policy with a reorder point and a rest of S."""
 
     @abstractmethod
     def best_with_level(self, level: int) -> Candidate:

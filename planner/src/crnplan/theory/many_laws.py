@@ -1,22 +1,32 @@
-"""Computes the long run of the same policies under many laws of demand and of lead times, fast: on lattices that are
-coarser than those of a search. Figures are rounded and unproved.
+"""Computes policies under many laws of demand and of lead times, fast: on lattices that are coarser than those of a
+search. Figures are rounded and unproved.
+
+`figures_of_laws` compares the same policies under each law. `Promises` finds policies that keep a fill rate under most
+laws that a history allows. A policy with 98% fill by one law has less if customers ask for more than that law says, and
+a short history allows many laws. So S is raised until the share of demand is met under enough of them. Costs are those
+of the scenario's own law, by which the share is met too.
+
+For each gap S - s the laws are ranked by the least S that meets the share. The S of a promise is that of the law at the
+confidence's place in this order: no smaller one keeps the promise with this gap. The gap is the cheapest of a few
+around that of the policy without a promise. For these, only laws near that place are looked at.
 """
 from __future__ import annotations
 
 import dataclasses
 import math
-from collections.abc import Sequence
+from collections.abc import Iterable, Sequence
 from dataclasses import dataclass
 from functools import partial
 
 import numpy as np
 
 from ..chances import Floats
+from ..errors import Refused
 from ..law import Law
 from ..scenario import Policy, Scenario
-from .lattice import NoTheory, Shape, finest, shape_of, theory_on, values_of
+from .lattice import NoTheory, Shape, finest, has_room, late_work, shape_of, theory_on, values_of
 from .lattice_law import room_for
-from .long_run import LongRun
+from .long_run import NO_POLICY, Candidate, LongRun
 from .walk import Walk
 
 DEVIATIONS = 8  # of the net demand of the lead time, which have room
@@ -27,6 +37,12 @@ LEAST_ROOM = 512
 LONG_LEAD = 12  # periods: beyond, a law's own best policy is not looked for if there are several lead times
 GAPS = (12, 6, 6)  # that the search for a law's own best policy looks at in each round
 CHECKED = 3  # laws on a coarse lattice that are computed again on one twice as coarse
+
+CONFIDENCE = 0.8
+FACTORS = tuple(1.1**power for power in range(-5, 7))  # of the gap without a promise
+BESIDE = 8  # laws on each side of the confidence's place that are looked at for other gaps
+MOST_LEVELS = 1_500  # cells, with one lead time, in the mean of the laws
+MOST_LATE_WORK = 60_000  # for late orders with a gap, by `work_of`, in the mean
 
 
 @dataclass(frozen=True)
@@ -56,26 +72,18 @@ def room_of(walk: Walk, shape: Shape, widest: int) -> int:
     return room_for(above + widest + int(min(periods * net.high, likely)) + 2)
 
 
-def room_allowed(shape: Shape) -> int:
-    """Returns how many cells are computed in time."""
-    pairs, last = shape.lead * (shape.lead + 1) / 2 * (shape.leads > 1), shape.lead * (shape.leads > 1)
-    return max(LEAST_ROOM, int(MOST_WORK / (OF_CELL + OF_PERIOD * last + OF_PAIR * pairs)))
-
-
-def run_of(scenario: Scenario, widest: int) -> tuple[LongRun, int]:
-    """Returns the long run of a scenario on the finest lattice that is computed in time, and the greatest gap to look
-    at, in cells. Raises NoTheory if there is none."""
-    shape = shape_of(scenario)
-    widest, base = max(widest, math.ceil(2 * shape.order)), math.gcd(*values_of(scenario))
+def run_of(scenario: Scenario, shape: Shape, widest: int) -> LongRun | None:
+    """Returns the long run of a scenario on the finest lattice that is computed in time for gaps up to so many items;
+    None if its numbers are too far apart for that."""
+    base, last = math.gcd(*values_of(scenario)), shape.lead * (shape.leads > 1)
+    of_cell = OF_CELL + OF_PERIOD * last + OF_PAIR * last * (last + 1) / 2
+    allowed = max(LEAST_ROOM, int(MOST_WORK / of_cell))
 
     def excess(step: int) -> float:
         """Returns how many times too large the laws on a lattice are."""
-        return room_of(Walk(scenario, step, step == base), shape, -(-widest // step) + 1) / room_allowed(shape)
+        return room_of(Walk(scenario, step, step == base), shape, -(-widest // step) + 1) / allowed
     step = finest(base, max(shape.high, shape.order), excess, lambda size: 0.8 * size)
-    if step is None:
-        raise NoTheory("the numbers of this scenario are too far apart for the theory's tables; compare policies by "
-                       "runs")
-    return theory_on(scenario, shape, step, step == base), -(-widest // step) + 1
+    return None if step is None else theory_on(scenario, shape, step, step == base)
 
 
 def least_cost(theory: LongRun, most: int) -> float:
@@ -99,23 +107,114 @@ def figures_of_laws(scenario: Scenario, laws: Sequence[tuple[Law, Law]],
     A lattice is as fine as `MOST_WORK` allows. Raises NoTheory if the scenario has no best policy.
     """
     shape_of(scenario)
-    widest = max(it.S - it.s for it in policies)
-    rows: list[tuple[int, Floats, Floats, float, int]] = []
+    given = max(policy.S - policy.s for policy in policies)
+    rows: list[tuple[int, Sequence[float], Sequence[float], float, int]] = []
     coarse: list[float] = []
     for place, (demand, lead) in enumerate(laws):
         own = dataclasses.replace(scenario, demand=demand, lead=lead)
-        try:
-            theory, most = run_of(own, widest)
-        except NoTheory:
+        shape = shape_or_none(own)
+        widest = max(given, math.ceil(2 * shape.order)) if shape else given
+        theory = run_of(own, shape, widest) if shape else None
+        if shape is None or theory is None:
             continue
-        shape = shape_of(own)
-        least = math.nan if shape.leads > 1 and shape.lead > LONG_LEAD else least_cost(theory, most)
-        rows.append((place, *theory.costs_and_fills(policies), least, theory.step))
+        is_long = shape.leads > 1 and shape.lead > LONG_LEAD
+        least = math.nan if is_long else least_cost(theory, -(-widest // theory.step) + 1)
+        figures = [theory.figures(policy.s, policy.S) for policy in policies]
+        rows.append((place, [its.cost for its in figures], [its.fill for its in figures], least, theory.step))
         if not theory.exact and len(coarse) < CHECKED:
-            again, _ = theory_on(own, shape, 2 * theory.step, False).costs_and_fills(policies)
-            coarse.append(float(np.abs(again / rows[-1][1] - 1).max()))
+            twice = theory_on(own, shape, 2 * theory.step, False)
+            coarse.append(max(abs(twice.figures(policy.s, policy.S).cost / its.cost - 1)
+                              for policy, its in zip(policies, figures)))
     if not rows:
         raise NoTheory("no law of demand has a long run: as much comes back as is asked for", "demand")
     places, costs, fills, least_costs, steps = zip(*rows)
     return LawFigures(places, np.array(costs), np.array(fills), np.array(least_costs), max(steps),
                       max(coarse, default=None))
+
+
+def shape_or_none(scenario: Scenario) -> Shape | None:
+    """Returns the shape of a scenario; None if there is nothing to order in the long run."""
+    try:
+        return shape_of(scenario)
+    except NoTheory:
+        return None
+
+
+def excess_of(shapes: Sequence[Shape], gap: int, step: int) -> float:
+    """Returns by how many times it takes too long to find levels of laws on a lattice, for a gap in items."""
+    levels = [shape.level / step / MOST_LEVELS for shape in shapes if shape.leads == 1]
+    passes = [late_work(shape, step, gap / step) / MOST_LATE_WORK for shape in shapes if shape.leads > 1]
+    return sum(levels + passes) / max(len(shapes), 1)
+
+
+class Promises:
+    """Policies of a scenario that meet shares of demand at once under enough of some laws, and by its own.
+
+    `lacking` is how many of the laws have no long run, and so keep no promise. Fill rates are counted in steps of
+    `step` items; they are exact but for rounding if `exact` says so.
+    """
+
+    def __init__(self, scenario: Scenario, theory: LongRun, gap: int, laws: Sequence[Law], leads: Sequence[Law],
+                 shares: Sequence[float], confidence: float = CONFIDENCE) -> None:
+        """Takes laws of demand and, perhaps, as many of lead times, which belong together one by one.
+
+        `theory` is that of the scenario, and `gap` that of a good policy, in its cells. Raises Refused if there is no
+        law, if the numbers differ, or if the confidence is not above 0 and at most 1.
+        """
+        if not laws or len(leads) not in (0, len(laws)):
+            raise Refused(f"there are {len(laws)} laws of demand and {len(leads)} of lead times; give as many of both")
+        if not 0 < confidence <= 1:
+            raise Refused(f"the confidence is {confidence:g}; it is above 0, and at most 1")
+        self.theory, self.shares, self.confidence = theory, shares, confidence
+        pairs = zip(laws, leads or [scenario.lead] * len(laws))
+        scenarios = [dataclasses.replace(scenario, demand=demand, lead=lead) for demand, lead in pairs]
+        shapes = [*map(shape_or_none, scenarios)]
+        known = [shape for shape in shapes if shape]
+        self.step = finest(theory.step, math.inf, lambda step: excess_of(known, gap * theory.step, step),
+                           lambda excess: 1) or theory.step
+        self.exact = theory.exact and self.step == theory.step
+        self.theories = [theory_on(own, shape, self.step, self.exact) if shape and has_room(shape, self.step) else None
+                         for own, shape in zip(scenarios, shapes)]
+        self.lacking = sum(own is None for own in self.theories)
+        self.levels: dict[tuple[int, int, float], float] = {}
+
+    def levels_of(self, laws: Sequence[int], gap: int, share: float) -> list[float]:
+        """Returns the least S of a gap under each of some laws, by their numbers; infinite if one has no long run."""
+        self.prepare(laws, [gap])
+        return [self.levels[law, gap, share] for law in laws]
+
+    def prepare(self, laws: Iterable[int], gaps: Sequence[int]) -> None:
+        """Computes the levels of rising gaps under some laws at once, which is faster than one by one."""
+        for law in laws:
+            theory, new = self.theories[law], [gap for gap in gaps if (law, gap, self.shares[0]) not in self.levels]
+            none = [(gap, [math.inf] * len(self.shares)) for gap in new]
+            by_gap = theory.levels_with_fill(new, self.shares) if theory else none
+            self.levels.update(((law, gap, share), level) for gap, levels in by_gap
+                               for share, level in zip(self.shares, levels))
+
+    def policy(self, gap: int, level: float, share: float) -> Candidate:
+        """Returns the cheapest policy of a gap with S of at least a level that meets a share by the own law."""
+        own = self.theory.gap_of(0, gap * self.step + (0 if self.exact else (self.step - 1) // 2))
+        least = self.theory.cheapest_of_gaps([own], share)
+        if max(level, least.cost) == math.inf:
+            return NO_POLICY
+        return self.theory.policy(own, int(level)) if level > least.level else least
+
+    def cheapest(self, plain: Candidate, share: float) -> Candidate:
+        """Returns the cheapest policy found that meets a share under enough laws. `plain` is the one by the own law."""
+        if plain.cost == math.inf:
+            return NO_POLICY
+        laws = range(len(self.theories))
+        place = max(0, math.ceil(self.confidence * len(laws) - 1e-9) - 1)
+        first = (plain.level - plain.point) // self.step
+        levels = self.levels_of(laws, first, share)
+        low = max(0, place - BESIDE)
+        near = sorted(laws, key=levels.__getitem__)[low:place + BESIDE + 1]
+
+        def about(gap: int) -> Candidate:
+            """Returns about what a gap keeps."""
+            return self.policy(gap, sorted(self.levels_of(near, gap, share))[place - low], share)
+        others = sorted({round(first * factor) for factor in FACTORS} - {first})
+        self.prepare(near, others)
+        best = min(others, key=about, default=first)
+        return min(self.policy(gap, sorted(self.levels_of(laws, gap, share))[place], share) for gap in (first, best))

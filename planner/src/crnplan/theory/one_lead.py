@@ -9,13 +9,15 @@ a period, with m and M as in `long_run.py`. G(y) is the mean cost of stock and b
 low at y. Gaps up to `widest` are looked at, and s from `lowest` on: if G(s) is above C(g, S), the policy with the gap
 g - 1 and the same S costs less. It meets more demand at once too, since the lowest of all lows meets least. So the best
 policy, also with a fill rate, has G(s) of at most its cost.
+
+Of each gap the least level is sought that meets the share and is at least the newsvendor's (compare Zheng and
+Federgruen, Finding optimal (s,S) policies is about as simple as evaluating a single policy, 1991).
 """
 from __future__ import annotations
 
 import math
 from bisect import bisect_left
-from collections.abc import Callable, Iterable, Sequence
-from functools import partial
+from collections.abc import Callable
 
 import numpy as np
 import numpy.typing as npt
@@ -23,12 +25,9 @@ import numpy.typing as npt
 from ..chances import Floats, Whole
 from ..formats import MOST_ITEMS
 from ..scenario import Scenario
-from .lattice_law import LatticeLaw, convolved, power_of, room_for, sum_of
-from .long_run import CLOSE, NEAR, NO_POLICY, Candidate, LongRun, gap_grid
-from .means import GapLevels
+from .lattice_law import convolved, power_of, sum_of
+from .long_run import FEW, NEAR, CLOSE, NO_POLICY, Candidate, GapLevels, LongRun, gap_grid
 
-FEW = 4  # Of the gaps of a grid, one in so many is looked at for a first policy.
-ROUNDING = 1e-14  # Costs that differ by no more than this share are the same to a search that lowers them step by step.
 EVEN = 1e-10  # Chances that differ by no more than this share are taken as the same by a search, not for figures.
 
 Sums = tuple[float, float, float]
@@ -65,7 +64,7 @@ class Lows:
 
         That level does not fall from one gap to the next. Gaps whose last place is no low are left out.
         """
-        total, floor, found = float(self.counts[first]), min(floor_of(first), self.last), []
+        total, floor, rows = float(self.counts[first]), min(floor_of(first), self.last), []
         level = floor + bisect_left(range(floor, self.last), True,
                                     key=lambda level: self.is_enough(self.at(first, level), total))
         below, here = self.at(first, level - 1), self.at(first, level)
@@ -86,9 +85,9 @@ class Lows:
                 here = self.at(gap, level)
             if not self.is_enough(here, total):
                 break
-            found.append((gap, level, total, *here, *below))
-        rows = np.array(found).reshape(-1, 9).T
-        return GapLevels(rows[0].astype(int), rows[1].astype(int), rows[2], rows[3:6], rows[6:])
+            rows.append((gap, level, total, *here, *below))
+        table = np.array(rows).reshape(-1, 9).T
+        return GapLevels(table[0].astype(int), table[1].astype(int), table[2], table[3:6], table[6:])
 
     def spread(self, gaps: Whole, floors: Whole) -> GapLevels:
         """Returns for gaps of at least `even` the least level from a floor on that is enough, if the table has it."""
@@ -118,58 +117,20 @@ class OneLead(LongRun):
     def __init__(self, scenario: Scenario, step: int, exact: bool, most: int) -> None:
         """Makes the laws of the net demand while an order is under way."""
         super().__init__(scenario, step, exact, most)
-        lead, = (it for it, weight in zip(scenario.lead.values, scenario.lead.weights) if weight)
-        under_way = sum_of(power_of(self.net, lead), self.above_low)
+        under_way = sum_of(power_of(self.net, max(scenario.lead.chances)), self.above_low)
         self.start_from(under_way, under_way.high)
-        self.found: Candidate | None = None
 
-    def laws(self, gap: int) -> tuple[LatticeLaw, LatticeLaw]:
-        """Returns the laws of how far the stock is below S at the end of a period, and just before its demand."""
-        lows = LatticeLaw.scaled(0, self.lows_of(gap))
-        return sum_of(lows, self.after), sum_of(lows, self.before)
-
-    def rows_of(self, gaps: Whole) -> tuple[int, list[Floats]]:
-        """Returns the chances of the lows, for each gap a row, and their first cell."""
+    def rows_of(self, gaps: Whole) -> tuple[int, Floats]:
+        """Returns the chances of the lows, a row for each gap, and their first cell."""
         lows = self.lows_of(int(gaps[-1]))
-        return 0, [lows[:gap + 1] / lows[:gap + 1].sum() for gap in gaps.tolist()]
-
-    def unmet_of(self, gap: int) -> Floats:
-        """Returns the mean demand of a period that is not met at once, in items, for each level S of 0 cells and more.
-        """
-        self.prepare([gap])
-        return self.unmet[gap]
-
-    def prepare(self, gaps: Iterable[int]) -> None:
-        """Computes the unmet demand of many gaps at once."""
-        new = [gap for gap in gaps if gap not in self.unmet]
-        if not new:
-            return
-        most = max(new)
-        lows, places = self.lows_of(most), np.arange(most + 1)
-        levels = self.step * np.arange(-most, max(most + self.after.high, 0) + 1)
-        room, unmet = room_for(len(levels) + most), self.unmet_at(levels)
-        if len(new) == 1:
-            sums = convolved(lows, unmet)[None]
-        else:
-            within = np.where(places <= np.array(new)[:, None], lows, 0.0)
-            sums = np.fft.irfft(np.fft.rfft(within, room) * np.fft.rfft(unmet, room), room)
-        for gap, row in zip(new, sums):
-            self.unmet[gap] = row[most:len(levels)] / lows[:gap + 1].sum()
+        rows = np.where(np.arange(len(lows)) <= gaps[:, None], lows, 0.0)
+        return 0, rows / np.cumsum(lows)[gaps, None]
 
     def lowest(self, cost: float) -> int:
         """Returns the least low, in items, of a best policy that costs no more: see the module."""
         levels = self.step * np.arange(int(min(MOST_ITEMS, self.reach(cost))) // self.step + 2)
-        cheap = np.flatnonzero(self.stock_costs(levels) <= CLOSE * cost)
+        cheap = np.flatnonzero(self.figures_from(levels)[0] <= CLOSE * cost)
         return max(0, int(levels[cheap[0]]) - self.step + 1) if len(cheap) else 0
-
-    def lows_beside(self, known: Candidate, share: float) -> Lows:
-        """Returns the sums for a search of policies that meet a share of demand and cost no more than a known one.
-
-        They reach to the highest level of such a policy.
-        """
-        lows = self.lows_of(self.widest(known.cost, self.lowest(known.cost)))
-        top = min(MOST_ITEMS, self.reach(known.cost) + len(lows) * self.step / 2)
-        return Lows(lows, self.figures_from(np.arange(-2, int(top) // self.step + 2)), self.allowed(share), self.ratio)
 
     def places_of(self, lows: Lows, known: Candidate) -> GapLevels:
         """Returns the best level of each gap that may cost no more than a known policy: a multiple of a cell.
@@ -183,81 +144,23 @@ class OneLead(LongRun):
         places = lows.spread(gaps, self.floor(gaps))
         return places if first >= lows.even else lows.walked(first, lows.even - 1, self.floor).joined(places)
 
-    def cheapest_of(self, places: GapLevels, lows: Lows) -> Candidate:
-        """Returns the cheapest policy of all gaps, whose levels are at most one cell lower than the places."""
-        levels, costs = self.costs_of(places, self.spare_of(places, lows.allowed))
-        best = int(np.argmax(costs <= costs.min() * (1 + NEAR)))
-        return self.policy(int(places.gaps[best]), int(levels[best])) if costs[best] < math.inf else NO_POLICY
-
-    def cheapest_beside(self, known: Candidate, share: float) -> Candidate:
-        """Returns the cheapest of all policies that meet a share of demand at once, of which one is known.
-
-        Of each gap the least level is sought that meets the share and is at least the newsvendor's (compare Zheng and
-        Federgruen, Finding optimal (s,S) policies is about as simple as evaluating a single policy, 1991).
-        """
-        if known.cost == math.inf:
-            return NO_POLICY
-        lows = self.lows_beside(known, share)
-        places = self.places_of(lows, known)
-        found = self.cheapest_of(places, lows) if len(places.gaps) else known
-        is_cut = (lows.last + 1) * self.step > MOST_ITEMS and len(places.gaps) < len(lows.counts)
-        return min(found, self.best_with_level(MOST_ITEMS, share)) if is_cut else found
-
-    def cheap_lows(self, cost: float) -> Floats:
-        """Returns G(y) of all lows y that cost no more, from the least y on, in steps of a cell."""
-        last = int(min(MOST_ITEMS, self.reach(cost))) // self.step
-        costs = self.stock_costs(self.step * np.arange(self.floor(0), last + 1))
-        cheap = np.flatnonzero(costs <= cost * (1 + NEAR))
-        return costs[cheap[0]:cheap[-1] + 1]
-
-    def costs_of_gaps(self, lows: Floats) -> Floats:
-        """Returns what each gap costs with one S, from G of S and of the places below it."""
-        chances = self.lows_of(len(lows) - 1)
-        costs: Floats = (self.setup / self.span + np.cumsum(chances * lows)) / np.cumsum(chances)
-        return costs
-
-    def cheapest_gap(self) -> int:
-        """Returns the gap of the cheapest policy whose S is a multiple of a cell; the first if there are several.
-
-        For a cost c let w(y) = c - G(y), and let y0 be the first low with w of at least 0. If the sum of m(j) w(S - j)
-        over the places from S down to y0 exceeds setup / span for some S, the policy with these lows costs less than c,
-        and its cost is the next c (Dinkelbach, On nonlinear fractional programming, Management Science 13, 1967). Else
-        c is the least cost: no other s is better for any S, and no S with w below 0 is (Zheng and Federgruen, Finding
-        optimal (s,S) policies is about as simple as evaluating a single policy, Operations Research 39, 1991).
-        """
-        level = max(self.floor(0), self.one_period.quantile(self.ratio) // self.step)
-        lows = self.stock_costs(self.step * np.array([min(level, MOST_ITEMS // self.step)]))
-        cost, place = math.inf, 0
-        while (found := float(self.costs_of_gaps(lows[place::-1])[-1])) < cost * (1 - ROUNDING):
-            cost = found
-            lows = self.cheap_lows(cost)
-            chances = self.lows_of(len(lows) - 1)
-            saved = convolved(chances, cost - lows)[:len(lows)]
-            place = int(np.argmax(saved))
-        nearly = np.flatnonzero(saved >= saved[place] - NEAR * cost * np.cumsum(chances))
-        equal = [np.flatnonzero(self.costs_of_gaps(lows[it::-1]) <= found * (1 + NEAR)) for it in nearly.tolist()]
-        return int(min(its[0] for its in equal if len(its)))
-
-    def best(self) -> Candidate:
-        """Returns the cheapest policy of all."""
-        if self.found is None:
-            found = self.cheapest_of_gaps([self.cheapest_gap()], 0.0)
-            if self.floor(0) > 0:  # then S is no multiple of a cell if s is 0
-                found = min(found, self.best_with_point(0))
-            if self.reach(found.cost) + self.step > MOST_ITEMS:
-                found = min(found, self.best_with_level(MOST_ITEMS))
-            self.found = found
-        return self.found
-
-    def cheapest_of_gaps(self, gaps: Sequence[int], share: float) -> Candidate:
-        """Returns the cheapest policy of rising gaps that meets a share of demand at once."""
-        levels, costs = self.costed(partial(self.best_levels, share=share), gaps)
-        best = int(np.argmax(costs <= costs.min() * (1 + NEAR)))
-        return self.policy(gaps[best], int(levels[best]))
-
     def best_with_fill(self, share: float) -> Candidate:
         """Returns the cheapest of all policies that meet at least this share of demand at once."""
-        return self.cheapest_beside(self.cheapest_of_gaps(gap_grid(self.most)[::FEW], share), share)
+        known = self.cheapest_of_gaps(gap_grid(self.most)[::FEW], share)
+        if known.cost == math.inf:
+            return NO_POLICY
+        chances = self.lows_of(self.widest(known.cost, self.lowest(known.cost)))
+        top = int(min(MOST_ITEMS, self.reach(known.cost) + len(chances) * self.step / 2)) // self.step
+        table = self.figures_from(self.step * np.arange(-2, top + 2))[:3]
+        lows = Lows(chances, table, self.allowed(share), self.ratio)
+        places = self.places_of(lows, known)
+        best = known
+        if len(places.gaps):
+            levels, costs = self.costs_of(places, self.spare_of(places, lows.allowed))
+            place = int(np.argmax(costs <= costs.min() * (1 + NEAR)))
+            best = self.policy(int(places.gaps[place]), int(levels[place]))
+        is_cut = (lows.last + 1) * self.step > MOST_ITEMS and len(places.gaps) < len(chances)
+        return min(best, self.best_with_level(MOST_ITEMS, share)) if is_cut else best
 
     def place_of_least(self, stock_sums: Floats, is_allowed: npt.NDArray[np.bool_]) -> tuple[float, int]:
         """Returns the least cost, and its gap, from the sums of the costs of stock over the lows of each gap.
@@ -271,24 +174,20 @@ class OneLead(LongRun):
 
     def best_with_rest(self, point: int, rest: int) -> Candidate:
         """Returns the cheapest of all policies with a reorder point and a rest of S."""
-        most, found = self.most, (math.inf, 0)
+        most, cost, gap = self.most, math.inf, 0
         while most:
             levels = point + rest + self.items(np.arange(most + 1))
-            sums = convolved(self.lows_of(most), self.stock_costs(levels))[:most + 1]
-            found = self.place_of_least(sums, levels <= MOST_ITEMS)
-            widest = self.widest(found[0], point) if found[0] < math.inf else 0
+            sums = convolved(self.lows_of(most), self.figures_from(levels)[0])[:most + 1]
+            cost, gap = self.place_of_least(sums, levels <= MOST_ITEMS)
+            widest = self.widest(cost, point) if cost < math.inf else 0
             most = min(widest, 2 * most) if widest > most else 0
-        return self.with_point(found[1], point + self.items(found[1]) + rest, point)
-
-    def best_with_point(self, point: int) -> Candidate:
-        """Returns the cheapest of all policies with a reorder point."""
-        return min(self.best_with_rest(point, rest) for rest in self.rests(point))
+        return self.with_point(gap, point + self.items(gap) + rest, point)
 
     def best_with_level(self, level: int, share: float = 0.0) -> Candidate:
         """Returns the cheapest of all policies with an order-up-to level that meet a share of demand at once."""
         gaps = np.arange(level // self.step + 1)
         levels, lows = level - self.step * gaps, self.lows_of(len(gaps) - 1)
-        unmet = np.cumsum(lows * self.unmet_at(levels)) / np.cumsum(lows)
-        is_allowed = (self.items(gaps) <= level) & (unmet <= self.allowed(share))
-        cost, gap = self.place_of_least(np.cumsum(lows * self.stock_costs(levels)), is_allowed)
+        costs, unmet = np.cumsum(lows * self.figures_from(levels)[:2], axis=1)
+        is_allowed = (self.items(gaps) <= level) & (unmet <= self.allowed(share) * np.cumsum(lows))
+        cost, gap = self.place_of_least(costs, is_allowed)
         return self.policy(gap, level) if cost < math.inf else NO_POLICY

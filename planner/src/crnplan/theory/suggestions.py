@@ -17,7 +17,7 @@ from ..law import Law
 from ..scenario import BY_ITS_LAWS, Policy, Scenario
 from ..table import Cell, DataTable, Json, Result, number, text, whole
 from .behaviour import Depths
-from .confidence import CONFIDENCE, FillLevels, Promises
+from .many_laws import CONFIDENCE, Promises
 from .lattice import theories_of
 from .long_run import Candidate, Figures, LongRun, exactness_of
 
@@ -35,6 +35,12 @@ COLUMNS = (
     number("stock", "items", "mean stock at the end of a period", ".10g", ".1f"),
     number("orders", "orders a period", "mean number of orders", ".10g", ".4f"))
 REASONS = text("reasons", "why it is suggested")
+
+BEST_OF_ALL = "each is the best of all pairs with s >= 0 that its reason allows"
+# In percent: how much dearer than the best of all a policy of a search was in planner/studies/search.csv.
+MOST_EXCESS = 0.7
+SEARCHED = ("S - s is searched on a grid that gets finer around the best: found policies cost up to "
+            f"{MOST_EXCESS}% more than the best of all, where that was measured")
 
 
 class Chosen:
@@ -63,6 +69,20 @@ class Chosen:
             self.policies[its], self.reasons[its] = Policy(name, found.point, found.level), [reason]
 
 
+def condition_of(promises: Promises) -> str:
+    """Returns under which laws a promise is kept, for a reader."""
+    return f"under {100 * promises.confidence:g}% of the laws that the history allows"
+
+
+def promises_text(promises: Promises | None) -> str:
+    """Returns what is known of the promises, for a reader."""
+    if promises is None:
+        return ""
+    return (f"sure: {condition_of(promises)}, of which {len(promises.theories):,} were drawn; "
+            f"their fill rates are {exactness_of(promises.step, promises.exact)}"
+            + f"; {promises.lacking} of the laws have no long run, and keep no promise" * bool(promises.lacking))
+
+
 def add_fills(chosen: Chosen, theory: LongRun, promises: Promises | None) -> None:
     """Adds the cheapest policies with fill rates, and beside each the cheapest that promises it."""
     for name, share in FILLS.items():
@@ -71,7 +91,7 @@ def add_fills(chosen: Chosen, theory: LongRun, promises: Promises | None) -> Non
         if promises:
             found = promises.cheapest(plain, share)
             more = found.cost / plain.cost - 1 if plain.cost else 0.0
-            chosen.add(f"sure_{name}", found, f"{reason} {promises.condition}, for {more:.1%} more")
+            chosen.add(f"sure_{name}", found, f"{reason} {condition_of(promises)}, for {more:.1%} more")
 
 
 def chosen_policies(scenario: Scenario, theory: LongRun, best: Candidate, promises: Promises | None) -> Chosen:
@@ -85,7 +105,7 @@ def chosen_policies(scenario: Scenario, theory: LongRun, best: Candidate, promis
     for name, factor, reason in ORDERS:
         changed = max(round(gap * factor), gap + 1) if factor > 1 else min(round(gap * factor), gap - 1)
         if changed >= 0:
-            chosen.add(name, theory.best_of_gap(changed), f"{reason} than the best")
+            chosen.add(name, theory.cheapest_of_gaps([changed], 0.0), f"{reason} than the best")
     shift = max(1, round(theory.deviation / 2))
     for times, name in NEIGHBOURS:
         point = best.point + times * shift
@@ -217,8 +237,8 @@ def suggestions_of(scenario: Scenario, laws: Sequence[Law] = (), leads: Sequence
     """
     theory, coarse = theories_of(scenario)
     best = theory.best()
-    promises = Promises(FillLevels(scenario, theory, theory.gap_of(best.point, best.level), laws, leads,
-                                   [*FILLS.values()]), theory, confidence) if laws or leads else None
+    promises = Promises(scenario, theory, theory.gap_of(best.point, best.level), laws, leads, [*FILLS.values()],
+                        confidence) if laws or leads else None
     chosen = chosen_policies(scenario, theory, best, promises)
     rows = tuple(Suggestion(it, tuple(chosen.reasons[its]), theory.figures(it.s, it.S))
                  for its, it in chosen.policies.items())
@@ -226,7 +246,7 @@ def suggestions_of(scenario: Scenario, laws: Sequence[Law] = (), leads: Sequence
         abs(coarse.figures(it.policy.s, it.policy.S).cost - it.figures.cost) / it.figures.cost for it in rows)
     left_out = (f"left out, since a scenario has at most {POLICIES[1]} policies: {', '.join(chosen.left_out)}"
                 if chosen.left_out else "")
-    remarks = [f"search: {theory.search_text}", promises.text if promises else "", left_out]
+    remarks = [f"search: {SEARCHED if theory.is_searched else BEST_OF_ALL}", promises_text(promises), left_out]
     return Suggestions(scenario, rows, theory.step, error, theory.mean_position(best.point, best.level),
                        theory.net.mean * theory.step, tuple(it for it in remarks if it))
 

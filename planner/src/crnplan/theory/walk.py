@@ -1,4 +1,11 @@
-"""Describes how the inventory position of a scenario moves in the long run."""
+"""Describes how the inventory position of a scenario moves in the long run.
+
+Counted down from S, the position after a review is a random walk that starts anew with each order. Without returns, how
+often it visits each place is a renewal sequence (Veinott and Wagner, Computing optimal (s,S) inventory policies, 1965).
+With returns, it is the renewal sequence of the walk's lows, spread over the heights that the walk visits before its
+next low: the Wiener-Hopf factors of a random walk (Feller, An Introduction to Probability Theory and Its Applications,
+volume II, chapters XII and XVIII).
+"""
 from __future__ import annotations
 
 import math
@@ -7,8 +14,76 @@ import numpy as np
 
 from ..chances import Floats
 from ..scenario import Scenario
-from .wiener_hopf import factors_of, renewal_sequence
 from .lattice_law import NOTHING, LatticeLaw, sum_of
+
+DIGITS = 36  # e^-36 is below the rounding of a number.
+# Chances that differ by no more than this share are equal but for rounding. They are compared once in so many places.
+EQUAL = 1e-13
+LOOK_EVERY = 64
+
+
+def decay_of(net: LatticeLaw) -> float:
+    """Returns the rate at which the chance of a height above the last low falls, from one cell to the next."""
+    def excess(rate: float) -> float:
+        """Returns the logarithm of the mean of e^(-rate * net demand)."""
+        powers = -rate * net.cells
+        top = powers.max()
+        return float(top + math.log(net.chances @ np.exp(powers - top)))
+    high = 1e-12
+    while excess(high) < 0:
+        high *= 2
+    low = high / 2
+    for _ in range(60):
+        middle = (low + high) / 2
+        low, high = (middle, high) if excess(middle) < 0 else (low, middle)
+    return low
+
+
+def factors_of(net: LatticeLaw) -> tuple[Floats, Floats]:
+    """Returns how often each height above a low is visited before the next low, and the law of the fall to that low.
+
+    Without returns, the only height is 0. With returns, these are the Wiener-Hopf factors of 1 less the transform of
+    the net demand. The logarithm of that is split on a circle within which it has no zero.
+    """
+    if net.low >= 0:
+        stay = net.chances[0] if net.low == 0 else 0.0
+        falls = np.zeros(net.high + 1)
+        falls[net.low:] = net.chances / (1 - stay)
+        falls[0] = 0.0
+        return np.array([1 / (1 - stay)]), falls
+    decay = decay_of(net)
+    tilt = min(decay / 2, 10 / net.high)
+    room = 1 << math.ceil(math.log2(max(2 * DIGITS / tilt, 2 * DIGITS / (decay - tilt), 4 * len(net.chances))))
+    tilted = np.zeros(room)
+    tilted[net.cells % room] = net.chances * np.exp(-tilt * net.cells)
+    logarithm = np.fft.ifft(np.log(1 - np.fft.fft(tilted))).real
+    down, up = logarithm.copy(), logarithm
+    down[0], down[room // 2:], up[1:room // 2] = 0, 0, 0
+    falls = -np.fft.ifft(np.exp(np.fft.fft(down))).real[:net.high + 1] * np.exp(tilt * np.arange(net.high + 1))
+    falls[0] = 0.0
+    visits = np.fft.ifft(np.exp(-np.fft.fft(up))).real[-np.arange(room // 2) % room]
+    visits = np.clip(visits * np.exp(-tilt * np.arange(room // 2)), 0, None)
+    kept = np.flatnonzero(visits > 1e-13 * visits.sum())[-1] + 1
+    falls = np.clip(falls, 0, None)
+    return visits[:kept], falls / falls.sum()
+
+
+def renewal_sequence(lows: Floats, falls: Floats, count: int) -> Floats:
+    """Returns the chances that each of the first `count` places is a low of the walk. `lows` are the first of them.
+
+    Each chance is a mean of as many chances before it as a fall has cells. So once these are equal, all others are.
+    """
+    longer, reach = np.zeros(count), len(falls) - 1
+    longer[:len(lows)] = lows
+    turned = falls[:0:-1]
+    for place in range(len(lows), count):
+        is_due = place >= reach and (place % LOOK_EVERY == 0 or place == len(lows))
+        if is_due and np.ptp(longer[place - reach:place]) <= EQUAL * longer[place - 1]:
+            longer[place:] = longer[place - 1]
+            break
+        back = min(place, reach)
+        longer[place] = turned[reach - back:] @ longer[place - back:place]
+    return longer
 
 
 class Walk:
@@ -43,11 +118,6 @@ class Walk:
         """Returns the mean number of periods from one order to the next."""
         return self.span * float(self.lows_of(gap).sum())
 
-    def depth(self, gap: int) -> float:
-        """Returns how far the lows of a cycle are below S on average, in cells."""
-        lows = self.lows_of(gap)
-        return float(lows @ np.arange(gap + 1) / lows.sum())
-
     def positions(self, gap: int) -> LatticeLaw:
         """Returns the law of how far the position after a review is below S."""
         return sum_of(LatticeLaw.scaled(0, self.lows_of(gap)), self.above_low)
@@ -69,5 +139,8 @@ class Walk:
 
     def mean_position(self, point: int, level: int) -> float:
         """Returns the mean position at the beginning of a period, in items: after a review, less a net demand."""
-        depth = sum(share * self.depth(gap) for gap, share in self.gaps_of(point, level))
+        depth = 0.0
+        for gap, share in self.gaps_of(point, level):
+            lows = self.lows_of(gap)
+            depth += share * float(lows @ np.arange(gap + 1) / lows.sum())
         return level - self.step * (depth + self.above_low.mean + self.net.mean)

@@ -1,0 +1,220 @@
+"""Computes what the start and the end of a run add to its expected cost, beside the same periods of the long run.
+
+A run starts with the stock `initial` and nothing on order. The expected cost of its periods less that of as many of the
+long run is the bias of the start. It is exact on the lattice of the theory. A start between two cells is shared by
+both. The bias has three parts:
+
+- The position after each review gives the expected orders (`reviews.py`).
+- It gives the expected costs of stock and backlog too. Let l be the shortest and L the longest lead time. In the first
+  l periods no order of the run arrives, so their costs are the same for all policies. The stock in period t + l follows
+  from the position after review t, from the orders of this and the reviews before that are late, and from the net
+  demand since then (`several_leads.py`). From review L - l on, its expected cost is linear in the law of the position
+  L - l reviews before, so the mean law of all these suffices.
+- With `unit`, what the position has risen by since the start is paid for.
+
+The end adds to the cost too: `unit` is also paid for items that are left when a replication ends. The items ordered are
+the net demand and what the position has risen by, so the unit costs of two policies differ by `unit` times the
+difference of their final positions. `end_effects` replaces these by means over the long run.
+
+The figures are rounded and unproved.
+"""
+from __future__ import annotations
+
+import dataclasses
+import math
+from collections.abc import Sequence
+from typing import TYPE_CHECKING, NamedTuple
+
+import numpy as np
+from scipy import fft
+
+from ..chances import Floats, Whole
+from ..scenario import Policy, Scenario
+from .lattice import (MOST_GAPS, MOST_TRANSFORM, finest, has_room, height_of, late_work, lattice_of, moments_of,
+                      shape_of, theory_on, values_of)
+from .lattice_law import NOTHING, LatticeLaw, Surplus, power_of, room_for, sum_of
+from .long_run import LongRun
+from .reviews import Reviews, ReviewSums, Start, falling, moving
+from .several_leads import lateness, renewed, transforms_of
+from .walk import Walk
+
+if TYPE_CHECKING:
+    from ..crnsim.report import Row
+
+MOST_WORK = 40_000_000  # for late orders of all policies, by `work_of`
+MOST_BIAS_GAPS = 17_000  # with one lead time: the reviews of a run take longer than figures
+MOST_WIDTH = 50_000  # cells from the start to an order: for more, all reviews at once would take too much memory
+MOST_PRODUCTS = 300_000_000  # of cells of gaps and of demands, for mean positions
+
+
+def theory_of(scenario: Scenario, most_gaps: int = MOST_GAPS) -> LongRun:
+    """Returns the theory of a scenario, fine enough for its own policies. Costs of 0 are taken too.
+
+    With one lead time the lattice has at most so many gaps.
+    Raises NoTheory if there is no long run, or if the numbers of the scenario are too far apart.
+    """
+    costs, gaps = scenario.costs, [policy.S - policy.s for policy in scenario.policies]
+    positive = dataclasses.replace(costs, holding=max(1, costs.holding), backlog=max(1, costs.backlog))
+    # A search needs wider tables, and more passes over late orders: here the gaps are known.
+    shape = dataclasses.replace(shape_of(dataclasses.replace(scenario, costs=positive)), order=max(gaps) / 3)
+    base = math.gcd(*values_of(scenario))
+    work = sum(late_work(shape, base, gap / base) for gap in gaps)
+    if shape.leads > 1 and has_room(shape, base) and work <= MOST_WORK:
+        return theory_on(scenario, shape, base, True)
+    return theory_on(scenario, shape, *lattice_of(scenario, shape, max(gaps), most_gaps))
+
+
+def start_of(theory: LongRun, initial: int, policy: Policy, gap: int) -> Start:
+    """Returns the start of a policy. The law has room for what may come back."""
+    highs = min(theory.positions(gap).low, 0)
+    if initial < policy.s:
+        return Start(LatticeLaw(highs, np.concatenate([np.zeros(-highs), [1.0], np.zeros(gap)])), True)
+    cell, rest = divmod(policy.S - initial, theory.step)
+    low = min(cell, 0) + highs
+    chances = np.zeros(max(gap, cell + 1) - low + 1)
+    chances[cell - low] += (theory.step - rest) / theory.step
+    chances[cell + 1 - low] += rest / theory.step
+    chances[gap - low] += chances[gap - low + 1:].sum()
+    return Start(LatticeLaw(low, chances[:gap - low + 1]), False)
+
+
+def difference(left: LatticeLaw, right: LatticeLaw) -> LatticeLaw:
+    """Returns the chances of a law less those of another one."""
+    low, high = min(left.low, right.low), max(left.high, right.high)
+    chances = np.zeros(high - low + 1)
+    chances[left.low - low:left.high - low + 1] = left.chances
+    chances[right.low - low:right.high - low + 1] -= right.chances
+    return LatticeLaw(low, chances)
+
+
+class Runs:
+    """Runs of a scenario's policies from their common start.
+
+    `counted` is the number of reviews whose orders all arrive within the run.
+    """
+
+    def __init__(self, theory: LongRun, scenario: Scenario) -> None:
+        """Computes what the policies share, as the costs of the periods before the shortest lead time has passed."""
+        self.theory, self.scenario, self.periods = theory, scenario, scenario.periods
+        leads = scenario.lead.chances
+        least, self.late = min(leads), lateness(leads)
+        self.counted = max(self.periods - max(leads), 0)
+        amounts = [theory.net]
+        while len(amounts) <= least:
+            amounts.append(sum_of(amounts[-1], theory.net))
+        surpluses = [Surplus(amount, theory.step) for amount in amounts]
+        self.amount = surpluses[-1]
+        # Periods before the shortest lead time has passed, and what they cost; then those before the longest one has.
+        self.before = min(least, self.periods)
+        self.first = sum(float(self._costs(it, np.array(scenario.initial))) for it in surpluses[:self.before])
+        self.between = self.periods - self.counted - self.before
+        self.starts = {(policy, gap): start_of(theory, scenario.initial, policy, gap)
+                       for policy in scenario.policies for gap, _ in theory.gaps_of(policy.s, policy.S)}
+        widest = max(gap - min(start.law.low, 0) for (_, gap), start in self.starts.items())
+        self.falls = None
+        if theory.net.low >= 0 and widest <= MOST_WIDTH:
+            self.falls = ReviewSums(theory.net, widest, self.periods)
+
+    def reviews(self, start: Start, gap: int) -> Reviews:
+        """Returns the reviews from a start."""
+        if self.falls:
+            return falling(self.falls, start, gap, self.counted)
+        usual = self.theory.positions(gap), 1 / self.theory.periods(gap)
+        return moving(self.theory.net, start, *usual, self.periods, self.counted)
+
+    def bias(self, policy: Policy, gap: int) -> float:
+        """Returns the bias of the start of a policy, counted with this gap."""
+        theory, start, unit = self.theory, self.starts[policy, gap], self.scenario.costs.unit
+        reviews, orders = self.reviews(start, gap), 1 / theory.periods(gap)
+        usual = theory.figures_of_gap(gap, policy.S).cost - theory.setup * orders
+        bias = theory.setup * (reviews.orders - self.periods * orders)
+        bias += self._stock_bias(policy, gap, start, reviews, usual)
+        depth = reviews.last.mean + theory.net.mean
+        return bias + unit * (policy.S - theory.step * depth - self.scenario.initial)
+
+    def _costs(self, amount: Surplus, levels: Whole) -> Floats:
+        """Returns the expected costs of a period with these levels, from which a random amount is taken."""
+        costs: Floats = self.theory.holding * amount.left(levels) + self.theory.backlog * amount.lacking(levels)
+        return costs
+
+    def _excess(self, short: LatticeLaw, level: int, usual: float) -> float:
+        """Returns what a period costs more than usual if the stock a shortest lead time before is so far below a level.
+        """
+        return float(short.chances @ (self._costs(self.amount, level - self.theory.step * short.cells) - usual))
+
+    def _stock_bias(self, policy: Policy, gap: int, start: Start, reviews: Reviews, usual: float) -> float:
+        """Returns the bias of stock and backlog of a policy, which usually cost so much in a period."""
+        settled, initial = self.theory.positions(gap), self.scenario.initial
+        deviation = difference(reviews.mean if self.counted else settled, settled)
+        *first, later = self._shortfalls(start.law, deviation, gap)
+        total = self.first - self.before * usual + self.counted * self._excess(later, policy.S, usual)
+        for law, late in zip(first[:self.between], self.late * start.ordered):
+            total += (1 - late) * self._excess(law, policy.S, usual) + late * self._excess(law, initial, usual)
+        return total
+
+    def _shortfalls(self, start: LatticeLaw, deviation: LatticeLaw, gap: int) -> list[LatticeLaw]:
+        """Returns how far the stock is below S when all but late orders have arrived: the laws 0, 1, .. reviews after
+        the start, and at last what a deviation of the position makes of it, after as many as orders may be late."""
+        net, last = self.theory.net, len(self.late)
+        if not last:
+            return [deviation]
+        above = max(0, -start.low, -deviation.low) + last * max(0, -net.low)
+        room = room_for(above + gap + max(net.high, power_of(net, last).high) + 1)
+        begun = transforms_of([NOTHING, start, deviation], room)[:, None]
+        transforms = [tables[-1, 0] for tables in renewed(begun, np.array([gap]), net, self.late, room, above)]
+        return [start, *(LatticeLaw(-above, row) for row in np.roll(fft.irfft(transforms, room), above, axis=1))]
+
+
+class StartBias(NamedTuple):
+    """What the start adds to the expected cost of a replication of each policy, and what a period of the long run
+    costs; both in the scenario's money. `theory` says on which lattice, and `on_lattice` whether each start is on it.
+    """
+
+    biases: tuple[float, ...]
+    costs: tuple[float, ...]
+    theory: LongRun
+    on_lattice: bool
+
+
+def start_bias(scenario: Scenario) -> StartBias:
+    """Returns the bias of the start of a scenario's policies, over its periods from its `initial`.
+
+    Costs of the long run leave `unit` out, which adds unit times the mean net demand to each; the biases have it.
+    Raises NoTheory if there is no long run, or if the numbers of the scenario are too far apart.
+    """
+    theory, policies = theory_of(scenario, MOST_BIAS_GAPS), scenario.policies
+    runs = Runs(theory, scenario)
+    biases = (sum(share * runs.bias(policy, gap) for gap, share in theory.gaps_of(policy.s, policy.S))
+              for policy in policies)
+    on_lattice = all(scenario.initial < policy.s or (policy.S - scenario.initial) % theory.step == 0
+                     for policy in policies)
+    return StartBias(tuple(biases), tuple(theory.figures(policy.s, policy.S).cost for policy in policies), theory,
+                     on_lattice)
+
+
+def walk_of(scenario: Scenario, gap: int) -> Walk | None:
+    """Returns the position of a scenario on a lattice that is fine enough for gaps up to so many items.
+
+    None if nothing is to be ordered in the long run, or if the tables of such a lattice are too large.
+    """
+    (demand, _), (back, _) = moments_of(scenario.demand), moments_of(scenario.returns)
+    if demand - back <= 1e-9 * demand:
+        return None
+    values = values_of(scenario)
+    base, high = math.gcd(*values), max(values)
+    height = height_of(scenario, high)
+    step = finest(base, max(high, gap), lambda step: max(gap / step * min(high, gap) / step / MOST_PRODUCTS,
+                                                         4 * height / step / MOST_TRANSFORM), lambda excess: 2)
+    return None if step is None else Walk(scenario, step, step == base)
+
+
+def end_effects(scenario: Scenario, policies: Sequence[Policy | Row]) -> list[float] | None:
+    """Returns what `unit` adds per replication to each policy's cost by its final stock, less that of the first one.
+
+    None if there is no long-run mean, or if its tables are too large.
+    """
+    walk = walk_of(scenario, max(policy.S - policy.s for policy in policies))
+    if walk is None:
+        return None
+    positions = [walk.mean_position(policy.s, policy.S) for policy in policies]
+    return [scenario.costs.unit * (position - positions[0]) for position in positions]
