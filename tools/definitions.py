@@ -13,7 +13,6 @@ functions, types, closures and the clauses of loops, "proof" only from proofs an
                           them. A statement or a type has its meaning, which is the comment above it, unless the page
                           has its name in bold and in code. A function is only named; if the contracts of CHAIN reach
                           all functions of a file, the first list with one of them says so
-    kept                  the names of those that only invariants reach from the contracts of CHAIN
     ensures CONTRACT      its `ensures` clauses, as they stand in the source
 
 It goes by names and scopes, not by types: what a binder hides, or stands behind a dot, is no definition. In doubt it
@@ -200,7 +199,7 @@ def place_of(node):
 
 # The pages with parts that `pages` writes, and such a part: its mark, what it is of, and what stands there.
 PAGES = ("docs/DEFINITIONS.md", "docs/PROOFS.md")
-PART = re.compile(r"^<!-- (reached by|kept|ensures) ?(\S*) -->\n(.*?)^<!-- end -->$", re.MULTILINE | re.DOTALL)
+PART = re.compile(r"^<!-- (reached by|ensures) (\S+) -->\n(.*?)^<!-- end -->$", re.MULTILINE | re.DOTALL)
 
 
 def is_statement(name):
@@ -208,7 +207,7 @@ def is_statement(name):
     return name.lstrip("◌")[:1].isupper()
 
 
-def lines_of(repository, nodes, told, sorts, listed=()):
+def lines_of(repository, nodes, told, sorts, listed):
     """The lines of a list: the files in the order in which they are reached, in each its definitions.
 
     It takes the names that the page explains, the sorts by the contracts of CHAIN, and what stands in the lists above.
@@ -221,6 +220,8 @@ def lines_of(repository, nodes, told, sorts, listed=()):
         named = [f"`{it[3]}`" for it in here if it not in explained and not (is_whole and it in functions)]
         if is_whole and not set(functions) & set(listed) and set(functions) & set(here):
             named.append("all functions")
+        if not named and not explained:
+            continue
         yield f"\n[`{here[0][1]}`, {here[0][2]}](../{place}){': ' if named else ''}{', '.join(named)}"
         yield from ["", *(f"- `{it[3]}`: {repository.meaning(it)}" for it in explained)] if explained else []
 
@@ -248,15 +249,11 @@ def filled(repository, text):
         mark, path = found[1], found[2]
         if mark == "ensures":
             lines = ["```", *clauses_of(repository, public[path]), "```"]
-        elif mark == "kept":
-            kept = [it for it in repository.definitions if sorts[it] == "kept"]
-            kept.sort(key=lambda it: (*it[1:3], repository.definitions[it].line))
-            lines = lines_of(repository, kept, {it[3] for it in kept}, sorts)
         else:
             nodes = [it for it in repository.levels([public[path]]) if it not in shown]
             lines = list(lines_of(repository, nodes, told, sorts, shown))
             shown.update(nodes)
-        return "\n".join([f"<!-- {' '.join([mark, path]).strip()} -->", *lines, "<!-- end -->"])
+        return "\n".join([f"<!-- {mark} {path} -->", *lines, "<!-- end -->"])
 
     return PART.sub(part, text)
 

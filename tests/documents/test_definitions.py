@@ -60,8 +60,7 @@ def test_pages_have_their_parts(definitions: Any) -> None:
     """DEFINITIONS has a list for each contract of the chain, in order. PROOFS quotes those of README, and some more."""
     marks = {page: definitions.PART.findall(text_of(page)) for page in definitions.PAGES}
     lists, quotes = marks["docs/DEFINITIONS.md"], [contract for _, contract, _ in marks["docs/PROOFS.md"]]
-    assert [(mark, contract) for mark, contract, _ in lists] == [*(("reached by", it) for it in definitions.CHAIN),
-                                                                 ("kept", "")]
+    assert [(mark, contract) for mark, contract, _ in lists] == [("reached by", it) for it in definitions.CHAIN]
     assert set(definitions.CHAIN) <= set(quotes) and len(quotes) == len(set(quotes))
     assert all(re.search("^ensures ", body, re.MULTILINE) for _, _, body in marks["docs/PROOFS.md"])
 

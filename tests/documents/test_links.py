@@ -10,9 +10,11 @@ import pytest
 from tests.documents.markdown import FENCE, PAGES, anchors_of, text_of
 from tests.runs import TOP
 
-GENERATED = ("docs/DEFINITIONS.md", "docs/TABLES.md")
-# What people read to use and to change the program.
-READ = [*(it for it in PAGES if it.startswith("docs/") and it not in GENERATED), "README.md", "CONTRIBUTING.md"]
+# The pages of the program that is proved, and all that people read to use and to change it.
+CORE = ["README.md", "CONTRIBUTING.md", "docs/ARCHITECTURE.md", "docs/DECISIONS.md", "docs/DEFINITIONS.md",
+        "docs/GLOSSARY.md", "docs/PROOFS.md", "docs/PROVING.md", "docs/READING.md", "tests/README.md",
+        "crates/uses/README.md"]
+READ = [*CORE, "docs/FORMATS.md", "docs/GUIDE.md", "examples/README.md"]
 
 
 def links_of(page: str) -> list[str]:
@@ -38,9 +40,32 @@ def test_fences(page: str) -> None:
     assert len(re.findall(r"^ *(?:```|~~~)", text, re.MULTILINE)) == 2 * len(FENCE.findall(text))
 
 
+def words_of(*pages: str) -> int:
+    """Returns the number of words of some pages, with those of their code and the marks of their tables."""
+    return sum(len(text_of(it).split()) for it in pages)
+
+
 def test_words() -> None:
-    """All pages that are read have at most 27,000 words, code and tables included."""
-    assert sum(len(text_of(it).split()) for it in READ) <= 27_000
+    """The pages of the core have at most 20,000 words together, and all that are read at most 30,000."""
+    assert words_of(*CORE) <= 20_000
+    assert words_of(*READ) <= 30_000
+
+
+def test_no_page_is_left_out() -> None:
+    """Each page of the folders of the core is counted, but for those in which one looks things up."""
+    looked_up = {"CHANGELOG.md", "docs/TABLES.md", "examples/case/README.md"}
+    assert sorted({*PAGES, "crates/uses/README.md"} - looked_up) == sorted(READ)
+
+
+def test_words_of_proving() -> None:
+    """PROVING is read in one sitting: it has at most 1,500 words."""
+    assert words_of("docs/PROVING.md") <= 1_500
+
+
+def test_readme_fits_three_screens() -> None:
+    """README has at most 165 lines, each of at most 132 characters."""
+    lines = text_of("README.md").splitlines()
+    assert len(lines) <= 165 and max(map(len, lines)) <= 132
 
 
 def test_words_of_the_guide() -> None:

@@ -12,9 +12,9 @@ from tests.runs import TOP
 from tools.edits import FOLDERS, Edit, crates, edits_of
 
 LISTED = re.findall(r"^(\w+):", text_of("crates.txt"), re.MULTILINE)
-# The table of crates stands above that of crnplan's packages.
+# The list of crates stands above the table of crnplan's packages.
 CRATES = text_of("docs/ARCHITECTURE.md").partition("| Module | Contents |")[0]
-ROWS = re.findall(r"^\| `((?:crn|tests_|uses)[a-z_]*)` \|", CRATES, re.MULTILINE)
+ROWS = re.findall(r"^- `((?:crn|tests_|uses)[a-z_]*)`:", CRATES, re.MULTILINE)
 # What the program gives out. Each is defined in a crate below it, so main.rt compiles only if it is there.
 PROGRAM_NAMES = {"simulate", "leg", "resume", "migrate", "replay_run", "read_words", "Command", "Fault"}
 # Names in pages that stand for any of their kind.
