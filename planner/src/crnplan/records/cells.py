@@ -6,6 +6,7 @@ or 1,234,567, which has one reading alone, or if the sign is stated. The time of
 """
 from __future__ import annotations
 
+import contextlib
 import datetime
 import re
 from collections.abc import Iterable, Sequence
@@ -60,11 +61,6 @@ def readings(text: str) -> dict[str, Fraction]:
     return numbers
 
 
-def spelt(number: Fraction) -> str:
-    """Returns a number in digits, with a point if it is not whole."""
-    return f"{float(number):.15g}" if number.denominator > 1 else str(number)
-
-
 def unwrapped(text: str) -> str:
     """Returns a number in parentheses, which is below 0, with a minus."""
     return f"-{text[1:-1].strip()}" if text[:1] == "(" and text[-1:] == ")" else text
@@ -96,11 +92,8 @@ class AmountReader:
 
     def __init__(self, stated: str | None = None, currencies: dict[str, str] | None = None) -> None:
         """Begins without any text. A stated decimal sign decides all."""
-        self.stated = stated
-        self.currencies = currencies
-        self.sides: dict[str, str] = {}
-        # The first text that may be two numbers.
-        self.doubtful: str | None = None
+        self.stated, self.currencies, self.sides = stated, currencies, dict[str, str]()
+        self.is_doubtful = False  # whether a text may be two numbers
 
     def look(self, cells: Iterable[Cell]) -> AmountReader:
         """Looks at cells of the column for its decimal sign, and its currency. Returns itself."""
@@ -114,8 +107,7 @@ class AmountReader:
                 numbers = readings(unwrapped(bare.rstrip("% ")))
                 if len(numbers) == 1:
                     self.sides.setdefault(next(iter(numbers)), text)
-                elif len({*numbers.values()}) > 1:
-                    self.doubtful = self.doubtful or text
+                self.is_doubtful |= len({*numbers.values()}) > 1
         return self
 
     @property
@@ -127,9 +119,8 @@ class AmountReader:
     def decided(self) -> str | None:
         """Returns what decides a number that could be two, as `the comma in 2,5`; None if there is none, or nothing
         does."""
-        if self.doubtful is None or self.sign is None:
-            return None
-        return f"{NAMES[self.sign]} in {shown(self.sides[self.sign])}"
+        return f"{NAMES[self.sign]} in {shown(self.sides[self.sign])}" if self.is_doubtful and self.sides and self.sign \
+            else None
 
     def number(self, cell: Cell, if_empty: str = "no amount") -> Fraction:
         """Returns the number of a cell. `if_empty` is the code for an empty one. Raises Unreadable."""
@@ -150,7 +141,7 @@ class AmountReader:
         if self.stated is not None:
             numbers = {sign: number for sign, number in numbers.items() if sign == self.stated}
         elif len({*numbers.values()}) > 1:
-            large, small = (spelt(it) for it in sorted(numbers.values(), key=abs, reverse=True))
+            small, large = (f"{float(number):.15g}" for number in sorted(numbers.values(), key=abs))
             numbers = {sign: number for sign, number in numbers.items() if sign == self.sign}
             if not numbers:
                 signs = " and ".join(repr(shown(it)) for it in self.sides.values())
@@ -226,32 +217,39 @@ EVERY = ("day", "week", "month")
 NEED_PERIOD = ("dates of movements and of orders need the period: say "
                + ", ".join(argument("every", every) for every in EVERY[:-1]) + f" or {argument('every', EVERY[-1])}")
 FIRST_YEAR, LAST_YEAR = 1980, 2199
-# The forms, each as a date of its kind is written. A year of two digits is from 1969 to 2068, as in POSIX.
+# A year of two digits is from 1969 to 2068, as in POSIX.
 YEAR = "(?P<year>[0-9]{4}|[0-9]{2})"
-ISO = re.compile("(?P<year>[0-9]{4})-(?P<month>[0-9]{1,2})-(?P<day>[0-9]{1,2})")
-DOTTED = re.compile(rf"(?P<day>[0-9]{{1,2}})\.(?P<month>[0-9]{{1,2}})\.{YEAR}")
-SLASHED = re.compile(f"(?P<first>[0-9]{{1,2}})/(?P<second>[0-9]{{1,2}})/{YEAR}")
+SLASHED = re.compile(f"(?P<day>[0-9]{{1,2}})/(?P<month>[0-9]{{1,2}})/{YEAR}")
+# The forms, each as a date of its kind is written. One with slashes may have the month first.
+DATE_FORMS = {re.compile("(?P<year>[0-9]{4})-(?P<month>[0-9]{1,2})-(?P<day>[0-9]{1,2})"): "2026-03-31",
+              re.compile(rf"(?P<day>[0-9]{{1,2}})\.(?P<month>[0-9]{{1,2}})\.{YEAR}"): "31.03.2026",
+              SLASHED: "31/03/2026"}
 TIME = re.compile(r"(?:T| +)(?:[01]?[0-9]|2[0-3]):[0-5][0-9](?::[0-5][0-9](?:[.,][0-9]+)?)?(?: ?[AaPp][Mm])?"
                   r"(?: ?(?:Z|[+-][0-9]{2}:?[0-9]{2}))?$")
 PROBES = (datetime.date(2026, 3, 31), datetime.date(1999, 12, 4))
 
 
-def checked_format(pattern: str) -> str:
-    """Returns a pattern of strptime if it says a whole date. Raises Refused."""
+def check_format(pattern: str) -> None:
+    """Raises Refused for a pattern of strptime that doesn't say a whole date."""
     try:
-        whole = all(datetime.datetime.strptime(it.strftime(pattern), pattern).date() == it for it in PROBES)
+        is_whole = all(datetime.datetime.strptime(day.strftime(pattern), pattern).date() == day for day in PROBES)
     except (ValueError, re.error):
-        whole = False
-    if not whole:
-        raise Refused(f"{argument('date_formats', pattern)}: this is no pattern of a whole date; write one such as %d.%m.%Y (%d "
-                      "is the day, %m the month, %Y the year, %y its last two digits)")
-    return pattern
+        is_whole = False
+    if not is_whole:
+        raise Refused(f"{argument('date_formats', pattern)}: this is no pattern of a whole date; write one such as "
+                      "%d.%m.%Y (%d is the day, %m the month, %Y the year, %y its last two digits)")
 
 
-def bare_date(text: str) -> str | None:
-    """Returns a text without its time of day if it is a date in a usual form, else None."""
-    bare = TIME.sub("", text)
-    return bare if any(form.fullmatch(bare) for form in (ISO, DOTTED, SLASHED)) else None
+def bare_cell(cell: Cell) -> Cell:
+    """Returns a cell without blanks around it; the empty text if it has nothing."""
+    return cell.strip() if isinstance(cell, str) else "" if cell is None else cell
+
+
+def dated_cell(cell: Cell) -> Cell:
+    """Returns a date without its time of day, if it is in a usual form."""
+    bare = bare_cell(cell)
+    date = TIME.sub("", bare) if isinstance(bare, str) else ""
+    return date if any(form.fullmatch(date) for form in DATE_FORMS) else bare
 
 
 class DateReader:
@@ -264,9 +262,9 @@ class DateReader:
         # The first date that has the day first, and the first that has the month first.
         self.sides: dict[bool, str] = {}
         for text in (it for it in texts if isinstance(it, str) and "/" in it and not patterns):
-            found = SLASHED.fullmatch(TIME.sub("", text))
-            if found and (int(found["first"]) > 12) != (int(found["second"]) > 12):
-                self.sides.setdefault(int(found["first"]) > 12, text)
+            parts = SLASHED.fullmatch(TIME.sub("", text))
+            if parts and (int(parts["day"]) > 12) != (int(parts["month"]) > 12):
+                self.sides.setdefault(int(parts["day"]) > 12, text)
 
     def read(self, cell: Cell) -> tuple[datetime.date, str]:
         """Returns a date and its form, named by an example or by a pattern; one that a sheet stores is of the first.
@@ -285,11 +283,9 @@ class DateReader:
         """Returns the date of a text that is written by a pattern, with or without a time of day behind it."""
         dates: dict[datetime.date, str] = {}
         for pattern in self.patterns:
-            for it in (text, TIME.sub("", text)):
-                try:
-                    dates.setdefault(datetime.datetime.strptime(it, pattern).date(), pattern)
-                except ValueError:
-                    continue
+            for bare in (text, TIME.sub("", text)):
+                with contextlib.suppress(ValueError):
+                    dates.setdefault(datetime.datetime.strptime(bare, pattern).date(), pattern)
         if len(dates) > 1:
             raise Unreadable("two patterns", text, dates=" or ".join(map(str, dates)))
         if not dates:
@@ -299,30 +295,22 @@ class DateReader:
     def _by_form(self, text: str) -> tuple[datetime.date, str]:
         """Returns the date of a text that is written in a usual form."""
         bare = TIME.sub("", text)
-        found, form = ISO.fullmatch(bare), "2026-03-31"
-        if found is None:
-            found, form = DOTTED.fullmatch(bare), "31.03.2026"
-        month, day = (int(found["month"]), int(found["day"])) if found else (0, 0)
-        if found is None:
-            found = SLASHED.fullmatch(bare)
-            if found is None:
-                raise Unreadable("no form", text, is_number=int(bare.isdecimal()))
-            month, day, form = self._slashed(text, int(found["first"]), int(found["second"]))
-        year = int(found["year"])
-        if len(found["year"]) == 2:
+        parts = next((parts for pattern in DATE_FORMS if (parts := pattern.fullmatch(bare))), None)
+        if parts is None:
+            raise Unreadable("no form", text, is_number=int(bare.isdecimal()))
+        day, month, year, form = int(parts["day"]), int(parts["month"]), int(parts["year"]), DATE_FORMS[parts.re]
+        if parts.re is SLASHED:
+            if day <= 12 and month <= 12 and day != month and len(self.sides) != 1:
+                sides = " and ".join(repr(shown(side)) for side in self.sides.values())
+                raise Unreadable("day or month", text, sides=sides)
+            if not (day > 12 if (day > 12) != (month > 12) else True in self.sides):
+                day, month, form = month, day, "03/31/2026"
+        if len(parts["year"]) == 2:
             year, form = year + (2000 if year < 69 else 1900), form.replace("2026", "26")
         try:
             return datetime.date(year, month, day), form
         except ValueError as fault:
             raise Unreadable("no day", text) from fault
-
-    def _slashed(self, text: str, first: int, second: int) -> tuple[int, int, str]:
-        """Returns the month, the day and the form of a date with slashes."""
-        day_first = first > 12 if (first > 12) != (second > 12) else True in self.sides
-        if first <= 12 and second <= 12 and first != second and len(self.sides) != 1:
-            raise Unreadable("day or month", text,
-                             sides=" and ".join(repr(shown(it)) for it in self.sides.values()))
-        return (second, first, "31/03/2026") if day_first else (first, second, "03/31/2026")
 
 
 def period_of(date: datetime.date, every: str) -> int:

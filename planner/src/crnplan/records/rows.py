@@ -5,7 +5,6 @@ blank ones.
 """
 from __future__ import annotations
 
-import datetime
 import sys
 from array import array
 from collections.abc import Callable, Iterator, Mapping
@@ -15,7 +14,7 @@ import numpy as np
 import numpy.typing as npt
 
 from ..remarks import Remark
-from .cells import AmountReader, Cell, DateReader, bare_date, text_of
+from .cells import AmountReader, Cell, DateReader, bare_cell, dated_cell, text_of
 from .columns import Source
 from .faults import Unreadable
 
@@ -49,19 +48,6 @@ class Codes(dict[Cell, int]):
         if len(self) < self.most:
             self[cell] = code
         return code
-
-
-def bare_cell(cell: Cell) -> Cell:
-    """Returns a cell without blanks around it; the empty text if it has nothing."""
-    return cell.strip() if isinstance(cell, str) else "" if cell is None else cell
-
-
-def dated_cell(cell: Cell) -> Cell:
-    """Returns a date without its time of day, if it is in a usual form."""
-    bare = bare_cell(cell)
-    if isinstance(bare, datetime.datetime):
-        return bare.date()
-    return (bare_date(bare) or bare) if isinstance(bare, str) else bare
 
 
 class Rows:

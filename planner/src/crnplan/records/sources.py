@@ -26,7 +26,7 @@ from pathlib import Path
 from typing import TYPE_CHECKING, Any, Union
 
 from ..errors import Fault, Refused, RefusedFaults, argument
-from .cells import DECIMALS, Cell, checked_format, text_of
+from .cells import DECIMALS, Cell, check_format, text_of
 from .faults import shown
 
 if TYPE_CHECKING:
@@ -71,7 +71,7 @@ class Rules:
             raise Refused(f"{argument('encoding', str(self.encoding))} is no encoding of texts; say utf-8, latin-1 or "
                           "cp1252") from fault
         for pattern in self.date_formats:
-            checked_format(pattern)
+            check_format(pattern)
 
 
 def likely_encoding(data: bytes) -> str:
