@@ -174,7 +174,7 @@ def test_a_lost_row_is_said(files: Path, monkeypatch: pytest.MonkeyPatch) -> Non
     def without(self: Reader, item: int, *more: Any) -> Any:
         """Loses a row of an item."""
         if self.names[item] == "A-002":
-            self.counts.used["demand"] -= 1
+            self.counts["files"]["demand"]["used"] -= 1
         return own(self, item, *more)
     monkeypatch.setattr(Reader, "_item", without)
     missing = read_catalogue(*(files / it for it in FILES), today=TODAY).missing

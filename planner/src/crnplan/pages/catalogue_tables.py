@@ -7,7 +7,7 @@ from fractions import Fraction
 
 from ..plan.answer import RUN, THEORY, Answer, Figures
 from ..plan.catalogue import PlannedFolder, Totals
-from ..records.catalogue_reading import FileCounts
+from ..records.items import FileCounts
 from ..records.catalogued import Reject
 from ..records.item import Item
 from ..remarks import Remark

@@ -6,9 +6,9 @@ import datetime
 import json
 import tempfile
 from collections.abc import Iterator, Mapping, Sequence
-from dataclasses import asdict, dataclass, field
+from dataclasses import dataclass, field
 from pathlib import Path
-from typing import TYPE_CHECKING, Any, TypedDict
+from typing import TYPE_CHECKING, cast
 
 from ..errors import Fault, Refused, RefusedFaults, argument, worded
 from ..files import Folder, faults_of, own_folder
@@ -18,31 +18,13 @@ from .cells import NAMES, DateReader, text_of
 from .columns import ROLES, Source, open_source
 from .faults import Unreadable, on_one_line
 from .item import AMOUNTS
-from .items import KEEP, LEAVE_OUT, Reader, Words
+from .items import KEEP, LEAVE_OUT, Counts, Reader, Words
 from .observed import Day
 from .rows import DATES, Rows, read_rows
 from .sources import Table, opened
 
 if TYPE_CHECKING:
     import pandas as pd
-
-
-class FileCounts(TypedDict):
-    """What became of the rows of a file."""
-
-    name: str
-    read: int
-    blank: int
-    used: int
-    rejected: int
-    with_item: int
-
-
-class Counts(TypedDict):
-    """What became of all rows, by the kind of their file, and how many items there are of each kind."""
-
-    files: dict[str, FileCounts]
-    items: dict[str, int]
 
 
 @dataclass(frozen=True)
@@ -66,9 +48,7 @@ class Catalogue:
     @property
     def counts(self) -> Counts:
         """Returns how many rows of each file there are, by what became of them, and how many items."""
-        with self.opened() as its:
-            counts: Counts = its.fact("counts")
-        return counts
+        return cast(Counts, self.fact("counts"))
 
     @property
     def found(self) -> str:
@@ -78,8 +58,7 @@ class Catalogue:
     @property
     def said(self) -> list[str]:
         """Returns what is to be said of the files, as units that were converted."""
-        with self.opened() as its:
-            return [str(line) for line in its.fact("said")]
+        return cast(list[str], self.fact("said"))
 
     @property
     def missing(self) -> list[str]:
@@ -150,7 +129,8 @@ def read_alone(path: Path, tables: Mapping[str, Table | None], words: Words) -> 
 
 
 @contextlib.contextmanager
-def open_sources(tables: Mapping[str, Table | None], words: Words, room: Path | None = None) -> Iterator[dict[str, Source]]:
+def open_sources(tables: Mapping[str, Table | None], words: Words,
+                 room: Path | None = None) -> Iterator[dict[str, Source]]:
     """Gives tables after a look at their heads. Raises RefusedFaults with all that is wrong with these."""
     sources: dict[str, Source] = {}
     faults: list[Fault] = []
@@ -175,19 +155,9 @@ def read_into(folder: Folder, tables: Mapping[str, Table | None], words: Words) 
         reader = Reader(rows, words, writer)
         reader.read()
         periods = reader.record.periods
-        return writer.finish({"counts": counts_of(reader), "every": words.every, "decimals": reader.counts.decimals,
+        return writer.finish({"counts": reader.counts, "every": words.every, "decimals": reader.decimals,
                               "periods": [periods.start, periods.stop], "found": found_text(reader),
                               "said": [line for source in sources.values() for line in source.said(words.every)]})
-
-
-def counts_of(reader: Reader) -> Counts:
-    """Returns the counts of rows by table, and of items: of rows as they were read, and of what became of them."""
-    its = reader.counts
-    files: dict[str, FileCounts] = {
-        kind: {"name": rows.source.name, "read": len(rows), "blank": len(rows.blank), "used": its.used[kind],
-               "rejected": its.rejected[kind], "with_item": its.with_item[kind]} for kind, rows in reader.rows.items()}
-    return {"files": files, "items": {name: value for name, value in asdict(its).items()
-                                      if isinstance(value, int) and name != "decimals"}}
 
 
 def found_text(reader: Reader) -> str:
@@ -201,7 +171,8 @@ def found_text(reader: Reader) -> str:
             amounts = reader.amounts[role]
             if amounts.stated and not place:
                 lines.append(f"# the decimal sign is {NAMES[amounts.stated]}, as stated")
-            signs = " and ".join(f"{NAMES[sign]} in {on_one_line(text)}" for sign, text in sorted(amounts.sides.items()))
+            signs = " and ".join(f"{NAMES[sign]} in {on_one_line(text)}"
+                                 for sign, text in sorted(amounts.sides.items()))
             lines += [f"# the decimal sign of {role} is {signs}"] * bool(signs)
     return worded("\n".join(lines)) + "\n"
 

@@ -21,8 +21,6 @@ from .item import PLANNED, Item
 
 CATALOGUE = "catalogue"  # the kind of the folder
 READ = "catalogue.sqlite"
-# Rows that are sent to SQLite at a time.
-AT_ONCE = 2_000
 
 
 @dataclass(frozen=True)
@@ -109,14 +107,12 @@ class Writer:
         """Opens a new file, with its tables."""
         self.path, self.part = folder.store(READ), folder.room() / READ
         self.base = sqlite3.connect(self.part)
-        self.waiting: list[Reject] = []
         self.base.executescript("PRAGMA journal_mode = OFF; PRAGMA synchronous = OFF;"
                                 f"CREATE TABLE items ({quoted(ITEM.names)}, PRIMARY KEY (name)) WITHOUT ROWID;"
                                 "CREATE TABLE facts (name TEXT PRIMARY KEY, value TEXT);"
                                 f"CREATE TABLE rejects ({quoted(REJECT.names)});")
 
     def __enter__(self) -> Writer:
-        """Gives itself."""
         return self
 
     def __exit__(self, *fault: object) -> None:
@@ -126,14 +122,7 @@ class Writer:
 
     def reject(self, reject: Reject) -> None:
         """Adds what is left out or named."""
-        self.waiting.append(reject)
-        if len(self.waiting) >= AT_ONCE:
-            self._send()
-
-    def _send(self) -> None:
-        """Sends what waits."""
-        self.base.executemany(REJECT.insert("rejects"), map(REJECT.cells, self.waiting))
-        self.waiting.clear()
+        self.base.execute(REJECT.insert("rejects"), REJECT.cells(reject))
 
     def add_items(self, items: Iterable[Item]) -> None:
         """Adds items."""
@@ -141,7 +130,6 @@ class Writer:
 
     def finish(self, facts: Mapping[str, Any]) -> Path:
         """Adds the facts, and gives the file its name."""
-        self._send()
         self.base.executemany("INSERT INTO facts VALUES (?, ?)", [(name, json.dumps(it)) for name, it in facts.items()])
         self.base.commit()
         self.base.close()

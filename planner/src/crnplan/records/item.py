@@ -70,15 +70,6 @@ class Item:
 PLANNED = tuple(it.name for it in fields(Item))[:[it.name for it in fields(Item)].index("stock")]
 
 
-class Faulty(ValueError):
-    """A row with faults of its cells."""
-
-    def __init__(self, faults: Sequence[CellFault]) -> None:
-        """Keeps the faults."""
-        super().__init__()
-        self.faults = tuple(faults)
-
-
 def decimals_of(number: Fraction) -> int:
     """Returns how many decimals an amount has."""
     return next(it for it in range(MOST_DECIMALS + 1) if (number * 10**it).denominator == 1)
@@ -123,14 +114,16 @@ class Masters:
     def __init__(self, amounts: Mapping[str, AmountReader], columns: Mapping[str, Column], every: str) -> None:
         """Takes how the amounts of each role are read, and the columns."""
         units = {role: column.unit for role, column in columns.items() if column.unit}
-        self.factors = {role: factor_of(role, unit, every) for role, unit in units.items() if role not in ("lead", "fill")}
+        self.factors = {role: factor_of(role, unit, every) for role, unit in units.items()
+                        if role not in ("lead", "fill")}
         self.share = units["holding"] if units.get("holding") in ("share", "percent") else ""
         self.readers: dict[str, Callable[[Cell], Any]] = {
             "setup": amounts["setup"].amount, "holding": lambda cell: self._holding(amounts["holding"], cell),
             "lead": lambda cell: leads_of(cell, units.get("lead", ""), every), "backlog": amounts["backlog"].positive,
             "fill": lambda cell: amounts["fill"].share(cell, "fill" in units), "s": amounts["s"].items,
             "S": amounts["S"].items, "stock": amounts["stock"].number, "price": amounts["price"].amount,
-            "price_for": amounts["price_for"].positive, "borrow": borrowed_from}
+            "price_for": amounts["price_for"].positive, "borrow": borrowed_from,
+            **dict.fromkeys(("description", "class"), lambda cell: UNPRINTABLE.sub(" ", str(cell)))}
 
     def _holding(self, reader: AmountReader, cell: Cell) -> Fraction:
         """Returns a holding cost: money, or a share of the price."""
@@ -143,34 +136,9 @@ class Masters:
             raise Unreadable("small percent", cell, role="holding")
         return number / 100 if is_percent and self.share == "share" else number
 
-    def item(self, name: str, line: int, cells: Mapping[str, Cell], observed: Sequence[int]) -> tuple[Item, int]:
-        """Returns an item without its demand, by its master, and the decimals of its money. `observed` are lead times
-        of orders, for a row that says none.
-
-        Raises Faulty with all that is wrong with the row.
-        """
-        read, faults = self._read(cells)
-        if "backlog" in read and "fill" in read and read["backlog"] is None and read["fill"] is None:
-            faults.append(("backlog", "", Remark("no goal")))
-        if "lead" in read and read["lead"] is None and not observed:
-            faults.append(("lead", "", Remark("nothing of leads")))
-        if "s" in read and "S" in read and read["s"] > read["S"]:
-            faults.append(("s", cells["s"], Remark("s above S", {"s": read["s"], "S": read["S"]})))
-        if self.share and "price" in read and not read["price"]:
-            faults.append(("holding", cells["holding"], Remark("no price for share")))
-        if faults:
-            raise Faulty(faults)
-        decimals = max(decimals_of(read[role]) for role in MONEY if read[role] is not None)
-        read["price"] = None if read["price"] is None else read["price"] / (read["price_for"] or 1)
-        read |= {role: read[role] * factor for role, factor in self.factors.items() if read[role] is not None}
-        holding = read["holding"] * read["price"] if self.share else read["holding"]
-        description, group = (UNPRINTABLE.sub(" ", str(cells.get(role, ""))) for role in ("description", "class"))
-        return Item(name, (), tuple(read["lead"] or observed), (int(read["s"]), int(read["S"])), read["setup"], holding,
-                    read["backlog"], read["fill"], group=group, borrow=read["borrow"] or "", stock=read["stock"],
-                    price=read["price"], description=description, line=line), decimals
-
-    def _read(self, cells: Mapping[str, Cell]) -> tuple[dict[str, Any], list[CellFault]]:
-        """Returns the values of the cells by role, without units, and the faults of those that have none."""
+    def read(self, cells: Mapping[str, Cell], observed: Sequence[int]) -> tuple[dict[str, Any], list[CellFault]]:
+        """Returns the values of a row by role, None of an empty cell, and all that is wrong with the row. `observed` are
+        lead times of orders, for a row that says none."""
         read: dict[str, Any] = {}
         faults: list[CellFault] = []
         for role, reader in self.readers.items():
@@ -179,4 +147,22 @@ class Masters:
                 read[role] = None if cell == "" and role not in NEEDED else reader(cell)
             except Unreadable as why:
                 faults.append((role, cell, why.remark))
+        if "backlog" in read and "fill" in read and read["backlog"] is None and read["fill"] is None:
+            faults.append(("backlog", "", Remark("no goal")))
+        if "lead" in read and read["lead"] is None and not observed:
+            faults.append(("lead", "", Remark("nothing of leads")))
+        if "s" in read and "S" in read and read["s"] > read["S"]:
+            faults.append(("s", cells["s"], Remark("s above S", {"s": read["s"], "S": read["S"]})))
+        if self.share and "price" in read and not read["price"]:
+            faults.append(("holding", cells["holding"], Remark("no price for share")))
         return read, faults
+
+    def item(self, name: str, line: int, read: dict[str, Any], observed: Sequence[int]) -> tuple[Item, int]:
+        """Returns an item without its demand, by the values of its row without units, and the decimals of its money."""
+        decimals = max(decimals_of(read[role]) for role in MONEY if read[role] is not None)
+        read["price"] = None if read["price"] is None else read["price"] / (read["price_for"] or 1)
+        read |= {role: read[role] * factor for role, factor in self.factors.items() if read[role] is not None}
+        holding = read["holding"] * read["price"] if self.share else read["holding"]
+        return Item(name, (), tuple(read["lead"] or observed), (int(read["s"]), int(read["S"])), read["setup"], holding,
+                    read["backlog"], read["fill"], group=read["class"] or "", borrow=read["borrow"] or "",
+                    stock=read["stock"], price=read["price"], description=read["description"] or "", line=line), decimals

@@ -6,6 +6,7 @@ import datetime
 from collections import Counter
 from collections.abc import Callable, Mapping, Sequence
 from dataclasses import dataclass, field, replace
+from typing import Literal, TypedDict
 
 import numpy as np
 import numpy.typing as npt
@@ -17,7 +18,7 @@ from .catalogued import Reject, Writer
 from .cells import EVERY, Cell, period_name, period_of, text_of
 from .columns import ROLES, Stated, factor_of, unit_fault
 from .faults import TOTAL, UNPRINTABLE, Unreadable, named_lines, on_one_line
-from .item import AMOUNTS, MONEY, CellFault, Faulty, Item, Masters
+from .item import AMOUNTS, MONEY, CellFault, Item, Masters
 from .observed import Day, ends_of, record_of, summed
 from .rows import Flags, Numbers, Rows, far_above
 from .sources import Rules
@@ -73,29 +74,30 @@ class Words(Rules):
         return Stated(self.columns.get(kind, {}), self.units.get(kind, {}), self.names.get(kind, {}))
 
 
-@dataclass
-class Counts:
-    """How many rows of each file were used, rejected, and left out with their item; and how many items there are."""
+class FileCounts(TypedDict):
+    """What became of the rows of a file."""
 
-    used: Counter[str] = field(default_factory=Counter)
-    rejected: Counter[str] = field(default_factory=Counter)
-    with_item: Counter[str] = field(default_factory=Counter)
-    open_orders: int = 0
-    twice: int = 0
-    named: int = 0
-    ready: int = 0
-    left_out: int = 0
-    late: int = 0
-    decimals: int = 0
+    name: str
+    read: int
+    blank: int
+    used: int
+    rejected: int
+    with_item: int
+
+
+class Counts(TypedDict):
+    """What became of all rows, by the kind of their file, and how many items there are of each kind."""
+
+    files: dict[str, FileCounts]
+    items: dict[str, int]
 
 
 class Left(Exception):
     """An item that is left out: the file and line that say why, column, text, and why."""
 
     def __init__(self, kind: str, line: int, column: str, text: str, why: Remark) -> None:
-        """Keeps all of it."""
         super().__init__()
-        self.place, self.remark = (kind, line, column, text), why
+        self.kind, self.line, self.column, self.text, self.why = kind, line, column, text, why
 
 
 @dataclass(frozen=True)
@@ -125,7 +127,11 @@ class Reader:
     def __init__(self, rows: Mapping[str, Rows], words: Words, writer: Writer) -> None:
         """Looks at all dates and amounts, which decide how they are read, and at the ends of the record. Raises
         Refused."""
-        self.rows, self.words, self.writer, self.counts = rows, words, writer, Counts()
+        self.rows, self.words, self.writer, self.decimals = rows, words, writer, 0
+        self.counts: Counts = {
+            "files": {kind: {"name": its.source.name, "read": len(its), "blank": len(its.blank), "used": 0, "rejected": 0,
+                             "with_item": 0} for kind, its in rows.items()},
+            "items": dict.fromkeys(("open_orders", "twice", "named", "ready", "left_out", "late"), 0)}
         self.names = [str(name) for name in rows["items"].columns["item"].distinct]
         self.good = {kind: self._named(kind) for kind in rows}
         self.dates = {kind: its.date_reader() for kind, its in rows.items()}
@@ -158,7 +164,8 @@ class Reader:
             role, text, remark = "item", text_of(rows.cell("item", row)), Remark("no item")
             if row in rows.wide:
                 role, (cells, text) = "", rows.wide[row]
-                remark = Remark("long", {"cells": cells, "columns": len(rows.source.heading), "sign": rows.source.sheet.sign})
+                remark = Remark("long", {"cells": cells, "columns": len(rows.source.heading),
+                                         "sign": rows.source.sheet.sign})
             elif text:
                 remark = Remark("unprintable name")
             self._reject(kind, row, "", [(role, text, remark)])
@@ -166,7 +173,7 @@ class Reader:
 
     def _reject(self, kind: str, row: int, name: str, faults: Sequence[CellFault]) -> None:
         """Rejects a row of an item with its faults."""
-        self.counts.rejected[kind] += 1
+        self.counts["files"][kind]["rejected"] += 1
         self.writer.reject(Reject("row", self.rows[kind].source.name, int(self.rows[kind].lines[row]), name,
                                   *self._said(kind, faults), int(kind == "demand")))
 
@@ -181,31 +188,31 @@ class Reader:
         moves, move_ends, no_items = self._moves()
         leads, lead_ends, orders = self._leads()
         masters, master_ends = self.rows["items"].by_item(np.flatnonzero(self.good["items"]))
-        known = {code for kind, rows in self.rows.items() for code in np.unique(rows.codes("item")[self.good[kind]]).tolist()}
+        known = {code for kind, table in self.rows.items()
+                 for code in np.unique(table.codes("item")[self.good[kind]]).tolist()}
         waiting: list[Item] = []
         for item in sorted(known - no_items, key=self.names.__getitem__):
             mine, rows = moves.of(_span(move_ends, item)), masters[_span(master_ends, item)].tolist()
-            count = {"demand": len(mine.lines), "items": len(rows), "orders": int(orders[item])}
-            self.counts.named += 1
+            counts = {"demand": len(mine.lines), "items": len(rows), "orders": int(orders[item])}
+            state: Literal["used", "with_item"] = "used"
             try:
                 waiting.append(self._item(item, mine, rows, leads[_span(lead_ends, item)].tolist()))
-            except Left as why:
-                self._leave(self.names[item], why, count)
-                continue
-            self.counts.ready += 1
-            self.counts.used.update(count)
+            except Left as left:
+                state = "with_item"
+                self.writer.reject(Reject("item", self.rows[left.kind].source.name, left.line, self.names[item],
+                                          left.column, on_one_line(left.text), left.why, len(mine.lines)))
+            self.counts["items"]["named"] += 1
+            self.counts["items"]["ready" if state == "used" else "left_out"] += 1
+            for kind, file in self.counts["files"].items():
+                file[state] += counts[kind]
             if len(waiting) >= ITEMS_AT_ONCE:
                 self.writer.add_items(waiting)
                 waiting = []
         self.writer.add_items(waiting)
 
-    def _leave(self, name: str, why: Left, count: Mapping[str, int]) -> None:
-        """Leaves an item out."""
-        kind, line, column, text = why.place
-        self.counts.left_out += 1
-        self.counts.with_item.update(count)
-        self.writer.reject(Reject("item", self.rows[kind].source.name, line, name, column, on_one_line(text),
-                                  why.remark, count["demand"]))
+    def _left(self, kind: str, line: int, role: str, cell: object, code: str, **facts: int | str) -> Left:
+        """Returns why an item is left out."""
+        return Left(kind, line, self.column(kind, role), str(cell), Remark(code, facts))
 
     def _dates(self, kind: str, role: str) -> tuple[Numbers, Numbers, dict[int, Remark]]:
         """Returns the day, as an ordinal number, and the period of each row's date, and what is wrong with values."""
@@ -250,8 +257,8 @@ class Reader:
         good = self._without_twins(good & ~bad)
         if "measure" in rows.columns and self.words.factors:
             units = rows.columns["measure"].distinct
-            factors = np.array([self.words.factors.get(text_of(it), 1) for it in units], np.int64)[rows.codes("measure")]
-            amounts = {role: its * factors for role, its in amounts.items()}
+            factors = np.array([self.words.factors.get(text_of(unit), 1) for unit in units], np.int64)
+            amounts = {role: its * factors[rows.codes("measure")] for role, its in amounts.items()}
         order, ends = rows.by_item(np.flatnonzero(good))
         back = amounts["returned"][order] if "returned" in amounts else np.broadcast_to(np.int64(0), len(order))
         return Moves(rows.lines[order], periods[order], amounts["quantity"][order], back), ends, no_items
@@ -288,8 +295,8 @@ class Reader:
                                      "first": int(rows.lines[first[mine[0]]])})
             self.writer.reject(Reject("row" if leaves else "suspicious", rows.source.name, lines[0], name,
                                       self.column("demand", "item"), name, remark, len(lines) * leaves))
-        self.counts.twice += len(again)
-        self.counts.rejected["demand"] += len(again) * leaves
+        self.counts["items"]["twice"] += len(again)
+        self.counts["files"]["demand"]["rejected"] += len(again) * leaves
         return good & ~np.isin(np.arange(len(good)), again) if leaves else good
 
     def _leads(self) -> tuple[Numbers, Numbers, Numbers]:
@@ -314,7 +321,7 @@ class Reader:
             far = Remark("lead range", {"lead": int(leads[row]), "most": MOST_LEAD})
             self._reject("orders", row, self.names[rows.codes("item")[row]],
                          wrong or [("received", cells["received"], late if there[row] < placed[row] else far)])
-        self.counts.open_orders += int((good & is_open).sum())
+        self.counts["items"]["open_orders"] += int((good & is_open).sum())
         _, ends = rows.by_item(np.flatnonzero(good & ~bad))
         received, received_ends = rows.by_item(np.flatnonzero(good & ~bad & ~is_open))
         return leads[received], received_ends, np.diff(np.r_[0, ends])
@@ -330,17 +337,16 @@ class Reader:
         asked, netted, unmet = summed(moves.periods - first, moves.asked, periods)
         if unmet is not None:
             amount, period = -int(moves.asked[unmet]), period_name(int(moves.periods[unmet]), self.words.every)
-            raise Left("demand", int(moves.lines[unmet]), self.column("demand", "quantity"), str(-amount),
-                       Remark("unmet return", {"amount": amount, "period": period}))
+            raise self._left("demand", int(moves.lines[unmet]), "quantity", -amount, "unmet return", amount=amount,
+                             period=period)
         back = np.bincount(moves.periods - first, moves.back, periods).astype(np.int64).tolist()
         self._check_counts(asked, back)
-        self.counts.late += first > start
-        self.counts.decimals = max(self.counts.decimals, decimals)
+        self.counts["items"]["late"] += first > start
+        self.decimals = max(self.decimals, decimals)
         its = replace(master, counts=tuple(asked), returns=tuple(back) if any(back) else (), first=first,
                       rows=len(moves.lines))
         if round(its.levels[1] / its.box) > MOST_ITEMS:
-            raise Left("items", its.line, self.column("items", "S"), str(its.levels[1]),
-                       Remark("S too large", {"most": MOST_ITEMS}))
+            raise self._left("items", its.line, "S", its.levels[1], "S too large", most=MOST_ITEMS)
         remarks: list[tuple[str, bool, Mapping[str, int | str]]] = [
             ("equal masters", len(masters) > 1, {"masters": len(masters)}),
                    ("late", first > start, {"period": period_name(first, self.words.every)}),
@@ -362,8 +368,7 @@ class Reader:
         if len(rest) > 1:
             line, unit = rest[-1]
             both = " and ".join(repr(text) for _, text in rest)
-            raise Left("demand", line, self.column("demand", "measure"), unit,
-                       Remark("measures", {"measures": both, "text": unit}))
+            raise self._left("demand", line, "measure", unit, "measures", measures=both, text=unit)
 
     def _master(self, name: str, rows: Sequence[int], leads: Sequence[int], moves: Moves) -> tuple[Item, int]:
         """Returns an item that has demand, by its master, and the decimals of its money. Raises Left."""
@@ -371,18 +376,16 @@ class Reader:
         if not rows:
             kind = "orders" if leads and not len(moves.lines) else "demand"
             line = int(moves.lines[0]) if len(moves.lines) else 0
-            raise Left(kind, line, self.column(kind, "item"), name, Remark("no master"))
+            raise self._left(kind, line, "item", name, "no master")
         lines = table.lines[rows].tolist()
         if len({*self.master_twins[rows].tolist()}) > 1:
-            raise Left("items", lines[1], self.column("items", "item"), name,
-                       Remark("several masters", {"masters": len(rows), "lines": named_lines(lines)}))
-        try:
-            master = self.masters.item(name, lines[0], table.cells(rows[0]), leads)
-        except Faulty as why:
-            raise Left("items", lines[0], *self._said("items", why.faults)) from why
+            raise self._left("items", lines[1], "item", name, "several masters", masters=len(rows), lines=named_lines(lines))
+        read, faults = self.masters.read(table.cells(rows[0]), leads)
+        if faults:
+            raise Left("items", lines[0], *self._said("items", faults))
         if not len(moves.lines):
-            raise Left("items", lines[0], self.column("items", "item"), name, Remark("no rows"))
-        return master
+            raise self._left("items", lines[0], "item", name, "no rows")
+        return self.masters.item(name, lines[0], read, leads)
 
     def _check_far(self, moves: Moves) -> None:
         """Raises Left if some amounts are far above all others, as if counted a thousand times too large."""
@@ -391,20 +394,18 @@ class Reader:
             if far:
                 ranked = np.lexsort((moves.lines.astype(np.int64), -amounts))
                 lines, (least, below) = moves.lines[ranked[:far]].tolist(), amounts[ranked[far - 1:far + 1]].tolist()
-                raise Left("demand", lines[0], self.column("demand", role), str(amounts[ranked[0]]),
-                           Remark("far", {"lines": named_lines(lines), "times": least // below, "next": below}))
+                raise self._left("demand", lines[0], role, amounts[ranked[0]], "far", lines=named_lines(lines),
+                                 times=least // below, next=below)
 
     def _check_counts(self, asked: Sequence[int], back: Sequence[int]) -> None:
         """Raises Left if demand by period is none that a law can be made of."""
-        facts: dict[str, int | str] = {}
-        number, code = 0, "nothing asked"
+        total, returned = sum(asked), sum(back)
         if len(asked) < self.words.least:
-            number, code, facts = len(asked), "short", {"periods": len(asked), "every": self.words.every}
-        elif sum(asked) and sum(back) >= sum(asked):
-            number, code, facts = sum(back), "all comes back", {"back": sum(back), "asked": sum(asked)}
-        elif sum(asked):
-            return
-        raise Left("demand", 0, self.column("demand", "quantity"), str(number), Remark(code, facts))
+            raise self._left("demand", 0, "quantity", len(asked), "short", periods=len(asked), every=self.words.every)
+        if not total:
+            raise self._left("demand", 0, "quantity", 0, "nothing asked")
+        if returned >= total:
+            raise self._left("demand", 0, "quantity", returned, "all comes back", back=returned, asked=total)
 
 
 def _span(ends: Numbers, item: int) -> slice:
