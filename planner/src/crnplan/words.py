@@ -8,6 +8,7 @@ from __future__ import annotations
 from collections.abc import Callable, Mapping
 from typing import Any
 
+from .decide_words import DECISIONS
 from .errors import worded
 from .formats import MOST_ITEMS
 from .law_words import LAWS
@@ -53,7 +54,7 @@ WORDS: dict[str, tuple[Say, Say]] = {
     # Of an item that is not on the exchange curve (curve/exchange_curve.py).
     "no price": ("it has no price above 0, so its stock has no value", "give it a price in the masters"),
     "not planned": ("it is not planned as its rows are now", "run crnplan catalogue again"),
-    **LAWS, **RECORDS}
+    **LAWS, **RECORDS, **DECISIONS}
 
 
 def _said(say: Say, facts: Facts) -> str:

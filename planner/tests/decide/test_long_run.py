@@ -23,8 +23,10 @@ from crnplan.crnsim.long_run import LongRunReport
 from crnplan.crnsim.report import Row
 from crnplan.errors import Refused
 from crnplan.law import Law
+from crnplan.remarks import Remark
 from crnplan.scenario import Costs, Policy, Scenario
 from crnplan.theory.lattice import NoTheory
+from crnplan.words import sentence
 from planner.tests.conftest import Command
 from planner.tests.theory.chain import by_chain
 from planner.tests.theory.finite import expected
@@ -71,7 +73,7 @@ def test_theory_beside_is_that_of_a_chain(report: LongRunReport) -> None:
     for name, row in by_name(found).items():
         wanted = exact[name], exact[name] - exact["today"]
         assert (row.theory_cost, row.theory_diff) == pytest.approx(wanted, abs=1e-7)
-    assert found.warnings == () and found.theory == "exact but for rounding"
+    assert found.warnings == () and found.theory and sentence(found.theory) == "exact but for rounding"
     assert report.decide().frame.loc["more", "theory_cost"] == pytest.approx(exact["more"])
 
 
@@ -110,8 +112,7 @@ def test_corrected_costs_are_less_the_bias_of_a_chain(unit: int, program: Path) 
 def test_strong_effects_of_the_start_are_said(program: Path) -> None:
     found = corrected_decision(PART.run(program=program).rows, PART)
     assert all(abs(by_name(found)[it].effect or 0) > 0.25 for it in ("more", "less"))
-    assert found.warnings == ("without this correction the start counts too much for more, less: its effect is above "
-                              "0.25 standard errors",)
+    assert found.warnings == (Remark("strong start", {"policies": "more, less", "most": 0.25}),)
 
 
 def effects_of(scenario: Scenario, rows: Sequence[Row]) -> dict[str, float]:
@@ -130,10 +131,8 @@ def test_the_start_of_a_report_is_warned_of(initial: int, unit: int, program: Pa
     rows = asked.run(program=program).rows
     free = replace(asked, costs=replace(asked.costs, unit=0))
     strong = [name for name, effect in effects_of(free, rows).items() if abs(effect) > 0.25]
-    warning = start_warning(rows, asked)
-    assert warning == (f"these verdicts are on the coming 40 periods from a stock of {initial}, not on the "
-                       "long run.\nBy theory the start adds more than 0.25 standard errors to the difference of "
-                       f"{', '.join(strong)}.\nA comparison in the long run takes that out." if strong else "")
+    facts = {"periods": 40, "initial": initial, "most": 0.25, "policies": ", ".join(strong)}
+    assert start_warning(rows, asked) == [Remark("start of coming periods", facts)] * bool(strong)
     assert strong or initial != 25
 
 
@@ -158,7 +157,7 @@ def test_decide_warns_of_the_start(crnplan: Command, room: Path, program: Path) 
     (room / "part.toml").write_text(free.toml())
     rows = free.run(program=program)
     (room / "report.csv").write_text(rows.text)
-    warning = start_warning(rows.rows, free)
+    warning, = map(sentence, start_warning(rows.rows, free))
     text, table, tree = (crnplan("decide", "report.csv", "--scenario", "part.toml", *it)
                          for it in ([], ["--csv"], ["--json"]))
     assert text.output.startswith("The coming 40 periods from a stock of 25\n\npolicy ")
@@ -175,14 +174,14 @@ def test_no_interval_for_fewer_than_two_orders(way: str, program: Path) -> None:
              corrected_decision(SLOW.run(program=program).rows, SLOW))
     row = by_name(found)["more"]
     assert (row.std_error, row.low, row.high, row.cost_low, row.verdict) == (None, None, None, None, "undecided")
-    assert ("no interval for more: the rarer policy places fewer than 2 orders in all replications") in found.warnings
+    assert Remark("few orders", {"policies": "more", "least": 2}) in found.warnings
 
 
 def test_no_interval_without_spread(program: Path) -> None:
     found = long_run_decision(EVEN.long_run(program=program))
     row = by_name(found)["equal"]
     assert (row.diff, row.std_error, row.low, row.verdict) == (0, None, None, "undecided")
-    assert found.warnings == ("no interval for equal: the difference is the same in all replications",)
+    assert found.warnings == (Remark("no spread", {"policies": "equal"}),)
 
 
 @pytest.mark.parametrize("initial, said", [
@@ -191,7 +190,8 @@ def test_a_start_beside_the_packs_is_said(initial: int, said: str, program: Path
     """Both policies order up to a whole number of packs above 21."""
     asked = replace(PART, demand=Law((0, 5, 10), (5, 3, 1)), initial=initial,
                     policies=(Policy("today", 4, 11), Policy("more", 9, 26)))
-    assert corrected_decision(asked.run(program=program).rows, asked).theory == "exact but for rounding" + said
+    theory = corrected_decision(asked.run(program=program).rows, asked).theory
+    assert theory and sentence(theory) == "exact but for rounding" + said
 
 
 def test_disagreement_with_theory_is_said(report: LongRunReport, monkeypatch: pytest.MonkeyPatch) -> None:
@@ -200,11 +200,11 @@ def test_disagreement_with_theory_is_said(report: LongRunReport, monkeypatch: py
     theory.setup = theory.setup * 6 // 5
     monkeypatch.setattr(long_run, "theory_of", lambda scenario: theory)
     warning, = long_run_decision(report).warnings
-    assert warning.startswith("crnsim and theory differ by more than chance allows for ")
+    assert warning.code == "far from theory"
     theory.exact = False
     coarse = long_run_decision(report)
     assert coarse.warnings == ()
-    assert coarse.theory == "rounded to steps of 1 items, so not compared with the intervals"
+    assert "by theory, rounded to steps of 1 items, so not compared with the intervals\n" in coarse.notes
 
 
 def test_runs_without_theory(report: LongRunReport, monkeypatch: pytest.MonkeyPatch) -> None:
@@ -286,7 +286,7 @@ def test_check_in_the_long_run(crnplan: Command, room: Path, program: Path) -> N
 
 def test_check_of_slow_movers_pools_orders(program: Path) -> None:
     found = check_long_run(SLOW, "more", keys=[["00000000000000a1"], ["00000000000000a2"]], program=program)
-    assert found.decision.warnings[0].startswith("no interval for today") and found.holds
+    assert found.decision.warnings[0].facts["policies"] == "today" and found.holds
 
 
 def test_sensitivity_in_the_long_run(crnplan: Command, room: Path, program: Path) -> None:
@@ -302,7 +302,8 @@ def test_sensitivity_in_the_long_run(crnplan: Command, room: Path, program: Path
     text = crnplan("sensitivity", "part.toml", "--long-run").output
     assert text.startswith("The long run, each policy from a state of its own, without unit\n\npolicy ")
     assert text == found.text
-    assert json.loads(crnplan("sensitivity", "part.toml", "--long-run", "--json").output)["horizon"] == found.horizon
+    horizon = json.loads(crnplan("sensitivity", "part.toml", "--long-run", "--json").output)["horizon"]
+    assert horizon == text.split("\n")[0]
     plain = crnplan("sensitivity", "part.toml").output
     assert plain.startswith("The coming 40 periods from a stock of 25\n\npolicy ")
     assert plain.split("\n\n", 1)[1] != text.split("\n\n", 1)[1]

@@ -69,8 +69,10 @@ def test_what_cannot_be_changed_is_said() -> None:
     free = Scenario.of({0: 9, 9_500: 1}, {32: 1}, setup=0, holding=1, backlog=9, today=(0, 9_500))
     found = moves_of(free, "mine", KEPT)
     assert not any(it.words.startswith("setup") for it in found.moves)
-    assert [it.partition(" is left out")[0] for it in found.remarks] == ["demand 10% up", "lead time plus 1"]
-    assert found.text.split("\n\n")[3].splitlines() == [*found.remarks]
+    assert [it.facts["case"] for it in found.remarks] == ["demand 10% up", "lead time plus 1"]
+    assert found.text.split("\n\n")[3].splitlines() == [
+        "demand 10% up is left out: a demand would be 10,450, which is over 10,000",
+        "lead time plus 1 is left out: a lead time would be 33, which is over 32"]
 
 
 @pytest.mark.parametrize("fill, wanted", [(0.95, {"97.5%", "90%"}), (0.4, {"70%"}), (None, set())])

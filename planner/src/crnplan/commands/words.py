@@ -14,6 +14,7 @@ from ..decide.verdicts import horizon_of
 from ..errors import Refused
 from ..scenario import Scenario
 from ..table import Result
+from ..words import sentence
 
 Decorator = Callable[[Callable[..., Any]], Callable[..., Any]]
 PICTURES = (".png", ".svg")
@@ -75,7 +76,7 @@ def read_for(path: str, horizon: int | None, stock: int | None, long_run: bool, 
         asked = asked.changed(periods=asked.periods if horizon is None else horizon,
                               initial=asked.initial if stock is None else stock)
         if not is_table:
-            print(f"The {horizon_of(asked)}", file=sys.stderr)
+            print(f"The {sentence(horizon_of(asked))}", file=sys.stderr)
     return asked
 
 

@@ -18,10 +18,10 @@ from typing import NamedTuple
 from ..crnsim.long_run import LongRunReport
 from ..crnsim.report import Row
 from ..errors import Refused
+from ..remarks import Remark
 from ..scenario import Policy, Scenario
 from ..table import names_of
 from ..theory.lattice import NoTheory
-from ..theory.long_run import exactness_of
 from ..theory.run_effects import StartBias, end_effects, start_bias, theory_of
 from .intervals import FEWEST_ORDERS, Compared, Estimate, compared, estimates_of, t_quantile
 from .verdicts import MOST_ROWS, Decision, decided, horizon_of
@@ -30,7 +30,7 @@ from .verdicts import MOST_ROWS, Decision, decided, horizon_of
 MOST_EFFECT = 0.25
 # Runs and theory are said to differ if chance alone lets them differ so much in this share of tables.
 CHANCE_OF_ALARM = 0.001
-LONG_RUN = "long run"
+LONG_RUN = Remark("long run")
 
 
 def _ranked(rows: Sequence[Row], estimates: Sequence[Estimate], level: float, replications: int,
@@ -46,17 +46,16 @@ def _ranked(rows: Sequence[Row], estimates: Sequence[Estimate], level: float, re
     return tuple(sorted(ranked, key=lambda row: row.diff))
 
 
-def _without_interval(estimates: Sequence[Estimate]) -> Iterable[str]:
+def _without_interval(estimates: Sequence[Estimate]) -> Iterable[Remark]:
     """Yields what must be said of policies without an interval."""
     base, *others = [(own.policy, own.error, math.inf if own.orders is None else own.orders) for own in estimates]
     lacking = [(policy, min(orders, base[2])) for policy, error, orders in others if error is None]
     few = [policy for policy, orders in lacking if orders < FEWEST_ORDERS]
     same = [policy for policy, orders in lacking if orders >= FEWEST_ORDERS]
     if few:
-        yield (f"no interval for {names_of(few, MOST_ROWS)}: the rarer policy places fewer than {FEWEST_ORDERS} "
-               "orders in all replications")
+        yield Remark("few orders", {"policies": names_of(few, MOST_ROWS), "least": FEWEST_ORDERS})
     if same:
-        yield f"no interval for {names_of(same, MOST_ROWS)}: the difference is the same in all replications"
+        yield Remark("no spread", {"policies": names_of(same, MOST_ROWS)})
 
 
 def _disagreeing(estimates: Sequence[Estimate], theory: Sequence[float], replications: int) -> list[str]:
@@ -76,16 +75,14 @@ def long_run_decision(report: LongRunReport, level: float = 0.95) -> Decision:
     try:
         theory = theory_of(report.scenario)
         costs = [theory.figures(policy.s, policy.S).cost for policy in report.scenario.policies]
-        said = exactness_of(theory.step, theory.exact) + ", so not compared with the intervals" * (not theory.exact)
+        source = Remark("exact theory" if theory.exact else "rounded theory", {"step": theory.step})
         off = _disagreeing(estimates, costs, report.keys) if theory.exact else []
-        if off:
-            warnings.append(f"crnsim and theory differ by more than chance allows for {names_of(off, MOST_ROWS)}: one "
-                            "of them is wrong, or an order lasts for so long that the start still matters")
+        warnings += [Remark("far from theory", {"policies": names_of(off, MOST_ROWS)})] if off else []
     except NoTheory as fault:
-        said = f"not known: {fault}"
-    runs = f"each policy from a state of its own, over {report.periods:,} periods under each of {report.keys:,} keys"
+        source = Remark("no theory", {"reason": str(fault)})
+    runs = Remark("own starts", {"periods": report.periods, "keys": report.keys})
     return Decision(_ranked(report.rows, estimates, level, report.keys, costs), report.rows[0].policy, report.keys,
-                    level, LONG_RUN, runs, said, tuple(warnings))
+                    level, LONG_RUN, runs, source, tuple(warnings))
 
 
 class _Start(NamedTuple):
@@ -111,45 +108,42 @@ def _start_of(rows: Sequence[Row], scenario: Scenario) -> _Start:
     return _Start(bias, shifts, effects, strong)
 
 
-def end_warning(scenario: Scenario, rows: Sequence[Row]) -> str:
+def end_warning(scenario: Scenario, rows: Sequence[Row]) -> list[Remark]:
     """Returns the warning that `unit` charges what is left at the end, for a report's rows in its order.
 
-    The text is empty if `unit` is 0 or nothing is compared. Its figures are long-run means, rounded.
+    There is none if `unit` is 0 or nothing is compared. Its figures are long-run means, rounded.
     """
     unit, base = scenario.costs.unit, rows[0].policy
     if unit == 0 or len(rows) < 2:
-        return ""
-    start = f"unit = {unit} is paid for each item ordered, also for those left when a replication ends."
-    advice = "More replications or another key do not change it. Compare with unit = 0 too, which leaves it out."
+        return []
     effects = end_effects(scenario, rows)
     if effects is None:
-        return f"{start} How much that favours policies that end with little stock is not known here.\n{advice}"
+        return [Remark("unit at an unknown end", {"unit": unit})]
     named_effects = list(zip(effects, (row.policy for row in rows)))
     (least, low), (most, high) = min(named_effects), max(named_effects)
     place = min(range(len(rows)), key=lambda place: rows[place].diff_total)
-    mean = float(rows[place].diff_mean)
-    cheapest = f"For the cheapest, {rows[place].policy}, it is about {effects[place]:,.0f} of {mean:,.0f}.\n"
-    return (f"{start}\nBy this alone diff_mean is from about {least:,.0f} ({low}) to {most:,.0f} ({high}), by long-run "
-            f"means.\nIt favours policies that end with less stock than {base}.\n{cheapest * (place > 0)}{advice}")
+    return [Remark("unit of the cheapest" if place else "unit at the end", {
+        "unit": unit, "base": base, "least": least, "low": low, "most": most, "high": high,
+        "cheapest": rows[place].policy, "effect": effects[place], "mean": float(rows[place].diff_mean)})]
 
 
-def start_warning(rows: Sequence[Row], scenario: Scenario) -> str:
+def start_warning(rows: Sequence[Row], scenario: Scenario) -> list[Remark]:
     """Returns the warning that a report on the coming periods says little of the long run, for its rows in any number,
     the base first.
 
-    The text is empty if the start counts for no difference, or if theory is not exact and so cannot tell. `unit` is
-    left out, since `end_warning` is about that.
+    There is none if the start counts for no difference, or if theory is not exact and so cannot tell. `unit` is left
+    out, since `end_warning` is about that.
     """
     if scenario.replications < 2 or len(rows) < 2:
-        return ""
+        return []
     try:
         start = _start_of(rows, replace(scenario, costs=replace(scenario.costs, unit=0)))
     except NoTheory:
-        return ""
-    strong = start.strong if start.bias.theory.exact else []
-    return (f"these verdicts are on the {horizon_of(scenario)}, not on the long run.\nBy theory the start "
-            f"adds more than {MOST_EFFECT} standard errors to the difference of {names_of(strong, MOST_ROWS)}.\n"
-            "A comparison in the long run takes that out." if strong else "")
+        return []
+    if not start.strong or not start.bias.theory.exact:
+        return []
+    return [Remark("start of coming periods", {"periods": scenario.periods, "initial": scenario.initial,
+                                               "most": MOST_EFFECT, "policies": names_of(start.strong, MOST_ROWS)})]
 
 
 def coming_decision(given: Sequence[Row], scenario: Scenario, level: float = 0.95) -> Decision:
@@ -157,8 +151,9 @@ def coming_decision(given: Sequence[Row], scenario: Scenario, level: float = 0.9
     a replication do to the verdicts: to those of policies that are listed."""
     decision = decided(given, scenario.replications, level)
     listed = {row.policy for row in decision.listed}
-    warnings = end_warning(scenario, given), start_warning([row for row in given if row.policy in listed], scenario)
-    return replace(decision, horizon=horizon_of(scenario), warnings=tuple(filter(None, warnings)))
+    shown = [row for row in given if row.policy in listed]
+    return replace(decision, horizon=horizon_of(scenario),
+                   warnings=(*end_warning(scenario, given), *start_warning(shown, scenario)))
 
 
 def corrected_decision(rows: Sequence[Row], scenario: Scenario, level: float = 0.95) -> Decision:
@@ -174,14 +169,9 @@ def corrected_decision(rows: Sequence[Row], scenario: Scenario, level: float = 0
     estimates = estimates_of(rows, replications, periods, start.shifts, orders)
     warnings = [*_without_interval(estimates)]
     if start.strong:
-        warnings.append(f"without this correction the start counts too much for {names_of(start.strong, MOST_ROWS)}: "
-                        f"its effect is above {MOST_EFFECT} standard errors")
-    runs = (f"from a common stock of {scenario.initial:,} over {periods:,} periods, less the bias of that start by "
-            "theory, which so is no check of it")
-    said = exactness_of(bias.theory.step, bias.theory.exact)
-    if not bias.theory.exact:
-        said += ", and so is the bias of the start"
-    elif not bias.on_lattice:
-        said += f", but the bias of the start is {exactness_of(bias.theory.step, False)}"
+        warnings.append(Remark("strong start", {"policies": names_of(start.strong, MOST_ROWS), "most": MOST_EFFECT}))
+    runs = Remark("common start", {"initial": scenario.initial, "periods": periods})
+    code = "exact theory" if bias.on_lattice else "start beside the lattice"
+    source = Remark(code if bias.theory.exact else "rounded bias", {"step": bias.theory.step})
     return Decision(_ranked(rows, estimates, level, replications, bias.costs, start.effects), rows[0].policy,
-                    replications, level, LONG_RUN, runs, said, tuple(warnings))
+                    replications, level, LONG_RUN, runs, source, tuple(warnings))

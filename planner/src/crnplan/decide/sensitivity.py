@@ -24,8 +24,10 @@ from ..crnsim.counts import all_totals, counting
 from ..crnsim.program import find_program
 from ..errors import Refused
 from ..law import Law
+from ..remarks import Remark
 from ..scenario import Costs, Policy, Scenario
 from ..table import Cell, Column, DataTable, Json, Result, aligned, number, text, whole
+from ..words import sentence
 from .verdicts import POLICY, horizon_of
 
 if TYPE_CHECKING:
@@ -62,8 +64,8 @@ class Sensitivity(Result):
 
     policies: tuple[Policy, ...]
     costs: Mapping[str, Sequence[Fraction]]
-    remarks: tuple[str, ...]
-    horizon: str
+    remarks: tuple[Remark, ...]
+    horizon: Remark
 
     @cached_property
     def losses(self) -> list[Loss]:
@@ -102,19 +104,20 @@ class Sensitivity(Result):
         cells = [[loss.policy.name, str(loss.policy.s), str(loss.policy.S), *map(cell, (*loss.regrets, loss.greatest)),
                   loss.worst] for loss in self.losses]
         table = [[case, name, f"{float(cost):.3f}"] for case, name, cost in self.cheapest]
-        return (f"{self.horizon}\n\n" + aligned([heading, *cells], (0, len(heading) - 1))
+        return (f"The {sentence(self.horizon)}\n\n" + aligned([heading, *cells], (0, len(heading) - 1))
                 + "\nregret: cost per period above the cheapest policy of the case\n\n"
                 + aligned([["case", "cheapest", "cost_a_period"], *table], (0, 1)) + self.notes)
 
     @property
     def notes(self) -> str:
         """Returns lines on cases that are not exact or left out."""
-        return "".join(f"\n{line}" for line in self.remarks) + "\n" * bool(self.remarks)
+        return "".join(f"\n{line}" for line in map(sentence, self.remarks)) + "\n" * bool(self.remarks)
 
     @property
     def tree(self) -> dict[str, Json]:
         """Returns all as data, without rounding to decimals."""
-        return {"horizon": self.horizon, "policies": self.table.records, "notes": self.remarks}
+        return {"horizon": f"The {sentence(self.horizon)}", "policies": self.table.records,
+                "notes": [*map(sentence, self.remarks)]}
 
 
 def columns_of(cases: Sequence[str]) -> list[Column]:
@@ -148,24 +151,26 @@ def changed_demand(demand: Law, tenths: int) -> Law:
     return Law.of({value: share + (value in rounded_up) for value, (share, _) in shares.items()})
 
 
-def law_cases(scenario: Scenario, notes: list[str]) -> Iterator[tuple[str, Scenario]]:
+def law_cases(scenario: Scenario, notes: list[Remark]) -> Iterator[tuple[str, Scenario]]:
     """Yields the cases with another demand, and with longer lead times. What cannot be done exactly or at all goes to
     the notes."""
+    def is_over(case: str, what: str, law: Law, most: int) -> bool:
+        """Returns whether a value of a law is out of range, and notes that."""
+        value = law.values[-1]
+        if value > most:
+            notes.append(Remark("case out of range", {"case": case, "what": what, "value": value, "most": most}))
+        return value > most
+
     for name, tenths, words in CHANGES:
         demand = changed_demand(scenario.demand, tenths)
-        if demand.values[-1] > formats.MOST_DEMAND:
-            notes.append(f"{words} is left out: a demand would be {demand.values[-1]:,}, which is over "
-                         f"{formats.MOST_DEMAND:,}")
+        if is_over(words, "demand", demand, formats.MOST_DEMAND):
             continue
         before, after = scenario.demand.mean, demand.mean
         if after != before * tenths / 10:
-            notes.append(f"{words}: by rounded weights the mean is {float(after / before) - 1:+.4%}")
+            notes.append(Remark("rounded weights", {"case": words, "change": float(after / before) - 1}))
         yield name, dataclasses.replace(scenario, demand=demand)
     lead = Law.of({value + 1: weight for value, weight in zip(scenario.lead.values, scenario.lead.weights)})
-    if lead.values[-1] > formats.MOST_LEAD:
-        notes.append(f"lead time plus 1 is left out: a lead time would be {lead.values[-1]}, which is over "
-                     f"{formats.MOST_LEAD}")
-    else:
+    if not is_over("lead time plus 1", "lead time", lead, formats.MOST_LEAD):
         yield "lead_plus_1", dataclasses.replace(scenario, lead=lead)
 
 
@@ -176,7 +181,7 @@ def sensitivity(scenario: Scenario, *, long_run: bool = False, program: str | Pa
     `long_run` they are those of `Scenario.long_run`, without `unit`. A case whose numbers are out of range, a demand
     over 10,000 or a lead time over 32, is left out. Raises ProgramError if a run fails.
     """
-    notes: list[str] = []
+    notes: list[Remark] = []
     cases = {"base": scenario, **dict(law_cases(scenario, notes))}
     asked = [*cases.values(), counting(scenario, "backlog")]
     if long_run:
@@ -188,8 +193,7 @@ def sensitivity(scenario: Scenario, *, long_run: bool = False, program: str | Pa
     for name, change in (("backlog_half", Fraction(-rate, 2)), ("backlog_double", Fraction(rate))):
         costs[name] = [cost + change * items for cost, items in zip(runs[0], runs[-1])]
     return Sensitivity(scenario.policies, costs, tuple(notes),
-                       "The long run, each policy from a state of its own, without unit" if long_run else
-                       f"The {horizon_of(scenario)}")
+                       Remark("long run by own starts") if long_run else horizon_of(scenario))
 
 
 @dataclass(frozen=True)
@@ -241,7 +245,7 @@ class Moves(Result):
 
     kept: str
     moves: tuple[Move, ...]
-    remarks: tuple[str, ...]
+    remarks: tuple[Remark, ...]
 
     @property
     def table(self) -> DataTable:
@@ -256,7 +260,7 @@ class Moves(Result):
             "", "case: what differs; all else is as it is. s, S, cost, fill: of the best policy in that case",
             f"kept_cost, kept_more, kept_fill: of {self.kept}, and how much more than the best it costs",
             "by theory in the long run, rounded and unproved; costs of a period, in the scenario's money",
-            *([""] if self.remarks else []), *self.remarks, ""])
+            *([""] if self.remarks else []), *map(sentence, self.remarks), ""])
 
     @property
     def text(self) -> str:
@@ -264,7 +268,7 @@ class Moves(Result):
         return f"How the best policy moves, and what it costs to keep the chosen one\n\n{self.table.text}{self.notes}"
 
 
-def cases_of(scenario: Scenario, fill: float | None, notes: list[str]) -> Iterator[Case]:
+def cases_of(scenario: Scenario, fill: float | None, notes: list[Remark]) -> Iterator[Case]:
     """Yields all cases: each cost that there is halved and doubled, half and twice as much demand that need not be met
     at once, and other laws. What cannot be changed exactly, or at all, goes to the notes."""
     yield Case(AS_IT_IS, scenario, fill)
@@ -301,12 +305,12 @@ def moves_of(scenario: Scenario, name: str, kept: Levels, *, fill: float | None 
     `fill` is the share of demand that is to be met at once, if one is wanted. `find` finds the best policy of a case;
     if it raises Refused, the case is left out with a note.
     """
-    notes, moves = list[str](), list[Move]()
+    notes, moves = list[Remark](), list[Move]()
     for case in cases_of(scenario, fill, notes):
         try:
             found = find(case, kept)
         except Refused as fault:
-            notes.append(f"{case.words} is left out: {fault}")
+            notes.append(Remark("case refused", {"case": case.words, "reason": str(fault)}))
             continue
         moves.append(Move(case.words, *found.best, found.figures.cost / case.times, found.figures.fill,
                           found.kept.cost / case.times, found.kept.fill))

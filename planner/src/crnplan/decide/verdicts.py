@@ -8,8 +8,10 @@ from collections.abc import Sequence
 from dataclasses import astuple, dataclass
 
 from ..crnsim.report import Row
+from ..remarks import Remark
 from ..scenario import BY_ITS_LAWS, Scenario
 from ..table import DataTable, Json, Result, names_of, number, text, whole
+from ..words import sentence
 from .intervals import Compared, with_intervals, with_verdict
 
 POLICY = (text("policy", "name of the policy"), whole("s", "items", "reorder point"),
@@ -37,28 +39,27 @@ MOST_ROWS = 20
 VERDICTS = {"better": "better than {}", "worse": "worse than {}", "undecided": "can't be told apart from {}"}
 
 
-def horizon_of(scenario: Scenario) -> str:
-    """Returns in words what a report on a scenario is about."""
-    return f"coming {scenario.periods:,} periods from a stock of {scenario.initial:,}"
+def horizon_of(scenario: Scenario) -> Remark:
+    """Returns what a report on a scenario is about."""
+    return Remark("coming periods", {"periods": scenario.periods, "initial": scenario.initial})
 
 
 @dataclass(frozen=True)
 class Decision(Result):
     """Policies compared with the base, the cheapest first, at a joint level.
 
-    `horizon` says in words what they are compared over, if that is known. In the long run `runs` says of what the costs
-    are, and `theory` how exact theory's figures are. The text lists so many policies as `most`, of which one is always
-    the base.
+    `horizon` says what they are compared over, if that is known. In the long run `runs` says of what the costs are, and
+    `theory` how exact theory's figures are. The text lists so many policies as `most`, of which one is always the base.
     """
 
     rows: tuple[Compared, ...]
     base: str
     replications: int
     level: float
-    horizon: str = ""
-    runs: str = ""
-    theory: str = ""
-    warnings: tuple[str, ...] = ()
+    horizon: Remark | None = None
+    runs: Remark | None = None
+    theory: Remark | None = None
+    warnings: tuple[Remark, ...] = ()
     most: int = MOST_ROWS
 
     @property
@@ -84,7 +85,7 @@ class Decision(Result):
     def text(self) -> str:
         """Returns the horizon, the table of the listed policies, and the notes."""
         rest = len(self.rows) - len(self.listed)
-        heading = f"The {self.horizon}\n\n" if self.horizon else ""
+        heading = f"The {sentence(self.horizon)}\n\n" if self.horizon else ""
         more = f"{rest} more policies are not listed\n" * (rest > 0)
         return f"{heading}{self._table_of(self.listed).text}{more}{self.notes}"
 
@@ -93,10 +94,12 @@ class Decision(Result):
         """Returns what the columns mean, the policies by verdict, and the warnings."""
         comparisons = len(self.rows) - 1
         lines = [f"replications: {self.replications}, comparisons with {self.base}: {comparisons}, joint level: "
-                 f"{self.level:g}", BY_ITS_LAWS, *(self._long_run_lines() if self.runs else self._coming_lines())]
+                 f"{self.level:g}", BY_ITS_LAWS, *(self._coming_lines() if self.runs is None or self.theory is None else
+                                    self._long_run_lines(sentence(self.runs), sentence(self.theory)))]
         lines += [f"{words.format(self.base)}: {names_of(with_verdict(self.rows, verdict), self.most)}"
                   for verdict, words in VERDICTS.items()]
-        return "".join(f"\n{line}" for line in (*lines, *(f"\nWARNING: {it}" for it in self.warnings))) + "\n"
+        lines += [f"\nWARNING: {warning}" for warning in map(sentence, self.warnings)]
+        return "".join(f"\n{line}" for line in lines) + "\n"
 
     def _coming_lines(self) -> list[str]:
         """Returns what the columns mean over the periods of a report."""
@@ -108,23 +111,24 @@ class Decision(Result):
         return [*lines, f"cost_low to cost_high: the interval of a policy's own cost, each at {self.level:g} by "
                 "itself; to compare policies use low and high"]
 
-    def _long_run_lines(self) -> list[str]:
+    def _long_run_lines(self, runs: str, theory: str) -> list[str]:
         """Returns what the columns mean in the long run."""
         names = self.table.names
-        theory = f"theory_cost, theory_diff: a period of the long run by theory, {self.theory}"
+        columns = f"theory_cost, theory_diff: a period of the long run by theory, {theory}"
         effect = ["effect: what the start had added to diff, in standard errors; it is taken out"]
-        return [f"cost to verdict: a period by crnsim, {self.runs}; unit is left out",
+        return [f"cost to verdict: a period by crnsim, {runs}; unit is left out",
                 "low to high: the interval of diff; all hold together at the joint level",
                 f"cost_low to cost_high: the interval of cost, each at {self.level:g} by itself",
-                theory if "theory_cost" in names else f"theory is {self.theory}", *effect * ("effect" in names)]
+                columns if "theory_cost" in names else f"theory is {theory}", *effect * ("effect" in names)]
 
     @property
     def tree(self) -> dict[str, Json]:
         """Returns all as data, without rounding to decimals."""
-        horizon: dict[str, Json] = {"horizon": f"the {self.horizon}"} if self.horizon else {}
-        sources: dict[str, Json] = {"crnsim": self.runs, "theory": self.theory} if self.runs else {}
+        named = {"crnsim": self.runs, "theory": self.theory}
+        sources: dict[str, Json] = {name: sentence(source) for name, source in named.items() if source}
+        horizon: dict[str, Json] = {"horizon": f"the {sentence(self.horizon)}"} if self.horizon else {}
         return {**horizon, "base": self.base, "replications": self.replications, "level": self.level, **sources,
-                "policies": self.table.records, "warnings": self.warnings}
+                "policies": self.table.records, "warnings": [*map(sentence, self.warnings)]}
 
 
 def decided(rows: Sequence[Row], replications: int, level: float = 0.95) -> Decision:

@@ -15,6 +15,7 @@ from typing import TYPE_CHECKING, Any, NamedTuple
 
 from .. import __version__
 from ..demand.fitted import QUANTILES, FittedLaw
+from ..words import sentence
 
 if TYPE_CHECKING:
     from markupsafe import Markup
@@ -64,7 +65,8 @@ def rendered(template: str, context: Mapping[str, Any]) -> str:
     import jinja2
     pages = jinja2.Environment(loader=jinja2.PackageLoader("crnplan.pages"), autoescape=True, trim_blocks=True,
                                lstrip_blocks=True, keep_trailing_newline=True, undefined=jinja2.StrictUndefined)
-    pages.filters |= {"number": number, "percent": percent, "capital": capital, "source": source}
+    pages.filters |= {"number": number, "percent": percent, "capital": capital, "sentence": sentence,
+                      "source": source}
     pages.globals["version"] = __version__
     return pages.get_template(template).render(context)
 
