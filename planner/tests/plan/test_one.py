@@ -125,7 +125,7 @@ def test_why_there_is_no_interval(program: Path) -> None:
 
 def test_an_item_without_a_policy(program: Path, monkeypatch: pytest.MonkeyPatch) -> None:
     """An item for which there is no policy has a fault with facts."""
-    monkeypatch.setattr(LongRun, "best", lambda *_: Candidate(math.inf, 0, 0))
+    monkeypatch.setattr(type(question_of(item_of(), alone()).theory()), "best", lambda *_: Candidate(math.inf, 0, 0))
     assert plan_item(item_of(), alone(), NONE, str(program)) == Remark(NO_POLICY, {"fill": None})
     monkeypatch.setattr(one, "choice_of", lambda *_: 1 // 0)
     assert plan_item(item_of(), alone(), NONE, str(program)).code == "failed"  # type: ignore[union-attr]
