@@ -12,8 +12,8 @@ import numpy as np
 import pytest
 
 from crnplan.crnsim import long_run
-from crnplan.crnsim.long_run import COUNT_ORDERS, OWN_PERIODS, OWN_STREAMS, START_STREAM, keys_of, long_run_of, settled
-from crnplan.crnsim.words import drawn, places_of, stream_words, words_of_keys
+from crnplan.crnsim.long_run import (COUNT_ORDERS, OWN_PERIODS, OWN_STREAMS, START_STREAM, drawn, keys_of, long_run_of,
+                                     places_of, settled, stream_words, words_of_keys)
 from crnplan.errors import Refused
 from crnplan.law import Law
 from crnplan.scenario import Costs, Policy, Scenario
@@ -156,9 +156,10 @@ def test_keys_follow_from_all_words() -> None:
     assert len(keys | set(keys_of(KEY, 48))) == 5 * 48
 
 
-def test_each_key_has_a_start_of_its_own() -> None:
+def test_each_key_has_a_start_of_its_own(monkeypatch: pytest.MonkeyPatch) -> None:
+    monkeypatch.setattr(long_run, "OWN_PERIODS", 0)
     wide = PLAIN.with_policies([Policy("wide", 0, 1_000_000)])
-    starts = long_run.starts_of(wide, words_of_keys(keys_of(KEY, 48)))[:, 0]
+    starts = settled(wide, words_of_keys(keys_of(KEY, 48))).stocks[:, 0]
     assert len(set(starts.tolist())) == 48
     assert abs(starts.mean() - 500_000) < 4 * 1_000_000 / math.sqrt(12 * 48)
 

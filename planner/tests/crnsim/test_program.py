@@ -75,7 +75,7 @@ def test_failures(name: str, tmp_path: Path) -> None:
     with pytest.raises(ProgramError, match=f"^{re.escape(f'{path}: {message}')}$"):
         run_program(path, "")
     with pytest.raises(ProgramError, match=re.escape(message)):
-        run_all(path, [""] * 9)
+        run_all(path, [("",)] * 9)
     with pytest.raises(ProgramError, match="No such file or directory; build crnsim"):
         run_program(tmp_path / "missing", "")
 
@@ -83,8 +83,8 @@ def test_failures(name: str, tmp_path: Path) -> None:
 def test_outputs_in_order(tmp_path: Path) -> None:
     """Checks that the outputs of runs at a time come in the order of the texts."""
     path = script(tmp_path / "slow", 'read number; sleep 0.0$number; echo "$1 $number"')
-    texts = [f"{it}\n" for it in (9, 1, 5, 0, 3, 7)]
-    assert run_all(path, texts, "word") == [f"word {it}" for it in texts]
+    runs = [(f"{number}\n", f"word{number}") for number in (9, 1, 5, 0, 3, 7)]
+    assert run_all(path, runs) == [f"{word} {text}" for text, word in runs]
 
 
 def test_where(program: Path, crnplan: Command, tmp_path: Path) -> None:

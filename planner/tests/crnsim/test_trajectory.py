@@ -177,10 +177,10 @@ def test_packed_up_to_the_greatest_cost(level: int, runs: int, program: Path, to
     counted: list[int] = []
     run_all = trajectory.run_all
 
-    def counting(path: Path, texts: Any, *words: str, **options: int) -> list[str]:
-        kept = list(texts)
+    def counting(path: Path, runs: Any, *jobs: int) -> list[str]:
+        kept = list(runs)
         counted.append(len(kept))
-        return run_all(path, kept, *words, **options)
+        return run_all(path, kept, *jobs)
 
     monkeypatch.setattr(trajectory, "run_all", counting)
     check(program, tree)
@@ -212,10 +212,12 @@ def test_refused_in_one_line(crnplan: Command, words: str, part: str, program: P
     assert errors.startswith("crnplan: ") and (errors.count("\n") == 1 or "broken" in words)
 
 
-def test_no_matplotlib(crnplan: Command, top: Path, tmp_path: Path, monkeypatch: pytest.MonkeyPatch) -> None:
+def test_no_matplotlib(crnplan: Command, program: Path, top: Path, tmp_path: Path,
+                       monkeypatch: pytest.MonkeyPatch) -> None:
     """Without matplotlib a picture is refused in one line that says how to get it."""
     monkeypatch.setitem(sys.modules, "matplotlib", None)
-    words = ["trajectory", top / "examples/two_policies.toml", "A", "--out", tmp_path / "none.svg"]
+    words = ["trajectory", top / "examples/two_policies.toml", "A", "--program", program, "--out",
+             tmp_path / "none.svg"]
     status, output, errors = crnplan(*words)
     assert (status, output, errors.count("\n")) == (2, "", 1) and "apt-get install python3-matplotlib" in errors
     assert not (tmp_path / "none.svg").exists()

@@ -7,13 +7,12 @@ from __future__ import annotations
 
 import tempfile
 from collections.abc import Iterable, Iterator, Mapping, Sequence
-from concurrent.futures import ThreadPoolExecutor
 from dataclasses import dataclass, field
 from pathlib import Path
 
 from .. import formats
 from ..scenario import Scenario
-from .program import JOBS, run_program
+from .program import run_all
 
 PERIODS_OF_BLOCK = 4
 FIELDS = 5
@@ -36,8 +35,8 @@ class State:
     costs: tuple[int, ...] = ()
 
 
-def _head(scenario: Scenario, block: int) -> Iterator[tuple[object, ...]]:
-    """Yields the rows before those of the policies."""
+def _rows(scenario: Scenario, block: int, states: Sequence[State]) -> Iterator[tuple[object, ...]]:
+    """Yields the rows of a checkpoint, without the fields that stay empty."""
     laws = [getattr(scenario, name) for name in formats.DRAWS]
     sizes = [len(law.values) if law else 0 for law in laws]
     yield "checkpoint", formats.CHECKPOINT_VERSIONS[-1], block, scenario.periods, scenario.replications
@@ -48,10 +47,6 @@ def _head(scenario: Scenario, block: int) -> Iterator[tuple[object, ...]]:
     for kind, law in zip(formats.DRAW_ROWS, laws):
         yield from ((kind, value, weight) for value, weight in (zip(law.values, law.weights) if law else ()))
 
-
-def _rows(scenario: Scenario, block: int, states: Sequence[State]) -> Iterator[tuple[object, ...]]:
-    """Yields the rows of a checkpoint, without the fields that stay empty."""
-    yield from _head(scenario, block)
     for policy, state in zip(scenario.policies, states, strict=True):
         yield "policy", policy.name, policy.s, policy.S
         yield "state", state.stock, state.cost, len(state.due), len(state.costs)
@@ -71,19 +66,15 @@ def replication_costs(text: str) -> list[int]:
     return [int(line.split(",")[2]) for line in text.splitlines() if line.startswith("cost,")]
 
 
-def resume_all(program: Path, runs: Iterable[tuple[str, str]], jobs: int = JOBS) -> list[str]:
+def resume_all(program: Path, runs: Iterable[tuple[str, str]]) -> list[str]:
     """Continues runs, several at a time, and returns their reports in order.
 
     Each run is the text of a scenario and that of its checkpoint. Raises ProgramError if one fails.
     """
-    with tempfile.TemporaryDirectory(prefix="crnplan-") as folder, ThreadPoolExecutor(jobs) as pool:
-        def resumed(number: int, scenario: str, checkpoint: str) -> str:
-            """Continues a run."""
+    with tempfile.TemporaryDirectory(prefix="crnplan-") as folder:
+        resumed = []
+        for number, (scenario, checkpoint) in enumerate(runs):
             path = Path(folder, f"{number}.csv")
             path.write_text(checkpoint, "ascii")
-            return run_program(program, scenario, "resume", str(path))
-        running = [pool.submit(resumed, number, *run) for number, run in enumerate(runs)]
-        try:
-            return [it.result() for it in running]
-        finally:
-            pool.shutdown(wait=True, cancel_futures=True)
+            resumed.append((scenario, "resume", str(path)))
+        return run_all(program, resumed)

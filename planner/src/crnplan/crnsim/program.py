@@ -23,17 +23,11 @@ FAILURES = {STATUSES[line] for line in ("reading", "writing", "thread", "gate", 
 
 def _named(path: str | Path, how: str) -> Path:
     """Returns the absolute path of a program that is named: a path, or a plain name that is searched on PATH."""
-    found = shutil.which(path)
-    if found is None:
+    program = shutil.which(path)
+    if program is None:
         here = f"{path} can't be run" if os.path.exists(path) else f"there is no program {path}"
         raise ProgramError(f"{how}: {here}; build crnsim, or name it with {argument('program')}")
-    return Path(os.path.abspath(found))
-
-
-def _build() -> Path | None:
-    """Returns the build of the repository in which the package stands; None if it stands in none."""
-    builds = (it / "crates/crnsim/out/crnsim" for it in Path(__file__).resolve().parents)
-    return next((it for it in builds if os.access(it, os.X_OK)), None)
+    return Path(os.path.abspath(program))
 
 
 def program_and_reason(named: str | Path | None = None) -> tuple[Path, str]:
@@ -47,9 +41,10 @@ def program_and_reason(named: str | Path | None = None) -> tuple[Path, str]:
         return _named(named, argument("program")), "named"
     if os.environ.get(VARIABLE):
         return _named(os.environ[VARIABLE], VARIABLE), f"the variable {VARIABLE}"
-    build = _build()
-    if build:
-        return build, "the build of the repository"
+    for folder in Path(__file__).resolve().parents:
+        build = folder / "crates/crnsim/out/crnsim"
+        if os.access(build, os.X_OK):
+            return build, "the build of the repository"
     if shutil.which("crnsim"):
         return _named("crnsim", "PATH"), "PATH"
     raise ProgramError(f"crnsim was not found; build it, put it on PATH, or name it with {argument('program')} or the "
@@ -86,15 +81,15 @@ def run_program(program: Path, text: str, *words: str) -> str:
     raise ProgramError(f"{program}: {line}" + "; crnplan why says why" * (ran.returncode == status_of("scenario")))
 
 
-def run_all(program: Path, texts: Iterable[str], *words: str, jobs: int = JOBS) -> list[str]:
-    """Runs the program on each text, several at a time, and returns the outputs in the order of the texts."""
-    given = list(texts)
+def run_all(program: Path, runs: Iterable[tuple[str, ...]], jobs: int = JOBS) -> list[str]:
+    """Runs the program several times at once, each time on a text with words, and returns the outputs in order."""
+    given = list(runs)
     if len(given) == 1:  # as for most items of a catalogue: threads would take longer than the run
-        return [run_program(program, given[0], *words)]
+        return [run_program(program, *given[0])]
     with ThreadPoolExecutor(jobs) as pool:
-        running = [pool.submit(run_program, program, text, *words) for text in given]
+        running = [pool.submit(run_program, program, *run) for run in given]
         try:
-            return [it.result() for it in running]
+            return [run.result() for run in running]
         finally:
             pool.shutdown(wait=True, cancel_futures=True)
 

@@ -1,10 +1,24 @@
 """Reads a report of crnsim without rounding: whole numbers are int, fractions are `fractions.Fraction`.
 
+Reports of one scenario under several keys are pooled into the report of all their replications. The replications of
+different keys are independent, and each report has the exact sums of its own R replications. With differences
+d = a - b, D the sum of d, V the variance of their mean, A and B the sums of a and b, and C their covariance:
+
+    sum of d^2 = V R (R - 1) + D^2 / R        sum of a b = C (R - 1) + A B / R
+
+These sums are added over all keys. With n replications in all, the pooled variance of the mean is (sum of d^2 - D^2 /
+n) / (n (n - 1)), and the pooled covariance (sum of a b - A B / n) / (n - 1). So an interval from it has n - 1 degrees
+of freedom. All is computed in fractions, without rounding.
+
+Costs do not steer orders. So a run with one cost at 1 and the others at 0 counts orders (`setup`), items ordered
+(`unit`), items in stock at the ends of periods (`holding`) or items owed (`backlog`).
+
 This module is not proved; crnsim's figures are.
 """
 from __future__ import annotations
 
 import csv
+import dataclasses
 import io
 import re
 from collections.abc import Iterable, Sequence
@@ -14,11 +28,11 @@ from pathlib import Path
 from typing import TYPE_CHECKING, Any
 
 from .. import formats
-from ..toml.scenarios import checked_tree
-from ..toml.scenarios import name_faults
+from ..toml.scenarios import checked_tree, name_faults
 from ..toml.texts import shown
 from ..toml.writing import plain_text
 from ..errors import Fault, ProgramError, Refused, argument
+from ..scenario import Costs, Policy, Scenario
 from ..table import DataTable, Json, Result, exact, text, whole
 from .program import find_program, run_all
 
@@ -26,7 +40,6 @@ if TYPE_CHECKING:
     import pandas as pd
 
     from ..decide.verdicts import Decision
-    from ..scenario import Policy, Scenario
 
 HEADER = list(formats.COLUMNS)
 WHOLE = re.compile("-?[0-9]{1,40}")
@@ -38,6 +51,10 @@ COLUMNS = (
     exact("diff_mean", "money a replication", "mean difference from the base's cost"),
     exact("diff_var", "squared money", "variance of that mean"),
     exact("cov", "squared money", "covariance of both costs"))
+NO_COSTS = Costs(0, 0, 0, 0)
+# Sums over replications: their number, the costs of a policy, those of the base, the squares of the differences, and
+# the products of both costs.
+Sums = tuple[int, int, int, Fraction, Fraction]
 # Columns whose cell may be `-`, which stands for no figure.
 MAY_LACK = ("diff_var", "cov")
 
@@ -61,22 +78,16 @@ class Row:
     diff_var: Fraction | None
     cov: Fraction | None
 
-    @property
-    def cells(self) -> list[str]:
-        """Returns the cells as the program spells them."""
-        return [cell_text(getattr(self, name)) for name in HEADER]
-
-
-def cell_text(value: str | int | Fraction | None) -> str:
-    """Returns a cell as the program spells it."""
-    if isinstance(value, Fraction):
-        return f"{value.numerator}/{value.denominator}"
-    return "-" if value is None else str(value)
-
 
 def report_text(rows: Iterable[Row]) -> str:
     """Returns rows as the program would write them."""
-    return "".join(",".join(line) + "\n" for line in (HEADER, *(row.cells for row in rows)))
+    def cell(value: str | int | Fraction | None) -> str:
+        """Returns a cell."""
+        if isinstance(value, Fraction):
+            return f"{value.numerator}/{value.denominator}"
+        return "-" if value is None else str(value)
+    lines = [HEADER, *([cell(getattr(row, name)) for name in HEADER] for row in rows)]
+    return "".join(",".join(line) + "\n" for line in lines)
 
 
 def _refused(what: str, place: str, line: int) -> Refused:
@@ -141,6 +152,48 @@ def rows_of(policies: Sequence[Policy], text: str, program: str) -> list[Row]:
     return rows
 
 
+def pooled_row(policy: Policy, sums: Sums, periods: int) -> Row:
+    """Returns the row of a policy from its sums over replications of so many periods."""
+    count, total, base, squares, products = sums
+    difference = total - base
+    variance = (squares - Fraction(difference**2, count)) / (count * (count - 1))
+    covariance = (products - Fraction(total * base, count)) / (count - 1)
+    return Row(policy.name, policy.s, policy.S, total, Fraction(total, count * periods), difference,
+               Fraction(difference, count), variance, covariance)
+
+
+def pooled(reports: Sequence[Sequence[Row]], replications: int, periods: int) -> list[Row]:
+    """Returns the rows of all replications. Each of the reports has the same policies and so many replications, at
+    least 2."""
+    rows = []
+    for column in zip(*reports, strict=True):
+        sums = replications * len(reports), 0, 0, Fraction(0), Fraction(0)
+        for row, report in zip(column, reports):
+            assert row.diff_var is not None and row.cov is not None
+            count, base = replications, report[0].total
+            squares = row.diff_var * count * (count - 1) + Fraction(row.diff_total**2, count)
+            products = row.cov * (count - 1) + Fraction(row.total * base, count)
+            sums = sums[0], sums[1] + row.total, sums[2] + base, sums[3] + squares, sums[4] + products
+        rows.append(pooled_row(Policy(column[0].policy, column[0].s, column[0].S), sums, periods))
+    return rows
+
+
+def counting(scenario: Scenario, cost: str) -> Scenario:
+    """Returns a scenario with one cost at 1 and the others at 0."""
+    return dataclasses.replace(scenario, costs=dataclasses.replace(NO_COSTS, **{cost: 1}))
+
+
+def all_totals(program: Path, scenarios: Iterable[Scenario]) -> list[list[int]]:
+    """Returns the total of each policy of each scenario, in order, from several runs at a time.
+
+    Raises ProgramError if a run writes no report of its scenario.
+    """
+    asked = list(scenarios)
+    reports = run_all(program, ((plain_text(scenario.tree),) for scenario in asked))
+    return [[row.total for row in rows_of(scenario.policies, report, str(program))]
+            for scenario, report in zip(asked, reports)]
+
+
 @dataclass(frozen=True)
 class Report(Result):
     """What crnsim reports of a scenario: exact rows, the base first."""
@@ -186,7 +239,7 @@ def report_of(scenario: Scenario, program: str | Path | None = None) -> Report:
     starts = range(0, max(1, len(others)), most)
     parts = [scenario.with_policies([base, *others[start:start + most]]) for start in starts]
     found = find_program(program)
-    texts = run_all(found, [plain_text(it.tree) for it in parts])
+    texts = run_all(found, [(plain_text(it.tree),) for it in parts])
     reports = [rows_of(part.policies, text, str(found)) for part, text in zip(parts, texts)]
     if any(rows[0] != reports[0][0] for rows in reports):
         raise ProgramError(f"{found}: the base has not the same row in all reports; name crnsim with "

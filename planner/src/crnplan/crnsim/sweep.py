@@ -25,14 +25,6 @@ GRID_POLICIES = formats.POLICIES[1] - 1
 
 
 @dataclass(frozen=True)
-class Part:
-    """A scenario of a sweep: its policies, of which the first is the base, and its text."""
-
-    policies: tuple[Policy, ...]
-    text: str
-
-
-@dataclass(frozen=True)
 class Kept:
     """What the program has written for a scenario."""
 
@@ -62,10 +54,10 @@ def grid_of(scenario: Scenario, points: Iterable[Number], levels: Iterable[Numbe
     return grid
 
 
-def parts_of(scenario: Scenario, grid: Sequence[Policy]) -> list[Part]:
+def parts_of(scenario: Scenario, grid: Sequence[Policy]) -> list[Scenario]:
     """Returns the scenarios of a sweep: each has the base and up to 15 pairs, and all else as the given one."""
-    parts = [(scenario.policies[0], *grid[first:first + GRID_POLICIES]) for first in range(0, len(grid), GRID_POLICIES)]
-    return [Part(part, plain_text(scenario.with_policies(part).tree)) for part in parts]
+    return [scenario.with_policies([scenario.policies[0], *grid[first:first + GRID_POLICIES]])
+            for first in range(0, len(grid), GRID_POLICIES)]
 
 
 def joined(reports: Sequence[Sequence[Row]]) -> tuple[Row, ...]:
@@ -79,15 +71,15 @@ def joined(reports: Sequence[Sequence[Row]]) -> tuple[Row, ...]:
     return base, *sorted((row for rows in reports for row in rows[1:]), key=lambda row: row.diff_total)
 
 
-def run_parts(parts: Sequence[Part], program: str) -> list[Kept | Remark]:
+def run_parts(parts: Sequence[Scenario], program: str) -> list[Kept | Remark]:
     """Runs the program on scenarios, and returns the reports. Raises ProgramError."""
-    reports = [Kept(run_program(Path(program), part.text)) for part in parts]
+    reports = [Kept(run_program(Path(program), plain_text(part.tree))) for part in parts]
     for part, kept in zip(parts, reports):
         rows_of(part.policies, kept.report, program)
     return [*reports]
 
 
-def kept_rows(part: Part, kept: Kept | Remark) -> list[Row]:
+def kept_rows(part: Scenario, kept: Kept | Remark) -> list[Row]:
     """Returns the rows of a report that is kept."""
     assert isinstance(kept, Kept)
     return rows_of(part.policies, kept.report, "")
@@ -111,7 +103,7 @@ def sweep(scenario: Scenario, s: Iterable[Number], S: Iterable[Number], *, jobs:
     with contextlib.nullcontext() if out is None else own_folder(Path(out), "sweep") as folder:
         place = folder.store(REPORTS) if folder else Path(":memory:")
         with contextlib.closing(Store(place, Kept)) as reports:
-            work = Work(reports, {name: digest_of(part.text, digest) for name, part in parts.items()})
+            work = Work(reports, {name: digest_of(plain_text(part.tree), digest) for name, part in parts.items()})
             work.finish(run_parts, parts.__getitem__, path, workers=workers_of(jobs, cluster, path),
                         shown=progress, unit="scenarios", batch=1)
             rows = joined([kept_rows(part, reports.answer(name)) for name, part in parts.items()])

@@ -96,31 +96,23 @@ def _texts(scenario: Scenario, costs: Costs, periods: Iterable[int], replication
 
 def _totals(program: Path, scenario: Scenario, costs: Sequence[Costs], periods: int) -> Iterator[list[list[int]]]:
     """Yields, for each of the costs, the totals of 1, 2, .. periods of each policy."""
-    texts = (text for its in costs for text in _texts(scenario, its, range(1, periods + 1)))
-    totals = [[row.total for row in read_rows(report, str(program))] for report in run_all(program, texts, jobs=JOBS)]
+    runs = ((text,) for its in costs for text in _texts(scenario, its, range(1, periods + 1)))
+    totals = [[row.total for row in read_rows(report, str(program))] for report in run_all(program, runs, JOBS)]
     for first in range(0, len(totals), periods):
         yield [list(it) for it in zip(*totals[first:first + periods])]
 
 
-def raised_by(scenario: Scenario) -> int:
-    """Returns by how much stock and levels must be raised so that no item is ever owed.
+def _packed(program: Path, scenario: Scenario, periods: int) -> list[tuple[list[int], list[int]]] | None:
+    """Returns what each policy orders and has in stock in each period, from packed counts. None if there is no room.
 
     The position after a review is at least s, and all that was on order then has arrived after the longest lead time.
-    Before that, the initial stock alone meets the demand.
+    Before that, the initial stock alone meets the demand. A position is the initial one, or at most a demand below s.
     """
-    lowest = min(scenario.initial, *(policy.s for policy in scenario.policies))
-    return max(0, (scenario.lead.values[-1] + 1) * scenario.demand.values[-1] - lowest)
-
-
-def most_ordered(scenario: Scenario) -> int:
-    """Returns a bound of the items ordered in a period. A position is the initial one, or at most a demand below s."""
-    return max(policy.S - min(policy.s - scenario.demand.values[-1], scenario.initial) for policy in scenario.policies)
-
-
-def _packed(program: Path, scenario: Scenario, periods: int) -> list[tuple[list[int], list[int]]] | None:
-    """Returns what each policy orders and has in stock in each period, from packed counts. None if there is no room."""
-    more, scale = raised_by(scenario), most_ordered(scenario) + 1
-    raised = replace(scenario, initial=scenario.initial + more, policies=tuple(
+    demand, initial = scenario.demand.values[-1], scenario.initial
+    lowest = min(initial, *(policy.s for policy in scenario.policies))
+    more = max(0, (scenario.lead.values[-1] + 1) * demand - lowest)
+    scale = 1 + max(policy.S - min(policy.s - demand, initial) for policy in scenario.policies)
+    raised = replace(scenario, initial=initial + more, policies=tuple(
         Policy(policy.name, policy.s + more, policy.S + more) for policy in scenario.policies))
     most = max(raised.initial, *(policy.S for policy in raised.policies))
     if scale > formats.limits("costs", "holding")[1] or most > formats.MOST_ITEMS:
@@ -140,8 +132,8 @@ def net_demands(scenario: Scenario, periods: int, program: Path) -> list[int]:
     """Returns the net demand of each of the first periods of replication 0."""
     blocks = -(-periods // PERIODS_OF_BLOCK)
     ample = replace(scenario, initial=formats.MOST_ITEMS, policies=(AMPLE,))
-    texts = _texts(ample, APART[1], range(1, PERIODS_OF_BLOCK + 1), blocks)
-    listed = [replication_costs(checkpoint) for checkpoint in run_all(program, texts, "leg", str(blocks))]
+    runs = ((text, "leg", str(blocks)) for text in _texts(ample, APART[1], range(1, PERIODS_OF_BLOCK + 1), blocks))
+    listed = [replication_costs(checkpoint) for checkpoint in run_all(program, runs)]
     stocks = [[formats.MOST_ITEMS, *steps_of(totals)] for totals in zip(*listed)]
     return [before - after for block in stocks for before, after in itertools.pairwise(block)][:periods]
 

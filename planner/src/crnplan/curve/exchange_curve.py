@@ -17,8 +17,8 @@ from typing import TYPE_CHECKING, NamedTuple
 
 import numpy as np
 
-from ..crnsim.counts import counting
 from ..crnsim.long_run import long_run_of
+from ..crnsim.report import counting
 from ..errors import Refused
 from ..files import Folder, own_folder
 from ..jobs import Work, workers_of

@@ -17,8 +17,7 @@ from pathlib import Path
 
 from .. import formats
 from ..crnsim.keys import MOST_KEYS, Key, keys_of
-from ..crnsim.pooling import pooled
-from ..crnsim.report import report_text
+from ..crnsim.report import pooled, report_text
 from ..errors import Refused, argument
 from ..files import own_folder
 from ..scenario import Scenario

@@ -20,8 +20,8 @@ from pathlib import Path
 from typing import TYPE_CHECKING
 
 from .. import formats
-from ..crnsim.counts import all_totals, counting
 from ..crnsim.program import find_program
+from ..crnsim.report import all_totals, counting
 from ..errors import Refused
 from ..law import Law
 from ..remarks import Remark

@@ -296,7 +296,8 @@ class LongRun(Walk, ABC):
     def places(self, means: Means, levels: Whole) -> GapLevels:
         """Returns levels of gaps, in cells, with the sums over the lows."""
         totals, sums = np.cumsum(self.lows_of(int(means.gaps[-1])))[means.gaps], slice(0, 3)
-        return GapLevels(means.gaps, levels, totals, totals * means.at(levels, sums), totals * means.at(levels - 1, sums))
+        here, below = (totals * means.at(cells, sums) for cells in (levels, levels - 1))
+        return GapLevels(means.gaps, levels, totals, here, below)
 
     def spare_of(self, places: GapLevels, allowed: float) -> Whole:
         """Returns how far below these places a level can be, in items, less than a cell, if so much may be unmet."""
