@@ -13,15 +13,11 @@ Facts = Mapping[str, Any]
 Say = str | Callable[[Facts], str]
 
 
-def _lines(it: Facts, one: str, many: str) -> str:
-    """Returns words for one row or for many."""
-    return one if it["count"] == 1 else many
-
-
 def _other_sign(it: Facts) -> str:
     """Returns what to do about a text that is no number."""
     other = it.get("other")
-    return "write digits, as 12" + (f", or say {argument('decimal', other)} if the decimal sign is {other!r}" if other else "")
+    return "write digits, as 12" + (
+        f", or say {argument('decimal', other)} if the decimal sign is {other!r}" if other else "")
 
 
 def _share(it: Facts) -> str:
@@ -31,25 +27,20 @@ def _share(it: Facts) -> str:
         f"say {percent}, or write a share below 1")
 
 
-def _each(it: Facts) -> list[tuple[str, Facts]]:
-    """Returns the codes and facts that are joined in one remark."""
-    places = [name for name in it if name.isdecimal()]
-    return [(it[place], {name.removeprefix(f"{place} "): value for name, value in it.items() if name != place})
-            for place in places]
-
-
 def _several(which: int) -> Say:
     """Returns the function that gives what is wrong with several cells of a row, or what to do about them."""
     def said(facts: Facts) -> str:
-        """Returns it."""
-        says = [(RECORDS[code][which], its) for code, its in _each(facts)]
-        words = (say.format_map(its) if isinstance(say, str) else say(its) for say, its in says)
+        words = []
+        for place in filter(str.isdecimal, facts):
+            say = RECORDS[facts[place]][which]
+            its = {name.removeprefix(f"{place} "): value for name, value in facts.items() if name != place}
+            words.append(say.format_map(its) if isinstance(say, str) else say(its))
         return " and ".join(dict.fromkeys(words))
     return said
 
 
 DECIDE = f"say {argument('decimal', '.')} or {argument('decimal', ',')}"
-FORMAT, START, END = map(argument, ("date_formats", "start", "end"))
+FORMAT, START, END, NET = map(argument, ("date_formats", "start", "end", "net"))
 LEADS = "write whole periods, as 3 or 2 3 3 4"
 # Of cells, rows and items that are left out or named (records/).
 RECORDS: dict[str, tuple[Say, Say]] = {
@@ -66,11 +57,11 @@ RECORDS: dict[str, tuple[Say, Say]] = {
     "not whole": ("{text!r} is not a whole number",
                   f"count in a smaller unit, as grams for kilograms, and then in boxes of many ({argument('box')})"),
     "below 0": ("{text!r} is below 0", "write 0 or more"),
-    "negative": ("{text!r} is negative", f"correct it, or say {argument('net')} to take it off the sale that it undoes"),
-    "negative period": ("{text!r} is negative", f"correct it ({argument('net')} takes it off its period, if each row has a "
-                        f"date: {argument('date')} and {argument('every')})"),
-    "negative movement": ("{text!r} is negative", f"say {argument('net')} to take it off its period, or write items that "
-                          f"came back into a column of their own ({argument('returns')})"),
+    "negative": ("{text!r} is negative", f"correct it, or say {NET} to take it off the sale that it undoes"),
+    "negative period": ("{text!r} is negative", f"correct it ({NET} takes it off its period, if each row has a date: "
+                        f"{argument('date')} and {argument('every')})"),
+    "negative movement": ("{text!r} is negative", f"say {NET} to take it off its period, or write items that came back "
+                          f"into a column of their own ({argument('returns')})"),
     "below 1": ("{text!r} is below 1", "write 1 if the order is there for the next period's demand"),
     "decimals": ("{text!r} has more than {decimals} decimals", "round it"),
     "zero": ("it is 0, so that stock, or being short, costs nothing", "write an amount above 0"),
@@ -102,7 +93,8 @@ RECORDS: dict[str, tuple[Say, Say]] = {
     "lead range": ("the lead time {lead} is not from 1 to {most} periods",
                    f"correct it, or take longer periods ({argument('every')})"),
     "no borrow": ("{text!r} is not {known}", "write one of them, or nothing"),
-    "is share": ("{text!r} is a share", f"say {argument('units', 'items.holding=percent')} if it is one of the price a year"),
+    "is share": ("{text!r} is a share",
+                 f"say {argument('units', 'items.holding=percent')} if it is one of the price a year"),
     "no price for share": ("it is a share of the price, and there is no price", "write one"),
     "no goal": ("there is neither a backlog cost nor a wanted fill rate", "write one of them"),
     "nothing of leads": ("there is no lead time, and no received order", "write one in periods"),
@@ -110,16 +102,14 @@ RECORDS: dict[str, tuple[Say, Say]] = {
     "several": (_several(0), _several(1)),
     # Rows.
     "long": ("there are {cells} cells, and {columns} columns in the heading",
-             "put a cell with a {sign} in quotes, or name "
-                  "each column in the heading"),
+             "put a cell with a {sign} in quotes, or name each column in the heading"),
     "unprintable name": ("the name of the item has a line break or another control character", "write it in one line"),
     "no item": ("the item is missing", "write its name"),
     "total": ("the row looks like a total of the rows above", "leave it out"),
-    "twin": (lambda it: _lines(it, f"the row is the same as that of line {it['first']}",
-                                    f"{it['count']:,} rows are the same as others above them ({it['lines']})"),
-                  lambda it: _lines(it, "if it was exported twice, remove it",
-                                    "if they were exported twice, remove them")
-                  + f", or say {argument('twice', 'leave-out')}"),
+    "twin": (lambda it: f"the row is the same as that of line {it['first']}" if it["count"] == 1 else
+             f"{it['count']:,} rows are the same as others above them ({it['lines']})",
+             lambda it: ("if it was exported twice, remove it" if it["count"] == 1 else
+                         "if they were exported twice, remove them") + f", or say {argument('twice', 'leave-out')}"),
     "before order": ("it is before the order of {ordered!r}", "correct one of the dates, or leave the row out"),
     # Items.
     "no master": ("there is no master of this item", "add its row to the masters"),
@@ -127,13 +117,14 @@ RECORDS: dict[str, tuple[Say, Say]] = {
     "no rows": ("there is no row of demand in the record", "nothing can be said without one"),
     "measures": ("rows are in several units of measure, {measures}",
                  "say how many items one is, as " + argument("factors", "{text}=12")),
-    "far": ("{lines}: {times:,} times {next:,}, the next largest of the item", f"correct the row, or say {argument('far', 'keep')}"),
+    "far": ("{lines}: {times:,} times {next:,}, the next largest of the item",
+            f"correct the row, or say {argument('far', 'keep')}"),
     "short": ("a history of {periods} {every}s is short", "wait, or say " + argument("least", "{periods}")),
     "unmet return": ("{amount:,} came back by {period}, and less was asked for before",
                      "correct the row, or leave it out"),
     "nothing asked": ("nothing was asked for", "nothing can be said without demand"),
     "all comes back": ("as much comes back ({back:,}) as is asked for ({asked:,}), so nothing is ever ordered",
-                            "check both columns"),
+                       "check both columns"),
     "S too large": ("S is above {most:,}", "correct it"),
     # Of an item that can be planned.
     "equal masters": ("{masters} equal masters", ""), "late": ("begins with its first movement, in {period}", ""),

@@ -104,7 +104,6 @@ class Writer:
     """Writes what is read of a catalogue. The file stands under its name only when `finish` is called."""
 
     def __init__(self, folder: Folder) -> None:
-        """Opens a new file, with its tables."""
         self.path, self.part = folder.store(READ), folder.room() / READ
         self.base = sqlite3.connect(self.part)
         self.base.executescript("PRAGMA journal_mode = OFF; PRAGMA synchronous = OFF;"
@@ -116,7 +115,6 @@ class Writer:
         return self
 
     def __exit__(self, *fault: object) -> None:
-        """Removes a file that was not finished."""
         self.base.close()
         self.part.unlink(missing_ok=True)
 

@@ -91,7 +91,6 @@ class AmountReader:
     """
 
     def __init__(self, stated: str | None = None, currencies: dict[str, str] | None = None) -> None:
-        """Begins without any text. A stated decimal sign decides all."""
         self.stated, self.currencies, self.sides = stated, currencies, dict[str, str]()
         self.is_doubtful = False  # whether a text may be two numbers
 
@@ -119,8 +118,9 @@ class AmountReader:
     def decided(self) -> str | None:
         """Returns what decides a number that could be two, as `the comma in 2,5`; None if there is none, or nothing
         does."""
-        return f"{NAMES[self.sign]} in {shown(self.sides[self.sign])}" if self.is_doubtful and self.sides and self.sign \
-            else None
+        if not self.is_doubtful or self.stated or self.sign is None:
+            return None
+        return f"{NAMES[self.sign]} in {shown(self.sides[self.sign])}"
 
     def number(self, cell: Cell, if_empty: str = "no amount") -> Fraction:
         """Returns the number of a cell. `if_empty` is the code for an empty one. Raises Unreadable."""

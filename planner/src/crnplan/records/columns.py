@@ -154,7 +154,6 @@ class Finder:
     """Finds the columns of a table in its heading."""
 
     def __init__(self, kind: str, heading: Sequence[str], stated: Stated, every: str) -> None:
-        """Takes the heading, and what is stated of it."""
         self.kind, self.heading, self.stated, self.every = kind, heading, stated, every
         self.names = names_of(kind, stated)
         self.plain = [plain_name(cell) for cell in heading]

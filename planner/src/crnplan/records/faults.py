@@ -25,7 +25,6 @@ class Unreadable(ValueError):
     """A cell that is no number or no date. Its remark says why."""
 
     def __init__(self, code: str, cell: object = None, **facts: Value) -> None:
-        """Takes the code of what is wrong, the cell, and other facts."""
         super().__init__(code)
         self.remark = Remark(code, facts if cell is None else {"text": shown(str(cell)), **facts})
 
@@ -73,7 +72,6 @@ class RefusedFiles(RefusedFaults):
     """Files with faults, and the notes that were due before: so one pass says all."""
 
     def __init__(self, faults: Sequence[Fault], notes: Sequence[Fault] = ()) -> None:
-        """Keeps all faults, and makes a text of the first ones."""
         lines = list(printed(faults))
         if len(faults) > 1:
             rows = len({(it.file, it.line) for it in faults})
@@ -92,6 +90,7 @@ REJECTS = (text("file", "name of the file"), whole("line", "", "line of the faul
 def write_rejects(path: Path, faults: Sequence[Fault]) -> None:
     """Writes all faults as CSV: file, line and column (0 if there is none), what is wrong, and the text of the row."""
     rows: Iterator[Sequence[Cell]] = (
-        [it.file, it.line, it.column, worded(it.what), str(getattr(it, "row", "")).replace("\r", "\\r")] for it in faults)
+        [fault.file, fault.line, fault.column, worded(fault.what),
+         fault.row.replace("\r", "\\r") if isinstance(fault, Reject) else ""] for fault in faults)
     with faults_of(path), new_file(path) as file:
         file.writelines(DataTable(REJECTS, rows).lines)

@@ -4,6 +4,7 @@ from __future__ import annotations
 import contextlib
 import datetime
 from collections.abc import Mapping, Sequence
+from dataclasses import replace
 from itertools import compress
 from typing import Any
 
@@ -14,7 +15,7 @@ from .cells import EVERY, NEED_PERIOD, first_day, period_name, period_of
 from .columns import factor_of, headed, periods_of
 from .faults import RefusedFiles, Unreadable, named_lines
 from .observed import CHANGE, Day, History, LeadTimes, ends_of, summed, too_long
-from .reading import Reading
+from .reading import Reading, Said
 from .sources import Rules, Sheet, Table, opened
 
 
@@ -83,19 +84,18 @@ def _check_undated(given: Mapping[tuple[str, ...], object]) -> None:
     """Rejects arguments that say nothing without dates."""
     for names in (it for it in given if given[it]):
         verb, more = ("needs", "") if len(names) == 1 else ("need", f", and {argument('every')}")
-        raise Refused(f"{' and '.join(map(argument, names))} {verb} dates: say {argument('date')} with the name of their "
-                      f"column{more}")
+        raise Refused(f"{' and '.join(map(argument, names))} {verb} dates: say {argument('date')} with the name of "
+                      f"their column{more}")
 
 
-def _history(reading: Reading, parts: Mapping[str, tuple[Sequence[int], Sequence[tuple[int, str, str] | None]]],
-             every: str | None, first: int) -> History:
-    """Returns the history of a column, with that of returns in it if there is one: for each its counts and cells."""
+def _history(reading: Reading, counts: Mapping[str, Sequence[int]], cells: Mapping[str, Sequence[Said | None]],
+             every: str | None = None, first: int = 1) -> History:
+    """Returns the history of demand, with that of returns in it if there is one: counts and cells by role."""
     notes, faults = reading.finish()
-    history: History | None = None
-    for counts, cells in reversed(parts.values()):
-        history = History(tuple(counts), reading.places(cells), notes, faults, every, first, history)
-    assert history is not None
-    return history
+    returned, quantity = (role in counts and History(tuple(counts[role]), reading.places(cells[role]), notes, faults,
+                                                     every, first) for role in ("returned", "quantity"))
+    assert quantity
+    return replace(quantity, returns=returned or None)
 
 
 def _undated(reading: Reading, roles: Sequence[str]) -> History:
@@ -107,8 +107,8 @@ def _undated(reading: Reading, roles: Sequence[str]) -> History:
     reading.note_twins(rows)
     for role in roles:
         reading.suspect(role, rows, numbers[role])
-    return _history(reading, {role: (numbers[role], [(row, role, reading.text(role, row)) for row in rows])
-                              for role in roles}, None, 1)
+    return _history(reading, numbers, {role: [reading.cell(row, role, reading.text(role, row)) for row in rows]
+                                       for role in roles})
 
 
 class Movements(Reading):
@@ -195,30 +195,31 @@ class Movements(Reading):
         numbers = np.array([number_of[day] for day, _ in self.dates])
         inside = (numbers >= 0) & (numbers < len(periods))
         counts: dict[str, list[int]] = {}
-        unmet: list[tuple[int, int, str]] = []
+        unmet: list[Said] = []
         for role, amounts in reversed(self.taken.items()):
             moves = np.array(amounts, np.int64)
             counts[role], moved, place = summed(numbers[inside], moves[inside], len(periods))
             if moved:
-                self.note(f"column {self.columns[role].name!r}: amounts below 0 that were taken off earlier {every}s: {moved}")
+                self.note(f"column {self.columns[role].name!r}: amounts below 0 that were taken off earlier {every}s: "
+                          f"{moved}")
             if place is not None:
                 row = int(np.flatnonzero(inside)[place])
                 name = period_name(periods[numbers[row]], every)
-                unmet.append(self._cell(self.used[row], role, f"{amounts[row]} is more than was asked for up to {every} "
-                                        f"{name}; correct the row, or leave it out"))
+                unmet.append(self.cell(self.used[row], role, f"{amounts[row]} is more than was asked for up to {every} "
+                                       f"{name}; correct the row, or leave it out"))
         if unmet:
             raise RefusedFiles(self.placed(unmet), self.finish()[0])
         rows_of: dict[int, list[int]] = {}
         for row, number in zip(self.used, numbers.tolist()):
             rows_of.setdefault(number, []).append(row)
 
-        def cell(role: str, number: int, count: int) -> tuple[int, str, str] | None:
+        def cell(role: str, number: int, count: int) -> Said | None:
             """Returns the first cell of a period, and how a message names its sum."""
-            rows = rows_of.get(number)
+            rows = rows_of.get(number, ())
             what = f"{every} {period_name(first + number, every)}, which comes to {count} in"
-            return (rows[0], role, f"{what} {len(rows)} row{'s' * (len(rows) > 1)},") if rows else None
-        return _history(self, {role: (counts[role], [cell(role, *it) for it in enumerate(counts[role])])
-                               for role in self.taken}, every, first)
+            return self.cell(rows[0], role, f"{what} {len(rows)} row{'s' * (len(rows) > 1)},") if rows else None
+        return _history(self, counts, {role: [cell(role, *it) for it in enumerate(counts[role])] for role in counts},
+                        every, first)
 
 
 def _ends_text(partial: Sequence[bool], whole: bool) -> str:
@@ -245,7 +246,8 @@ def _lead_times(reading: Reading, every: str | None) -> LeadTimes:
     elif column.unit and column.unit != every:
         reading.note(column.converted("lead", str(every)))
         leads = [periods_of(number * factor_of("lead", column.unit, str(every))) for number in numbers]
-    places = reading.places([(row, "lead", reading.text("lead", row)) for row, its in zip(rows, leads) for _ in its])
+    places = reading.places([reading.cell(row, "lead", reading.text("lead", row)) for row, its in zip(rows, leads)
+                             for _ in its])
     return LeadTimes(tuple(lead for its in leads for lead in its), places, *reading.finish(), None)
 
 
@@ -255,7 +257,8 @@ def _orders(reading: Reading, every: str) -> LeadTimes:
     orders = len(reading.chosen)
     received = [row for row in reading.chosen if reading.text("received", row)]
     if not received:
-        raise reading.refused(reading.chosen[0], "received", "no order has a date of receipt; take orders of longer ago")
+        raise reading.refused(reading.chosen[0], "received", "no order has a date of receipt; take orders of longer "
+                              "ago")
     reading.chosen, reading.count = received, reading.count - orders + len(received)
     reading.check_count("ordered", "orders")
     reader = reading.rows.date_reader()
@@ -274,6 +277,7 @@ def _orders(reading: Reading, every: str) -> LeadTimes:
         reading.note_forms(role, rows, kept[role])
     reading.has_rest = True
     reading.note_twins(rows)
-    places = reading.places([(row, "received", f"the lead time of {number} {every}s since the order of "
-                              f"{reading.text('ordered', row)}") for row, number in zip(rows, kept["number"])])
+    places = reading.places([reading.cell(row, "received", f"the lead time of {number} {every}s since the order of "
+                                          f"{reading.text('ordered', row)}")
+                             for row, number in zip(rows, kept["number"])])
     return LeadTimes(tuple(kept["number"]), places, *reading.finish(), every)

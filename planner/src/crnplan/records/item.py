@@ -112,7 +112,6 @@ class Masters:
     """Reads the rows of masters, with the unit of each column."""
 
     def __init__(self, amounts: Mapping[str, AmountReader], columns: Mapping[str, Column], every: str) -> None:
-        """Takes how the amounts of each role are read, and the columns."""
         units = {role: column.unit for role, column in columns.items() if column.unit}
         self.factors = {role: factor_of(role, unit, every) for role, unit in units.items()
                         if role not in ("lead", "fill")}
@@ -137,8 +136,8 @@ class Masters:
         return number / 100 if is_percent and self.share == "share" else number
 
     def read(self, cells: Mapping[str, Cell], observed: Sequence[int]) -> tuple[dict[str, Any], list[CellFault]]:
-        """Returns the values of a row by role, None of an empty cell, and all that is wrong with the row. `observed` are
-        lead times of orders, for a row that says none."""
+        """Returns the values of a row by role, None of an empty cell, and all that is wrong with the row. `observed`
+        are lead times of orders, for a row that says none."""
         read: dict[str, Any] = {}
         faults: list[CellFault] = []
         for role, reader in self.readers.items():
@@ -163,6 +162,7 @@ class Masters:
         read["price"] = None if read["price"] is None else read["price"] / (read["price_for"] or 1)
         read |= {role: read[role] * factor for role, factor in self.factors.items() if read[role] is not None}
         holding = read["holding"] * read["price"] if self.share else read["holding"]
-        return Item(name, (), tuple(read["lead"] or observed), (int(read["s"]), int(read["S"])), read["setup"], holding,
+        item = Item(name, (), tuple(read["lead"] or observed), (int(read["s"]), int(read["S"])), read["setup"], holding,
                     read["backlog"], read["fill"], group=read["class"] or "", borrow=read["borrow"] or "",
-                    stock=read["stock"], price=read["price"], description=read["description"] or "", line=line), decimals
+                    stock=read["stock"], price=read["price"], description=read["description"] or "", line=line)
+        return item, decimals

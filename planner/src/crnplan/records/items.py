@@ -19,8 +19,8 @@ from .cells import EVERY, Cell, period_name, period_of, text_of
 from .columns import ROLES, Stated, factor_of, unit_fault
 from .faults import TOTAL, UNPRINTABLE, Unreadable, named_lines, on_one_line
 from .item import AMOUNTS, MONEY, CellFault, Item, Masters
-from .observed import Day, ends_of, record_of, summed
-from .rows import Flags, Numbers, Rows, far_above
+from .observed import Day, Numbers, ends_of, record_of, summed
+from .rows import Flags, Rows, far_above
 from .sources import Rules
 
 KEEP, LEAVE_OUT = "keep", "leave-out"
@@ -50,7 +50,6 @@ class Words(Rules):
     factors: Mapping[str, int] = field(default_factory=dict)
 
     def __post_init__(self) -> None:
-        """Checks the words one by one."""
         super().__post_init__()
         if self.every not in EVERY:
             raise Refused(f"{argument('every', self.every)} is not one of {', '.join(EVERY)}")
@@ -129,8 +128,8 @@ class Reader:
         Refused."""
         self.rows, self.words, self.writer, self.decimals = rows, words, writer, 0
         self.counts: Counts = {
-            "files": {kind: {"name": its.source.name, "read": len(its), "blank": len(its.blank), "used": 0, "rejected": 0,
-                             "with_item": 0} for kind, its in rows.items()},
+            "files": {kind: {"name": its.source.name, "read": len(its), "blank": len(its.blank), "used": 0,
+                             "rejected": 0, "with_item": 0} for kind, its in rows.items()},
             "items": dict.fromkeys(("open_orders", "twice", "named", "ready", "left_out", "late"), 0)}
         self.names = [str(name) for name in rows["items"].columns["item"].distinct]
         self.good = {kind: self._named(kind) for kind in rows}
@@ -172,7 +171,6 @@ class Reader:
         return good
 
     def _reject(self, kind: str, row: int, name: str, faults: Sequence[CellFault]) -> None:
-        """Rejects a row of an item with its faults."""
         self.counts["files"][kind]["rejected"] += 1
         self.writer.reject(Reject("row", self.rows[kind].source.name, int(self.rows[kind].lines[row]), name,
                                   *self._said(kind, faults), int(kind == "demand")))
@@ -211,13 +209,11 @@ class Reader:
         self.writer.add_items(waiting)
 
     def _left(self, kind: str, line: int, role: str, cell: object, code: str, **facts: int | str) -> Left:
-        """Returns why an item is left out."""
         return Left(kind, line, self.column(kind, role), str(cell), Remark(code, facts))
 
     def _dates(self, kind: str, role: str) -> tuple[Numbers, Numbers, dict[int, Remark]]:
         """Returns the day, as an ordinal number, and the period of each row's date, and what is wrong with values."""
         def day_of(cell: Cell) -> Day:
-            """Reads one."""
             day = self.dates[kind].read(cell)[0]
             if kind == "demand":
                 self.record.check(day)
@@ -232,7 +228,6 @@ class Reader:
         factor = int(factor_of(role, self.rows["demand"].source.columns[role].unit, self.words.every))
 
         def read(cell: Cell) -> int:
-            """Reads one."""
             if role == "returned" and cell == "":
                 return 0
             number = self.amounts[role].whole(cell) * factor
@@ -327,7 +322,6 @@ class Reader:
         return leads[received], received_ends, np.diff(np.r_[0, ends])
 
     def _item(self, item: int, moves: Moves, masters: Sequence[int], leads: Sequence[int]) -> Item:
-        """Returns an item. Raises Left."""
         self._check_measures(item)
         master, decimals = self._master(self.names[item], masters, leads, moves)
         self._check_far(moves)
@@ -379,7 +373,8 @@ class Reader:
             raise self._left(kind, line, "item", name, "no master")
         lines = table.lines[rows].tolist()
         if len({*self.master_twins[rows].tolist()}) > 1:
-            raise self._left("items", lines[1], "item", name, "several masters", masters=len(rows), lines=named_lines(lines))
+            raise self._left("items", lines[1], "item", name, "several masters", masters=len(rows),
+                             lines=named_lines(lines))
         read, faults = self.masters.read(table.cells(rows[0]), leads)
         if faults:
             raise Left("items", lines[0], *self._said("items", faults))

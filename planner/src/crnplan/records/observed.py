@@ -19,6 +19,7 @@ if TYPE_CHECKING:
     import pandas as pd
 
 Day = datetime.date
+Numbers = npt.NDArray[np.int64]
 # A row so many days away from the rest, if at most one row in so many is, has a wrong date.
 FAR_DAYS, RARE = 366, 1_000
 # An item that is first seen after so many periods begins at its first movement.
@@ -166,7 +167,7 @@ def _met(counts: list[int], period: int, amount: int) -> bool:
     return amount == 0
 
 
-def summed(periods: npt.NDArray[np.int64], amounts: npt.NDArray[np.int64], count: int) -> tuple[list[int], int, int | None]:
+def summed(periods: Numbers, amounts: Numbers, count: int) -> tuple[list[int], int, int | None]:
     """Returns demand by period without what was undone, how many amounts were taken off earlier periods, and the place
     of the first movement that nothing can meet; None if there is none.
 

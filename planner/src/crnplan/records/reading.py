@@ -18,6 +18,8 @@ from .rows import TIMES_NEXT, Rows, far_above
 from .sources import Sheet
 
 Value = TypeVar("Value")
+# What is said: the line of a row, 0 for the file, the place of a cell in the row, -1 for the row, and a text.
+Said = tuple[int, int, str]
 # A way of writing that at most one row in so many has is suspicious.
 RARE = 10
 # A sum of fewer rows may well come again below them.
@@ -46,9 +48,7 @@ class Reading:
             # What else is wrong may come from the encoding.
             raise RefusedFaults([sheet.fault] if sheet.fault else refused.faults) from refused
         self.lines, self.has_rest = self.rows.lines.tolist(), sum(map(bool, source.heading)) > len(names)
-        # What is wrong with a cell, or is to be said of it: its line, its place in the row and a text.
-        self._faults: list[tuple[int, int, str]] = []
-        self._notes: list[Fault | tuple[int, int, str]] = []
+        self._faults, self._notes = list[Said](), list[Said]()
         if source.titles:
             texts = ", ".join(repr(shown(" ".join(filter(None, cells)))) for _, cells in source.titles)
             self.note(f"{named_lines([line for line, _ in source.titles])} above the heading passed over: {texts}")
@@ -56,8 +56,8 @@ class Reading:
         self._choose(items)
 
     def _choose(self, items: Mapping[str, str]) -> None:
-        """Chooses the rows of the item, which are all rows if none is asked for. Those with too many cells have a fault.
-        Raises Refused if there are none."""
+        """Chooses the rows of the item, which are all rows if none is asked for. Those with too many cells have a
+        fault. Raises Refused if there are none."""
         is_chosen = np.ones(len(self.rows), bool)
         for role, name in items.items():
             text, values = self.rules.item[name], list(map(text_of, self.rows.columns[role].distinct))
@@ -81,26 +81,26 @@ class Reading:
         """Returns the text of a cell."""
         return text_of(self.rows.cell(role, row))
 
-    def note(self, what: str) -> None:
-        """Adds a note on the file."""
-        self._notes.append(Fault(what, self.sheet.name))
+    def note(self, what: str, line: int = 0, place: int = -1) -> None:
+        """Adds a note on the file, on a row or on a cell."""
+        self._notes.append((line, place, what))
 
-    def _cell(self, row: int, role: str, what: str) -> tuple[int, int, str]:
-        """Returns what is wrong with a cell, or is to be said of it."""
+    def cell(self, row: int, role: str, what: str) -> Said:
+        """Returns what is said of a cell."""
         column = self.columns[role]
         return self.lines[row], column.place, f"column {column.name!r}: {what}"
 
     def note_cell(self, row: int, role: str, what: str) -> None:
         """Adds a note on a cell."""
-        self._notes.append(self._cell(row, role, what))
+        self._notes.append(self.cell(row, role, what))
 
     def reject(self, row: int, role: str, what: str) -> None:
         """Adds the fault of a cell."""
-        self._faults.append(self._cell(row, role, what))
+        self._faults.append(self.cell(row, role, what))
 
     def refused(self, row: int, role: str, what: str) -> RefusedFaults:
         """Returns the error of a cell for which the whole file is refused."""
-        return RefusedFaults(self.placed([self._cell(row, role, what)]))
+        return RefusedFaults(self.placed([self.cell(row, role, what)]))
 
     def skip_blank(self) -> None:
         """Passes over blank rows, with a note."""
@@ -133,7 +133,6 @@ class Reading:
             self.note(column.converted(role, ""))
 
         def amount(cell: Cell) -> int:
-            """Reads one."""
             number = reader.whole(cell, if_empty)
             if least is not None and number < least:
                 raise Unreadable(code, cell)
@@ -158,29 +157,22 @@ class Reading:
             raise RefusedFiles([*self.finish()[1], Fault("no row is left; correct the file", self.sheet.name)])
         return list(compress(self.chosen, good)), {role: list(compress(its, good)) for role, its in columns.items()}
 
-    def placed(self, cells: Sequence[tuple[int, int, str]]) -> list[Fault]:
-        """Returns what is said of cells with their places and the texts of their rows, by place."""
-        texts = self.sheet.texts({line for line, _, _ in cells})
-        faults = [Reject(what, self.sheet.name, *self.sheet.place(texts.get(line, ""), line, place), texts.get(line, ""))
-                  for line, place, what in cells]
-        return sorted(faults, key=lambda fault: (fault.line, fault.column))
+    def placed(self, said: Sequence[Said]) -> list[Reject]:
+        """Returns what is said with its places, and with the texts of rows."""
+        texts = self.sheet.texts({line for line, place, _ in said if place >= 0})
+        return [Reject(what, self.sheet.name, *self.sheet.place(texts.get(line, ""), line, place), texts.get(line, ""))
+                if place >= 0 else Reject(what, self.sheet.name, line) for line, place, what in said]
 
     def finish(self) -> tuple[tuple[Fault, ...], tuple[Fault, ...]]:
-        """Returns all notes, and the faults of the rows that were left out."""
-        cells = [it for it in self._notes if not isinstance(it, Fault)]
-        texts = self.sheet.texts({line for line, _, _ in cells})
-        notes = (it if isinstance(it, Fault) else
-                 Fault(it[2], self.sheet.name, *self.sheet.place(texts[it[0]], it[0], it[1])) for it in self._notes)
-        return tuple(notes), tuple(self.placed(self._faults))
+        """Returns all notes, and the faults of the rows that were left out, by place."""
+        faults = sorted(self.placed(self._faults), key=lambda fault: (fault.line, fault.column))
+        return tuple(self.placed(self._notes)), tuple(faults)
 
-    def places(self, cells: Sequence[tuple[int, str, str] | None]) -> tuple[Fault | None, ...]:
-        """Returns the places of numbers, each a row, a role and how a message names the number; None for no row."""
-        texts = self.sheet.texts({self.lines[cell[0]] for cell in cells if cell})
-        places: list[Fault | None] = []
-        for cell in cells:
-            line, place, what = self._cell(*cell) if cell else (0, 0, "")
-            places.append(Fault(what, self.sheet.name, *self.sheet.place(texts[line], line, place)) if cell else None)
-        return tuple(places)
+    def places(self, cells: Sequence[Said | None]) -> tuple[Fault | None, ...]:
+        """Returns the places of numbers, each with how a message names it; None stays None."""
+        placed = iter(self.placed([cell for cell in cells if cell]))
+        faults = (next(placed) if cell else None for cell in cells)
+        return tuple(fault and Fault(fault.what, fault.file, fault.line, fault.column) for fault in faults)
 
     def total_reason(self, row: int, number: int | None, others: Sequence[int]) -> str | None:
         """Returns why a row looks like a total of the rows above, the numbers of which are given; None if it
@@ -198,8 +190,8 @@ class Reading:
         if rows and rows[-1] == len(self.lines) - 1:
             reason = self.total_reason(rows[-1], numbers[-1], numbers[:-1])
             if reason:
-                self.note_cell(rows[-1], role, f"the last row looks like a total of the rows above ({reason}); if it is, "
-                               "remove it")
+                self.note_cell(rows[-1], role, f"the last row looks like a total of the rows above ({reason}); if it "
+                               "is, remove it")
                 rows, numbers = rows[:-1], numbers[:-1]
         far = far_above(np.array(numbers, np.int64), TIMES_NEXT)
         ranked = sorted(range(len(numbers)), key=lambda place: -numbers[place]) if far else []
@@ -210,8 +202,9 @@ class Reading:
         decimal = self.rules.decimal
         for place, how_many in rare_signs([self.text(role, row) for row in rows], decimal) if decimal else ():
             text = self.text(role, rows[place])
-            self.note_cell(rows[place], role, f"{shown(text)!r} is read as {numbers[place]} ({how_many} of {len(rows)} rows "
-                           f"are written so; with another decimal sign it would be {other_reading(text, decimal)})")
+            self.note_cell(rows[place], role, f"{shown(text)!r} is read as {numbers[place]} ({how_many} of {len(rows)} "
+                           "rows are written so; with another decimal sign it would be "
+                           f"{other_reading(text, decimal)})")
 
     def note_twins(self, rows: Sequence[int]) -> None:
         """Notes rows that are the same as others. Rows of nothing but amounts can't be told apart, so they are not
@@ -219,10 +212,11 @@ class Reading:
         used, first = np.array(rows), self.rows.twins()[rows]
         again = used[(first != used) & np.isin(first, used)].tolist() if self.has_rest else []
         if again:
-            others = f", and {len(again) - 1} more as others above them ({named_lines([self.lines[it] for it in again[1:]])})"
+            more = [self.lines[row] for row in again[1:]]
+            others = f", and {len(more)} more as others above them ({named_lines(more)})" * bool(more)
             line = self.lines[first[rows.index(again[0])]]
-            self._notes.append(Fault(f"the row is the same as that of line {line}{others * (len(again) > 1)}; if they were "
-                                     "exported twice, remove them", self.sheet.name, self.lines[again[0]]))
+            self.note(f"the row is the same as that of line {line}{others}; if they were exported twice, remove them",
+                      self.lines[again[0]])
 
     def note_forms(self, role: str, rows: Sequence[int], dates: Sequence[tuple[Day, str]]) -> None:
         """Notes if the dates of a column have several forms."""
@@ -232,14 +226,14 @@ class Reading:
         if len(firsts) > 1:
             named = ", ".join(f"{shown(self.text(role, row))!r} (line {self.lines[row]}) is {day}"
                               for row, day in firsts.values())
-            self.note_cell(max(row for row, _ in firsts.values()), role, f"the dates have {len(firsts)} forms: {named}; "
-                           f"if one is wrong, say {argument('date_formats')}")
+            self.note_cell(max(row for row, _ in firsts.values()), role, f"the dates have {len(firsts)} forms: "
+                           f"{named}; if one is wrong, say {argument('date_formats')}")
 
     def check_count(self, role: str, what: str) -> None:
         """Rejects more rows than a table can count, each of which would count 1."""
         if len(self.chosen) > MOST_WEIGHT:
-            raise self.refused(self.chosen[MOST_WEIGHT], role, f"{len(self.chosen):,} {what} are more than {MOST_WEIGHT:,}; "
-                               "leave the oldest out")
+            raise self.refused(self.chosen[MOST_WEIGHT], role, f"{len(self.chosen):,} {what} are more than "
+                               f"{MOST_WEIGHT:,}; leave the oldest out")
 
 
 def rare_signs(texts: Sequence[str], decimal: str) -> Iterator[tuple[int, int]]:

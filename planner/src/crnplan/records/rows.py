@@ -17,8 +17,8 @@ from ..remarks import Remark
 from .cells import AmountReader, Cell, DateReader, bare_cell, dated_cell, text_of
 from .columns import Source
 from .faults import Unreadable
+from .observed import Numbers
 
-Numbers = npt.NDArray[np.int64]
 Flags = npt.NDArray[np.bool_]
 Value = TypeVar("Value")
 MOST_KEPT = 100_000  # cells whose value is remembered
@@ -29,10 +29,10 @@ TIMES_NEXT, TIMES_OF_FEW, LEAST_OTHERS, MOST_FAR = 30, 300, 4, 3
 
 
 class Codes(dict[Cell, int]):
-    """The distinct values of a column, by cell. A cell that is not known is added."""
+    """The distinct values of a column, by cell: a cell that is not known is read and added. At most so many cells are
+    remembered."""
 
     def __init__(self, read: Callable[[Cell], Cell], most: int | None = None) -> None:
-        """Takes the function that gives the value of a cell, and how many cells are remembered at most."""
         super().__init__()
         self.read, self.most = read, MOST_KEPT if most is None else most
         self.distinct: list[Cell] = []
@@ -68,7 +68,6 @@ class Rows:
         self._fill()
 
     def _fill(self) -> None:
-        """Reads all rows."""
         width = len(self.source.heading)
         slots = [(column.place, self.columns[role], self._codes[role].append)
                  for role, column in self.source.columns.items()]
@@ -88,7 +87,6 @@ class Rows:
             add_hash(hash(tuple(cells)))
 
     def __len__(self) -> int:
-        """Returns how many rows there are."""
         return len(self._lines)
 
     def codes(self, role: str) -> npt.NDArray[np.int32]:

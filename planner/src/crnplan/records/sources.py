@@ -60,7 +60,6 @@ class Rules:
     leave_out: bool = False
 
     def __post_init__(self) -> None:
-        """Checks the rules one by one."""
         if self.delimiter is not None and self.delimiter not in DELIMITERS:
             raise Refused(f"{argument('delimiter', self.delimiter)} is not one of , and ; (in quotes) and tab")
         if self.decimal is not None and self.decimal not in DECIMALS:
@@ -248,7 +247,6 @@ class Sheet:
     what is wrong with its bytes. This one has no text of its own: its cells are parted by commas in messages."""
 
     def __init__(self, name: str, written: str, rules: Rules) -> None:
-        """Takes the name and how the table is written."""
         self.name, self.written, self.rules, self.sign = name, written, rules, ","
         self.fault: Fault | None = None
 
@@ -278,7 +276,6 @@ class TextSheet(Sheet):
     """A CSV file."""
 
     def __init__(self, path: Path, name: str, rules: Rules) -> None:
-        """Looks at the head of the file."""
         self.path, self.state = path, state_of(path)
         self.encoding, self.text, fault = head_of(path, name, rules)
         super().__init__(name, self.encoding, rules)
@@ -336,7 +333,6 @@ class TextSheet(Sheet):
         wanted, texts, kept = {*lines}, dict[int, str](), list[str]()
 
         def heard(given: Iterator[str]) -> Iterator[str]:
-            """Yields the lines, and keeps those of the row that is read."""
             for line in given:
                 kept.append(line)
                 yield line
