@@ -121,3 +121,9 @@ def test_types() -> None:
 def test_wrong_words(words: list[str], message: str, crnplan: Command) -> None:
     """Checks the line on words that are refused."""
     assert crnplan(*words) == (2, "", f"crnplan: {message}\n")
+
+
+def test_options_of_the_command_that_read() -> None:
+    """A page that is written again names the options of the command that read the files."""
+    assert group.get_command(click.Context(group), "report") and group.as_option("end", "") == "--to"
+    assert group.get_command(click.Context(group), "run") and group.as_option("end", "") == "--end"

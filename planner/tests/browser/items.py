@@ -1,17 +1,16 @@
 """The table of items on the page of a catalogue, as a reader uses it."""
 from __future__ import annotations
 
-import csv
 import re
 from collections.abc import Sequence
 from decimal import Decimal
-from pathlib import Path
 
 from selenium.webdriver.common.by import By
 from selenium.webdriver.remote.webelement import WebElement
 from selenium.webdriver.support.ui import Select
 
 from planner.tests.browser.browser import Browser
+from planner.tests.pages.page_reader import Row
 
 # A text that Python puts into the same order as the collation of Unicode: it begins with a letter of ASCII.
 PLAIN = re.compile(r"[A-Za-z][ -~]*")
@@ -21,14 +20,6 @@ const shown = () => [...document.querySelectorAll("#items tbody tr")].filter((it
     .map((row) => [...row.cells].map((it) => it.innerText));
 return new Promise((done) => requestAnimationFrame(() => requestAnimationFrame(() => done(shown()))));
 """
-Row = dict[str, str]
-
-
-def decisions_of(folder: Path) -> list[Row]:
-    """Returns the rows of decisions.csv as they are spelt, but for the apostrophe before what a spreadsheet would run.
-    """
-    with (folder / "decisions.csv").open(encoding="utf-8", newline="") as file:
-        return [{name: re.sub("^'(?=[=@+-])", "", cell) for name, cell in row.items()} for row in csv.DictReader(file)]
 
 
 def order_of(text: str) -> list[str | int]:

@@ -10,7 +10,8 @@ from selenium.webdriver.common.keys import Keys
 
 from planner.tests.browser.browser import TALL, Browser, Form
 from planner.tests.browser.conftest import PLANNED, Pages
-from planner.tests.browser.items import PLAIN, Items, Row, decisions_of, in_order, is_number
+from planner.tests.browser.items import PLAIN, Items, in_order, is_number
+from planner.tests.pages.page_reader import Row, rows_of
 
 SEARCHED = ("item", "description", "class", "warnings")
 COLUMNS = ("item", "description", "class", "verdict", "s_today", "S_today", "s_chosen", "S_chosen", "cost_today",
@@ -31,7 +32,7 @@ def items(browser: Browser, pages: Pages) -> Items:
 @pytest.fixture
 def decisions(pages: Pages) -> list[Row]:
     """Returns the rows of the file that the page shows."""
-    return decisions_of(pages("catalogue of hundreds").parent)
+    return rows_of(pages("catalogue of hundreds").with_name("decisions.csv"))
 
 
 def by_item(rows: list[Row]) -> dict[str, Row]:

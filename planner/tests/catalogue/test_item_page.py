@@ -1,7 +1,6 @@
 """Tests the page of an item of a catalogue: its figures are those of the tables, and what has no page is refused."""
 from __future__ import annotations
 
-import csv
 import re
 import shutil
 import sqlite3
@@ -18,7 +17,7 @@ from crnplan.pages.catalogue_page import file_of
 from crnplan.errors import CrnplanError, Refused
 from planner.tests.catalogue.conftest import FILES, SETTINGS
 from planner.tests.catalogue.made import NO_PLAN, TODAY, made
-from planner.tests.pages.page_reader import Page, digest_of
+from planner.tests.pages.page_reader import Page, Row, rows_of as list_of
 
 PAIRS = "Today's and the chosen policy, as in decisions.csv"
 EXACT = "The run's exact figures, as in exact.csv"
@@ -30,10 +29,9 @@ SAVINGS = {"saving a week": "saving", "saving a week, by crnsim": "run_saving", 
            "its high end": "run_high"}
 
 
-def rows_of(path: Path) -> dict[str, dict[str, str]]:
+def rows_of(path: Path) -> dict[str, Row]:
     """Returns the rows of a table by item."""
-    with path.open(encoding="utf-8", newline="") as file:
-        return {row["item"]: row for row in csv.DictReader(file)}
+    return {row["item"]: row for row in list_of(path)}
 
 
 def plain(text: str) -> str:
@@ -74,7 +72,7 @@ def names(folder: Path) -> list[str]:
 @pytest.fixture(scope="module")
 def pages(folder: Path, names: list[str], program: Path) -> dict[str, Page]:
     """Returns the pages of these items."""
-    return {name: Page(item_page(folder, name, program).read_text("utf-8")) for name in names}
+    return {name: Page(item_page(folder, name, program)) for name in names}
 
 
 def test_figures_are_those_of_the_tables(folder: Path, pages: dict[str, Page]) -> None:
@@ -127,9 +125,8 @@ def test_headline_has_the_decision(folder: Path, pages: dict[str, Page]) -> None
 def test_pages_stand_alone(pages: dict[str, Page]) -> None:
     """Each page is closed, links to nothing, and its policy allows its own style alone."""
     for page in pages.values():
-        assert not page.open and set(page.links) == {"data:,"} and not page.parts["script"]
-        assert page.policy["style-src"] == digest_of("".join(page.parts["style"]))
-        assert all(page.tables) and not [it for it in page.attributes if it == "style" or it.startswith("on")]
+        page.check_alone()
+        assert set(page.addresses) == {"data:,"} and not page.parts["script"]
 
 
 def test_same_bytes_again(folder: Path, names: list[str], pages: dict[str, Page], program: Path) -> None:
@@ -150,9 +147,9 @@ def test_texts_are_escaped(files: Path, tmp_path: Path, program: Path) -> None:
     read = read_catalogue(*(tmp_path / it for it in FILES), today=TODAY)
     plan(read, out=tmp_path / "plan", jobs=1, program=program, **SETTINGS)
     path = item_page(tmp_path / "plan", name, program)
-    text = path.read_text("utf-8")
-    assert path.parent == tmp_path / "plan/items" and not Page(text).open
-    assert "../&lt;b&gt;&amp;" in text and "<b>&" not in text and "<script>" not in text
+    page = Page(path)
+    assert path.parent == tmp_path / "plan/items" and not page.open and not page.elements["script"]
+    assert "../<b>&" in page.words and "<script>1" in page.words
 
 
 def forget(folder: Path) -> None:
@@ -210,7 +207,7 @@ def test_learned_law_stands_beside_the_items_own(learned: Path, program: Path) -
     """
     rows = rows_of(learned / "decisions.csv")
     name = next(it for it, row in rows.items() if row["law"] == "borrowed" and row["s_alone"] and row["fill_wanted"])
-    page = Page(item_page(learned, name, program).read_text("utf-8"))
+    page = Page(item_page(learned, name, program))
     laws = [row[1] for row in page.tables["Figures of the laws"][1:]]
     assert laws[:3][1].startswith("the law learned from all items of the catalogue")
     assert laws[2] == "the law of this item alone"

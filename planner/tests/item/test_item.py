@@ -1,8 +1,6 @@
 """Tests `crnplan item` from nothing, again and interrupted, what its files have, and what it refuses."""
 from __future__ import annotations
 
-import csv
-import html
 import os
 import re
 from collections.abc import Callable
@@ -21,7 +19,7 @@ from crnplan.theory.suggestions import suggestions_of
 from crnplan.words import sentence
 from planner.tests.conftest import Command
 from planner.tests.item.conftest import HERE, Plan
-from planner.tests.pages.page_reader import Page
+from planner.tests.pages.page_reader import Page, rows_of
 from planner.tests.plan.test_one import raised
 
 FILES = {"crnplan-folder.txt", "demand.csv", "lead_times.csv", "laws.csv", "policies.csv", "exact.csv", "doubt.csv",
@@ -33,12 +31,6 @@ Change = Callable[[Path], object]
 def bytes_of(folder: Path) -> dict[str, bytes]:
     """Returns the bytes of all files of a folder, but for the marker, which has a name for each run."""
     return {it.name: it.read_bytes() for it in folder.iterdir() if it.is_file() and it.name != "crnplan-folder.txt"}
-
-
-def rows_of(path: Path) -> list[dict[str, str]]:
-    """Returns the rows of a table."""
-    with path.open(encoding="utf-8", newline="") as file:
-        return [*csv.DictReader(file)]
 
 
 def edit(path: Path, old: str, new: str) -> None:
@@ -157,7 +149,7 @@ def test_a_page_says_by_which_law(fit: str, room: Path, plan: Plan) -> None:
     scenario = Scenario.read(room / "plan/scenario.toml")
     assert (scenario.demand, scenario.lead) == (law.table, lead.table)
     words = {"empirical": "this history.", "hurdle-geometric": "the law fitted to this history (hurdle-geometric)."}
-    page = Page((room / "plan/summary.html").read_text()).words
+    page = Page(room / "plan/summary.html").words
     for text in (output.replace("\n", " "), page):
         assert words.get(fit, "the law fitted to this history (auto: ") in text
 
@@ -167,10 +159,10 @@ def test_warnings_on_the_history(room: Path, plan: Plan) -> None:
     rows = [f"{week},{3 + week // 4 + week % 3}" for week in range(60)]
     (room / "history.csv").write_text("week,demand\n" + "\n".join(rows))
     output, checks = plan().output, check_history(counts_of(room))
-    page, notes = (room / "plan/summary.html").read_text(), (room / "plan/notes.txt").read_text()
+    page, notes = Page(room / "plan/summary.html").words, (room / "plan/notes.txt").read_text()
     assert checks.warnings and "\nWARNING: Demand has a trend" in output
     for remark in (*checks.warnings, *checks.notes):
-        assert html.escape(sentence(remark)[1:], quote=False) in html.unescape(page)
+        assert sentence(remark)[1:] in page
     assert all(sentence(remark)[1:] in notes.replace("\n", " ") for remark in checks.unknown)
 
 

@@ -1,7 +1,6 @@
 """Tests the page of `crnplan item`: it stands alone, and its figures are those of the files beside it."""
 from __future__ import annotations
 
-import csv
 import re
 import shutil
 from collections.abc import Callable, Mapping
@@ -13,20 +12,19 @@ import pytest
 from crnplan import Scenario
 from planner.tests.conftest import Command
 from planner.tests.item.conftest import Plan
-from planner.tests.pages.page_reader import Page, digest_of
+from planner.tests.pages.page_reader import Page, rows_of as list_of
 
 Row = Mapping[str, str]
 
 
 def page_of(folder: Path) -> Page:
     """Returns the page of a plan."""
-    return Page((folder / "summary.html").read_text("utf-8"))
+    return Page(folder / "summary.html")
 
 
 def rows_of(folder: Path, name: str) -> dict[str, Row]:
     """Returns the rows of a file of a plan by their first cell."""
-    with (folder / name).open(encoding="utf-8", newline="") as file:
-        return {next(iter(row.values())): row for row in csv.DictReader(file)}
+    return {next(iter(row.values())): row for row in list_of(folder / name)}
 
 
 def money(text: str, digits: int = 2) -> str:
@@ -64,26 +62,20 @@ TABLES: dict[str, tuple[str, Callable[[Row], list[str]]]] = {
     "The best policy in each case, and what it costs to keep the chosen one": ("sensitivity.csv", moved)}
 
 
-@pytest.fixture(scope="module")
-def plan_folder(whole: Path) -> Path:
-    """Returns the folder of a plan, with coming periods."""
-    return whole
-
-
 @pytest.mark.parametrize("caption", TABLES)
-def test_tables_are_those_of_the_files(caption: str, plan_folder: Path) -> None:
+def test_tables_are_those_of_the_files(caption: str, whole: Path) -> None:
     """Each table has the rows of its file, in that order, with its figures as a reader has them."""
     name, cells = TABLES[caption]
-    shown = page_of(plan_folder).tables[caption][1:]
-    assert shown == [cells(row) for row in rows_of(plan_folder, name).values()][:len(shown)] and len(shown) >= 9
+    shown = page_of(whole).tables[caption][1:]
+    assert shown == [cells(row) for row in rows_of(whole, name).values()][:len(shown)] and len(shown) >= 9
 
 
 @pytest.mark.parametrize("title, name, ends", [
     ("Cost compared with today's policy, in the long run", "policies.csv", ("run_low", "run_high")),
     ("Cost compared with today's policy, over the coming 12 weeks", "coming.csv", ("low", "high"))])
-def test_intervals_are_those_of_the_files(title: str, name: str, ends: tuple[str, str], plan_folder: Path) -> None:
+def test_intervals_are_those_of_the_files(title: str, name: str, ends: tuple[str, str], whole: Path) -> None:
     """Each difference stands in a table, and is the label of its picture with both ends."""
-    page, rows = page_of(plan_folder), rows_of(plan_folder, name)
+    page, rows = page_of(whole), rows_of(whole, name)
     assert "difference from today" in page.tables[title][0]
     shown = {cells[0].split("(")[0]: cells[-1] for cells in page.tables[title][1:-1]}
     assert shown == {it: f"{money(row['difference'])}{row['verdict']}" for it, row in rows.items()}
@@ -93,19 +85,19 @@ def test_intervals_are_those_of_the_files(title: str, name: str, ends: tuple[str
         assert f"{it}: {money(row['difference'])}{between}, {row['verdict']}" in page.pictures
 
 
-def test_pictures_say_their_figures(plan_folder: Path) -> None:
+def test_pictures_say_their_figures(whole: Path) -> None:
     """The pictures of the history and of the stock say in words what the files have."""
-    page = page_of(plan_folder)
-    demand = {name: int(row["demand"]) for name, row in rows_of(plan_folder, "demand.csv").items()}
+    page = page_of(whole)
+    demand = {name: int(row["demand"]) for name, row in rows_of(whole, "demand.csv").items()}
     text = page.pictures["Demand by week, and the law that it is planned by"]
     first, *_, last = demand
     assert f"{len(demand)} weeks from {first} to {last}, {sum(demand.values()):,} items" in text
     assert f"the greatest demand is {max(demand.values())}, in {max(demand, key=demand.__getitem__)};" in text
-    law = [row for row in csv.DictReader((plan_folder / "laws.csv").open()) if row["table"] == "demand"][-1]
+    law = [row for row in list_of(whole / "laws.csv") if row["table"] == "demand"][-1]
     assert f"mean of the law: {float(law['mean']):.2f} a week; 99 of 100 weeks by the law: at most " in text
     assert text.endswith(f" at most {law['99.0%']}.")
     stocks: dict[str, list[int]] = {}
-    for row in csv.DictReader((plan_folder / "trajectory.csv").open()):
+    for row in list_of(whole / "trajectory.csv"):
         stocks.setdefault(row["policy"], []).append(int(row["stock"]))
     for name, its in stocks.items():
         owed = sum(it < 0 for it in its)
@@ -126,40 +118,31 @@ def test_picture_of_the_law_whatever_the_order(room: Path, plan: Plan) -> None:
     assert pictures[0][0] != pictures[1][0]
 
 
-def test_page_stands_alone(plan_folder: Path) -> None:
+def test_page_stands_alone(whole: Path) -> None:
     """The page is closed in itself, links to nothing, allows its own style alone, and has the summary's words and all
     policies."""
-    text, page = (plan_folder / "summary.html").read_text(), page_of(plan_folder)
-    assert not page.open and set(page.links) == {"data:,"} and "url(" not in text
-    assert "http" not in text.replace("http-equiv", "")
-    assert page.policy["default-src"] == page.policy["script-src"] == "'none'" and not page.parts["script"]
-    assert page.policy["style-src"] == digest_of("".join(page.parts["style"]))
-    assert not [it for it in page.attributes if it == "style" or it.startswith("on")]
-    wanted = " ".join((plan_folder / "summary.txt").read_text().split())
+    page = page_of(whole)
+    page.check_alone()
+    assert set(page.addresses) == {"data:,"} and not page.parts["script"]
+    wanted = " ".join((whole / "summary.txt").read_text().split())
     told = re.search(r"^(Below .*?) (history: .*? weeks[.]) policy s S .* (In the long run .*?[.]) The chosen policy is ",
                      wanted)
     assert told and all(part in page.words for part in told.groups())
-    scenario = Scenario.read(plan_folder / "scenario.toml")
-    assert [it.name for it in scenario.policies] and set(rows_of(plan_folder, "policies.csv")) == {
+    scenario = Scenario.read(whole / "scenario.toml")
+    assert [it.name for it in scenario.policies] and set(rows_of(whole, "policies.csv")) == {
         it.name for it in scenario.policies}
     assert all(page.words.count(f" {it.name} ") >= 3 for it in scenario.policies)
     assert f"Key {' '.join(scenario.key)}; scenario of version {scenario.version}. " in page.words
-    counts = [row["demand"] for row in rows_of(plan_folder, "demand.csv").values()]
-    assert text.count('class="bar"') == len(counts) - counts.count("0")
+    counts = [row["demand"] for row in rows_of(whole, "demand.csv").values()]
+    assert page.source.count('class="bar"') == len(counts) - counts.count("0")
 
 
-def test_summary_fits_a_screen(plan_folder: Path) -> None:
-    """The summary has at most 24 lines of 80 characters, and begins with the headline of the page."""
-    lines = (plan_folder / "summary.txt").read_text().splitlines()
-    assert len(lines) <= 24 and max(map(len, lines)) <= 80
-    assert " ".join(lines[:lines.index("")]) == page_of(plan_folder).parts["h1"][0]
-
-
-def test_tables_and_pictures_are_named(plan_folder: Path) -> None:
+def test_tables_and_pictures_are_named(whole: Path) -> None:
     """Each table has a caption and headings with a scope, each picture a text, and each scroll region a name."""
-    text, page = (plan_folder / "summary.html").read_text(), page_of(plan_folder)
-    assert text.count("<table>") == text.count("<caption>") == len(page.tables)
-    assert all(page.tables) and all(page.pictures.values())
+    page = page_of(whole)
+    text = page.source
+    assert page.elements["table"] == page.elements["caption"] == len(page.tables)
+    assert [it.strip() for it in page.parts["caption"]] == [*page.tables] and all(page.pictures.values())
     assert not re.search("<th(?![^>]*scope=)[ >]", text)
     assert not re.search('<div class="scroll[^"]*"(?! tabindex="0" role="region" aria-label="[^"]+">)', text)
 
@@ -168,8 +151,8 @@ def test_page_escapes_texts(room: Path, crnplan: Command, program: Path) -> None
     """The name of an item is no markup. It is that of its file, if the settings have none."""
     shutil.copy(room / "history.csv", room / "a<b>&.csv")
     crnplan("item", room / "a<b>&.csv", room / "settings.toml", "--out", room / "plan", "--program", program)
-    text = (room / "plan/summary.html").read_text()
-    assert "a&lt;b&gt;&amp;" in text and "<b>&" not in text and not Page(text).open
+    page = page_of(room / "plan")
+    assert "a<b>&" in page.words and not page.open and "b" not in page.parts["h1"]
 
 
 def test_all_amounts_are_items(plan: Plan, room: Path) -> None:
@@ -183,12 +166,10 @@ def test_all_amounts_are_items(plan: Plan, room: Path) -> None:
     (room / "history.csv").write_text("demand\n" + "".join(f"{times * it}\n" for it in counts))
     for name in ("holding", "backlog"):
         settings = re.sub(rf"^{name} = (\S+)$", lambda it: f"{it[0][:it[0].index('=')]}= {float(it[1]) / times:.10f}",
-                          settings,
-                          flags=re.MULTILINE)
+                          settings, flags=re.MULTILINE)
     for name in ("s", "S", "stock"):
         settings = re.sub(rf"^{name} = (\d+)$", lambda it: f"{it[0][:it[0].index('=')]}= {int(it[1]) * times}",
-                          settings,
-                          flags=re.MULTILINE)
+                          settings, flags=re.MULTILINE)
     (room / "settings.toml").write_text(settings)
     assert plan("boxes").status == 0
     after = rows_of(room / "boxes", "policies.csv")

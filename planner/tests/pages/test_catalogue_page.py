@@ -1,10 +1,7 @@
 """Tests the page of a catalogue: it says what the tables say, whatever stands in them, and asks for no other file."""
 from __future__ import annotations
 
-import base64
 import contextlib
-import csv
-import hashlib
 import json
 import math
 import random
@@ -15,8 +12,6 @@ from collections import Counter
 from dataclasses import replace
 from decimal import Decimal
 from fractions import Fraction
-from functools import cached_property
-from html.parser import HTMLParser
 from pathlib import Path
 from urllib.parse import unquote
 
@@ -37,85 +32,11 @@ from planner.tests.catalogue.conftest import FILES, SETTINGS, leave_few
 from planner.tests.catalogue.made import TODAY, made
 from planner.tests.conftest import Command
 from planner.tests.pages.made_catalogue import QUANTILE, made_folder, made_pair
+from planner.tests.pages.page_reader import Page, rows_of
 
 HOSTILE = ("<img src=x onerror=alert(1)>", "<script>alert(1)</script>", "=1+1", "\"quoted\" & 'single'", "  leading",
            "قطعة ٣", "x" * 300, "&lt;", "{{ 7 * 7 }}", "A/B\\C", "..", "%41")
 NAMES = st.text(st.characters(blacklist_categories=("Cc", "Cs")), min_size=1, max_size=20)
-Row = dict[str, str]
-
-
-class Page(HTMLParser):
-    """What stands on a page: all texts, the cells of each table row by row, and links by their text."""
-
-    def __init__(self, path: Path) -> None:
-        """Reads a page."""
-        super().__init__()
-        self.source = path.read_text("utf-8")
-        self.texts: list[str] = []
-        self.tables: list[list[list[str]]] = []
-        self.links: dict[str, str] = {}
-        self.inline: dict[str, str] = {}
-        self.open: list[str] = []
-        self.address, self.policy = "", ""
-        self.feed(self.source)
-
-    def handle_starttag(self, tag: str, attrs: list[tuple[str, str | None]]) -> None:
-        """Begins a table, a row or a cell."""
-        its = dict(attrs)
-        if tag == "table":
-            self.tables.append([])
-        elif tag == "tr":
-            self.tables[-1].append([])
-        elif tag in ("th", "td"):
-            self.tables[-1][-1].append("")
-        self.address = its.get("href") or "" if tag == "a" else self.address
-        if its.get("http-equiv") == "Content-Security-Policy":
-            self.policy = str(its["content"])
-        self.open.append(tag)
-
-    def handle_endtag(self, tag: str) -> None:
-        """Ends what is open."""
-        while self.open and self.open.pop() != tag:
-            pass
-
-    def handle_data(self, data: str) -> None:
-        """Adds a text to where it stands."""
-        if self.open and self.open[-1] in ("style", "script"):
-            self.inline[self.open[-1]] = data
-            return
-        self.texts.append(data)
-        if "a" in self.open:
-            self.links[data] = self.address
-        if "th" in self.open or "td" in self.open:
-            self.tables[-1][-1][-1] += data
-
-    @property
-    def text(self) -> str:
-        """Returns all that is said, with single blanks."""
-        return " ".join("".join(self.texts).split())
-
-    @cached_property
-    def items(self) -> dict[str, Row]:
-        """Returns the rows of the table of items by item, without the sign of an order."""
-        _, *rows = self.tables[-1]
-        return {row[0]: dict(zip(self.columns, row, strict=True)) for row in rows}
-
-    @cached_property
-    def columns(self) -> list[str]:
-        """Returns the columns of the table of items."""
-        return re.findall(r'data-name="(\w+)"', self.source)
-
-    def reasons(self, title: str) -> Counter[str]:
-        """Returns how many rows each reason has below a title."""
-        places = [place for place, text in enumerate(re.findall(r"<h3>([^:<]+)", self.source)) if text == title]
-        return Counter({row[0]: int(row[3].replace(",", "")) for place in places
-                        for row in self.tables[-1 - len(re.findall("<h3>", self.source)) + place][1:]})
-
-
-def rows_of(path: Path) -> list[Row]:
-    """Returns the rows of a CSV table, without the apostrophe before texts that a spreadsheet would run."""
-    with path.open(encoding="utf-8", newline="") as file:
-        return [{name: re.sub("^'(?=[=@+-])", "", cell) for name, cell in row.items()} for row in csv.DictReader(file)]
 
 
 @pytest.fixture(scope="module")
@@ -149,15 +70,10 @@ def test_cells_are_those_of_the_table(name: str, request: pytest.FixtureRequest)
     assert savings == sorted(savings, reverse=True)
 
 
-def elements(page: Page) -> Counter[str]:
-    """Returns how many elements of each kind a page has."""
-    return Counter(re.findall(r"<[a-z]+\d?", page.source.partition("</style>")[2]))
-
-
 @pytest.fixture(scope="module")
 def plain(tmp_path_factory: pytest.TempPathFactory) -> Counter[str]:
     """Returns the elements of the page of three items whose names are plain."""
-    return elements(Page(crn.report(made_folder(tmp_path_factory.mktemp("plain") / "plan", 3, has_curve=False))))
+    return Page(crn.report(made_folder(tmp_path_factory.mktemp("plain") / "plan", 3, has_curve=False))).elements
 
 
 @settings(max_examples=10, deadline=None, suppress_health_check=[HealthCheck.function_scoped_fixture])
@@ -166,7 +82,7 @@ def test_names_stand_as_they_are(plain: Counter[str], tmp_path: Path, names: lis
     """Whatever an item is called, the page shows just that, and has no element of it."""
     page = Page(crn.report(made_folder(tmp_path / "plan", 3, names, has_curve=False)))
     assert sorted(page.items) == sorted(names)
-    assert elements(page) == plain
+    assert page.elements == plain
 
 
 def test_column_of_policies_alone(tmp_path: Path) -> None:
@@ -202,15 +118,14 @@ def test_totals(large: Path) -> None:
     errors = [(float(high) - float(low)) / 2 / QUANTILE for (high, low), _ in widths]
     assert half == pytest.approx(1.959964 * math.sqrt(sum(it**2 for it in errors)), rel=0.001)
     assert min(saving, run, today, chosen) > LARGE
-    assert f"The difference is {saving:,.0f}, if demand keeps to the laws" in page.text
-    assert f"By crnsim's runs it is {run:,.0f}, from {run - half:,.0f} to {run + half:,.0f} (95% interval)" in page.text
-    assert f"cost {today:,.0f} a week with today's policies, and {chosen:,.0f} with the chosen ones" in page.text
+    assert f"The difference is {saving:,.0f}, if demand keeps to the laws" in page.words
+    assert f"By crnsim's runs it is {run:,.0f}, from {run - half:,.0f} to {run + half:,.0f} (95% interval)" in page.words
+    assert f"cost {today:,.0f} a week with today's policies, and {chosen:,.0f} with the chosen ones" in page.words
     assert f"{today:,.2f} today, {chosen:,.2f} chosen" in summary and f"saved: {saving:,.2f} a week; by crnsim's runs " in summary
     assert f"{run:,.2f}, 0.95 interval {run - half:,.2f} to {run + half:,.2f}" in summary
     more = [it.saving for it in answers if it.verdict == SERVICE]
-    assert more and f"of {len(more)} items. Keeping it costs {-math.fsum(more):,.2f} a week" in page.text
-    verdicts = next(it for it in page.tables if it[0][0] == "verdict")
-    assert {row[0]: int(row[1].replace(",", "")) for row in verdicts[1:]} == Counter(it.verdict for it in answers)
+    assert more and f"of {len(more)} items. Keeping it costs {-math.fsum(more):,.2f} a week" in page.words
+    assert {row[0]: int(row[1].replace(",", "")) for row in page.tables["Verdicts"][1:]} == Counter(it.verdict for it in answers)
 
 
 def test_service_is_weighted_by_value() -> None:
@@ -232,11 +147,11 @@ def test_left_out(large: Path) -> None:
               "Suspicious rows, which count all the same": "suspicious"}
     for title, kind in titles.items():
         wanted = sum(int(row["rows"]) if kind == "item" else 1 for row in rejects if row["kind"] == kind)
-        assert page.reasons(title).total() == wanted > 0
+        assert sum(int(row[3].replace(",", "")) for row in page.tables[title][1:]) == wanted > 0
     items = [row for row in rejects if row["kind"] == "item"]
-    assert f"Items left out: {len(items)}, with {sum(int(row['rows']) for row in items):,} rows" in page.text
+    assert f"Items left out: {len(items)}, with {sum(int(row['rows']) for row in items):,} rows" in page.words
     first = next(row for row in rejects if row["kind"] == "row")
-    assert f"{first['file']}:{first['line']}, item {first['item']}: {first['reason']}; {first['advice']}" in page.text
+    assert f"{first['file']}:{first['line']}, item {first['item']}: {first['reason']}; {first['advice']}" in page.words
 
 
 def test_reasons_are_in_order() -> None:
@@ -250,27 +165,13 @@ def test_reasons_are_in_order() -> None:
         ("each item has the law of its own history", "day", 1, 4, {"B"})]
 
 
-def test_page_is_small_and_asks_for_nothing(large: Path, hostile: Path) -> None:
-    """The page of 3,000 items has under 2 MB. No page names another place."""
+def test_page_is_small_and_stands_alone(large: Path, hostile: Path) -> None:
+    """The page of 3,000 items has under 2 MB. No page names another place, or lets anything run but its own script."""
     pages = [Page(large / "report.html"), Page(crn.report(hostile))]
     assert (large / "report.html").stat().st_size < 2_000_000
     for page in pages:
-        shown = page.source.replace("&lt;img src=x", "")
-        assert not re.search(r"https?:|//[a-z]|src=|url\(|@import|<(img|link rel=.stylesheet|iframe)", shown)
-        assert {address.split("/")[0] for address in page.links.values()} <= {"items"}
-
-
-def test_policy_allows_the_style_and_script_alone(hostile: Path) -> None:
-    """The content security policy has the digests of what stands in the page, and no other source."""
-    page = Page(crn.report(hostile))
-    digests = {name: base64.b64encode(hashlib.sha256(text.encode()).digest()).decode()
-               for name, text in page.inline.items()}
-    assert set(digests) == {"style", "script"}
-    rules = dict(rule.strip().split(" ", 1) for rule in page.policy.split(";"))
-    assert rules["default-src"] == "'none'"
-    assert rules["style-src"] == f"'sha256-{digests['style']}'"
-    assert rules["script-src"] == f"'sha256-{digests['script']}'"
-    assert not re.search(r"<[^>]+ (style|on\w+)=", page.source)
+        page.check_alone()
+        assert {"style", "script"} <= page.parts.keys()
 
 
 def test_bytes_are_the_same(hostile: Path, tmp_path: Path) -> None:
@@ -286,8 +187,8 @@ def test_greatest_are_shown_of_very_many(hostile: Path, folder: Path, monkeypatc
     monkeypatch.setattr(catalogue_page, "MOST_ROWS", 10)
     page, rows = Page(crn.report(folder)), rows_of(folder / "decisions.csv")
     assert set(page.items) == {row["item"] for row in sorted(rows, key=lambda row: -abs(float(row["saving"])))[:10]}
-    assert "The 10 items with the greatest saving or loss are shown. The other 50 stand in decisions.csv" in page.text
-    assert Page(hostile / "report.html").text.split(".")[0] in page.text
+    assert "The 10 items with the greatest saving or loss are shown. The other 50 stand in decisions.csv" in page.words
+    assert Page(hostile / "report.html").words.split(".")[0] in page.words
 
 
 def test_curve(large: Path) -> None:
@@ -295,11 +196,11 @@ def test_curve(large: Path) -> None:
     page = Page(large / "report.html")
     with contextlib.closing(Store(large / ANSWERS, Answer)) as store:
         named = [it for it in json.loads(store.fact("curve") or "")["points"] if it["name"]]
-    points = next(it for it in page.tables if it[0][0] == "point")[1:]
+    points = page.tables["Points of the curve"][1:]
     assert [[row[0].strip(), row[3]] for row in points] == [[it["name"], f"{it['orders']:g}"] for it in named]
     figures = [[f"{it['value']:,.0f}", f"{it['fill']:.2%}"] for it in named]
     assert [row[1:3] for row in points] == figures and len(named) == 4
-    said = re.findall(r"<desc[^>]*>([^<]+)", page.source)[0]
+    said = page.pictures["Exchange curve: demand met at once against the value of the stock"]
     assert all(f"{fill} met at once with a stock of {value}" in said for value, fill in figures)
     (path,) = re.findall(r'class="line of-chosen" d="M([^"]+)"', page.source)
     places = [tuple(map(float, it.split())) for it in path.split("L")]
@@ -317,18 +218,15 @@ def test_curve_is_clipped(points: list[tuple[float, float]], right: float, botto
     assert inside <= {value for value, _ in left} and left == sorted(left)
 
 
-def test_curve_of_another_plan(folder: Path) -> None:
-    """If the curve is that of other answers, the page says what to run in place of it."""
-    with contextlib.closing(Store(folder / ANSWERS, Answer)) as store:
-        store.keep_facts({"curve": json.dumps(json.loads(store.fact("curve") or "") | {"plan": "another"})})
+@pytest.mark.parametrize("kept, said", [({"plan": "another"}, OLD_CURVE), (None, NO_CURVE)])
+def test_no_curve(kept: dict[str, str] | None, said: str, tmp_path: Path) -> None:
+    """If there is no curve, or that of other answers, the page says what to run."""
+    folder = made_folder(tmp_path / "plan", 12, has_curve=kept is not None)
+    if kept:
+        with contextlib.closing(Store(folder / ANSWERS, Answer)) as store:
+            store.keep_facts({"curve": json.dumps(json.loads(store.fact("curve") or "") | kept)})
     page = Page(crn.report(folder))
-    assert OLD_CURVE in page.text and 'id="curve-title"' not in page.source
-
-
-def test_no_curve(tmp_path: Path) -> None:
-    """If there is no curve, the page says what to run."""
-    page = Page(crn.report(made_folder(tmp_path / "plan", 12, has_curve=False)))
-    assert NO_CURVE in page.text and "crnplan curve FOLDER" in page.text and 'id="curve-title"' not in page.source
+    assert said in page.words and "crnplan curve FOLDER" in said and not page.pictures
 
 
 def test_items_with_a_page_are_links(folder: Path) -> None:
@@ -347,8 +245,8 @@ def test_items_with_a_page_are_links(folder: Path) -> None:
 def test_few_items(tmp_path: Path, items: int) -> None:
     """A plan without items, or with one, has a page too."""
     page = Page(crn.report(made_folder(tmp_path / "plan", items, has_curve=False)))
-    assert len(page.items) == items and f"{items} of" not in page.text
-    assert ("No item is planned" in page.text) == (items == 0)
+    assert len(page.items) == items and f"{items} of" not in page.words
+    assert ("No item is planned" in page.words) == (items == 0)
 
 
 def test_lost_items_are_said(folder: Path) -> None:
@@ -357,7 +255,7 @@ def test_lost_items_are_said(folder: Path) -> None:
     with base:
         base.execute("UPDATE facts SET value = replace(value, '\"named\": 65', '\"named\": 66')")
     base.close()
-    assert "THE COUNTS DO NOT ADD UP. items: 66 are named" in Page(crn.report(folder)).text
+    assert "THE COUNTS DO NOT ADD UP. items: 66 are named" in Page(crn.report(folder)).words
 
 
 def test_each_verdict_has_a_meaning() -> None:
@@ -365,14 +263,10 @@ def test_each_verdict_has_a_meaning() -> None:
     assert set(MEANING) == {CHEAPER, DEARER, SERVICE, SAME, UNDECIDED}
 
 
-def test_command(folder: Path, crnplan: Command) -> None:
-    """The command writes the page, and prints where."""
+def test_command(folder: Path, tmp_path: Path, crnplan: Command) -> None:
+    """The command writes the page, and prints where. A folder without a plan is refused, and nothing is written."""
     assert crnplan("report", folder) == (0, f"{folder / 'report.html'}\n", "")
     assert len(Page(folder / "report.html").items) == 60
-
-
-def test_refusals(tmp_path: Path, crnplan: Command) -> None:
-    """A folder without a plan is refused in one line, and nothing is written."""
     empty = tmp_path / "empty"
     empty.mkdir()
     message = f"no plan is in it; run crnplan catalogue DEMAND.csv ITEMS.csv --out {empty} first"
@@ -397,13 +291,13 @@ def test_page_of_a_plan(tmp_path: Path, program: Path, crnplan: Command) -> None
              program=program, **SETTINGS)
     page, summary = Page(tmp_path / "plan/report.html"), (tmp_path / "plan/summary.txt").read_text("utf-8")
     saving, run, low, high = re.search(r"saved: (\S+) a week; .* (\S+), \S+ interval (\S+) to (\S+)", summary).groups()
-    assert f"The difference is {saving}, if" in page.text.replace("\u2212", "-")
-    assert f"it is {run}, from {low} to {high} (" in page.text.replace("\u2212", "-")
-    assert len(page.items) == 6 and not (tmp_path / "plan/curve.csv").exists() and ", seed crnplan" in page.text
+    assert f"The difference is {saving}, if" in page.words.replace("\u2212", "-")
+    assert f"it is {run}, from {low} to {high} (" in page.words.replace("\u2212", "-")
+    assert len(page.items) == 6 and not (tmp_path / "plan/curve.csv").exists() and ", seed crnplan" in page.words
     name, plan = next(iter(page.items)), tmp_path / "plan"
     status, output, errors = crnplan("report", plan, "--item", name, "--program", program)
     assert (status, errors) == (0, "") and output.split() == [str(file_of(plan, name)), str(plan / "report.html")]
     assert {unquote(address) for address in Page(plan / "report.html").links.values()} == {f"items/{name}.html"}
-    assert name in Page(file_of(plan, name)).text
+    assert name in Page(file_of(plan, name)).words
     status, output, errors = crnplan("report", plan, "--item", "A-999", "--program", program)
     assert (status, output) == (2, "") and "A-999" in errors

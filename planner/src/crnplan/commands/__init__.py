@@ -11,7 +11,7 @@ import io
 import os
 import sys
 import traceback
-from collections.abc import Iterator
+from collections.abc import Iterator, Mapping
 from pathlib import Path
 from typing import Any, TextIO, cast
 
@@ -46,9 +46,10 @@ COMMANDS = {
 
 
 class Group(click.Group):
-    """A group whose subcommands are imported when they are asked for. `asked` is the one that was asked for last."""
+    """A group whose subcommands are imported when they are asked for. `options` has, by the arguments of the library,
+    those of the one that was asked for, and of others of its module: a page may tell what `crnplan catalogue` read."""
 
-    asked: click.Command | None = None
+    options: Mapping[str, str] = {}
 
     def list_commands(self, ctx: click.Context) -> list[str]:
         """Returns the names of the subcommands, in order."""
@@ -58,8 +59,11 @@ class Group(click.Group):
         """Imports a subcommand."""
         if cmd_name in COMMANDS:
             module = importlib.import_module(f"{__name__}.{COMMANDS[cmd_name][0]}")
-            self.asked = getattr(module, cmd_name)
-            return self.asked
+            command: click.Command = getattr(module, cmd_name)
+            others = [its for its in vars(module).values() if isinstance(its, click.Command)]
+            self.options = {option.name or "": option.opts[0] for its in (*others, command) for option in its.params
+                            if isinstance(option, click.Option)}
+            return command
         return None
 
     def resolve_command(
@@ -77,10 +81,8 @@ class Group(click.Group):
             formatter.write_dl([(name, line) for name, (_, line) in COMMANDS.items()])
 
     def as_option(self, name: str, value: str) -> str:
-        """Returns an argument of the library as the option of the subcommand, which has its name."""
-        parameters = self.asked.params if self.asked else ()
-        options = {option.name: option.opts[0] for option in parameters if isinstance(option, click.Option)}
-        return options.get(name, f"--{name.replace('_', '-')}") + f" {value}" * bool(value)
+        """Returns an argument of the library as the option that has its name."""
+        return self.options.get(name, f"--{name.replace('_', '-')}") + f" {value}" * bool(value)
 
 
 @click.group(cls=Group, context_settings={"help_option_names": ["-h", "--help"], "max_content_width": 100},
