@@ -86,18 +86,14 @@ class Posterior:
 
     @property
     def log10_bayes(self) -> float:
-        """Returns the log10 of the Bayes factor for the prior against the flat one.
-
-        Source: Kass and Raftery, Bayes factors, 1995, section 2.
-        """
+        """Returns the log10 of the Bayes factor (Kass and Raftery, Bayes factors, 1995, section 2) for the prior
+        against the flat one."""
         return float(np.log10(self.likelihood(self.prior) / self.likelihood(FLAT)))
 
     @property
     def alike(self) -> float:
-        """Returns the chance that the item is one of those that the prior was learned from, and not of the flat prior.
-
-        Source: Berger and Berliner, Robust Bayes and empirical Bayes analysis with epsilon-contaminated priors, 1986.
-        """
+        """Returns the chance that the item is one of those that the prior was learned from, and not of the flat prior
+        (Berger and Berliner, Robust Bayes and empirical Bayes analysis with epsilon-contaminated priors, 1986)."""
         learned, flat = ALIKE * self.likelihood(self.prior), (1 - ALIKE) * self.likelihood(FLAT)
         return learned / (learned + flat)
 
@@ -192,13 +188,12 @@ def law_of(prior: Prior, observed: Observed | Iterable[Any], item_class: str | N
 
     It is the posterior predictive law under what the item's class, the catalogue, or all items in packs have learned,
     mixed with the history as far as this speaks against it. The item may be like no other, so the law under a flat
-    prior has a part too. Both are as likely beforehand, and have the parts that they are likely with after the history.
-    Drawn histories of the learned law must look like the real one (`LEVEL`), else the law is that of the item alone:
-    `fit_demand(method="auto")`. So it is for boxes, for packs if few others have some, and for sizes outside the grid.
-    An item with no or one demand has the learned law in any case, since its history alone has none. What is known is in
-    `diagnostics.borrowed`, a `Borrowed`, with the law of the item alone if `beside`.
+    prior has a part too. Drawn histories of the learned law must look like the real one (`LEVEL`), else the law is that
+    of the item alone: `fit_demand(method="auto")`. So it is for boxes, for packs if few others have some, and for sizes
+    outside the grid. An item with no or one demand has the learned law in any case, since its history alone has none.
 
-    `observed` and `box` are as in `fit_demand`, and so is what is raised. Weights add up to 65,536.
+    `diagnostics.borrowed` has what is known, with the law of the item alone if `beside`. `observed` and `box` are as in
+    `fit_demand`, and so is what is raised. Weights add up to 65,536.
     """
     boxes = boxes_of(observed, box)
     sample = Sample.of(boxes)

@@ -61,14 +61,6 @@ class Season:
     unit: str
 
 
-def _by_place(length: int, size: int) -> Season:
-    """Returns a season of so many periods, which begins with the first one."""
-    count = length if length <= MOST_PARTS else PARTS
-    parts = [place * count // length for place in range(length)]
-    ends = ((parts.index(part) + 1, length - parts[::-1].index(part)) for part in range(count))
-    return Season("season", length, tuple(parts[place % length] for place in range(size)), tuple(ends), "place")
-
-
 @functools.lru_cache(256)
 def _by_calendar(name: str, length: int, every: str, first: int, size: int) -> Season:
     """Returns a season of the calendar. A week belongs to the quarter of its Thursday."""
@@ -84,7 +76,7 @@ def seasons_of(every: str | None, first: int, size: int, length: int | None) -> 
     those for which they are too few.
 
     `every` is day, week or month, or None without dates. A season of a named length takes the place of those of the
-    calendar. Raises Refused for one of less than 2 periods.
+    calendar, and begins with the first period. Raises Refused for one of less than 2 periods.
     """
     if length is not None and length < 2:
         raise Refused(f"a season of {length} periods is none; say 2 or more")
@@ -93,8 +85,15 @@ def seasons_of(every: str | None, first: int, size: int, length: int | None) -> 
     lengths = CALENDAR[every] if length is None and every else {"season": length or 0}
     short = [Remark("season untested", {"season": name, "periods": YEARS * own, "unit": every or "period"})
              for name, own in lengths.items() if size < YEARS * own]
-    return [_by_calendar(name, own, every, first, size) if every and length is None else _by_place(own, size)
-            for name, own in lengths.items() if size >= YEARS * own], short
+    if every and length is None:
+        named = lengths.items()
+        return [_by_calendar(name, own, every, first, size) for name, own in named if size >= YEARS * own], short
+    if length is None or short:
+        return [], short
+    count = length if length <= MOST_PARTS else PARTS
+    parts = [place * count // length for place in range(length)]
+    ends = tuple((parts.index(part) + 1, length - parts[::-1].index(part)) for part in range(count))
+    return [Season("season", length, tuple(parts[place % length] for place in range(size)), ends, "place")], short
 
 
 @dataclass(frozen=True)
@@ -168,8 +167,8 @@ def autocorrelation_of(facts: Facts) -> Effect:
 
 
 def trend_of(facts: Facts) -> Effect:
-    """Returns half of the rise along the straight line through a history, as a share of the mean. The facts have by
-    what share the mean of the last third is above that of the first; None if the first third has no demand."""
+    """Returns half of the rise along the straight line through a history, as a share of the mean. The facts have how
+    much the mean of the last third is above that of the first; None if the first third has no demand."""
     numbers, time = facts.rows[0], centred(np.arange(len(facts.numbers), dtype=float))
     third = len(numbers) // 3
     first, last = float(numbers[:third].mean()), float(numbers[-third:].mean())
@@ -292,11 +291,8 @@ def check_history(observed: Observed | Iterable[Number], *, season: int | None =
 
 def remarks_of(numbers: Sequence[int], every: str | None = None, first: int = 1,
                season: int | None = None) -> tuple[Remark, ...]:
-    """Returns the warnings and the notes of `check_history` on whole numbers, which takes a few milliseconds.
-
-    `every` is day, week or month, and `first` the number of the first period (`records.dates.period_of`); without dates
-    it is None.
-    """
+    """Returns the warnings and the notes of `check_history` on whole numbers, which takes a few milliseconds. `every`
+    is day, week or month, None without dates, and `first` the number of the first period (`records.dates`)."""
     checks = _checked(numbers, every, first, season, False)
     return *checks.warnings, *checks.notes
 
@@ -316,25 +312,30 @@ def _checked(numbers: Sequence[int], every: str | None, first: int, season: int 
 
 
 def _warnings(facts: Facts, checks: Checks) -> Iterator[Remark]:
-    """Yields a warning for each test that warns. Of a trend and a shift, the one that explains more is named."""
+    """Yields a warning for each test that warns, with what was lost in a study. Of a trend and a shift, the one that
+    explains more is named."""
     kinds = {test.name: test for test in checks.tests if test.name in checks.warned}
     if {*LEVELS} <= {*kinds}:
         rest = replace(facts, taken=tuple(kinds))
-        is_step = rest.step[1] / rest.squares > float(trend(centred(rest.rows))[0])
+        is_step = rest.step[1] / rest.squares > float(trend(rest.rows, centred(rest.rows))[0])
         del kinds["trend" if is_step else "shift"]
+    lengths = {season.name: season.length for season in facts.seasons}
     for name in (*LEVELS, "season", "weekday", "autocorrelation"):
-        if name in kinds:
-            yield Remark(name, {"p": kinds[name].p, **kinds[name].facts, **_lost(facts, kinds[name], len(kinds) > 1)})
+        if name not in kinds:
+            continue
+        test, is_beside, lost = kinds[name], len(kinds) > 1, dict[str, Value](study=None)
+        # Of an autocorrelation beside other warnings, or below 0, it is not known what is lost by who does not heed it.
+        if name != "autocorrelation" or not (is_beside or test.size < 0):
+            variation = math.sqrt(facts.squares / len(facts.numbers)) / facts.mean
+            kind = "season" if name in lengths else name
+            lost = loss_of(kind, test.size, variation, lengths.get(name, 0))._asdict()
+        yield Remark(name, {"p": test.p, **test.facts, "beside": int(is_beside), **lost})
 
 
 class Loss(NamedTuple):
-    """What a study, planner/studies/dependence.py, measured of an effect on one of its laws, in percent, as means over
-    twelve settings.
-
-    The effect's length is that of a season, in periods, else 0. `regret` is how much more the planned policy costs than
-    the best one, `promise` how much its promised cost is above the true one, and `level` how much higher S is in the
-    best policy.
-    """
+    """What planner/studies/dependence.py measured, in percent, as means over twelve settings: an effect on one of its
+    laws, the length of a season (in periods, else 0), how much more the planned policy costs than the best one, how
+    much its promised cost is above the true one, and how much higher S is in the best policy."""
 
     effect: str
     study: str
@@ -351,26 +352,13 @@ def losses() -> tuple[Loss, ...]:
 
 
 def loss_of(kind: str, size: float, variation: float, length: int = 0) -> Loss:
-    """Returns what was lost with the effect that is nearest to one of this kind and size, which may be infinite.
-
-    `variation` is the coefficient of variation of a period's demand.
-    """
+    """Returns what was lost with the effect that is nearest to one of this kind and size, which may be infinite, if a
+    period's demand has this coefficient of variation."""
     law = min(STUDIED, key=lambda name: abs(math.log(max(variation, 1e-9) / STUDIED[name])))
     near = [loss for loss in losses() if loss[:2] == (kind, law)]
     of_length = min((loss.effect_length for loss in near), key=lambda own: abs(math.log(max(own, 1) / max(length, 1))))
     return min((loss for loss in near if loss.effect_length == of_length),
                key=lambda loss: abs(loss.effect_size / 100 - min(size, 10.0)))
-
-
-def _lost(facts: Facts, test: Check, beside_others: bool) -> dict[str, Value]:
-    """Returns what was lost in a study by those who did not heed such a warning, as facts. Of an autocorrelation beside
-    other warnings, or below 0, nothing is known."""
-    if test.name == "autocorrelation" and (beside_others or test.size < 0):
-        return {"beside": int(beside_others), "study": None}
-    lengths = {season.name: season.length for season in facts.seasons}
-    kind, variation = "season" if test.name in lengths else test.name, math.sqrt(facts.squares / len(facts.numbers))
-    loss = loss_of(kind, test.size, variation / facts.mean, lengths.get(test.name, 0))
-    return {"beside": int(beside_others), **loss._asdict()}
 
 
 def _notes(facts: Facts) -> Iterator[Remark]:
@@ -420,11 +408,9 @@ def rosner_bound(size: int, above: int, level: float) -> float:
 
 
 def outliers_of(demands: Sequence[int], pack: int) -> list[int]:
-    """Returns the demands that lie far above all others, the largest first: at most three.
-
-    Rosner's test looks at the logarithms of the demands above 0, in packs. The variance of a rounding is added to
-    theirs, since otherwise a 2 among many demands of 1 would lie far above them.
-    """
+    """Returns the demands that lie far above all others, the largest first: at most three, by Rosner's test of the
+    logarithms of the demands above 0, in packs. The variance of a rounding is added to theirs, since otherwise a 2
+    among many demands of 1 would lie far above them."""
     ranked = sorted((demand for demand in demands if demand), reverse=True)
     if len(ranked) < LEAST_DEMANDS:
         return []

@@ -17,6 +17,7 @@ import functools
 import math
 from abc import ABC, abstractmethod
 from collections.abc import Callable
+from dataclasses import dataclass
 from typing import Any, NamedTuple
 
 import numpy as np
@@ -165,11 +166,9 @@ class NegativeBinomial(Counts):
     """Negative binomial laws. The parameters are the size k and 1 - p; the mean is k (1 - p) / p."""
 
     def estimate(self, sample: Sample) -> tuple[float, ...] | None:
-        """Returns the parameters; None if the numbers vary no more than under a Poisson law.
-
-        The score has a single root if the variance with the divisor n is above the mean, else none (Levin and Reeds,
-        Compound multinomial likelihood functions are unimodal, 1977).
-        """
+        """Returns the parameters; None if the numbers vary no more than under a Poisson law. The score has a single
+        root if the variance with the divisor n is above the mean, else none (Levin and Reeds, Compound multinomial
+        likelihood functions are unimodal, 1977)."""
         from scipy import optimize
 
         def score(logarithm: float) -> float:
@@ -231,10 +230,8 @@ def ways(values: Any, size: Any) -> Floats:
 
 def beta_negative_binomial(size: float, first: float, second: float, most_mean: float) -> Floats:
     """Returns the chances of a negative binomial number whose p has a beta law, and that its mean is at most so much.
-
     Without the bound it is the beta negative binomial law (Johnson, Kemp and Kotz, Univariate Discrete Distributions,
-    third edition, section 6.2.3).
-    """
+    third edition, section 6.2.3)."""
     above = most_mean / (size + most_mean)  # the greatest value of 1 - p
     variance = most_mean * (1 + most_mean / size)
     width = min(MOST_DEMAND, int(most_mean + 12 * math.sqrt(variance) + 20 * variance / most_mean + 30)) + 1
@@ -247,15 +244,13 @@ def beta_negative_binomial(size: float, first: float, second: float, most_mean: 
     return np.asarray(np.exp(ways(values, size) + scale - special.betaln(first, second)) * within)
 
 
+@dataclass(frozen=True)
 class Hurdle(Family):
-    """A period has demand with one chance, and the size of a demand less 1 has a law of the family `sizes`.
+    """A period has demand with one chance, and the size of a demand less 1 has a law of the family `sizes` (Mullahy,
+    Specification and testing of some modified count data models, 1986, section 2). The first parameter is the share of
+    periods without demand."""
 
-    The first parameter is the share of periods without demand. Source: Mullahy, Specification and testing of some
-    modified count data models, 1986, section 2.
-    """
-
-    def __init__(self, sizes: Family) -> None:
-        self.sizes = sizes
+    sizes: Family
 
     def fit(self, sample: Sample) -> Fit | None:
         share = sample.zeros / sample.size
@@ -286,10 +281,8 @@ class Hurdle(Family):
 
 
 class Lognormal(Family):
-    """Rounded lognormal sizes, less 1. The parameters are mean and deviation of a size's logarithm.
-
-    What is below 1.5 counts as 1. Samples are of sizes less 1.
-    """
+    """Rounded lognormal sizes, less 1, as samples are; what is below 1.5 counts as 1. The parameters are mean and
+    deviation of a size's logarithm."""
 
     def fit(self, sample: Sample) -> Fit | None:
         """Fits the parameters by the moments of the logarithms. None if these hardly vary."""
@@ -299,10 +292,8 @@ class Lognormal(Family):
         return fit_of(sample, 2, self._mixed(mean, np.array([deviation])))
 
     def predictive(self, sample: Sample) -> Floats:
-        """Returns the predictive law: the logarithm has Student's law.
-
-        The deviation is at most 2, since the tails of that law with few degrees of freedom have no mean.
-        """
+        """Returns the predictive law: the logarithm has Student's law. The deviation is at most 2, since the tails of
+        that law with few degrees of freedom have no mean."""
         mean, deviation = self._moments(sample)
         freedom = max(sample.size - 1, 1)
         # Quantiles of a chi-square law.
@@ -358,9 +349,7 @@ class Parts(NamedTuple):
 
 class Bulk(Family):
     """Ordinary demand, which is Poisson or negative binomial, and in some periods a much larger normal bulk instead.
-
-    The parameters are the share of bulks, their mean and deviation, and the parameters of ordinary demand.
-    """
+    The parameters are the share of bulks, their mean and deviation, and the parameters of ordinary demand."""
 
     def fit(self, sample: Sample) -> Fit | None:
         """Fits both parts, each for itself. The likelihood is that of their mixture. None if there are no two parts."""
@@ -410,7 +399,19 @@ def parts_of(sample: Sample) -> Parts | None:
     if not allowed.any():
         return None
     shares = special.xlogy(bulks, bulks / sample.size) + special.xlog1py(sample.size - bulks, -bulks / sample.size)
-    likelihoods = _ordinary_likelihoods(values, counts) + _bulk_likelihoods(values, counts) + shares
+    # Likelihoods, for each place but the last: those of the values up to there, by the negative binomial law with their
+    # moments (Poisson if they vary no more), and those of the values beyond, by a normal law.
+    periods, sums, squares = (np.cumsum(counts * values**power)[:-1, None] for power in range(3))
+    means = np.maximum(sums / periods, LEAST_CHANCE)
+    over = squares / periods - means**2 - means
+    sizes = np.where(over > means**2 / MOST_SIZE, means**2 / np.maximum(over, LEAST_CHANCE), MOST_SIZE)
+    up_to = np.tril(ways(values, sizes) + sizes * np.log(sizes / (sizes + means))
+                    + values * np.log(means / (sizes + means))) @ counts
+    beyond, sums, squares = (np.cumsum((counts * values**power)[:0:-1])[::-1] for power in range(3))
+    means = sums / beyond
+    distances = np.maximum(squares - beyond * means**2, 0)
+    variances = (distances + BULK_FREEDOM * (BULK_VARIATION * means)**2) / (beyond + BULK_FREEDOM)
+    likelihoods = up_to - 0.5 * (beyond * np.log(2 * math.pi * variances) + distances / variances) + shares
     place = int(np.argmax(np.where(allowed, likelihoods, -np.inf))) + 1
     ordinary = Sample(sample.values[:place], sample.counts[:place])
     fits = ((family, family.fit(ordinary)) for family in (POISSON, NEGATIVE_BINOMIAL))
@@ -418,34 +419,9 @@ def parts_of(sample: Sample) -> Parts | None:
     return Parts(ordinary, Sample(sample.values[place:], sample.counts[place:]), *best)
 
 
-def _ordinary_likelihoods(values: Floats, counts: Floats) -> Floats:
-    """Returns, for each place but the last, the likelihood's logarithm of the values up to there.
-
-    The law is negative binomial, with the moments of these values; Poisson if they vary no more.
-    """
-    periods, sums, squares = (np.cumsum(counts * values**power)[:-1, None] for power in range(3))
-    means = np.maximum(sums / periods, LEAST_CHANCE)
-    over = squares / periods - means**2 - means
-    sizes = np.where(over > means**2 / MOST_SIZE, means**2 / np.maximum(over, LEAST_CHANCE), MOST_SIZE)
-    logarithms = (ways(values, sizes) + sizes * np.log(sizes / (sizes + means))
-                  + values * np.log(means / (sizes + means)))
-    return np.tril(logarithms) @ counts
-
-
-def _bulk_likelihoods(values: Floats, counts: Floats) -> Floats:
-    """Returns, for each place but the last, the likelihood's logarithm of the values beyond, under a normal law."""
-    bulks, sums, squares = (np.cumsum((counts * values**power)[:0:-1])[::-1] for power in range(3))
-    means = sums / bulks
-    distances = np.maximum(squares - bulks * means**2, 0)
-    variances = (distances + BULK_FREEDOM * (BULK_VARIATION * means)**2) / (bulks + BULK_FREEDOM)
-    return np.asarray(-0.5 * (bulks * np.log(2 * math.pi * variances) + distances / variances))
-
-
 def sizes_of(mean: float, deviation: float, below: Callable[[Floats], Floats] = special.ndtr) -> Floats:
-    """Returns the chances of 0, 1, 2 and so on for a rounded bulk; what is below 1.5 counts as 1.
-
-    `below` is the distribution function of a bulk less the mean, over the deviation.
-    """
+    """Returns the chances of 0, 1, 2 and so on for a rounded bulk; what is below 1.5 counts as 1. `below` is the
+    distribution function of a bulk less the mean, over the deviation."""
     return np.append(0.0, np.diff(below((DEMANDS[1:] + 0.5 - mean) / deviation), prepend=0.0))
 
 

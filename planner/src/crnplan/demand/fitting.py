@@ -40,10 +40,8 @@ ELSEWHERE = 0.05  # the chance, in the fit of the kernel, that a lead time is li
 
 
 def boxes_of(observed: Observed | Iterable[Number], box: int) -> list[int]:
-    """Returns demand by period in boxes of `box` items, rounded up.
-
-    Raises RefusedFaults with the place of each number that is too large for a scenario or below 0.
-    """
+    """Returns demand in boxes of `box` items, rounded up. Raises RefusedFaults with the place of each number that is
+    too large for a scenario or below 0."""
     if box < 1:
         raise Refused(f"{box} is no number of items in a box; it is at least 1")
     numbers, places = numbers_of(observed, "demand")
@@ -84,18 +82,9 @@ def cap_of(sample: Sample) -> int:
     return math.ceil(min(max(times, LEAST_TIMES), MOST_TIMES) * sample.most)
 
 
-def weights_of(bic: Mapping[str, float], names: Sequence[str]) -> dict[str, float]:
-    """Returns the posterior chances of these families, all as likely beforehand.
-
-    Source: Raftery, Bayesian model selection in social research, 1995, section 4.1.
-    """
-    least = min(bic[name] for name in names)
-    likely = {name: math.exp((least - bic[name]) / 2) for name in names}
-    return {name: value / sum(likely.values()) for name, value in likely.items()}
-
-
 def family_law(boxes: Sequence[int], method: str, box: int = 1) -> FittedLaw:
-    """Returns a law of families: of a named one, or of those that the guard lets pass."""
+    """Returns a law of families: of a named one, or of those that the guard lets pass. Raises Refused if the history
+    does not allow the named one."""
     sample, seen = Sample.of(boxes), Law.of_numbers(boxes)
     pack = sample.pack
     packs = sample.in_packs(pack)
@@ -112,7 +101,10 @@ def family_law(boxes: Sequence[int], method: str, box: int = 1) -> FittedLaw:
     if method != "auto":
         law = in_items(predictive_of(names[0], packs), pack)
         return FittedLaw.made(Law.of_chances(law), names[0], diagnostics, box)
-    weights, cap = weights_of(bic, names), cap_of(sample)
+    # Posterior chances of families that are as likely beforehand (Raftery, Bayesian model selection in social research,
+    # 1995, section 4.1).
+    likely = {name: math.exp((bic[names[0]] - bic[name]) / 2) for name in names}
+    weights, cap = {name: value / sum(likely.values()) for name, value in likely.items()}, cap_of(sample)
     law = mixture((weight, in_items(predictive_of(name, packs), pack)) for name, weight in weights.items())
     law = scaled(law[:cap + 1])
     share, parts = share_of(sample, law), parts_of(packs) if "bulk" in names else None

@@ -61,13 +61,13 @@ def autocorrelations(far: Floats) -> Floats:
                      for lag in range(1, min(LAGS, far.shape[1] - 1) + 1)])
 
 
-def ljung_box(far: Floats) -> Floats:
+def ljung_box(far: Floats, ranks: Floats) -> Floats:
     """Returns the statistic of Ljung and Box (On a measure of lack of fit in time series models, 1978, section 1)."""
     size, rows = far.shape[1], autocorrelations(far)
     return np.asarray(size * (size + 2) / (size - 1 - np.arange(len(rows))) @ rows**2)
 
 
-def trend(ranks: Floats) -> Floats:
+def trend(far: Floats, ranks: Floats) -> Floats:
     """Returns the square of Spearman's rank correlation with time (Lehmann, Nonparametrics, 1975, chapter 7)."""
     time = centred(np.arange(ranks.shape[1], dtype=float))
     return shares((ranks @ time)**2, squares_of(ranks) * (time @ time))
@@ -80,11 +80,8 @@ def places_of(size: int) -> Whole:
 
 
 def steps(far: Floats) -> Floats:
-    """Returns the sum of squares that a step after each of these numbers of periods explains, in columns.
-
-    The share of the sum that a step explains rises with the difference of the means before and after it, divided by its
-    standard error.
-    """
+    """Returns the sum of squares that a step after each of these numbers of periods explains, in columns. Its share of
+    all squares rises with the difference of the means before and after it, divided by its standard error."""
     size, before = far.shape[1], places_of(far.shape[1])
     sums = np.cumsum(far, axis=1)[:, before[0] - 1:before[-1]]
     explained: Floats = np.square(sums, out=sums)
@@ -92,20 +89,15 @@ def steps(far: Floats) -> Floats:
     return explained
 
 
-def shift(far: Floats) -> Floats:
-    """Returns the greatest share of the squares that one step explains.
-
-    It orders histories as the largest standardised difference of means (Hawkins, Testing a sequence of observations for
-    a shift in location, 1977).
-    """
+def shift(far: Floats, ranks: Floats) -> Floats:
+    """Returns the greatest share of the squares that one step explains. It orders histories as the largest
+    standardised difference of means (Hawkins, Testing a sequence of observations for a shift in location, 1977)."""
     return shares(steps(far).max(axis=1), squares_of(far))
 
 
 def kruskal(parts: Whole, far: Floats, ranks: Floats) -> Floats:
     """Returns the statistic of Kruskal and Wallis (Use of ranks in one-criterion variance analysis, 1952), with ties.
-
-    `parts` has the part of the year of each period.
-    """
+    `parts` has the part of the year of each period."""
     member = (parts[:, None] == np.unique(parts)).astype(float)
     between = (ranks @ member)**2 @ (1 / member.sum(axis=0))
     return (far.shape[1] - 1) * shares(between, squares_of(ranks))
@@ -113,8 +105,7 @@ def kruskal(parts: Whole, far: Floats, ranks: Floats) -> Floats:
 
 def statistics_of(seasons: Mapping[str, Whole]) -> dict[str, Statistic]:
     """Returns the statistics of all tests by name. A season has the part of each period."""
-    return {"autocorrelation": lambda far, ranks: ljung_box(far), "trend": lambda far, ranks: trend(ranks),
-            "shift": lambda far, ranks: shift(far),
+    return {"autocorrelation": ljung_box, "trend": trend, "shift": shift,
             **{name: functools.partial(kruskal, parts) for name, parts in seasons.items()}}
 
 
@@ -194,12 +185,9 @@ def bound_of(statistics: Floats, level: float) -> float:
 
 
 class Tilted:
-    """The law of a history with other means: the chance of a value is tilted by a factor e^(rate * value).
-
-    This is how a law without a family gets another mean (Davison and Hinkley, Bootstrap Methods and their Application,
-    1997, section 4.4). It keeps Poisson and negative binomial laws in their families, and moves both the share of
-    periods with demand and the sizes.
-    """
+    """The law of a history with other means: the chance of a value is tilted by a factor e^(rate * value) (Davison and
+    Hinkley, Bootstrap Methods and their Application, 1997, section 4.4). That keeps Poisson and negative binomial laws
+    in their families, and moves both the share of periods with demand and the sizes."""
 
     def __init__(self, orders: Orders) -> None:
         """Finds the means of many rates. The history has two values or more."""
@@ -218,10 +206,8 @@ class Tilted:
 
     def scores(self, factors: Floats) -> tuple[Floats, Floats, float]:
         """Returns the mean and the variance of a number's rank for each factor of the mean, which stays within the
-        values, and the variance of all ranks.
-
-        Ranks are shares of the periods, from their mean. As many periods have each factor.
-        """
+        values, and the variance of all ranks: shares of the periods, from their mean. As many periods have each
+        factor."""
         chances = self._chances(np.interp(factors * self.mean, self.means, self.rates))
         pooled = chances.mean(axis=0)
         ranks = np.cumsum(pooled) - pooled / 2 - 0.5
@@ -230,11 +216,9 @@ class Tilted:
 
 
 def trend_seen(law: Tilted, periods: int, bound: float, size: float) -> float:
-    """Returns the chance that the square of Spearman's rho is above a bound, if the mean rises steadily.
-
-    It goes from 1 - `size` times the mean of the history to 1 + `size` times. Rho is a sum over periods, and so about
-    normal (Lehmann, Nonparametrics, 1975, chapter 7).
-    """
+    """Returns the chance that the square of Spearman's rho is above a bound, if the mean rises steadily from 1 - `size`
+    times that of the history to 1 + `size` times. Rho is a sum over periods, and so about normal (Lehmann,
+    Nonparametrics, 1975, chapter 7)."""
     time = centred(np.arange(BLOCKS) + 0.5) * 2 / BLOCKS
     means, variances, variance = law.scores(1 + size * time)
     whole = math.sqrt(time @ time * BLOCKS * variance)
@@ -243,11 +227,9 @@ def trend_seen(law: Tilted, periods: int, bound: float, size: float) -> float:
 
 
 def season_seen(law: Tilted, periods: int, length: int, parts: int, bound: float, size: float) -> float:
-    """Returns the chance that Kruskal and Wallis's statistic is above a bound, if the mean follows a sine.
-
-    It goes up and down by `size` times the mean of the history, once in `length` periods, which make equal parts. The
-    statistic has about a noncentral chi-squared law (Lehmann, Nonparametrics, 1975, appendix).
-    """
+    """Returns the chance that Kruskal and Wallis's statistic is above a bound, if the mean goes up and down as a sine
+    by `size` times that of the history, once in `length` periods, which make equal parts. The statistic has about a
+    noncentral chi-squared law (Lehmann, Nonparametrics, 1975, appendix)."""
     blocks = parts * min(BLOCKS_OF_PART, max(1, length // parts))
     means, _, variance = law.scores(1 + size * np.sin(2 * math.pi * (np.arange(blocks) + 0.5) / blocks))
     of_parts = means.reshape(parts, -1).mean(axis=1)
@@ -259,11 +241,9 @@ def season_seen(law: Tilted, periods: int, length: int, parts: int, bound: float
 
 
 def autocorrelation_seen(periods: int, level: float, size: float) -> float:
-    """Returns the chance of a p value at most at a level, if neighbours have this autocorrelation.
-
-    It falls with the lag as in a chain of the first order. Ljung and Box's statistic has about a noncentral chi-squared
-    law, whatever the law of demand is.
-    """
+    """Returns the chance of a p value at most at a level, if neighbours have this autocorrelation, which falls with the
+    lag as in a chain of the first order. Ljung and Box's statistic has about a noncentral chi-squared law, whatever the
+    law of demand is."""
     apart = periods * sum(size**(2 * lag) for lag in range(1, LAGS + 1))
     return float(1 - special.chndtr(special.chdtri(LAGS, level), LAGS, apart))
 

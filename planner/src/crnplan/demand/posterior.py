@@ -20,7 +20,7 @@ from __future__ import annotations
 
 import math
 from collections import Counter
-from collections.abc import Iterable, Iterator, Mapping, Sequence
+from collections.abc import Iterable, Mapping
 from dataclasses import dataclass
 from typing import Any, NamedTuple
 
@@ -116,17 +116,6 @@ def members_of(name: str, fit: Fit, packs: Sample, random: np.random.Generator) 
                    special.logsumexp(COUNTED * likely - PROPOSED * own, axis=1) + common)
 
 
-def picked(members: Sequence[Members], times: int, random: np.random.Generator) -> Iterator[tuple[int, int, int]]:
-    """Yields the places of a family, of a concentration and of a member for each law."""
-    likely = np.array([its.likely for its in members])
-    below = np.cumsum(np.exp(likely - likely.max()))
-    places = np.searchsorted(below[:-1] / below[-1], (np.arange(times) + random.random()) / times)
-    families, concentrations = np.unravel_index(random.permutation(places), likely.shape)
-    for family, concentration, uniform in zip(families, concentrations, stratified(random, 1, times)[0]):
-        member = np.searchsorted(members[family].below[:-1], uniform)
-        yield int(family), int(concentration), int(member)
-
-
 def end_of(sample: Sample) -> float:
     """Returns where laws end at most, in largest demands seen.
 
@@ -147,11 +136,16 @@ def demand_laws(sample: Sample, times: int, random: np.random.Generator) -> tupl
     bic = {name: fit.bic(packs.size) for name, fit in fits.items()}
     members = [members_of(name, fits[name], packs, random) for name, value in bic.items()
                if value <= min(bic.values()) + WORSE]
-    most = sample.most * end_of(sample)**stratified(random, 1, times)[0]
+    ends = sample.most * end_of(sample)**stratified(random, 1, times)[0]
+    likely = np.array([its.likely for its in members])
+    below = np.cumsum(np.exp(likely - likely.max()))
+    places = np.searchsorted(below[:-1] / below[-1], (np.arange(times) + random.random()) / times)
+    families, concentrations = np.unravel_index(random.permutation(places), likely.shape)
     counts: Counter[str] = Counter()
     drawn: list[Floats] = []
-    for end, (family, periods, member) in zip(most, picked(members, times, random)):
-        name, columns, *_ = members[family]
+    for end, family, periods, uniform in zip(ends, families, concentrations, stratified(random, 1, times)[0]):
+        name, columns, shares, _ = members[family]
+        member = np.searchsorted(shares[:-1], uniform)
         parameters = tuple(column[member:member + 1] for column in columns)
         base = in_items(cut(REGISTRY[name].laws(parameters, packs.most)[0]), pack)
         drawn.append(round_history(scaled(base[:int(end) + 1]), sample, SHARES[periods], random, COUNTED))
