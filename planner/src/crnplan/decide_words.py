@@ -13,18 +13,19 @@ TEXTS = {
     "long run by own starts": "long run, each policy from a state of its own, without unit",
     # Of what runs the costs are in the long run, and how exact theory's figures are (decide/long_run.py).
     "own starts": "each policy from a state of its own, over {periods:,} periods under each of {keys:,} keys",
-    "common start": "from a common stock of {initial:,} over {periods:,} periods, less the bias of that start by theory, "
-                    "which so is no check of it",
+    "common start": "from a common stock of {initial:,} over {periods:,} periods, less the bias of that start by "
+                    "theory, which so is no check of it",
     "exact theory": "exact but for rounding",
     "rounded theory": "rounded to steps of {step} items, so not compared with the intervals",
     "no theory": "not known: {reason}",
     "rounded bias": "rounded to steps of {step} items, and so is the bias of the start",
-    "start beside the lattice": "exact but for rounding, but the bias of the start is rounded to steps of {step} items",
+    "start beside the lattice": "exact but for rounding, but the bias of the start is rounded to steps of {step} "
+                                "items",
     # Warnings of decisions.
     "few orders": "no interval for {policies}: the rarer policy places fewer than {least} orders in all replications",
     "no spread": "no interval for {policies}: the difference is the same in all replications",
-    "far from theory": "crnsim and theory differ by more than chance allows for {policies}: one of them is wrong, or an "
-                       "order lasts for so long that the start still matters",
+    "far from theory": "crnsim and theory differ by more than chance allows for {policies}: one of them is wrong, or "
+                       "an order lasts for so long that the start still matters",
     "strong start": "without this correction the start counts too much for {policies}: its effect is above {most} "
                     "standard errors",
     "start of coming periods": "these verdicts are on the coming {periods:,} periods from a stock of {initial:,}, not "

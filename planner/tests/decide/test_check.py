@@ -17,7 +17,7 @@ import crnplan as crn
 from crnplan import formats
 from planner.tests.conftest import Command
 from planner.tests.decide.answers import changed, priced
-from planner.tests.decide.costs import pairs_sum
+from planner.tests.decide.test_decide import pairs_sum
 
 KEYS = ["00000000000000a1", "00000000000000a2"]
 COLUMNS = ("total", "per_period", "diff_total", "diff_mean", "diff_var", "cov")
@@ -50,33 +50,7 @@ VERDICTS = [("0.95", "B 60 80 4.875 1.802 7.948 4.000 25.81 1.291 -0.109 8.109 u
              "A holds: no policy is better; B can't be told apart from A."),
             ("0.9", "B 60 80 4.875 2.603 7.147 4.000 25.81 1.291 0.962 7.038 worse",
              "A holds: no policy is better; B is worse.")]
-TWO_LINES = "#!/bin/sh\necho first >&2\necho second >&2\nexit 2\n"
 OWN = "5eed000000000001 0000000000000000 0000000000000000 0000000000000000"
-# What is said of words that are refused, of a copy of examples/spare_part.toml with an old and a new text.
-REFUSED = [
-    ("there is no policy 'nobody'; the policies are: today, lower, smaller, both", "nobody", "", ""),
-    (f"--key {OWN} is the scenario's own key", "both --key 5eed000000000001", "", ""),
-    (f"--key {OWN} is the scenario's own key", f"both --key {KEYS[0]} --key {OWN}", "", ""),
-    (f"--key {KEYS[0]} 0000000000000000 0000000000000000 0000000000000000 is given twice",
-     f"both --key {KEYS[0]} --key {KEYS[1]} --key {KEYS[0]}", "", ""),
-    ("--key: '5EED000000000002' is not 16 digits of 0-9a-f", "both --key 5EED000000000002", "", ""),
-    ("--key: '5eed00000000002' is not 16 digits", "both --key 5eed00000000002", "", ""),
-    ("--key: there are 2 words; give four, or one", f"both --key {KEYS[0]} {KEYS[1]}", "", ""),
-    ("--keys 65: there can be 1 to 64 keys", "both --keys 65", "", ""),
-    ("--keys 0: there can be 1 to 64 keys", "both --keys 0", "", ""),
-    ("--keys 1: there can be 2 to 64 keys", f"both --key {KEYS[0]} --key {KEYS[1]} --keys 1", "", ""),
-    ("--replications 257: there can be 2 to 256", "both --replications 257", "", ""),
-    ("--replications 1: there can be 2 to 256", "both --replications 1", "", ""),
-    ("a level is between 0 and 1", "both --level 1", "", ""),
-    ("asked.toml:8:", "both", "initial = 12", "initial = -1"),
-    ("asked.toml:8:", "both", "initial = 12", "initial = 1,200"),
-    ("the scenario has one policy", "only", "[[policy]]", "[[other]]"),
-    ("there is no program ./no_program; build crnsim, or name it with", "both --program ./no_program", "", ""),
-    ("two_lines: first; second\n", "both --program ./two_lines", "", ""),
-    ("true: what it writes is no report of the scenario", "both --program /bin/true", "", ""),
-    ("examples: the folder is not empty", "both --out examples", "", ""),
-    ("asked.toml: File exists", "both --out asked.toml", "", ""),
-]
 
 
 @pytest.fixture
@@ -206,21 +180,3 @@ def test_the_function_is_the_command(part: Path, crnplan: Command) -> None:
     assert data["keys"] == [[KEYS[0], *OWN.split()[1:]]] and data["replications"] == 16
     assert [it["policy"] for it in data["policies"]] == list(found.frame.index)
     assert [it["verdict"] for it in data["policies"]] == list(found.frame["verdict"])
-
-
-@pytest.mark.parametrize(("message", "words", "old", "new"), REFUSED, ids=[f"{it[1]} {it[3]}" for it in REFUSED])
-def test_is_refused(room: Path, crnplan: Command, write_program: Write, message: str, words: str, old: str,
-                    new: str) -> None:
-    """Checks that what cannot be used is refused in one line, and that nothing is printed."""
-    write_program("two_lines", TWO_LINES)
-    text = (room / "examples/spare_part.toml").read_text("utf-8")
-    only = "".join(text.partition("[[policy]]")[:2]) + '\nname = "only"\ns = 1\nS = 2\n'
-    (room / "asked.toml").write_text(only if words == "only" else changed(text, old, new), "utf-8")
-    told = crnplan("check", "asked.toml", *words.split())
-    assert told[:2] == (2, "") and message in told.errors and told.errors.count("\n") == 1
-
-
-def test_a_missing_scenario_is_refused(crnplan: Command) -> None:
-    """Checks what is said of a missing file."""
-    told = crnplan("check", "missing.toml", "both")
-    assert told[:2] == (2, "") and "No such file" in told.errors

@@ -1,23 +1,37 @@
-"""Tests of crnplan decide: what it prints and refuses, its intervals and its warning."""
+"""Tests of paired-t intervals, of crnplan decide with its warnings, and of what the commands of decisions refuse.
+
+Intervals are compared with those of costs from which a report is made by the definitions of docs/FORMATS.md.
+"""
 from __future__ import annotations
 
 import csv
+import dataclasses
 import json
+import math
 import statistics
 import subprocess
 import tomllib
-from collections.abc import Callable
+from collections.abc import Callable, Mapping, Sequence
+from fractions import Fraction
+from itertools import combinations
 from pathlib import Path
 
 import pytest
+from hypothesis import assume, given
+from hypothesis import strategies as st
+from scipy import stats
 
+from crnplan.crnsim.report import Row
+from crnplan.decide.intervals import check_replications, own_variance, t_quantile, with_intervals
+from crnplan.errors import Refused
 from crnplan.scenario import Scenario
 from crnplan.theory.run_effects import end_effects
 from planner.tests.conftest import Command
 from planner.tests.decide.answers import changed, priced
 
 HERE = Path(__file__).parent
-CASES = tomllib.loads((HERE / "decisions.toml").read_text("utf-8"))["decisions"]
+CASES = tomllib.loads((HERE / "decisions.toml").read_text("utf-8"))
+COMMANDS = CASES["commands"]
 PUBLISHED_T = 1.998  # 63 degrees of freedom, 0.975
 REPLICATIONS, PERIODS, BLOCKS = 64, 104, 26
 # Changes of the report of examples/spare_part.toml, by the name of the file.
@@ -32,6 +46,13 @@ PARTS: dict[str, Callable[[list[str]], list[str]]] = {
     "huge": lambda rows: [*rows[:2], changed(rows[2], "202390", "9" * 5000)],
     "no_bytes": lambda rows: [*rows[:2], "\u00ff\n"], "empty": lambda rows: [],
     "free": lambda rows: [rows[0], changed(rows[1], "207110,103555/3328", "0,0/1", "2175953/144", "0/1")]}
+
+
+# Changes of that example itself.
+SCENARIOS = {"below": ("initial = 12", "initial = -1"), "comma": ("initial = 12", "initial = 1,200"),
+             "free": ("holding = 2", "holding = 0")}
+# The costs of each policy in each replication.
+Costs = Mapping[str, Sequence[int]]
 
 
 def report_of(program: Path, text: str, *words: str) -> str:
@@ -55,15 +76,24 @@ def cases_room(room: Path, write_priced: Callable[[str, str], None]) -> Path:
     rows = (room / "examples/spare_part.csv").read_text("utf-8").splitlines(keepends=True)
     for name, part in PARTS.items():
         (room / f"{name}.csv").write_text("".join(part(rows)), "latin-1")
+    text = (room / "examples/spare_part.toml").read_text("utf-8")
+    for name, pair in SCENARIOS.items():
+        (room / f"{name}.toml").write_text(changed(text, *pair), "utf-8")
+    only = text.partition("[[policy]]")[0] + '[[policy]]\nname = "only"\ns = 1\nS = 2\n'
+    (room / "only.toml").write_text(only, "utf-8")
+    (room / "demand.csv").write_text("period,demand\n1,0\n2,3\n", "utf-8")
+    (room / "leads.csv").write_text("weeks\n1\n2\n", "utf-8")
+    (room / "two_lines").write_text("#!/bin/sh\necho first >&2\necho second >&2\nexit 2\n", "utf-8")
+    (room / "two_lines").chmod(0o755)
     (room / "decisions.toml").symlink_to(HERE / "decisions.toml")
     write_priced("priced", priced(room / "examples/spare_part.toml", 5))
     return room
 
 
-@pytest.mark.parametrize(("words", "status", "part"), CASES, ids=[f"{words}: {part[:40]}" for words, _, part in CASES])
+@pytest.mark.parametrize(("words", "status", "part"), COMMANDS, ids=[f"{it[0]}: {it[2][:40]}" for it in COMMANDS])
 def test_prints_or_refuses(cases_room: Path, crnplan: Command, words: str, status: int, part: str) -> None:
     """Checks the status and a part of what is printed. A refusal has one line, or one for each fault."""
-    told = crnplan("decide", *words.replace("SPARE", "examples/spare_part").split())
+    told = crnplan(*words.replace("SPARE", "examples/spare_part").split())
     assert told.status == status and part in told.output + told.errors
     assert status == 0 or told.output == "" and (told.errors.count("\n") == 1 or part.startswith("fault "))
 
@@ -152,3 +182,119 @@ def test_warns_without_a_number(room: Path, write_priced: Callable[[str, str], N
                                       "[10, 11, 12, 13, 14, 16]"))
     shown = crnplan("decide", "more_back.csv", "--scenario", "more_back.toml")
     assert shown.status == 0 and "is not known here.\n" in shown.output
+
+
+def pairs_sum(first: Sequence[int], second: Sequence[int]) -> int:
+    """Returns the sum over pairs of replications by which variances and covariances are defined."""
+    return sum((first[i] - first[j]) * (second[i] - second[j]) for i, j in combinations(range(len(first)), 2))
+
+
+def rows_of_costs(costs: Costs, periods: int) -> list[Row]:
+    """Returns the rows of the report of these costs, the first policy as the base. All policies are (1, 2)."""
+    base = next(iter(costs.values()))
+    count, rows = len(base), []
+    for name, own in costs.items():
+        differences = [a - b for a, b in zip(own, base)]
+        variance = covariance = None
+        if count > 1:
+            variance = Fraction(pairs_sum(differences, differences), count**2 * (count - 1))
+            covariance = Fraction(pairs_sum(own, base), count * (count - 1))
+        rows.append(Row(name, 1, 2, sum(own), Fraction(sum(own), count * periods), sum(differences),
+                        Fraction(sum(differences), count), variance, covariance))
+    return rows
+
+
+def costs(replications: st.SearchStrategy[int], least: int = 0) -> st.SearchStrategy[Costs]:
+    """Returns a strategy for the costs of two to five policies in so many replications."""
+    def of_shape(shape: tuple[int, int]) -> st.SearchStrategy[Costs]:
+        """Returns a strategy for the costs of so many policies and replications."""
+        policies, count = shape
+        its = st.lists(st.integers(least, 10**6) | st.integers(least, 3 + least), min_size=count, max_size=count)
+        return st.fixed_dictionaries({f"p{number}": its for number in range(policies)})
+    return st.tuples(st.integers(2, 5), replications).flatmap(of_shape)
+
+
+@pytest.mark.parametrize(("probability", "degrees", "printed"), CASES["quantiles"])
+def test_quantile_is_as_tables_print_it(probability: float, degrees: int, printed: str) -> None:
+    """Compares a quantile of Student's t with published tables."""
+    assert f"{t_quantile(2 * (1 - probability), degrees):.3f}" == printed
+
+
+@given(st.floats(1e-12, 0.9))
+def test_quantile_is_exact_for_few_degrees(tails: float) -> None:
+    """Compares quantiles with closed forms, which only one and two degrees of freedom have."""
+    assert t_quantile(tails, 1) == pytest.approx(1 / math.tan(math.pi * tails / 2), rel=1e-12)
+    assert t_quantile(tails, 2) == pytest.approx((1 - tails) * math.sqrt(2 / (tails * (2 - tails))), rel=1e-12)
+
+
+def rounding(ends: list[float]) -> float:
+    """Returns by how much the ends of an interval may be off: one may be near 0 if the other is large."""
+    return 1e-8 * max(map(abs, ends)) + 1e-9
+
+
+def near(ends: list[float]) -> object:
+    """Returns what equals both ends of an interval but for rounding."""
+    return pytest.approx(ends, rel=0, abs=rounding(ends))
+
+
+@given(costs(st.integers(2, 12)), st.integers(1, 9), st.sampled_from([0.5, 0.9, 0.95, 0.99]))
+def test_intervals_are_those_of_the_costs_themselves(drawn: Costs, periods: int, level: float) -> None:
+    """Compares intervals from a report with those that scipy computes from the costs of all replications."""
+    count, base = len(drawn["p0"]), drawn["p0"]
+    compared = with_intervals(rows_of_costs(drawn, periods), count, level)
+    assert [it.diff for it in compared] == pytest.approx(
+        sorted((sum(own) - sum(base)) / count for own in drawn.values()))
+    for it in compared:
+        own = drawn[it.policy]
+        half = stats.t.interval(level, count - 1)[1] * statistics.stdev(own) / math.sqrt(count)
+        wanted = [(statistics.mean(own) + sign * half) / periods for sign in (-1, 1)]
+        assert [it.cost_low, it.cost_high] == (near(wanted) if sum(own) else [0, 0])
+        if it.verdict == "base":
+            assert it.policy == "p0" and it.low is None
+            continue
+        joint = 1 - (1 - level) / (len(drawn) - 1)
+        differences = [a - b for a, b in zip(own, base)]
+        spread = statistics.stdev(differences)
+        wanted = [statistics.mean(differences)] * 2
+        if spread:
+            wanted = list(stats.ttest_rel(own, base).confidence_interval(joint))
+        assert [it.low, it.high] == near(wanted)
+        assert it.std_error == pytest.approx(spread / math.sqrt(count), rel=1e-9, abs=1e-9)
+        verdict = "worse" if wanted[0] > 0 else "better" if wanted[1] < 0 else "undecided"
+        assert it.verdict == verdict or min(map(abs, wanted)) <= rounding(wanted)
+
+
+@given(costs(st.integers(2, 12)))
+def test_own_variance_is_exact(drawn: Costs) -> None:
+    """Compares the variance of a policy's own costs with that of the costs themselves, in fractions."""
+    base, *others = rows_of_costs(drawn, 3)
+    for row in (base, *others):
+        assert own_variance(row, base, len(drawn["p0"])) == statistics.variance(map(Fraction, drawn[row.policy]))
+
+
+@given(costs(st.integers(1, 12), least=1), st.integers(1, 9), st.integers(1, 24))
+def test_a_report_is_of_its_own_number_of_replications_alone(drawn: Costs, periods: int, other: int) -> None:
+    """Checks that a report is accepted with its number of replications, and that another number is rejected."""
+    rows, count = rows_of_costs(drawn, periods), len(drawn["p0"])
+    assume(other != count and any(row.diff_total for row in rows))
+    check_replications(rows, count, "it.csv")
+    with pytest.raises(Refused, match=rf"^it\.csv:[0-9]+: this is no report of {other} replications"):
+        check_replications(rows, other, "it.csv")
+
+
+def test_a_single_replication_has_no_intervals() -> None:
+    """Checks that nothing is known of spread after one replication."""
+    for it in with_intervals(rows_of_costs({"p0": [7], "p1": [5]}, 1), 1, 0.95):
+        assert (it.std_error, it.low, it.high, it.cost_low, it.cost_high) == (None,) * 5
+        assert it.verdict == ("base" if it.policy == "p0" else "undecided")
+
+
+@pytest.mark.parametrize("fields", [
+    {"total": 11}, {"diff_mean": Fraction(1, 3)}, {"per_period": Fraction(1, 7)}, {"cov": None},
+    {"diff_total": 4, "diff_mean": Fraction(2)}, {"diff_var": Fraction(-1), "cov": Fraction(9)}, {"cov": Fraction(-9)}],
+    ids=str)
+def test_figures_that_contradict_each_other_are_rejected(fields: dict[str, object]) -> None:
+    """Checks that a row with one wrong figure is no row of the report."""
+    base, other = rows_of_costs({"p0": [3, 4], "p1": [5, 5]}, 1)
+    with pytest.raises(Refused, match="^it.csv:3: this is no report of 2 replications"):
+        check_replications([base, dataclasses.replace(other, **fields)], 2, "it.csv")

@@ -1,27 +1,41 @@
-"""Tests of crnplan.doubt: its figures by hand, by the theory of one law, and by runs."""
+"""Tests of the doubt about laws: by hand, by the theory of one law and by runs; its command, its picture, its study."""
 from __future__ import annotations
 
+import csv
 import dataclasses
+import json
 import math
+import re
 from collections.abc import Iterator
 from pathlib import Path
+from xml.etree import ElementTree
 
 import numpy as np
+import pandas as pd
 import pytest
 
 import crnplan as crn
-from crnplan.decide.doubt import Doubt, doubt
+from crnplan.decide.doubt import HELD, Doubt, doubt
 from crnplan.decide.intervals import t_quantile
 from crnplan.demand.posterior import AllowedLaws, allowed_laws, allowed_leads
 from crnplan.errors import Refused, ScenarioError
 from crnplan.law import Law
+from crnplan.pages.pictures import regrets_picture, save
 from crnplan.scenario import Policy, Scenario
+from crnplan.theory.lattice import theories_of
 from crnplan.theory.many_laws import LawFigures
 from crnplan.theory.suggestions import figures_of
+from planner.studies import doubt as study, laws
+from planner.tests.conftest import Command
+from planner.tests.demand.test_study import compare
 
 HISTORY = [0, 3, 1, 9, 0, 0, 2, 5, 14, 1, 0, 4, 2, 2, 7, 0, 1, 3, 21, 0, 6, 1]
 LEADS = [2, 3, 2, 4]
 LAW = Law((0, 3), (1, 1))
+SALES = [0, 3, 1, 2, 4, 2, 2, 5, 3, 1, 8, 3, 2, 1, 3, 2, 0, 4, 3, 2]
+SALES_LEADS = [1, 2, 3, 2]
+SCENARIO = "examples/spare_part.toml"
+STUDIED = [{0: 3, 1: 2, 4: 2, 9: 1}, {0: 1, 2: 3, 3: 1}]
 
 
 @pytest.fixture
@@ -159,3 +173,141 @@ def test_runs(part: Scenario, program: Path) -> None:
     assert "a period of the coming 26 periods from a stock of 27" in found.text
     single = doubt(part.changed(replications=1), HISTORY, times=10, runs=True, program=program)
     assert all(row["luck_spread"] is None for row in single.table.records) and "  -\n" in single.text
+
+
+@pytest.fixture
+def demand(room: Path) -> Path:
+    """Writes a history as crnplan item does, and lead times."""
+    rows = [f"{period},{count}" for period, count in enumerate(SALES, 1)]
+    (room / "leads.csv").write_text("\n".join(["lead time", *map(str, SALES_LEADS), ""]), "utf-8")
+    path = room / "demand.csv"
+    path.write_text("\n".join(["period,demand", *rows, ""]), "utf-8")
+    return path
+
+
+def test_command_prints_the_text(demand: Path, crnplan: Command) -> None:
+    """A file of crnplan item needs no word, and the text is that of crnplan.doubt."""
+    scenario = crn.Scenario.read(SCENARIO)
+    answer = crnplan("doubt", SCENARIO, "demand.csv", "--times", 20)
+    assert answer == (0, crn.doubt(scenario, SALES, times=20).text, "")
+    answer = crnplan("doubt", SCENARIO, "demand.csv", "--times", 20, "--lead", "leads.csv", "lead time", "--seed", 2,
+                     "--within", "0.1")
+    assert answer.output == crn.doubt(scenario, SALES, SALES_LEADS, times=20, seed=2, within=0.1).text
+    assert " is within 10% of the best of these " in answer.output
+
+
+def test_command_prints_tables(demand: Path, crnplan: Command) -> None:
+    """CSV and JSON have the records, with what is to be said beside them."""
+    found = crn.doubt(crn.Scenario.read(SCENARIO), SALES, times=20)
+    answer = crnplan("doubt", SCENARIO, "-", "--times", 20, "--csv", data=demand.read_bytes())
+    for row, wanted in zip(csv.DictReader(answer.output.splitlines()), found.table.records, strict=True):
+        assert row == {name: it if isinstance(it, str) else f"{it:.10g}" for name, it in wanted.items()}
+    assert answer.errors == found.notes.lstrip("\n")
+    told = json.loads(crnplan("doubt", SCENARIO, "demand.csv", "--times", 20, "--json").output)
+    assert told["policies"] == found.table.records and told["sentence"] == found.sentence and told["laws"] == 20
+    assert told["families"] == found.demand.families and told["lead_families"] is None
+    assert told["notes"] == found.remarks
+
+
+def test_words_of_history(room: Path, crnplan: Command) -> None:
+    """Files are read by the words of crnplan history."""
+    rows = [f"{2 * count},0;{day:02}.06.2026" for day, count in enumerate(SALES, 1)]
+    (room / "sales.csv").write_text("\n".join(["Menge;Datum", *rows, "x;01.06.2026", ""]), "utf-8")
+    words = ["sales.csv", "--demand", "Menge", "--date", "Datum", "--every", "day", "--decimal", ",", "--box", 2]
+    refused = crnplan("doubt", SCENARIO, *words, "--rejects", "rejects.csv")
+    assert refused.status == 2 and "sales.csv:22:1: column 'Menge': 'x' is not a number" in refused.errors
+    assert "'x' is not a number" in Path("rejects.csv").read_text("utf-8")
+    answer = crnplan("doubt", SCENARIO, *words, "--leave-out", "--times", 20)
+    assert answer.output == crn.doubt(crn.Scenario.read(SCENARIO), SALES, times=20).text
+    assert "days from 2026-06-01 to 2026-06-20: 20, filled with 0: 0" in answer.errors
+
+
+def test_command_runs(demand: Path, crnplan: Command) -> None:
+    """The columns of runs stand in the table."""
+    told = json.loads(crnplan("doubt", SCENARIO, "demand.csv", "--times", 10, "--runs", "--json").output)
+    assert all(min(row[it] for it in ("run_cost", "law_spread", "luck_spread")) > 0 for row in told["policies"])
+
+
+def test_picture(demand: Path, crnplan: Command) -> None:
+    """It names all policies by rank with their shares, and is the same each time."""
+    words = ["doubt", SCENARIO, "demand.csv", "--times", 20]
+    table = json.loads(crnplan(*words, "--plot", "doubt.svg", "--json").output)["policies"]
+    crnplan(*words, "--plot", "again.svg")
+    crnplan(*words, "--plot", "doubt.png")
+    assert Path("doubt.svg").read_bytes() == Path("again.svg").read_bytes()
+    assert Path("doubt.png").read_bytes().startswith(b"\x89PNG")
+    texts = [it.text for it in ElementTree.parse("doubt.svg").iter("{http://www.w3.org/2000/svg}text")]
+    labels = [f"{row['policy']} ({row['s']}, {row['S']})" for row in table]
+    assert [it for it in texts if it in labels] == labels
+    shares = [it for it in texts if it and re.fullmatch("[0-9]+%", it)]
+    assert shares[:len(labels)] == [f"{row['within']:.0%}" for row in table]
+
+
+@pytest.mark.parametrize("most", [0.0, 0.004, 0.4, 80.0])
+def test_ticks_have_room(tmp_path: Path, most: float) -> None:
+    """Ticks stand apart, whether regrets are small or large."""
+    path, costs = tmp_path / "doubt.svg", 1 + np.array([[0.0, most], [most / 2, 0.0]])
+    scenario = crn.Scenario.read(SCENARIO).with_policies([Policy("one", 1, 2), Policy("other", 3, 4)])
+    figures = LawFigures((0, 1), costs, costs, costs[:, 0], 1, None)
+    save(regrets_picture(Doubt(scenario, scenario.policies, 0.03, AllowedLaws({}, ()), None, figures)), path)
+    texts = [it.text or "" for it in ElementTree.parse(path).iter("{http://www.w3.org/2000/svg}text")]
+    percents = [float(it[:-1].replace(",", "")) for it in texts if re.fullmatch("[0-9.,]+%", it)]
+    shares, ticks = percents[:2], percents[2:]
+    roots = np.sqrt(ticks)
+    assert shares == [100, 50 if most > 0.03 else 100] or shares == [50, 50]
+    assert len(ticks) >= 3 and ticks[0] == 0 and np.diff(roots).min() > 0.05 * np.sqrt(100 * max(most, 0.03))
+
+
+def test_study_has_the_figures_of_theory() -> None:
+    """For several laws at once: costs, fill rates, least costs, and the cheapest policy with a fill rate."""
+    chances = [np.bincount([*its], [*its.values()]) for its in STUDIED]
+    orders = [30.0, 200.0, 30.0, 200.0]
+    runs = study.PickedRuns(chances, 60, 160)
+    least, alone = runs.least(orders), [study.PickedRuns([it], 60, 160) for it in chances]
+    for at, (lead, backlog, _) in enumerate(study.PICKED):
+        for row, weights in enumerate(STUDIED):
+            scenario = Scenario.of(weights, {lead: 1}, setup=int(orders[at]), holding=1, backlog=backlog, today=(9, 20))
+            theory, _ = theories_of(scenario)
+            figures, best, filled = theory.figures(9, 20), theory.best(), theory.best_with_fill(0.98)
+            assert runs.cost(at, orders[at], 11, 20)[row] == pytest.approx(figures.cost)
+            assert runs.fill(at, 11, 20)[row] == pytest.approx(figures.fill)
+            assert least[row, at] == pytest.approx(best.cost)
+            gap, level = alone[row].filled(at, orders[at], 0.98)
+            assert theory.figures(level - gap, level).cost == pytest.approx(filled.cost, rel=0.011)
+            assert theory.figures(level - gap, level).fill >= 0.98
+
+
+def test_one_case() -> None:
+    """Without a doubt about the law, all bounds hold and the promise is true."""
+    case = study.Case("P2")
+    best = [case.truth.best[place] for place in study.PLACES]
+    costs, fills = case.under(case.runs, best, [(it.gap, it.level) for it in best])
+    assert costs[0] == pytest.approx(case.best) == case.runs.least(case.orders)[0]
+    assert ((0.5 < fills) & (fills < 1)).all()
+
+
+def test_small_part(top: Path) -> None:
+    """A small part of the study has the stored figures."""
+    rows = study.study(**study.SMALL)
+    compare(rows, top / "planner/studies/doubt.csv", ["law", "periods"], [*study.FIGURES])
+
+
+def test_stored_figures(top: Path) -> None:
+    """What the package says of how often its bounds held are the least and the most of the stored figures."""
+    rows = study.summary(pd.read_csv(top / "planner/studies/doubt.csv"))
+    its = rows[rows["group"] == "all"]
+    for name in ("regret", "fill"):
+        found = its[f"{name}_held"]
+        assert HELD[name] == (round(found.min()), round(found.max()))
+    assert [*its["periods"]] == [*laws.PERIODS]
+
+
+def test_summary() -> None:
+    """A summary has the mean over laws and its standard error, for each group and for all."""
+    rows = pd.DataFrame({"group": ["designed", "others"], "law": ["a", "b"], "periods": 26,
+                         **{it: [80.0, 90.0] for it in study.FIGURES},
+                         **{f"{it}_error": [3.0, 4.0] for it in study.FIGURES}})
+    lines = study.summary(rows).to_dict("records")
+    assert [(it["group"], it["promise"], it["promise_error"]) for it in lines] == [
+        ("designed", 80, 3), ("others", 90, 4), ("all", 85, 2.5)]
+    assert [it["fill_held_worst"] for it in lines] == ["80 (a)", "90 (b)", "80 (a)"]

@@ -1,4 +1,5 @@
-"""Tests decisions of the long run: intervals, the correction of a common start, warnings, and what commands print."""
+"""Tests decisions of the long run: intervals, the correction of a common start, warnings, commands, and the study of
+the intervals: its items, its exact targets by a Markov chain, and a small part."""
 from __future__ import annotations
 
 import csv
@@ -27,6 +28,8 @@ from crnplan.remarks import Remark
 from crnplan.scenario import Costs, Policy, Scenario
 from crnplan.theory.lattice import NoTheory
 from crnplan.words import sentence
+from planner.studies.long_run import SEEDS, SMALL, Outcome, exact_costs, outcomes_of, scenario_of as studied, table_of
+from planner.studies.long_run_items import items_of
 from planner.tests.conftest import Command
 from planner.tests.theory.chain import by_chain
 from planner.tests.theory.finite import expected
@@ -39,6 +42,8 @@ PART = replace(scenario_of(([0, 1, 3], [5, 3, 1]), ([1, 3], [2, 1])), key=KEY, c
 SLOW = replace(PART, demand=Law((0, 1), (60_000, 1)), policies=(Policy("today", 1, 9), Policy("more", 2, 12)))
 EVEN = replace(PART, demand=Law((1,), (1,)), lead=Law((1,), (1,)),
                policies=(Policy("today", 1, 5), Policy("equal", 1, 5)))
+# Today's levels of some items of seed 1, by number, as the generator of whole catalogues has written them.
+LEVELS = {0: (8, 46), 1: (15, 384), 3: (2623, 4069), 4: (55, 85), 5: (25, 139)}
 
 
 def by_name(found: Decision) -> dict[str, Compared]:
@@ -309,21 +314,50 @@ def test_sensitivity_in_the_long_run(crnplan: Command, room: Path, program: Path
     assert plain.split("\n\n", 1)[1] != text.split("\n\n", 1)[1]
 
 
-@pytest.mark.parametrize("words, message", [
-    ("run part.toml --long-run --horizon 5", "--long-run has no --horizon"),
-    ("sensitivity part.toml --long-run --stock 5", "--long-run has no --horizon"),
-    ("check part.toml more --long-run --stock 5", "--long-run has no --horizon"),
-    ("run part.toml --keys 5", "--keys and --level are those of --long-run"),
-    ("run part.toml --long-run --keys 1", "--keys 1: the long run takes 2 to 256 keys"),
-    ("run part.toml --long-run --level 1.5", "--level 1.5: a level is between 0 and 1"),
-    ("check part.toml more --long-run --replications 256", "--long-run has no --replications and no --out"),
-    ("check part.toml more --long-run --out it", "--long-run has no --replications and no --out"),
-    ("check part.toml more --long-run --key " + " ".join(KEY), "is the scenario's own key"),
-    ("run part.toml --horizon 2000", "2000 is not from 1 to 1,024"),
-    ("decide report.csv --long-run --replications 64", "give --scenario"),
-    ("decide report.csv --long-run --scenario part.toml --plot it.svg", "--plot and --map show the report as it is")],
-    ids=lambda it: it.replace(" ", "_") if it.startswith(("run", "decide", "check", "sens")) else "")
-def test_refusals(words: str, message: str, crnplan: Command, room: Path) -> None:
-    (room / "part.toml").write_text(PART.toml())
-    found = crnplan(*words.split())
-    assert found.status == 2 and found.output == "" and message in found.errors
+def test_items_are_those_of_the_catalogue() -> None:
+    found = {it.number: it for it in items_of(1, 6)}
+    assert {number: found[number].today for number in LEVELS} == LEVELS
+    assert list(items_of(1, 6)) == list(found.values())
+
+
+def test_exact_savings_are_those_of_a_chain() -> None:
+    """Items with few states: short lead times and low levels."""
+    compared = 0
+    for item in items_of(1, 300):
+        if max(item.lead.values) > 2 or item.today[1] > 25 or len(item.demand.values) > 5 or item.returns:
+            continue
+        scenario = studied(item, 1)
+        if scenario is None or scenario.policies[1].S > 40:
+            continue
+        exact = exact_costs(scenario)
+        assert exact is not None
+        for policy, (cost, orders) in zip(scenario.policies, exact):
+            chain = by_chain(scenario.with_policies([policy]))
+            assert (cost, orders) == pytest.approx((chain[0], chain[4]), rel=1e-6)
+        compared += 1
+        if compared == 4:
+            return
+    pytest.fail("there are too few small items")
+
+
+@pytest.fixture(scope="module")
+def outcomes(program: Path) -> list[Outcome]:
+    """Returns the outcomes of the small part."""
+    return outcomes_of(items_of(SEEDS[0], SMALL), SEEDS[0], program, 1)
+
+
+def test_small_part(outcomes: list[Outcome]) -> None:
+    """Both corrected intervals hold as often as 95% intervals do, but for a chance of 1 in 1,000."""
+    least = stats.binom.ppf(0.001, len(outcomes), 0.95)
+    assert len(outcomes) > 0.8 * SMALL
+    for place in (0, 1):
+        halves = ((it, stats.t.ppf(0.975, it.found[place][2]) * it.found[place][1]) for it in outcomes)
+        held = [abs(it.found[place][0] - it.saving) <= half + 1e-9 * it.cost for it, half in halves]
+        assert sum(held) >= least
+    assert all(it.found[1][0] == pytest.approx(it.found[2][0] - it.bias) for it in outcomes)
+
+
+def test_table(outcomes: list[Outcome]) -> None:
+    lines = table_of({1: outcomes}).splitlines()
+    assert lines[0].split()[:5] == ["seed", "interval", "items", "held", "%"]
+    assert [line[:20].split()[0] for line in lines[1:7]] == ["1"] * 3 + ["all"] * 3

@@ -155,13 +155,3 @@ def test_notes_what_is_left_out_or_rounded(room: Path, crnplan: Command, old: st
     assert told.status == 0 and note in told.output and not told.errors
     told = crnplan("sensitivity", "noted.toml", "--csv")
     assert told.status == 0 and note in told.errors and note not in told.output
-
-
-@pytest.mark.parametrize(("words", "part"), [
-    ("missing.toml", "No such file"), ("bad.toml", "fault 2"),
-    ("examples/two_policies.toml --program /missing/program", "there is no program /missing/program")])
-def test_is_refused(room: Path, crnplan: Command, words: str, part: str) -> None:
-    """Checks that what cannot be used is refused in one line."""
-    (room / "bad.toml").write_text("it = 1\n", "utf-8")
-    told = crnplan("sensitivity", *words.split())
-    assert told[:2] == (2, "") and part in told.errors

@@ -176,8 +176,9 @@ class Doubt(Result):
     def notes(self) -> str:
         """Returns the sentences and the remarks."""
         spreads = "" if not self.spreads else (
-            f"\nrun_cost, law_spread, luck_spread: a period of the {sentence(horizon_of(self.scenario))}, by crnsim, all laws "
-            "with one key: mean cost, its standard deviation over the laws, and that of one replication under a law\n")
+            f"\nrun_cost, law_spread, luck_spread: a period of the {sentence(horizon_of(self.scenario))}, by crnsim, "
+            "all laws with one key: mean cost, its standard deviation over the laws, and that of one replication under "
+            "a law\n")
         return f"{spreads}\n{self.sentence} {self.bounds}\n\n" + "".join(f"{line}\n" for line in self.remarks)
 
     @property
