@@ -10,9 +10,9 @@ functions, types, closures and the clauses of loops, "proof" only from proofs an
 `pages` writes anew what stands in docs/DEFINITIONS.md and docs/PROOFS.md between `<!-- MARK -->` and `<!-- end -->`:
 
     reached by CONTRACT   the definitions that it reaches and none above has reached, in the order in which it reaches
-                          them. A statement or a type has its meaning, which is the comment above it, unless the page
-                          has its name in bold and in code. A function is only named; if the contracts of CHAIN reach
-                          all functions of a file, the first list with one of them says so
+                          them, but for those that the page explains: their names are in bold and in code. A statement
+                          or a type has its meaning, which is the comment above it. A function is only named; if the
+                          contracts of CHAIN reach all functions of a file, the first list with one of them says so
     ensures CONTRACT      its `ensures` clauses, as they stand in the source
 
 It goes by names and scopes, not by types: what a binder hides, or stands behind a dot, is no definition. In doubt it
@@ -217,7 +217,8 @@ def lines_of(repository, nodes, told, sorts, listed):
         explained = [it for it in here if is_statement(it[3]) and it[3] not in told]
         functions = [it for it in repository.definitions if place_of(it) == place and not is_statement(it[3])]
         is_whole = len(functions) > 1 and all(sorts[it] == "stated" for it in functions)
-        named = [f"`{it[3]}`" for it in here if it not in explained and not (is_whole and it in functions)]
+        named = [f"`{it[3]}`" for it in here if it not in explained and not (is_whole and it in functions)
+                 and it[3] not in told]
         if is_whole and not set(functions) & set(listed) and set(functions) & set(here):
             named.append("all functions")
         if not named and not explained:
