@@ -65,6 +65,13 @@ def test_pages_have_their_parts(definitions: Any) -> None:
     assert all(re.search("^ensures ", body, re.MULTILINE) for _, _, body in marks["docs/PROOFS.md"])
 
 
+def test_explained_definitions(definitions: Any, sorts: dict[Any, str], check_all: Any) -> None:
+    """A name that DEFINITIONS explains, and so leaves out of its lists, is that of one definition of the chain."""
+    names = re.findall(r"\*\*`([^`]+)`\*\*", definitions.PART.sub("", text_of("docs/DEFINITIONS.md")))
+    stated = [node[3] for node in sorts if sorts[node] == "stated"]
+    check_all((it, stated.count(it) == 1) for it in names)
+
+
 def test_reading_counts_definitions(sorts: dict[Any, str]) -> None:
     """READING says how many definitions must be believed, of how many."""
     stated = sum(it == "stated" for it in sorts.values())
