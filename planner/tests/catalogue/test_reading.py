@@ -242,31 +242,6 @@ def test_bytes_that_are_no_text_far_down(tmp_path: Path) -> None:
         read_catalogue(path, tmp_path / "items.csv", today=TODAY)
 
 
-@pytest.mark.parametrize("rows, found", [
-    ("A,03/04/2026,1\n", {"03/04/2026"}), ("A,03/04/2026,1\nA,25/04/2026,1\n", set()),
-    ("A,03/04/2026,1\nA,25/04/2026,1\nA,04/25/2026,1\n", {"03/04/2026"})])
-def test_date_order_is_never_guessed(tmp_path: Path, rows: str, found: set[str]) -> None:
-    """Rejects a date that may have the day or the month first, unless one date of the file decides it."""
-    its = read_text(tmp_path, f"item,date,quantity\n{ROWS}{rows}")
-    assert set(its.rejects[its.rejects.column == "date"].text) == found
-
-
-@pytest.mark.parametrize("holdings, decimal, read", [
-    (["1.234", "0.5"], None, ["617/500", "1/2"]), (["1.234", "5"], None, [None, "5"]),
-    (["1.234", "5"], ".", ["617/500", "5"]), (["1.234", "0,5"], None, ["1234", "1/2"]),
-    (["1.234", "0,5", "0.5"], None, [None, "1/2", "1/2"]), (["1.234,50"], None, ["2469/2"])])
-def test_decimal_sign_is_never_guessed(tmp_path: Path, holdings: list[str], decimal: str | None,
-                                       read: list[str | None]) -> None:
-    """Rejects an amount that may be two numbers, unless its column decides it."""
-    names = "ABC"[:len(holdings)]
-    rows = "".join(row.replace("A", name) for name in names for row in ROWS.splitlines(True))
-    masters = "item;setup;holding;backlog;lead;s;S\n" + "".join(
-        f"{name};10;{it};5;2;3;9\n" for name, it in zip(names, holdings))
-    its = read_text(tmp_path, "item,date,quantity\n" + rows, masters, decimal=decimal)
-    found = items_of(its)
-    assert [str(found[name].holding) if name in found else None for name in names] == read
-
-
 def test_unused_words_are_refused(tmp_path: Path) -> None:
     """Refuses words that can't be meant."""
     for words, said in (({"every": "year"}, "every=year is not one of"), ({"far": "drop"}, "far=drop is not keep"),

@@ -17,7 +17,8 @@ from crnplan.errors import Refused, RefusedFaults
 from crnplan.records import read_history, read_lead_times
 from crnplan.records.catalogue_reading import Catalogue, read_catalogue
 from crnplan.records.columns import Stated, open_source
-from crnplan.records.item import Item
+from crnplan.records.faults import Unreadable
+from crnplan.records.item import Item, leads_of
 from crnplan.records.sources import Rules, opened
 
 Day = datetime.date
@@ -219,6 +220,18 @@ def test_units_of_lead_times(heading: str, every: str | None, leads: tuple[int, 
     (tmp_path / "leads.csv").write_text(f"{heading}\n14\n10\n", "utf-8")
     read = read_lead_times(tmp_path / "leads.csv", lead=heading, every=every)
     assert read.counts == leads and (said in " ".join(map(str, read.notes)) if said else not read.notes)
+
+
+@pytest.mark.parametrize("text, leads", [
+    ("3", [3]), ("2 3 3 4", [2, 3, 3, 4]), ("2;3|4/5", [2, 3, 4, 5]), ("32", [32]), ("33", None), ("0", None),
+    ("", None), ("2,5", None), ("n/a", None), ("-1", None)])
+def test_lead_times(text: str, leads: list[int] | None) -> None:
+    """Reads one lead time or several, from 1 to 32 periods."""
+    if leads is None:
+        with pytest.raises(Unreadable):
+            leads_of(text, "", "week")
+    else:
+        assert leads_of(text, "", "week") == leads
 
 
 @pytest.mark.parametrize("heading, factor", [

@@ -13,8 +13,8 @@ CASES = tomllib.loads(Path(__file__).with_name("histories.toml").read_text("utf-
 
 def cases() -> Iterator[Any]:
     """Yields the cases: the text of a file, the words, the status and parts of what is printed."""
-    for text, copies, words, status, part in CASES["rows"]:
-        yield case(text * copies, words.split() if isinstance(words, str) else words, status, [part])
+    for text, copies, words, status, *parts in CASES["rows"]:
+        yield case(text * copies, words.split() if isinstance(words, str) else words, status, parts)
     for rows, words, status, *parts in CASES["movements"]:
         text = "at,n\n" + rows.replace(" ", "\n") + "\n"
         yield case(text, ["--demand", "n", "--date", "at", *words.split()], status, parts)
@@ -43,3 +43,5 @@ def test_history(text: str, words: Sequence[str], status: int, parts: Sequence[s
     assert [it for it in parts if it not in output + errors] == []
     assert all(line.startswith("crnplan: ") for line in errors.splitlines())
     assert status == 0 or not output and errors
+    # A single fault is said in one line. Parts are of lines of their own.
+    assert status == 0 or errors.count("\n") == len(parts) or " faults in " in errors, errors

@@ -53,12 +53,6 @@ def test_leave_out_names_and_counts(file: Files, answer: Answers, tmp_path: Path
     assert (tmp_path / "rejects.csv").read_text("utf-8").count("\n") == 4
 
 
-def test_leave_out_leaves_no_row(file: Files, answer: Answers) -> None:
-    """A file of bad rows alone is refused."""
-    status, _, errors = answer([file("n\nx\n"), "--demand", "n", "--leave-out"])
-    assert status == 2 and "no row is left; correct the file" in errors
-
-
 def test_faults_of_a_law_are_never_left_out(file: Files, answer: Answers) -> None:
     """Each number that a scenario can't have is named, and stays a refusal with --leave-out."""
     status, _, errors = answer([file("n\n10001\n1\n20001\n"), "--demand", "n", "--leave-out"])
@@ -72,19 +66,6 @@ def test_rejects_that_cannot_be_written(file: Files, answer: Answers, tmp_path: 
     """A file of rejects that can't be written is refused."""
     status, _, errors = answer([file("n\nx\n"), "--demand", "n", "--rejects", tmp_path / "none" / "rejects.csv"])
     assert status == 2 and "No such file or directory; name" in errors
-
-
-def test_columns_are_named(file: Files, answer: Answers) -> None:
-    """Without --demand the columns are named, below title lines too."""
-    status, _, errors = answer([path := file("Report\n\nday,part,n\n1,2,3\n")])
-    assert status == 2
-    assert errors == f"crnplan: {path}: say --demand with the name of a column; the columns are: day, part, n\n"
-
-
-def test_all_missing_columns_are_named(file: Files, answer: Answers) -> None:
-    """Each column that isn't there has a fault, at the line that is most like a heading."""
-    errors = answer([file("Report 7\nday,n\n2026-01-01,1\n"), "--demand", "m", "--date", "at", "--every", "day"]).errors
-    assert ":2: no column 'm' (stated as quantity); the columns are: day, n\n" in errors and ":2: no column 'at' (stated as date); " in errors
 
 
 @pytest.mark.parametrize("titles, note", [
@@ -117,14 +98,6 @@ def test_several_forms_of_dates(rows: str, words: list[str], counts: list[int] |
     else:
         assert status == 0 and f"weights = {[counts.count(it) for it in sorted(set(counts))]}" in output
         assert " forms: " in errors
-
-
-def test_ambiguous_patterns(file: Files, answer: Answers) -> None:
-    """A date that two patterns read as two days is rejected."""
-    words = [*DATED, "--date-format", "%d/%m/%y", "--date-format", "%m/%d/%y"]
-    status, _, errors = answer([file("at,n\n13/03/26,1\n03/03/26,1\n04/03/26,1\n"), *words])
-    assert status == 2 and errors.count("crnplan: ") == 1
-    assert ":4:1: column 'at': '04/03/26' may be 2026-03-04 or 2026-04-03 by the patterns of --date-format;" in errors
 
 
 def test_blank_rows(file: Files, answer: Answers) -> None:
@@ -164,62 +137,11 @@ def test_one_item(file: Files, answer: Answers) -> None:
     assert answer([path, *DATED, "--item", "part=B"]).status == 2
 
 
-@pytest.mark.parametrize("word, part", [
-    ("part=C", ": no row has 'C' in column 'part', which has 2 others: 'A', 'B'"), ("port=A", ":1: no column 'port' (stated as item port); "),
-    ("part", "'part' is not COLUMN=VALUE, as part=A-17"), ("=A", "is not COLUMN=VALUE")])
-def test_no_such_item(word: str, part: str, file: Files, answer: Answers) -> None:
-    """An item that isn't there is refused, with those that are."""
-    status, _, errors = answer([file(ITEMS), *DATED, "--item", word])
-    assert status == 2 and part in errors and errors.count("\n") == 1
-
-
 def test_item_of_other_files(file: Files, answer: Answers) -> None:
     """Orders and lead times are those of the item if their file has its column, else all of them."""
     words = [file(ITEMS), *DATED, "--item", "part=A", "--lead"]
     assert "[lead]\nvalues = [3]" in answer([*words, file("part,days\nA,3\nB,4\n", "own.csv"), "days"]).output
     assert "[lead]\nvalues = [3, 4]" in answer([*words, file("days\n3\n4\n", "all.csv"), "days"]).output
-
-
-@pytest.mark.parametrize("words, weights, note", [
-    ("--from 2026-03-01", [4, 2],
-     "days from 2026-03-01 to 2026-03-06: 6, filled with 0: 4; the last one may be partial (--whole leaves it out)"),
-    ("--from 28.02.2026 --to 2026-03-08", [7, 2], "from 2026-02-28 to 2026-03-08: 9, filled with 0: 7; all are whole"),
-    ("--to 2026-03-08 --whole", [4, 1], "from 2026-03-04 to 2026-03-08: 5, filled with 0: 4; the first one is left"),
-    ("--from 2026-03-04", [2, 1], "rows before --from 2026-03-04 left out: 1 (line 2)"),
-    ("--to 2026-03-05", [2, 1], "rows after --to 2026-03-05 left out: 1 (line 3)"),
-    ("--from 2026-03-03 --to 2026-03-06", [2, 2], "from 2026-03-03 to 2026-03-06: 4, filled with 0: 2; all are whole"),
-    ("--every week --from 2026-02-16 --to 2026-03-22", [4, 1],
-     "weeks from 2026-W08 to 2026-W12: 5, filled with 0: 4; all are whole"),
-    ("--every week --from 2026-02-17 --to 2026-03-22 --whole", [3, 1],
-     "weeks from 2026-W09 to 2026-W12: 4, filled with 0: 3; the first one is left out"),
-    ("--every week --from 2026-02-16 --to 2026-03-21", [4, 1], "the last one may be partial (--whole leaves it out)"),
-    ("--every month --from 2026-01-01 --to 2026-03-31", [2, 1],
-     "months from 2026-01 to 2026-03: 3, filled with 0: 2; all are whole"),
-])
-def test_span(words: str, weights: list[int], note: str, file: Files, answer: Answers) -> None:
-    """--from and --to are the record's ends: periods without demand count, and rows outside are named. The rows are of
-    3 March (1 item) and 6 March (1 item); 2 March 2026 is a Monday, and begins W10."""
-    status, output, errors = answer([file("at,n\n2026-03-03,1\n2026-03-06,1\n"), *DATED, *words.split()])
-    assert status == 0 and f"weights = {weights}" in output and note in errors
-
-
-@pytest.mark.parametrize("words, part", [
-    ("--from 2026-03-07", "no row is from 2026-03-07 to the end; change --from or --to"),
-    ("--from 2026-03-04 --to 2026-03-05", "no row is from 2026-03-04 to 2026-03-05; change --from or --to"),
-    ("--from 2026-03-06 --to 2026-03-05", "--from 2026-03-06 is after --to 2026-03-05; change one of them"),
-    ("--from 03/04/2026", "--from: '03/04/2026' may have the day or the month first"),
-    ("--to soon", "--to: 'soon' is no date as 2026-03-31"),
-    ("--from 1980-01-01 --to 2199-12-31", "FILE: 80,354 days are more than 65,536; change --from or --to, or")])
-def test_refused_span(words: str, part: str, file: Files, answer: Answers) -> None:
-    """A span without rows, or that is none, is refused in one line."""
-    status, _, errors = answer([file("at,n\n2026-03-03,1\n2026-03-06,1\n"), *DATED, *words.split()])
-    assert status == 2 and part in errors and errors.count("\n") == 1
-
-
-def test_span_needs_dates(file: Files, answer: Answers) -> None:
-    """--from and --to need --date."""
-    assert answer([file("n\n1\n"), "--demand", "n", "--to", "2026-03-01"]) == (
-        2, "", "crnplan: --from and --to need dates: say --date with the name of their column, and --every\n")
 
 
 @pytest.mark.parametrize("rows, words, notes", [

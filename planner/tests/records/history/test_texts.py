@@ -5,6 +5,7 @@ from __future__ import annotations
 import csv
 import datetime
 import io
+from fractions import Fraction
 from pathlib import Path
 from typing import Any
 
@@ -22,36 +23,42 @@ DAYS = st.dates(datetime.date(1980, 1, 1), datetime.date(2199, 12, 31))
 GROUPS = [" ", "\u00a0", "\u2009", "\u202f", "'", "\u2019"]
 
 
-@given(number=st.integers(-(10**15 - 1), 10**15 - 1), decimal=st.sampled_from([None, ".", ","]), data=st.data())
-def test_number_in_any_form(number: int, decimal: str | None, data: st.DataObject) -> None:
-    """A whole number in any accepted form is read as itself, unless it has two readings and no sign is stated."""
-    sign, other = decimal or ".", "," if decimal != "," else "."
-    group = data.draw(st.sampled_from(["", other, *GROUPS]))
-    digits = f"{abs(number):,}".replace(",", group)
-    thousandths = ["000"] if decimal or abs(number) >= 1000 and not group else []
-    zeros = data.draw(st.sampled_from(["", "0", "00", "0000", *thousandths]))
-    text = digits + (sign + zeros if zeros else "")
-    if number < 0:
-        text = data.draw(st.sampled_from([f"-{text}", f"\u2212{text}", f"- {text}", f"{text}-"]))
-    elif not group:
-        text = data.draw(st.sampled_from(["", "+", "00"])) + text if len(digits) < 4 or not zeros else text
-    if decimal is None and len({*readings(text).values()}) > 1:
-        with pytest.raises(Unreadable, match="may be"):
-            AmountReader().whole(text)
+@given(digits=st.integers(-(10**15 - 1), 10**15 - 1), places=st.integers(0, 4),
+       decimal=st.sampled_from([None, ".", ","]), data=st.data())
+def test_number_in_any_form(digits: int, places: int, decimal: str | None, data: st.DataObject) -> None:
+    """A number in any accepted form is read as itself, unless it has two readings and no sign is stated."""
+    number, sign = Fraction(digits, 10**places), decimal or "."
+    group = data.draw(st.sampled_from(["", "," if sign == "." else ".", *GROUPS]))
+    whole, part = divmod(abs(digits), 10**places)
+    zeros = f"{part:0{places}}" if places else data.draw(st.sampled_from(["", "0", "00", "0000"]))
+    text = f"{whole:,}".replace(",", group) + (sign + zeros if zeros else "")
+    if digits < 0:
+        text = data.draw(st.sampled_from([f"-{text}", f"\u2212{text}", f"- {text}", f"{text}-", f"({text})"]))
+    elif not group and not zeros:
+        text = data.draw(st.sampled_from(["", "+", "00"])) + text
+    bare = f"-{text[1:-1]}" if text[0] == "(" else text
+    assert number in readings(bare).values()
+    if decimal is None and len({*readings(bare).values()}) > 1:
+        with pytest.raises(Unreadable, match="may be .* or .*, and no other number of the column decides it; say"):
+            AmountReader().number(text)
     else:
-        assert AmountReader(decimal).whole(text) == number
+        assert AmountReader(decimal).number(text) == number
+        if number.denominator == 1:
+            assert AmountReader(decimal).whole(text) == number
 
 
 @given(text=st.text("0123456789.,-+ '\u00a0x", max_size=12), decimal=st.sampled_from([".", ","]))
 def test_any_text(text: str, decimal: str) -> None:
-    """Any text is read as a number or rejected with a reason. Two readings of a text differ only where a note is
-    due."""
+    """Any text is read as a number or rejected with a reason and advice. Two readings of a text differ only where a
+    note is due."""
     numbers = set()
-    for sign in (decimal, "." if decimal == "," else ","):
+    for sign in (decimal, "." if decimal == "," else ",", None):
         try:
-            numbers.add(AmountReader(sign).whole(text))
+            number = AmountReader(sign).whole(text)
+            assert sign or number in readings(text).values()
+            numbers.add(number)
         except Unreadable as why:
-            assert len(str(why)) > 20
+            assert "; " in str(why)
     assert len(numbers) < 2 or other_reading(text, decimal) is not None
 
 
