@@ -27,7 +27,7 @@ from crnplan.theory.many_laws import LawFigures
 from crnplan.theory.suggestions import figures_of
 from planner.studies import doubt as study, laws
 from planner.tests.conftest import Command
-from planner.tests.demand.test_study import compare
+from planner.tests.demand.made import compare
 
 HISTORY = [0, 3, 1, 9, 0, 0, 2, 5, 14, 1, 0, 4, 2, 2, 7, 0, 1, 3, 21, 0, 6, 1]
 LEADS = [2, 3, 2, 4]

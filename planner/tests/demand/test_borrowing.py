@@ -28,7 +28,8 @@ from crnplan.demand.sample import Sample
 from crnplan.errors import Refused, RefusedFaults
 from crnplan.records.observed import Observed
 from crnplan.words import sentence
-from planner.tests.demand.made import RARE, TRUE_MEAN, TRUE_SHARE, TRUE_SIZE, history, logarithms
+from planner.tests.demand.made import (RARE, TRUE_MEAN, TRUE_SHARE, TRUE_SIZE, chances_of, check_law, history,
+                                       logarithms)
 
 
 @pytest.fixture(scope="module")
@@ -44,18 +45,10 @@ def mixed() -> dict[str, list[int]]:
     return {f"item {seed}": history(seed, 40 + seed % 2, *law) for seed, law in zip(range(130), laws)}
 
 
-def chances_of(law: FittedLaw) -> Floats:
-    """Returns the chances of 0, 1, 2 and so on."""
-    chances = np.zeros(law.values[-1] + 1)
-    chances[[*law.values]] = law.weights
-    return chances / 65_536
-
-
 def borrowed(law: FittedLaw) -> Borrowed:
     """Returns what is known of a law."""
-    found = law.diagnostics.borrowed
-    assert isinstance(found, Borrowed)
-    return found
+    assert law.diagnostics.borrowed
+    return law.diagnostics.borrowed
 
 
 def one_step(chunks: Sequence[Cells], prior: Floats, pull: Floats) -> Floats:
@@ -144,7 +137,7 @@ def test_known_law_of_an_item(known: Prior) -> None:
         law = law_of(known, history(seed, 26))
         single = borrowed(law).single
         rejected += law.family != "borrowed"
-        laws = [np.pad(chances_of(it), (0, 400))[:201] for it in (law, single) if it]
+        laws = [chances_of(it, 201)[:201] for it in (law, single) if it]
         distances.append([np.abs(np.cumsum(it) - np.cumsum(true)).max() for it in laws])
     ours, alone = np.median(distances, axis=0)
     assert rejected <= 1 and ours < 0.03 and alone > 2 * ours
@@ -166,7 +159,7 @@ def test_large_catalogue(monkeypatch: pytest.MonkeyPatch, mixed: dict[str, list[
     monkeypatch.setattr(learning, "MOST_ITEMS", 60)
     prior = learn(mixed)
     assert prior.whole and (prior.items, prior.whole.items, prior.whole.sampled) == (130, 130, 60)
-    assert learn(reversed(mixed.values())).text == prior.text
+    assert learn([*mixed.values()][::-1]).text == prior.text
     other = learn(mixed, seed=2).whole
     assert other and other.units.tolist() != prior.whole.units.tolist()
 
@@ -311,37 +304,28 @@ def expected_law(numbers: Sequence[int], prior: Floats) -> tuple[float, float, F
 
 
 # Histories that may be of the catalogue or not, and of sizes that vary too little for it.
-IN_BETWEEN = history(3, 52, 0.2, 10, 1.6)
+IN_BETWEEN, UNLIKE = history(3, 52, 0.2, 10, 1.6), history(77, 52, 0.2, 60, 15)
 MIXED = [*history(5, 60)[:-14], *[9] * 14]
 
 
 @pytest.mark.parametrize(("numbers", "least", "most"), [
-    (history(77, 52, 0.2, 60, 15), 0, 0.01), (IN_BETWEEN, 0.05, 0.5), (history(11, 30), 0.9, 1)],
-    ids=["unlike", "in between", "like"])
+    (UNLIKE, 0, 0.01), (IN_BETWEEN, 0.05, 0.5), (history(11, 30), 0.9, 1), (MIXED, 0.01, 0.99)],
+    ids=["unlike", "in between", "like", "mixed"])
 def test_law_of_a_doubtful_item(numbers: list[int], least: float, most: float, known: Prior) -> None:
-    """The law is that of the learned prior and that of the flat one, each as likely as it is after the history."""
+    """The law is that of the learned prior and that of the flat one, each as likely as it is after the history, and
+    mixed with the history by the Dirichlet weight."""
     assert known.whole
     alike, share, expected = expected_law(numbers, known.whole.chances)
     law = law_of(known, numbers, beside=False)
-    assert least <= alike <= most and law.family == "borrowed"
-    assert borrowed(law).share == pytest.approx(share, rel=1e-6)
+    check_law(law)
+    assert least <= alike <= most and law.family == "borrowed" and borrowed(law).single is None
+    assert borrowed(law).share == pytest.approx(share, rel=1e-6) and (share < alike or numbers is not MIXED)
     width = law.values[-1] + 1
     assert np.cumsum(chances_of(law)) == pytest.approx(np.cumsum(expected)[:width], abs=1 / 65_536)
-
-
-def test_law_is_mixed_with_the_history(known: Prior) -> None:
-    """The law is mixed with the history by the Dirichlet weight."""
-    assert known.whole
-    alike, share, expected = expected_law(MIXED, known.whole.chances)
-    law = law_of(known, MIXED, beside=False)
-    assert 0 < share < alike < 1 and borrowed(law).single is None
-    assert borrowed(law).share == pytest.approx(share, rel=1e-6)
-    width = law.values[-1] + 1
-    assert np.cumsum(chances_of(law)) == pytest.approx(np.cumsum(expected)[:width], abs=1 / 65_536)
-    assert sum(law.weights) == 65_536
     assert law.figures.mean == pytest.approx(chances_of(law) @ np.arange(width))
-    assert law.diagnostics.history.mean == pytest.approx(np.mean(MIXED))
-    assert f"mixed with {1 - share:.0%} of what was seen" in notes_of(law, "demand")[0]
+    assert law.diagnostics.history.mean == pytest.approx(np.mean(numbers))
+    if share < 1:
+        assert f"mixed with {1 - share:.0%} of what was seen" in notes_of(law, "demand")[0]
 
 
 @pytest.fixture(scope="module")
@@ -384,10 +368,10 @@ def test_items_with_few_demands(numbers: list[int], few: bool, known: Prior) -> 
 
 def test_items_unlike_the_catalogue(known: Prior) -> None:
     """An item that the learned prior makes less likely than the flat one is flagged; one of the catalogue is not."""
-    like, unlike = (borrowed(law_of(known, it)) for it in (history(77, 52), history(77, 52, 0.2, 60, 15)))
+    like, unlike = (borrowed(law_of(known, it)) for it in (history(77, 52), UNLIKE))
     assert like.log10_bayes and like.log10_bayes > 1 and not like.unlike
     assert unlike.log10_bayes and unlike.log10_bayes < 0 and unlike.unlike
-    assert "unlike the catalogue" in "\n".join(notes_of(law_of(known, history(77, 52, 0.2, 60, 15)), "demand"))
+    assert "unlike the catalogue" in "\n".join(notes_of(law_of(known, UNLIKE), "demand"))
 
 
 def test_classes(monkeypatch: pytest.MonkeyPatch, mixed: dict[str, list[int]]) -> None:
@@ -421,8 +405,8 @@ def test_drawn_laws(known: Prior) -> None:
         law, drawn = law_of(known, numbers, beside=False), borrowed_laws(known, numbers, times=1500)
         assert drawn.families == {"borrowed": 1500} and {sum(it.weights) for it in drawn.laws} == {65_536}
         width = max(max(it.values) for it in drawn.laws) + 1
-        below = np.array([np.cumsum(np.bincount(it.values, it.weights, width)) for it in drawn.laws]) / 65_536
-        expected = np.cumsum(np.pad(chances_of(law), (0, width))[:width])
+        below = np.cumsum([chances_of(it, width) for it in drawn.laws], axis=1)
+        expected = np.cumsum(chances_of(law, width)[:width])
         errors = below.std(axis=0) / math.sqrt(1500)
         assert (np.abs(below.mean(axis=0) - expected) < 5 * errors + 1e-4).all()
     assert borrowed_laws(known, RARE, times=4) == borrowed_laws(known, RARE, times=4)
@@ -433,9 +417,8 @@ def test_drawn_laws(known: Prior) -> None:
 
 def test_drawn_laws_spread(known: Prior) -> None:
     """The shares of drawn laws spread as the posterior law of the share does."""
-    numbers = history(11, 30)
     assert known.whole
-    posterior = Posterior.of(Sample.of(numbers), known.whole.chances)
+    posterior = Posterior.of(Sample.of(history(11, 30)), known.whole.chances)
     weights = (known.whole.chances @ posterior.sizes.mean(axis=1))[:, None] * posterior.shares
     mean = float((weights * grid.SHARES).sum() / weights.sum())
     deviation = math.sqrt(float((weights * (grid.SHARES - mean)**2).sum() / weights.sum()))
@@ -466,5 +449,5 @@ def test_units() -> None:
 def test_any_history(numbers: list[int], known: Prior) -> None:
     """Each history has a law within the range of a scenario, always the same."""
     law = law_of(known, numbers, beside=False)
-    assert 0 <= law.values[0] and law.values[-1] <= 10_000 and 1 <= sum(law.weights) <= 65_536 and min(law.weights) > 0
+    check_law(law, None)
     assert law == law_of(known, iter(numbers), beside=False)

@@ -18,8 +18,8 @@ from scipy import optimize, stats
 import crnplan as crn
 from crnplan.demand.checks import (STUDIED, Check, Checks, Season, check_history, loss_of, losses, outliers_of,
                                    remarks_of, rosner_bound, seasons_of)
-from crnplan.demand.permutation import (Orders, Tilted, autocorrelation_seen, bound_of, drawn_orders, least_seen, p_value,
-                                        season_seen, statistics_of, trend_seen)
+from crnplan.demand.permutation import (Orders, Tilted, autocorrelation_seen, bound_of, drawn_orders, least_seen,
+                                        p_value, season_seen, statistics_of, trend_seen)
 from crnplan.errors import Refused, spelt
 from crnplan.records.cells import period_of
 from crnplan.remarks import Remark

@@ -13,16 +13,13 @@ from scipy import integrate, optimize, special, stats
 
 from crnplan.chances import DEMANDS, Floats
 from crnplan.demand import families, fitting, sample as guard
-from crnplan.demand.families import beta_negative_binomial, parts_of, fits_of, greatest_mean, predictive_of
+from crnplan.demand.families import beta_negative_binomial, fits_of, greatest_mean, parts_of, predictive_of
 from crnplan.demand.fitting import fit_demand
 from crnplan.demand.posterior import allowed_laws
 from crnplan.demand.sample import Sample
+from planner.tests.demand.made import ERRATIC, HISTORIES
 
-ERRATIC = [0, 3, 1, 9, 0, 0, 2, 5, 14, 1, 0, 4, 2, 2, 7, 0, 1, 3, 21, 0, 6, 1]
-SMOOTH = [9, 11, 7, 10, 14, 8, 12, 6, 10, 9, 13, 11, 10, 8, 9, 12]
-RARE = [0, 0, 0, 12, 0, 0, 0, 0, 3, 0, 0, 25, 0, 0, 0, 0, 0, 7, 0, 0, 0, 1, 0, 0, 0, 9]
 BULKY = [0, 1, 0, 14, 2, 0, 0, 1, 0, 0, 19, 0, 3, 0, 1, 0, 0, 11, 0, 0, 1, 2, 0, 1, 0, 0]
-HISTORIES = pytest.mark.parametrize("numbers", [ERRATIC, SMOOTH, RARE], ids=["erratic", "smooth", "rare"])
 
 
 def test_adding_a_family(monkeypatch: pytest.MonkeyPatch) -> None:
@@ -110,12 +107,12 @@ def test_predictive_poisson_and_geometric(numbers: Sequence[int]) -> None:
     hurdle = predictive_of("hurdle-poisson", sample)
     some = 1 - ((len(data) - len(sizes) + 0.5) / (len(data) + 1) if 0 in numbers else 0)
     for value in (1, 2, 5, 11):
-        integral, _ = integrate.quad(lambda it: mean.pdf(it) * stats.poisson.pmf(value, it), 0, 60, limit=200)
-        assert poisson[value] == pytest.approx(integral, rel=1e-5)
-        integral, _ = integrate.quad(lambda it: chance.pdf(it) * stats.geom.pmf(value, it), 0, 1, limit=200)
-        assert geometric[value] == pytest.approx(some * integral, rel=1e-5)
-        integral, _ = integrate.quad(lambda it: sizes_mean.pdf(it) * stats.poisson.pmf(value - 1, it), 0, 60, limit=200)
-        assert hurdle[value] == pytest.approx(some * integral, rel=1e-5)
+        for law, share, posterior, pmf, most in (
+                (poisson, 1, mean, lambda it: stats.poisson.pmf(value, it), 60),
+                (geometric, some, chance, lambda it: stats.geom.pmf(value, it), 1),
+                (hurdle, some, sizes_mean, lambda it: stats.poisson.pmf(value - 1, it), 60)):
+            integral, _ = integrate.quad(lambda it: posterior.pdf(it) * pmf(it), 0, most, limit=200)
+            assert law[value] == pytest.approx(share * integral, rel=1e-5)
 
 
 @HISTORIES
@@ -195,20 +192,6 @@ def test_predictive_bulk() -> None:
         assert law[:value + 1].sum() == pytest.approx(share * below + (1 - share) * base[:value + 1].sum(), abs=1e-5)
 
 
-@given(size=st.floats(0.05, 50), first=st.floats(0.5, 300), second=st.floats(0.5, 300), most=st.floats(0.5, 30))
-def test_beta_negative_binomial(size: float, first: float, second: float, most: float) -> None:
-    """The law is the integral over the part of the beta law that the bound on the mean leaves."""
-    law = beta_negative_binomial(size, first, second, most)
-    least = math.log(size / most)  # of log(p / (1 - p))
-    points, step = np.linspace(least, least + 60, 60_001, retstep=True)
-    chance = special.expit(points)
-    density = special.xlogy(first, chance) + special.xlog1py(second, -chance) - special.betaln(first, second)
-    for value in (0, 2, 7):
-        ways = special.binom(value + size - 1, value)
-        heights = np.exp(density) * ways * chance**size * special.expit(-points)**value
-        assert law[value] == pytest.approx(integrate.trapezoid(heights, dx=step), rel=1e-4, abs=1e-12)
-
-
 @HISTORIES
 def test_predictive_lognormal(numbers: Sequence[int]) -> None:
     """The logarithm of a size has Student's law, as long as its deviation is not cut."""
@@ -244,12 +227,10 @@ def test_beta_negative_binomial(size: float, periods: int, total: int, most_mean
     """Each chance is an integral of negative binomial chances over p, up to the bound."""
     chances = beta_negative_binomial(size, periods * size, total, most_mean)
     law, least = stats.beta(periods * size, total), size / (size + most_mean)
+    middle = min(max(float(law.mean()), least), 1.0)
     for value in (0, 1, 7, min(60, len(chances) - 1)):
-        def density(p: float, value: int = value) -> float:
-            """Returns the density of p times the chance of the value."""
-            return float(law.pdf(p) * stats.nbinom.pmf(value, size, p))
-        middle = min(max(float(law.mean()), least), 1.0)
-        expected = sum(integrate.quad(density, *ends, limit=400)[0] for ends in [(least, middle), (middle, 1)])
+        expected = sum(integrate.quad(lambda p, value=value: law.pdf(p) * stats.nbinom.pmf(value, size, p), *ends,
+                                      limit=400)[0] for ends in [(least, middle), (middle, 1)])
         assert chances[value] == pytest.approx(expected, rel=1e-6, abs=1e-12)
 
 
@@ -311,7 +292,7 @@ def test_guards_shares() -> None:
     assert shares == guard.shares_of(Sample.of(data), law)
 
 
-def test_ties() -> None:
+def test_ties_of_drawn_histories() -> None:
     """Drawn histories with the counts of the real one are as far as it is."""
     shares = guard.shares_of(Sample.of([0, 1] * 13), np.array([0.5, 0.5]))
     assert shares.as_far == 1 and shares.as_much < 0.4 and shares.as_little == 1

@@ -1,28 +1,30 @@
-"""Tests of fitted laws of demand: how a method chooses, caps, mixes and rounds."""
+"""Tests of fitted laws of demand and of lead times: how a method chooses, caps, mixes, rounds and refuses."""
 from __future__ import annotations
 
 import math
 from collections import Counter
 from collections.abc import Sequence
 from pathlib import Path
+from typing import Any
 
 import numpy as np
+import pandas as pd
 import pytest
 from hypothesis import given, settings
 from hypothesis import strategies as st
-from scipy import stats
+from scipy import integrate, stats
 
 from crnplan.chances import mixture
-from crnplan.demand.fitted import notes_of
-from crnplan.demand.fitting import fit_demand, fit_lead
-from crnplan.demand import FAMILIES
+from crnplan.demand import FAMILIES, METHODS
 from crnplan.demand.families import fits_of, predictive_of
-from crnplan.demand import METHODS
-from crnplan.demand.fitting import cap_of, share_of
+from crnplan.demand.fitted import notes_of
+from crnplan.demand.fitting import blurred, cap_of, fit_demand, fit_lead, share_of
 from crnplan.demand.sample import Sample
-from crnplan.errors import Refused
+from crnplan.errors import Refused, RefusedFaults
 from crnplan.law import Law
+from crnplan.records import read_history, read_lead_times
 from planner.tests.conftest import Command
+from planner.tests.demand.made import chances_of, check_law
 
 RANDOM = np.random.default_rng(2)
 POISSON = RANDOM.poisson(4, 80).tolist()
@@ -30,25 +32,19 @@ ERRATIC = RANDOM.negative_binomial(1.5, 1 / 3, 104).tolist()
 RARE = np.where(RANDOM.random(104) < 0.15, RANDOM.geometric(1 / 8, 104), 0).tolist()
 PROJECTS = (RANDOM.poisson(3, 104) + 30 * (RANDOM.random(104) < 0.05)).tolist()  # two humps
 TWO_SIZES = [7, 13, 7, 7, 13, 13, 7, 13] * 13  # no family has such a law
-
-
-def mean_of(values: Sequence[int], weights: Sequence[int]) -> float:
-    """Returns the mean of a law."""
-    return float(np.average(values, weights=weights))
+HISTORIES = pytest.mark.parametrize("numbers", [POISSON, ERRATIC, RARE], ids=["poisson", "erratic", "rare"])
 
 
 @given(chances=st.lists(st.floats(0, 1), min_size=1, max_size=300).filter(sum))
 def test_weights(chances: list[float]) -> None:
     """Weights add up to 65,536, and no share of the tail is off by more than half a unit."""
     law = Law.of_chances(np.array(chances))
-    values, weights = law.values, law.weights
-    assert sum(weights) == 65_536 and min(weights) > 0 and list(values) == sorted(set(values))
-    for least in range(len(chances)):
-        share = sum(weight for value, weight in zip(values, weights) if value >= least)
-        assert share == pytest.approx(65_536 * sum(chances[least:]) / sum(chances), abs=0.5001)
+    check_law(law)
+    shares = 65_536 * np.cumsum(chances_of(law, len(chances))[::-1])
+    assert shares == pytest.approx(65_536 * np.cumsum(chances[::-1]) / sum(chances), abs=0.5001)
     # So the mean, a sum of these shares, is off by at most half a unit for each value.
     mean = np.average(np.arange(len(chances)), weights=chances)
-    assert abs(mean_of(values, weights) - mean) <= len(chances) * 0.5001 / 65_536
+    assert abs(float(law.mean) - mean) <= len(chances) * 0.5001 / 65_536
 
 
 def test_weights_within_range() -> None:
@@ -71,7 +67,7 @@ def test_bulks() -> None:
     assert fit_demand(TWO_SIZES, method="auto").diagnostics.bulks is None
 
 
-@pytest.mark.parametrize("numbers", [POISSON, ERRATIC, RARE], ids=["poisson", "erratic", "rare"])
+@HISTORIES
 @pytest.mark.parametrize("family", FAMILIES)
 def test_named_family(family: str, numbers: list[int]) -> None:
     """A named family's law is its predictive law, whose mean it has but for rounding."""
@@ -83,13 +79,16 @@ def test_named_family(family: str, numbers: list[int]) -> None:
     law = fit_demand(numbers, method=family)
     base = predictive_of(family, Sample.of(numbers))
     assert law.family == family
-    assert law.figures.mean == pytest.approx(mean_of(law.values, law.weights))
+    assert law.figures.mean == pytest.approx(float(law.mean))
     assert abs(law.figures.mean - base @ np.arange(len(base))) <= len(base) * 0.5001 / 65_536
     assert {*law.diagnostics.bic} == {*allowed}
 
 
 def test_the_guard_decides() -> None:
-    """The family with the least BIC is taken if its histories look like this one; else the history stays."""
+    """The family with the least BIC is taken if its histories look like this one; else the history stays. A family that
+    is more than 10 units of BIC behind the least is not looked at."""
+    its = fit_demand(PROJECTS, method="auto").diagnostics
+    assert {*its.guard} == {it for it in its.bic if its.bic[it] <= min(its.bic.values()) + 10} != {*its.bic}
     law = fit_demand(ERRATIC, method="predictive")
     least = min(law.diagnostics.bic, key=law.diagnostics.bic.__getitem__)
     assert law.family == least and law.diagnostics.guard[least].passes
@@ -101,14 +100,7 @@ def test_the_guard_decides() -> None:
     assert fit_demand(POISSON, method="predictive").family == "poisson"
 
 
-def test_families_far_behind_are_not_taken() -> None:
-    """A family that is more than 10 units of BIC behind the least is not looked at."""
-    law = fit_demand(PROJECTS, method="auto")
-    bic = law.diagnostics.bic
-    assert {*law.diagnostics.guard} == {it for it in bic if bic[it] <= min(bic.values()) + 10} != {*bic}
-
-
-@pytest.mark.parametrize("numbers", [POISSON, ERRATIC, RARE], ids=["poisson", "erratic", "rare"])
+@HISTORIES
 def test_auto(numbers: list[int]) -> None:
     """The law is the mixture of the passing families by BIC, cut at the cap, and of the history if that is likelier."""
     law = fit_demand(numbers, method="auto")
@@ -124,9 +116,7 @@ def test_auto(numbers: list[int]) -> None:
         base[:len(part)] += weight * part
     base = base[:cap + 1] / base[:cap + 1].sum()
     expected = share * base + (1 - share) * np.bincount(numbers, minlength=cap + 1) / len(numbers)
-    got = np.zeros(cap + 1)
-    got[[*law.values]] = law.weights
-    assert np.abs(np.cumsum(got / 65_536) - np.cumsum(expected)).max() <= 1 / 65_536
+    assert np.abs(np.cumsum(chances_of(law, cap + 1)) - np.cumsum(expected)).max() <= 1 / 65_536
     times = min(max(math.log(300) / math.log(1 + np.count_nonzero(numbers)), 2), 3)
     assert cap == math.ceil(times * max(numbers))
 
@@ -194,8 +184,8 @@ def test_histories_that_say_little(numbers: list[int], method: str) -> None:
 def test_any_history(numbers: list[int], method: str) -> None:
     """Each history has a law within the range of a scenario, always the same."""
     law = fit_demand(numbers, method=method)
-    assert 0 <= law.values[0] and law.values[-1] <= 10_000 and 1 <= sum(law.weights) <= 65_536
-    assert min(law.weights) > 0 and law == fit_demand(iter(numbers), method=method)
+    check_law(law, None)
+    assert law == fit_demand(iter(numbers), method=method)
     if method == "auto":
         assert law.values[-1] <= 3 * max(numbers)
 
@@ -227,6 +217,136 @@ def test_notes() -> None:
     assert "returns: seen: mean " in text and "returns: law: " not in text
     notes = notes_of(fit_demand([6 * it for it in POISSON], method="poisson"), "demand")
     assert notes[:2] == ["demand: all demands are packs of 6, so packs are fitted", "demand: poisson"]
+
+
+@given(numbers=st.lists(st.integers(0, 120_000), min_size=1), box=st.integers(12, 1000))
+def test_empirical_law(numbers: list[int], box: int) -> None:
+    """The weight of a number of boxes is how often it was observed, and values rise."""
+    law = fit_demand(numbers, method="empirical", box=box)
+    expected = Counter(number // box + (number % box > 0) for number in numbers)
+    assert dict(zip(law.values, law.weights)) == expected and list(law.values) == sorted(expected)
+    assert (law.box, law.family, law.table) == (box, "empirical", Law(law.values, law.weights))
+
+
+def test_figures_of_what_was_seen() -> None:
+    """The empirical law knows how many numbers there were, their mean and their variance."""
+    law = fit_demand([0, 0, 2, 6], method="empirical")
+    seen = law.diagnostics.history
+    assert (law.diagnostics.seen.size, seen.mean, seen.variance, seen.most) == (4, 2.0, 8.0, 6)
+    assert fit_demand([3], method="empirical").diagnostics.history.variance is None
+    assert law.table == Law((0, 2, 6), (2, 1, 1)) and law.figures.variance == 6
+    assert law.toml("demand") == "[demand]\nvalues = [0, 2, 6]\nweights = [2, 1, 1]\n"
+
+
+@pytest.mark.parametrize("numbers", [
+    [1, 2, 2], (1.0, 2.0, 2.0), np.array([1, 2, 2], np.uint8), np.array([1.0, 2, 2]), pd.Series([1, 2, 2]),
+    iter([1, 2, 2]), pd.Series([1, 2, 2], dtype="Int64")],
+    ids=lambda it: f"{type(it).__name__}-{getattr(it, 'dtype', '')}")
+def test_whole_numbers_of_any_kind(numbers: Any) -> None:
+    """Whole numbers of Python, numpy and pandas are taken, and floats that are whole."""
+    law = fit_lead(numbers, method="empirical")
+    assert (law.values, law.weights) == ((1, 2), (1, 2))
+    assert all(type(it) is int for it in law.values)
+
+
+@pytest.mark.parametrize("numbers, part", [
+    ([1, 2.5], "demand: entry 2: 2.5 is not a whole number; round it, or count in a smaller unit"),
+    ([float("nan")], "demand: entry 1: nan is not"), (["3"], "demand: entry 1: '3' is not"),
+    ([True], "demand: entry 1: "), ([], "there are 0 numbers of demand; give 1 to 65,536"),
+    ([1] * 65_537, "there are 65,537 numbers"),
+    ([None], "demand: entry 1: ")])
+def test_refused_numbers(numbers: Sequence[Any], part: str) -> None:
+    """What is no whole number is refused, with its place."""
+    with pytest.raises(Refused, match=part):
+        fit_demand(numbers)
+
+
+def test_range_of_demand(tmp_path: Path) -> None:
+    """All numbers that a scenario can't have are named, with the box that is large enough."""
+    with pytest.raises(RefusedFaults) as refused:
+        fit_demand([10_001, 3, 70_001, -1], box=1)
+    assert [str(it) for it in refused.value.faults] == [
+        "column 'demand': entry 1, 10001, is above 10,000; count in larger boxes: box=8 or more",
+        "column 'demand': entry 3, 70001, is above 10,000; count in larger boxes: box=8 or more",
+        "column 'demand': entry 4, -1, is below 0; correct it"]
+    assert fit_demand([10_001, 3, 70_001], method="empirical", box=8).values == (1, 1251, 8751)
+    (tmp_path / "file.csv").write_text("at,n\n2026-03-02,9000\n2026-03-03,9000\n")
+    with pytest.raises(RefusedFaults, match=":2:12: column 'n': week 2026-W10, which comes to 18000 in 2 rows, is "):
+        fit_demand(read_history(tmp_path / "file.csv", demand="n", date="at", every="week"))
+
+
+def test_range_of_lead_times(tmp_path: Path) -> None:
+    """Lead times are from 1 to 32 periods."""
+    with pytest.raises(RefusedFaults) as refused:
+        fit_lead([0, 32, 33])
+    assert [str(it).split("; ")[0] for it in refused.value.faults] == [
+        "column 'lead time': entry 1, 0, is below 1", "column 'lead time': entry 3, 33, is above 32"]
+    (tmp_path / "file.csv").write_text("weeks\n2\n40\n")
+    with pytest.raises(RefusedFaults, match="file.csv:3:1: column 'weeks': 40 is above 32; take longer periods"):
+        fit_lead(read_lead_times(tmp_path / "file.csv", lead="weeks"))
+
+
+def test_refused_words() -> None:
+    """A method that isn't there and a box of nothing are refused."""
+    with pytest.raises(Refused, match="there is no method 'normal' to fit demand; say auto, predictive, empirical, "):
+        fit_demand([1], method="normal")
+    with pytest.raises(Refused, match="there is no method 'poisson' to fit lead times; say auto or empirical"):
+        fit_lead([1], method="poisson")
+    with pytest.raises(Refused, match="0 is no number of items in a box; it is at least 1"):
+        fit_demand([1], box=0)
+
+
+@given(numbers=st.lists(st.integers(1, 32), min_size=2, max_size=19))
+def test_blurred_law(numbers: list[int]) -> None:
+    """The law is within a period of what was seen and within 1 to 32, its weights add up, and the mean stays inside."""
+    law = fit_lead(numbers, method="auto")
+    check_law(law)
+    assert law.family == "blurred" and 1 <= law.values[0] and law.values[-1] <= 32
+    assert {*law.values} <= {lead + side for lead in numbers for side in (-1, 0, 1)}
+    if 1 < min(numbers) and max(numbers) < 32:
+        assert law.figures.mean == pytest.approx(np.mean(numbers), abs=32 / 65_536)
+        added = law.figures.variance - np.var(numbers)  # that of the kernel
+        assert added == pytest.approx(2 * law.diagnostics.side, abs=0.02)
+
+
+@given(numbers=st.lists(st.integers(1, 32), min_size=1).filter(lambda it: len(it) == 1 or len(it) >= 20))
+def test_many_lead_times_or_one(numbers: list[int]) -> None:
+    """Twenty lead times are enough, and a single one is what the supplier says: they stay as they are."""
+    law = fit_lead(numbers, method="auto")
+    assert law == fit_lead(numbers, method="empirical") and dict(zip(law.values, law.weights)) == Counter(numbers)
+    assert fit_lead([3] * 19).values == (2, 3, 4) and fit_lead([3] * 20).values == (3,)
+
+
+def test_kernel() -> None:
+    """A part goes to both neighbours, but not below 1 or above 32, in whatever order the lead times were seen."""
+    assert fit_lead([2, 5, 3, 3], method="auto") == fit_lead([3, 2, 3, 5], method="auto")
+    assert blurred({5: 3, 9: 1}, 0.1) == pytest.approx({4: 0.075, 5: 0.6, 6: 0.075, 8: 0.025, 9: 0.2, 10: 0.025})
+    assert blurred({1: 1}, 0.1) == pytest.approx({1: 0.9, 2: 0.1})
+    assert blurred({32: 1}, 0.1) == pytest.approx({31: 0.1, 32: 0.9})
+    assert blurred({2: 1, 3: 1}, 0.2) == pytest.approx({1: 0.1, 2: 0.4, 3: 0.4, 4: 0.1})
+
+
+@pytest.mark.parametrize("numbers", [[4, 4, 4, 4, 4], [3, 4, 5, 6, 4], [2, 2, 9, 2, 9, 9, 10]], ids=str)
+def test_fitted_share(numbers: Sequence[int]) -> None:
+    """The share is the mean over 0 to 0.3 under the likelihood of each lead time from the others, by integrals."""
+    def likelihood(side: float) -> float:
+        """Returns the product of the chances that the others give each lead time."""
+        near = ((numbers.count(lead) - 1) * (1 - 2 * side) + (numbers.count(lead - 1) + numbers.count(lead + 1)) * side
+                for lead in numbers)
+        return math.prod(0.95 * it / (len(numbers) - 1) + 0.05 / 32 for it in near)
+    mass, _ = integrate.quad(likelihood, 0, 0.3)
+    first, _ = integrate.quad(lambda it: it * likelihood(it), 0, 0.3)
+    assert fit_lead(numbers).diagnostics.side == pytest.approx(first / mass, abs=0.0002)
+
+
+def test_notes_on_lead_times() -> None:
+    """A note says what the kernel moves."""
+    assert notes_of(fit_lead([2, 3], method="empirical"), "lead") == []
+    law = fit_lead([2, 3, 2, 4], method="auto")
+    assert "lead: by a study, a policy chosen after few" in notes_of(fit_lead([3], method="auto"), "lead")[0]
+    side = f"{law.diagnostics.side:.1%}"
+    assert notes_of(law, "lead")[0] == (
+        f"lead: of each of the 4 lead times seen, {side} count one period earlier, and as much one later")
 
 
 def test_command(tmp_path: Path, crnplan: Command) -> None:

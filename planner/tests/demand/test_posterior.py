@@ -17,26 +17,16 @@ from crnplan.demand.posterior import allowed_laws, allowed_leads, demand_laws, m
 from crnplan.demand.sample import Sample
 from crnplan.errors import Refused
 from crnplan.law import Law
+from planner.tests.demand.made import ERRATIC, HISTORIES, RARE, SMOOTH, chances_of, check_law
 
-ERRATIC = [0, 3, 1, 9, 0, 0, 2, 5, 14, 1, 0, 4, 2, 2, 7, 0, 1, 3, 21, 0, 6, 1]
-SMOOTH = [9, 11, 7, 10, 14, 8, 12, 6, 10, 9, 13, 11, 10, 8, 9, 12]
-RARE = [0, 0, 0, 12, 0, 0, 0, 0, 3, 0, 0, 25, 0, 0, 0, 0, 0, 7, 0, 0, 0, 1, 0, 0, 0, 9]
 SHORT = [0, 0, 0, 2, 8]  # its posterior laws are cut at the greatest mean
 SINGLE = [0, 0, 7, 0, 0]  # no family has a single demand
-HISTORIES = pytest.mark.parametrize("numbers", [ERRATIC, SMOOTH, RARE], ids=["erratic", "smooth", "rare"])
 SURELY = 5.0  # standard errors
 
 
 def uniform(times: int, seed: int = 1) -> Floats:
     """Returns uniform numbers, independent of one another, for so many laws."""
     return np.random.default_rng(seed).random((UNIFORMS, times))
-
-
-def shares(table: Law, size: int) -> Floats:
-    """Returns the chances of 0, 1, 2 and so on."""
-    chances = np.zeros(size)
-    chances[[*table.values]] = table.weights
-    return chances / 65_536
 
 
 # The families that fit each history; the smooth one varies too little for some.
@@ -58,7 +48,7 @@ def test_mean_of_drawn_laws(family: str, numbers: Sequence[int]) -> None:
 
 
 @HISTORIES
-def test_laws_of_a_family(numbers: Sequence[int]) -> None:
+def test_laws_of_members(numbers: Sequence[int]) -> None:
     """They are scaled, and only the end of their tail is left out."""
     its = REGISTRY["hurdle-lognormal"]
     parameters = its.drawn(Sample.of(numbers), uniform(20), 1.0)
@@ -155,13 +145,9 @@ def test_concentrations(monkeypatch: pytest.MonkeyPatch) -> None:
 
 def test_families_without_a_doubt(monkeypatch: pytest.MonkeyPatch) -> None:
     """If laws are those of families, and no end is drawn, their mean is that of the predictive laws by BIC."""
-    monkeypatch.setattr(posterior, "COUNTED", 1.0)
-    monkeypatch.setattr(posterior, "PROPOSED", 1.0)
-    monkeypatch.setattr(posterior, "MEMBERS", 2000)
-    monkeypatch.setattr(posterior, "CONCENTRATIONS", np.array([1e9]))
-    monkeypatch.setattr(posterior, "SHARES", [1.0])
-    monkeypatch.setattr(posterior, "DEMANDS_OF_END", 1e30)
-    monkeypatch.setattr(posterior, "LEAST_END", 1e4)
+    for name, value in {"COUNTED": 1.0, "PROPOSED": 1.0, "MEMBERS": 2000, "CONCENTRATIONS": np.array([1e9]),
+                        "SHARES": [1.0], "DEMANDS_OF_END": 1e30, "LEAST_END": 1e4}.items():
+        monkeypatch.setattr(posterior, name, value)
     sample = Sample.of(RARE)
     families, laws = demand_laws(sample, 2000, np.random.default_rng(2))
     bic = {name: fit.bic(sample.size) for name, fit in fits_of(sample).items()}
@@ -182,7 +168,7 @@ def test_allowed_laws(numbers: Sequence[int]) -> None:
     assert found == allowed_laws(numbers, times=200) != allowed_laws(numbers, times=200, seed=2)
     assert len(found.laws) == sum(found.families.values()) == 200
     for law in found.laws:
-        assert sum(law.weights) == 65_536 and min(law.weights) > 0 and [*law.values] == sorted({*law.values})
+        check_law(law)
         assert law.values[-1] <= posterior.end_of(Sample.of(numbers)) * max(numbers)
     assert np.mean([float(law.mean) for law in found.laws]) == pytest.approx(np.mean(numbers), rel=0.25)
 
@@ -212,12 +198,13 @@ def test_packs_and_boxes() -> None:
 def test_any_history(numbers: list[int], seed: int) -> None:
     """Each history has laws; each has demand if the history has."""
     for law in allowed_laws(numbers, times=5, seed=seed).laws:
-        assert sum(law.weights) == 65_536 and min(law.weights) > 0 <= law.values[0]
+        check_law(law)
         assert (law.values[-1] > 0) == any(numbers)
 
 
-def test_law_without_demand() -> None:
-    """It gets the least weight of the largest demand seen."""
+def test_laws_of_one_number() -> None:
+    """A single lead time stays as it is. A law without demand gets the least weight of the largest demand seen."""
+    assert {*allowed_leads([3], times=4).laws} == {Law((3,), (65_536,))}
     assert posterior.law_of_chances(np.array([1.0, 1e-9]), 7) == Law((0, 7), (65_535, 1))
     assert posterior.law_of_chances(np.array([1.0]), 0) == Law((0,), (65_536,))
 
@@ -232,20 +219,13 @@ def test_strata() -> None:
 def test_allowed_leads(numbers: list[int]) -> None:
     """Their mean is the fitted law, and a share of what was seen varies as in a Dirichlet law."""
     found, law = allowed_leads(numbers, times=3000), fit_lead(numbers, method="auto")
-    drawn = np.array([shares(it, 33) for it in found.laws])
-    expected = np.zeros(33)
-    expected[[*law.values]] = np.array(law.weights) / sum(law.weights)
+    drawn, expected = np.array([chances_of(it, 33) for it in found.laws]), chances_of(law, 33)
     errors = drawn.std(axis=0) / np.sqrt(len(drawn))
     assert (np.abs(drawn.mean(axis=0) - expected) <= SURELY * errors + 1 / 65_536).all()
     assert found.families == {"blurred" if len(numbers) < 20 else "history": 3000}
     assert found == allowed_leads(numbers, times=3000) != allowed_leads(numbers, times=3000, seed=3)
     if len(numbers) >= 20:
         assert stats.kstest(drawn[:, 9], stats.beta(5, 20).cdf).pvalue > 1e-4
-
-
-def test_single_lead_time() -> None:
-    """It stays as it is."""
-    assert {*allowed_leads([3], times=4).laws} == {Law((3,), (65_536,))}
 
 
 def test_refused() -> None:
