@@ -6,8 +6,7 @@ from hypothesis import given, settings
 from hypothesis import strategies as st
 
 from crnplan.scenario import Policy, Scenario
-from crnplan.theory.behaviour import Depths
-from crnplan.theory.suggestions import suggestions_of
+from crnplan.theory.suggestions import Depths, suggestions_of
 
 from planner.tests.theory.scenarios import Pair, scenario_of
 

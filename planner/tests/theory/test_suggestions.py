@@ -10,8 +10,7 @@ from hypothesis import strategies as st
 
 from crnplan.crnsim.program import run_program
 from crnplan.scenario import Costs, Policy, Scenario
-from crnplan.theory.behaviour import Depths
-from crnplan.theory.suggestions import Suggestions, suggestions_of
+from crnplan.theory.suggestions import Depths, Suggestions, suggestions_of
 
 from planner.tests.theory.long_run_costs import best_of_all, cost_of, shortfall_of
 from planner.tests.theory.scenarios import large, scenario_of

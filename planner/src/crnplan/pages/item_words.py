@@ -12,6 +12,7 @@ from ..crnsim.trajectory import Period
 from ..decide.doubt import WITHIN
 from ..decide.intervals import Compared as ComparedRow
 from ..decide.sensitivity import Moves
+from ..decide_words import exactness
 from ..demand import EMPIRICAL
 from ..demand.fitted import FittedLaw, fit_remarks
 from ..errors import Fault, spelt, worded
@@ -22,7 +23,6 @@ from ..plan.settings import as_setting
 from ..records.cells import EVERY, period_name
 from ..remarks import Remark
 from ..table import Cell, Column, DataTable, number as numbers, text, whole
-from ..theory.long_run import exactness_of
 from ..words import advised, sentence
 from .page import capital, number, percent
 
@@ -156,7 +156,7 @@ class ItemWords:
     @property
     def exactness(self) -> str:
         """Returns how exact theory is."""
-        return exactness_of(self.answer.step * self.item.box, self.answer.source == THEORY)
+        return exactness(None if self.answer.source == THEORY else self.answer.step * self.item.box)
 
     @property
     def law(self) -> str:

@@ -25,6 +25,7 @@ from ..theory.lattice import NoTheory
 from ..theory.long_run import Candidate, Figures as TheoryFigures, LongRun
 from ..theory.many_laws import CONFIDENCE, Promises, figures_of_laws
 from ..theory.suggestions import FILLS, Chosen, add_fills, chosen_policies
+from ..words import sentence
 from .answer import ALONE, CHOSEN, THEORY, TODAY, Answer, Figures
 from .one import LAWS, Sample, allowed_by, choice_of, figures_of, interval, quantile, sample_of
 from ..decide.sensitivity import Case, Found, Moves, moves_of
@@ -122,7 +123,7 @@ class Depth:
             names.setdefault(levels, name)
         for behaviour, policy in self.suggested.policies.items():
             names.setdefault((policy.s, policy.S), policy.name)
-            reasons[policy.s, policy.S] = tuple(self.suggested.reasons[behaviour])
+            reasons[policy.s, policy.S] = tuple(map(sentence, self.suggested.reasons[behaviour]))
         shown = [*names.items()][:POLICIES[1]]
         return {Policy(name, *levels): reasons.get(levels, ()) for levels, name in shown}
 

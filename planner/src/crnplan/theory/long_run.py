@@ -111,11 +111,6 @@ class Means:
 LevelsOf = Callable[[Means], Levels]
 
 
-def exactness_of(step: int, exact: bool) -> str:
-    """Returns how exact figures on a lattice are, for a reader."""
-    return "exact but for rounding" if exact else f"rounded to steps of {step} items"
-
-
 def gap_grid(most: int) -> list[int]:
     """Returns gaps from 0 to the most: all of them while they are small, and further apart as they grow."""
     gaps, gap = [], 0
