@@ -79,9 +79,10 @@ SUGGESTIONS: dict[str, str | Callable[[Mapping[str, Any]], str]] = {
     "higher s": "a neighbour of the best: s is {by} higher, with its best S",
     "lower s": "a neighbour of the best: s is {by} lower, with its best S",
     "figures of suggestions": "cost: a period in the long run, without unit, which adds {unit:.2f} to each policy "
-                              "(unit times the mean net demand)\nfill: the share of demand that is met at once; short: the "
-                              "share of periods that end with items owed\nstock: the mean stock at the end of a "
-                              "period; orders: orders a period",
+                              "(unit times the mean net demand)\n"
+                              "fill: the share of demand that is met at once; short: the share of periods that end "
+                              "with items owed\n"
+                              "stock: the mean stock at the end of a period; orders: orders a period",
     "exact figures": "error: exact but for rounding", "rounded figures": ROUGHLY,
     "rough figures": f"{ROUGHLY}; that is a rough guide, so compare the policies by runs",
     "search of all pairs": "search: each is the best of all pairs with s >= 0 that its reason allows",
