@@ -10,7 +10,7 @@ from crnplan.crnsim import report, trajectory
 from crnplan.curve import exchange_curve
 from crnplan.decide import doubt, sensitivity, verdicts
 from crnplan.pages import catalogue_tables, item_tables
-from crnplan.table import Column, page_of
+from crnplan.table import Column
 from crnplan.theory import suggestions
 
 PAGE = Path(__file__).parents[2] / "docs/TABLES.md"
@@ -42,6 +42,12 @@ TABLES: Mapping[str, tuple[str, Sequence[Column]]] = {
     "Scenario.long_run": ("Exact figures of the long run, in Python.", exact_long_run.COLUMNS),
     "crnplan sensitivity": ("What a policy costs too much, here in the cases `base` and `demand_up`.",
                             sensitivity.columns_of(["base", "demand_up"]))}
+
+
+def page_of(columns: Sequence[Column]) -> str:
+    """Returns the columns as a table of a page in Markdown."""
+    rows = (f"| `{column.name}` | {column.unit or column.kind} | {column.meaning} |\n" for column in columns)
+    return "| Column | Unit | Meaning |\n|---|---|---|\n" + "".join(rows)
 
 
 def page() -> str:

@@ -11,8 +11,7 @@ SOURCE = Path(__file__).resolve().parents[1] / "src/crnplan"
 # What others call by its name, with the reason.
 CALLED = {"list_commands": "click", "get_command": "click", "format_commands": "click", "resolve_command": "click",
           "_repr_html_": "notebooks", **dict.fromkeys(
-              ("MOST_COST", "CHECKPOINT_RULES", "MOST_CHECKPOINT_BYTES"), "the tests of the program"),
-          "page_of": "the tests of pages, which hold the pages of tables to the columns"}
+              ("MOST_COST", "CHECKPOINT_RULES", "MOST_CHECKPOINT_BYTES"), "the tests of the program")}
 
 
 def made_in(text: str) -> Iterator[str]:

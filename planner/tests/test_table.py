@@ -13,7 +13,7 @@ import pytest
 from hypothesis import given
 from hypothesis import strategies as st
 
-from crnplan.table import MONEY, Cell, DataTable, aligned, exact, names_of, number, page_of, text, whole
+from crnplan.table import MONEY, Cell, DataTable, aligned, exact, names_of, number, text, whole
 from planner.tests.tables_page import PAGE, TABLES, page
 
 TEXTS = st.text("ab .9", max_size=5)
@@ -73,12 +73,6 @@ def test_columns_without_a_figure() -> None:
     """Only the named columns are left out, and only if no row has a figure."""
     table = DataTable(COLUMNS, [["A", None, math.nan, 0.0, None]]).without_empty(("count", "cost", "share"))
     assert table.names == ["name", "share", "mean"] and table.rows == [["A", 0.0, None]]
-
-
-def test_the_page_of_columns() -> None:
-    """The page has a row for each column."""
-    assert page_of(COLUMNS[:2]) == ("| Column | Unit | Meaning |\n|---|---|---|\n| `name` | text | its name |\n"
-                                    "| `count` | items | how many |\n")
 
 
 @given(st.integers(1, 4).flatmap(lambda width: st.lists(st.lists(TEXTS, min_size=width, max_size=width), min_size=1,

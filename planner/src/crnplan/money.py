@@ -41,21 +41,12 @@ def whole(value: Any, name: str) -> int:
     return int(number)
 
 
-def _amount(value: Any, name: str) -> Fraction:
-    """Returns an amount of money. Raises Refused if it is none, or no decimal."""
-    number = exact(value)
-    if number is None:
-        raise Refused(f"costs: {name}: {shown(value)} is not an amount; write it as 12.50")
-    if (number * 10**MOST_DECIMALS).denominator != 1:
-        raise Refused(f"costs: {name}: {shown(value)} has more than {MOST_DECIMALS} decimals; round it")
-    return number
-
-
 def _beyond(amounts: Mapping[str, Fraction], scale: Fraction) -> str:
     """Returns the name of the first amount that is not whole, or above the program's range, with a scale; empty if none
     is."""
     most = {name: formats.limits("costs", name)[1] for name in amounts}
-    return next((name for name, it in amounts.items() if (it * scale).denominator > 1 or it * scale > most[name]), "")
+    return next((name for name, amount in amounts.items()
+                 if (amount * scale).denominator > 1 or amount * scale > most[name]), "")
 
 
 def rounded_costs(costs: Mapping[str, Fraction], exact_one: str) -> tuple[dict[str, int], Fraction, float]:
@@ -86,11 +77,19 @@ def scaled_costs(costs: Mapping[str, Amount]) -> tuple[dict[str, int], Fraction]
     Each cost is an int, float, Decimal, Fraction or text, such as "12.50". The scale is 1 if that can be, or if all are
     whole. Raises Refused if no scale makes all costs whole and keeps them within their ranges.
     """
-    amounts = {name: _amount(value, name) for name, value in costs.items()}
-    scale = next((it for it in SCALES if not _beyond(amounts, it)), None)
+    amounts = dict[str, Fraction]()
+    for name, cost in costs.items():
+        amount = exact(cost)
+        if amount is None:
+            raise Refused(f"costs: {name}: {shown(cost)} is not an amount; write it as 12.50")
+        if (amount * 10**MOST_DECIMALS).denominator != 1:
+            raise Refused(f"costs: {name}: {shown(cost)} has more than {MOST_DECIMALS} decimals; round it")
+        amounts[name] = amount
+    scale = next((scale for scale in SCALES if not _beyond(amounts, scale)), None)
     if scale is None:
         finest = max(amounts, key=lambda name: amounts[name].denominator)
-        scale = next(it for it in SCALES if it >= 1 and all((one * it).denominator == 1 for one in amounts.values()))
+        scale = next(scale for scale in SCALES
+                     if scale >= 1 and all((amount * scale).denominator == 1 for amount in amounts.values()))
         name = _beyond(amounts, scale)
         if scale > 1:
             most = formats.limits("costs", name)[1]

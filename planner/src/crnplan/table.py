@@ -211,12 +211,6 @@ class Result(ABC):
         return self.table.html + "".join(f"<p>{html.escape(line)}</p>\n" for line in self.notes.splitlines() if line)
 
 
-def page_of(columns: Sequence[Column]) -> str:
-    """Returns the columns as a table of a page in Markdown."""
-    rows = (f"| `{column.name}` | {column.unit or column.kind} | {column.meaning} |\n" for column in columns)
-    return "| Column | Unit | Meaning |\n|---|---|---|\n" + "".join(rows)
-
-
 def aligned(rows: Sequence[Sequence[str]], left: Collection[int] = (0,)) -> str:
     """Returns the rows as lines. Columns in `left`, counted from 0, are set to the left, all others to the right."""
     widths = [max(map(len, column)) for column in zip(*rows)]

@@ -17,7 +17,7 @@ from dataclasses import dataclass
 from fractions import Fraction
 from functools import cached_property
 from pathlib import Path
-from typing import TYPE_CHECKING
+from typing import TYPE_CHECKING, NamedTuple
 
 from .. import formats
 from ..crnsim.program import find_program
@@ -47,8 +47,7 @@ Regret = tuple[Fraction, Fraction | None]
 Levels = tuple[int, int]
 
 
-@dataclass(frozen=True)
-class Loss:
+class Loss(NamedTuple):
     """The regrets of a policy in all cases, in order, and the greatest of them with the name of its case."""
 
     policy: Policy
@@ -196,8 +195,7 @@ def sensitivity(scenario: Scenario, *, long_run: bool = False, program: str | Pa
                        Remark("long run by own starts") if long_run else horizon_of(scenario))
 
 
-@dataclass(frozen=True)
-class Case:
+class Case(NamedTuple):
     """A case in words, and its scenario. All its costs count `times` as much, since half of a cost may not be whole.
 
     `fill` is the share of demand that is to be met at once, None if none is wanted.
@@ -209,8 +207,7 @@ class Case:
     times: int = 1
 
 
-@dataclass(frozen=True)
-class Found:
+class Found(NamedTuple):
     """The best policy of a case, with its figures, and those of the policy that is kept."""
 
     best: Levels

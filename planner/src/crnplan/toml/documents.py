@@ -19,12 +19,10 @@ from .texts import TEXT, TooDeep, older_text, shown, usual_cause
 
 MARK = b"\xef\xbb\xbf"
 BYTE_ORDER_MARKS = (b"\xff\xfe", b"\xfe\xff")
-BLANK = re.compile(r"(?:\s|#[^\n]*)*")
+BLANK = r"(?:\s|#[^\n]*)*"
 KEY_PART = r"[ \t]*(?:[A-Za-z0-9_-]+|\"(?:\\.|[^\"\\\n])*\"|'[^'\n]*')[ \t]*"
-KEY = re.compile(rf"{KEY_PART}(?:\.{KEY_PART})*")
-SCALAR = re.compile(rf"{TEXT}|[^,\]}}#\n]+", re.DOTALL)
-OPENING, CLOSING = re.compile(r"\[\[?"), re.compile(r"\]\]?")
-EQUALS, COMMA = re.compile("="), re.compile(",")
+KEY = rf"{KEY_PART}(?:\.{KEY_PART})*"
+SCALAR = rf"(?s:{TEXT})|[^,\]}}#\n]+"
 DOCUMENT = "the document"
 
 Tree = dict[str, Any]
@@ -196,9 +194,9 @@ class Scan:
             else:
                 self.pair(table)
 
-    def take(self, pattern: re.Pattern[str]) -> str:
+    def take(self, pattern: str) -> str:
         """Goes past what a pattern matches here, and returns it. Raises Unscanned if that is nothing."""
-        match = pattern.match(self.text, self.at)
+        match = re.compile(pattern).match(self.text, self.at)
         if match is None:
             raise Unscanned
         self.at = match.end()
@@ -229,9 +227,8 @@ class Scan:
 
     def header(self) -> Path:
         """Goes past the header of a table, and returns the path of that."""
-        offset, opening, parts = self.at, self.take(OPENING), self.key()
-        if len(opening) != len(self.take(CLOSING)):
-            raise Unscanned
+        offset, opening, parts = self.at, self.take(r"\[\[?"), self.key()
+        self.take(r"\]" * len(opening))
         if opening == "[":
             return self.under((), parts, offset)
         path: Path = (*self.under((), parts[:-1], offset), parts[-1])
@@ -245,9 +242,8 @@ class Scan:
         """Goes past a key with its value below a path."""
         offset = self.at
         inner = self.under(path, self.key(), offset)
-        self.take(EQUALS)
-        first = self.next()
-        self.value(inner, first)
+        self.take("=")
+        self.value(inner, self.next())
 
     def value(self, path: Path, first: str) -> None:
         """Goes past a value with this first character, and notes the places of what stands in it."""
@@ -264,7 +260,7 @@ class Scan:
                 self.offsets.setdefault((*path, entry), self.at)
                 self.value((*path, entry), inner)
             if self.next() != end:
-                self.take(COMMA)
+                self.take(",")
         self.at += 1
 
 

@@ -137,13 +137,6 @@ def odd_advice(text: str) -> str:
     return f"it has U+{ord(character):04X} ({name}): {advice}"
 
 
-def _code_of(line: str) -> str:
-    """Returns a line with blanks in place of its texts and comments, so that each character keeps its place."""
-    tokens = (match[0] for match in TOKEN.finditer(line))
-    return "".join(" " * len(token) if token[0] == "#" or token[0] in "\"'" and len(token) > 1 else token
-                   for token in tokens)
-
-
 def _habit_in(code: str) -> str:
     """Returns what to do about a line's first known habit from other formats; the empty text if there is none."""
     for pattern, advice in HABITS:
@@ -161,7 +154,9 @@ def usual_cause(text: str, offset: int, message: str) -> str:
     line = text[start:end if end >= 0 else len(text)]
     if "\0" in line:
         return "there are NUL characters: this may be UTF-16; save the file as UTF-8"
-    code = _code_of(line)
+    # The line with blanks in place of its texts and comments: each character keeps its place.
+    code = "".join(" " * len(token) if token[0] == "#" or token[0] in "\"'" and len(token) > 1 else token
+                   for token in TOKEN.findall(line))
     odd = NOT_ASCII.search(code)
     if odd:
         return f"column {odd.start() + 1}: {odd_advice(code)}"
