@@ -1,6 +1,7 @@
 """Fixtures of the tests of crnplan: its command in this process, and the scenarios of the repository."""
 from __future__ import annotations
 
+import csv
 import io
 import signal
 import sys
@@ -28,6 +29,12 @@ def heed_interrupts() -> None:
     """Gives a process the default action of an interrupt, as a terminal does: one that is started in the background by
     a script ignores interrupts, and so would all that it starts."""
     signal.signal(signal.SIGINT, signal.SIG_DFL)
+
+
+def rows_of(path: Path, key: str = "item", kind: str = "", delimiter: str = ",") -> dict[str, dict[str, str]]:
+    """Returns the rows of a table by a column, of one kind if the table has several."""
+    with path.open(encoding="utf-8", newline="") as file:
+        return {row[key]: row for row in csv.DictReader(file, delimiter=delimiter) if row.get("kind", "") == kind}
 
 
 @pytest.fixture

@@ -36,7 +36,6 @@ def write(tmp_path: Path, monkeypatch: pytest.MonkeyPatch) -> Write:
     (tmp_path / "settings.toml").write_text(SMALL, "utf-8")
 
     def file(name: str, rows: Sequence[Sequence[object]]) -> str:
-        """Writes it, and returns its name."""
         with (tmp_path / name).open("w", encoding="utf-8", newline="") as out:
             csv.writer(out).writerows(rows)
         return name
@@ -53,14 +52,12 @@ def catalogue(crnplan: Command, names: Sequence[str], *words: str | Path) -> Ans
 
 def of_days() -> list[str]:
     """Returns the words of a record of days, in which amounts of a period are those of a day."""
-    return ["--every", "day", *(word for it in ("holding", "backlog", "lead") for word in ("--unit",
-                                                                                           f"items.{it}=day"))]
+    return ["--every", "day", *(f"--unit=items.{name}=day" for name in ("holding", "backlog", "lead"))]
 
 
 def rejects() -> list[dict[str, str]]:
     """Returns the rows of rejects.csv."""
-    with Path("plan/rejects.csv").open(encoding="utf-8", newline="") as file:
-        return [*csv.DictReader(file)]
+    return [*csv.DictReader(Path("plan/rejects.csv").read_text("utf-8").splitlines())]
 
 
 @pytest.mark.parametrize("stated", ["neither", "from", "to", "both"])

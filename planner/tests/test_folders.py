@@ -1,6 +1,7 @@
 """Tests that no command overwrites or removes what is not crnplan's, whatever a folder holds."""
 from __future__ import annotations
 
+import fcntl
 import os
 import shutil
 from collections.abc import Iterator, Sequence
@@ -37,8 +38,7 @@ CATALOGUE = ["catalogue", "demand.csv", "items.csv", "--jobs", "1", "--out", "pl
 ITEM = ["item", "demand.csv", "settings.toml", "--out", "plan"]
 SWEEP = ["sweep", "base.toml", "--s", "18", "22", "1", "--S", "40", "41", "1", "--out", "plan"]
 CHECK = ["check", "base.toml", "A", "--replications", "2", "--out", "plan"]
-KEEPING = [CATALOGUE, [*CATALOGUE, "--check"], ITEM, SWEEP, CHECK]
-IDS = ["catalogue", "catalogue --check", "item", "sweep", "check"]
+KEEPING = pytest.mark.parametrize("words", [CATALOGUE, ITEM, SWEEP, CHECK], ids=lambda words: words[0])
 
 
 @pytest.fixture(autouse=True)
@@ -64,16 +64,16 @@ def plant(path: Path) -> None:
     path.write_text(PLANT, "utf-8")
 
 
-@pytest.mark.parametrize("words", KEEPING, ids=IDS)
+@KEEPING
 @pytest.mark.parametrize("name", NAMES)
 def test_a_folder_of_others(room: Path, crnplan: Command, program: Path, words: Sequence[str], name: str) -> None:
     """Leaves a folder as it is that has files and no marker, whatever they are called."""
     plant(room / "plan" / name)
     before = contents(room / "plan")
-    told = crnplan(*words, *([] if "--check" in words else ["--program", program]))
+    told = crnplan(*words, "--program", program)
     assert contents(room / "plan") == before
-    assert told.status == (0 if "--check" in words else 2), told.errors
-    assert "--check" in words or "plan: the folder is not empty" in told.errors
+    assert told.status == 2 and "plan: the folder is not empty" in told.errors
+    assert words is not CATALOGUE or crnplan(*words, "--check").status == 0 and contents(room / "plan") == before
 
 
 def test_check_writes_nothing(room: Path, crnplan: Command, program: Path) -> None:
@@ -90,7 +90,7 @@ def test_check_writes_nothing(room: Path, crnplan: Command, program: Path) -> No
     assert "n/a" in (room / "left.csv").read_text("utf-8")
 
 
-@pytest.mark.parametrize("words", [CATALOGUE, ITEM, SWEEP, CHECK], ids=["catalogue", "item", "sweep", "check"])
+@KEEPING
 def test_what_is_put_into_a_folder_of_ours(room: Path, crnplan: Command, program: Path, words: Sequence[str]) -> None:
     """Leaves other files in a folder of its own, also if a file there names them, and those behind symlinks."""
     assert crnplan(*words, "--program", program).status == 0
@@ -129,20 +129,19 @@ def test_symlinks_to_what_is_written_in_place(room: Path, crnplan: Command, prog
     assert [*target.iterdir()] == [] if name == "items" else target.read_text("utf-8") == PLANT
 
 
-@pytest.mark.parametrize("words", [ITEM, SWEEP, CHECK], ids=["item", "sweep", "check"])
-def test_a_folder_of_another_kind(room: Path, crnplan: Command, program: Path, words: Sequence[str]) -> None:
+def test_a_folder_of_another_kind(room: Path, crnplan: Command, program: Path) -> None:
     """Refuses the folder of a catalogue for anything else, and leaves it as it is."""
     assert crnplan(*CATALOGUE, "--program", program).status == 0
     before = contents(room / "plan")
-    told = crnplan(*words, "--program", program)
-    assert told.status == 2 and f"not that of a folder of crnplan {words[0]}" in told.errors
-    assert contents(room / "plan") == before
+    for words in (ITEM, SWEEP, CHECK):
+        told = crnplan(*words, "--program", program)
+        assert told.status == 2 and f"not that of a folder of crnplan {words[0]}" in told.errors
+        assert contents(room / "plan") == before
 
 
-@pytest.mark.parametrize("words", [CATALOGUE, ITEM, SWEEP, CHECK], ids=["catalogue", "item", "sweep", "check"])
+@KEEPING
 def test_one_run_at_a_time(room: Path, crnplan: Command, program: Path, words: Sequence[str]) -> None:
     """Refuses a folder in which another run works: the lock is that of the whole folder."""
-    import fcntl
     assert crnplan(*words, "--program", program).status == 0
     with (room / "plan/crnplan-folder.txt").open() as marker:
         fcntl.flock(marker, fcntl.LOCK_EX)

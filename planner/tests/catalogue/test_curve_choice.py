@@ -79,22 +79,21 @@ def made_item(source: np.random.Generator, count: int) -> tuple[Candidates, Any]
     return Candidates(demand, setup, holding, tuple(rows)), points
 
 
-def every_choice(answers: list[Candidates], points: list[Any]) -> Any:
-    """Returns stock value, unmet value, orders and costs of all choices of policies, one by one."""
-    found = []
-    for its in itertools.product(*points):
-        cost = sum(answer.setup * it[2] + answer.holding * it[0] for answer, it in zip(answers, its))
-        found.append((*np.sum(its, axis=0), cost))
-    return np.array(found)
+def every_choice(seed: int) -> tuple[Items, Any]:
+    """Returns four items, and stock value, unmet value, orders and costs of all choices of policies, one by one."""
+    source = np.random.default_rng(seed)
+    answers, points = zip(*(made_item(source, 9) for _ in range(4)))
+    choices = []
+    for policies in itertools.product(*points):
+        cost = sum(answer.setup * policy[2] + answer.holding * policy[0] for answer, policy in zip(answers, policies))
+        choices.append((*np.sum(policies, axis=0), cost))
+    return Items.of((str(place), 1.0, answer) for place, answer in enumerate(answers)), np.array(choices).T
 
 
 @pytest.mark.parametrize("seed", range(6))
 def test_bound_against_every_choice(seed: int) -> None:
     """Loses no more against the best of all choices than it says, and keeps what was asked for."""
-    source = np.random.default_rng(seed)
-    answers, points = zip(*(made_item(source, 9) for _ in range(4)))
-    items = Items.of((str(place), 1.0, its) for place, its in enumerate(answers))
-    values, unmet, orders, cost = every_choice(list(answers), list(points)).T
+    items, (values, unmet, orders, cost) = every_choice(seed)
     ladder, tested = Ladder(items), 0
     low, high = ladder.along(items.value).min(), ladder.along(items.value).max()
     budgets = [Budget(value=float(low + share * (high - low))) for share in (0.2, 0.5, 0.8)]
@@ -125,13 +124,10 @@ def test_bound_against_every_choice(seed: int) -> None:
 def test_each_bound_against_every_choice(seed: int, scarce: str) -> None:
     """Says of any point, whatever orders or stock cost, no more than the best of all choices costs that have its
     service and no more orders or stock; and at most so much less that the bound is worth something."""
-    source = np.random.default_rng(50 + seed)
-    answers, points = zip(*(made_item(source, 9) for _ in range(4)))
-    items = Items.of((str(place), 1.0, its) for place, its in enumerate(answers))
-    values, unmet, orders, cost = every_choice(list(answers), list(points)).T
+    items, (values, unmet, orders, cost) = every_choice(50 + seed)
     used = {"nothing": None, "orders": orders, "stock": values}[scarce]
     bounds = []
-    for place in source.integers(len(cost), size=60):
+    for place in np.random.default_rng(seed).integers(len(cost), size=60):
         point = Point(values[place], 1 - unmet[place] / items.asked, orders[place], cost[place])
         kept = unmet <= unmet[place] * (1 + 1e-9)
         kept &= True if used is None else used <= used[place] * (1 + 1e-9)
@@ -143,10 +139,7 @@ def test_each_bound_against_every_choice(seed: int, scarce: str) -> None:
 @pytest.mark.parametrize("seed", range(4))
 def test_the_curve_is_the_best(seed: int) -> None:
     """Has no gap at the prices of the grid, and no choice of all is as good for less there. Other points have a gap."""
-    source = np.random.default_rng(100 + seed)
-    answers, points = zip(*(made_item(source, 9) for _ in range(4)))
-    items = Items.of((str(place), 1.0, its) for place, its in enumerate(answers))
-    _, unmet, _, cost = every_choice(list(answers), list(points)).T
+    items, (_, unmet, _, cost) = every_choice(100 + seed)
     ladder = Ladder(items)
     for price in PRICES[::6]:
         point = items.at(ladder.with_price(float(price)))

@@ -83,7 +83,6 @@ def start(folder: Path, holding: Path) -> Iterator[Start]:
 
     def starting(*words: str, command: Sequence[str] = PLAN[0],
                  before: Callable[[], None] | None = None) -> subprocess.Popen[bytes]:
-        """Starts a command."""
         command = [sys.executable, "-m", "crnplan", *command, "--program", str(holding)]
         begun.append(subprocess.Popen(
             [*command, *words], cwd=folder, stdin=subprocess.DEVNULL, stdout=subprocess.DEVNULL, stderr=subprocess.PIPE,
@@ -196,30 +195,39 @@ def test_killed_at_random(folder: Path, drawn: Path, crnplan: Command, start: St
     assert now == FEW - len(before) and tables(folder / "plan", names) == tables(drawn, names)
 
 
-@pytest.mark.parametrize("jobs", ["1", str(JOBS)])
-def test_interrupted(folder: Path, whole: Path, crnplan: Command, holding: Path, start: Start, jobs: str) -> None:
-    """Interrupts all processes, as a terminal does: one line says how much is kept."""
-    process = start("--jobs", jobs)
-    wait_until(lambda: kept(folder) >= 1)
+def interrupt(process: "subprocess.Popen[bytes]") -> None:
+    """Interrupts all processes, as a terminal does."""
     os.killpg(process.pid, signal.SIGINT)
-    _, errors = process.communicate(timeout=60)
-    assert process.returncode == 130 and b"Traceback" not in errors
-    there = kept(folder)
-    assert f"{there} of {FEW} items are done and kept; run again to go on".encode() in errors
-    assert goes_on(folder, whole, crnplan, holding)[1] == there
 
 
-def test_full_disk(folder: Path, whole: Path, crnplan: Command, holding: Path, start: Start) -> None:
-    """Lets no file grow any more in the middle, as a full disk does: one line, and nothing is lost."""
-    process = start("--jobs", "1")
-    wait_until(lambda: kept(folder) >= 1)
+def fill_disk(process: "subprocess.Popen[bytes]") -> None:
+    """Lets no file grow any more, as a full disk does."""
     resource.prlimit(process.pid, resource.RLIMIT_FSIZE, (1_000, 1_000))
-    (folder / "go_on").touch()
+
+
+def kill_worker(process: "subprocess.Popen[bytes]") -> None:
+    """Kills a process that works, as a system without memory does."""
+    os.kill(children(process)[0], signal.SIGKILL)
+
+
+@pytest.mark.parametrize("jobs, cut, status, said", [
+    (1, interrupt, 130, "{there} of {all} items are done and kept; run again to go on"),
+    (JOBS, interrupt, 130, "{there} of {all} items are done and kept; run again to go on"),
+    (1, fill_disk, 3, "what was done before is kept; make room"),
+    (JOBS, kill_worker, 3, "a worker process has ended by force")])
+def test_cut_off(folder: Path, whole: Path, crnplan: Command, holding: Path, start: Start, jobs: int,
+                 cut: Callable[["subprocess.Popen[bytes]"], None], status: int, said: str) -> None:
+    """One line says why a plan ends in the middle, and nothing that is kept is lost."""
+    process = start("--jobs", str(jobs))
+    wait_until(lambda: kept(folder) >= 1)
+    cut(process)
+    if cut is not interrupt:
+        (folder / "go_on").touch()
     _, errors = process.communicate(timeout=60)
-    lines = [it for it in errors.decode().splitlines() if it.startswith("crnplan:")]
-    assert process.returncode == 3 and len(lines) == 1 and b"Traceback" not in errors, errors
-    assert "plan" in lines[0] and "what was done before is kept; make room" in lines[0]
-    there = kept(folder)
+    there, text = kept(folder), errors.decode()
+    lines = [line for line in text.splitlines() if line.startswith("crnplan:")]
+    assert process.returncode == status and len(lines) == 1 and "Traceback" not in text, text
+    assert said.format(there=there, all=FEW) in text
     assert 0 < there == goes_on(folder, whole, crnplan, holding)[1] < FEW
 
 
@@ -230,17 +238,6 @@ def test_no_room_to_read(folder: Path, crnplan: Command, holding: Path, start: S
     lines = [it for it in errors.decode().splitlines() if it.startswith("crnplan:")]
     assert process.returncode == 3 and len(lines) == 1 and "make room" in lines[0], errors
     assert [it.name for it in (folder / "plan").iterdir()] == [MARKER]
-
-
-def test_a_worker_that_is_killed(folder: Path, whole: Path, crnplan: Command, holding: Path, start: Start) -> None:
-    """Kills a process that works, as a system without memory does: one line, and the plan goes on."""
-    process = start("--jobs", str(JOBS))
-    wait_until(lambda: kept(folder) >= 1)
-    os.kill(children(process)[0], signal.SIGKILL)
-    (folder / "go_on").touch()
-    _, errors = process.communicate(timeout=60)
-    assert process.returncode == 3 and b"a worker process has ended by force" in errors and b"Traceback" not in errors
-    assert goes_on(folder, whole, crnplan, holding)[1] >= 1
 
 
 @pytest.mark.timeout(2 * SECONDS)
@@ -264,24 +261,3 @@ def test_a_cluster_that_loses_a_worker(folder: Path, drawn: Path, holding: Path,
     finally:
         cluster.end_all()
     assert cluster.have_all_ended()
-
-
-@pytest.mark.timeout(2 * SECONDS)
-def test_a_cluster_whose_scheduler_ends(folder: Path, whole: Path, crnplan: Command, holding: Path) -> None:
-    """Ends the scheduler in the middle: a status and one line, no table of a part of the items, and the plan goes
-    on."""
-    cluster = Cluster(folder)
-    try:
-        cluster.open()
-        cluster.start("driver", "-m", "crnplan", *PLAN[0], "--program", str(holding), "--cluster", cluster.address)
-        cluster.wait_until("the first batch", lambda: kept(folder) >= 1, "driver")
-        cluster.end("scheduler")
-        (folder / "go_on").touch()
-        assert cluster.wait_for_end("driver") not in (0, 1), cluster.last_words("driver")
-        errors = (folder / "driver.errors").read_text("utf-8")
-        lines = [it for it in errors.splitlines() if it.startswith("crnplan:")]
-        assert len(lines) == 1 and f"--cluster {cluster.address}: " in lines[0], errors
-        assert kept(folder) < FEW and not (folder / "plan" / "decisions.csv").exists()
-    finally:
-        cluster.end_all()
-    assert goes_on(folder, whole, crnplan, holding)[1] >= 1

@@ -1,6 +1,7 @@
 """Tests the page of an item of a catalogue: its figures are those of the tables, and what has no page is refused."""
 from __future__ import annotations
 
+import contextlib
 import re
 import shutil
 import sqlite3
@@ -17,7 +18,8 @@ from crnplan.pages.catalogue_page import file_of
 from crnplan.errors import CrnplanError, Refused
 from planner.tests.catalogue.conftest import FILES, SETTINGS
 from planner.tests.catalogue.made import NO_PLAN, TODAY, made
-from planner.tests.pages.page_reader import Page, Row, rows_of as list_of
+from planner.tests.conftest import rows_of
+from planner.tests.pages.page_reader import Page
 
 PAIRS = "Today's and the chosen policy, as in decisions.csv"
 EXACT = "The run's exact figures, as in exact.csv"
@@ -27,11 +29,6 @@ COLUMNS = {"s": "s", "S": "S", "cost a week": "cost", "met at once": "fill", "me
            "value of the mean stock": "value", "orders a week": "orders"}
 SAVINGS = {"saving a week": "saving", "saving a week, by crnsim": "run_saving", "its low end": "run_low",
            "its high end": "run_high"}
-
-
-def rows_of(path: Path) -> dict[str, Row]:
-    """Returns the rows of a table by item."""
-    return {row["item"]: row for row in list_of(path)}
 
 
 def plain(text: str) -> str:
@@ -154,10 +151,8 @@ def test_texts_are_escaped(files: Path, tmp_path: Path, program: Path) -> None:
 
 def forget(folder: Path) -> None:
     """Changes what the plan of an item depends on, as if a row had changed since."""
-    base = sqlite3.connect(folder / "catalogue.sqlite")
-    with base:
+    with contextlib.closing(sqlite3.connect(folder / "catalogue.sqlite")) as base, base:
         base.execute("UPDATE items SET setup = '1/3' WHERE name = 'A-040'")
-    base.close()
 
 
 REFUSED: dict[str, tuple[str, Callable[[Path], object], str]] = {
@@ -165,8 +160,7 @@ REFUSED: dict[str, tuple[str, Callable[[Path], object], str]] = {
     "left out": ("A-031", lambda folder: None, "item 'A-031' is left out: Artikel.csv:"),
     "not planned": (NO_PLAN, lambda folder: None, "it could not be planned: costs: these are too far apart"),
     "changed": ("A-040", forget, "its plan is not as the rows that were read last; run crnplan catalogue again"),
-    "no plan": ("A-040", lambda folder: (folder / "answers.sqlite").unlink(), "no plan is in it; run crnplan "
-                "catalogue"),
+    "no plan": ("A-040", lambda folder: (folder / "answers.sqlite").unlink(), "no plan is in it; run crnplan "),
     "no folder": ("A-040", shutil.rmtree, "no plan is in it; run crnplan catalogue")}
 
 

@@ -73,9 +73,9 @@ def answers(tmp_path: Path) -> Iterator[Store[Answer]]:
     store.close()
 
 
-def answered(item: Item, settings: Settings, prior: Prior, program: Path) -> Answer:
+def answered(item: Item, prior: Prior, program: Path, borrow: str = ALL, confidence: float | None = None) -> Answer:
     """Returns the answer to an item."""
-    return plan_one(question_of(item, settings, prior), str(program))
+    return plan_one(question_of(item, Settings(borrow=borrow, confidence=confidence, **SHORT), prior), str(program))
 
 
 def alone_and_chosen(answer: Answer) -> tuple[tuple[int, int], tuple[int, int]]:
@@ -89,8 +89,7 @@ def alone_and_chosen(answer: Answer) -> tuple[tuple[int, int], tuple[int, int]]:
 def test_alone_is_the_plan_that_borrows_nothing(prior: Prior, program: Path, name: str, costs: Facts) -> None:
     """Has beside the chosen policy that of a plan without borrowing, with its cost and fill under the learned law."""
     item = replace(CATALOGUE[name], **costs)
-    single = answered(item, Settings(borrow=NONE, **SHORT), Prior(NONE), program)
-    learned = answered(item, Settings(borrow=ALL, **SHORT), prior, program)
+    single, learned = answered(item, Prior(NONE), program, NONE), answered(item, prior, program)
     assert learned.law.family == "borrowed" and single.law.family != "borrowed" and learned.alone
     assert alone_and_chosen(learned)[0] == alone_and_chosen(single)[0] == alone_and_chosen(single)[1]
     assert single.alone == single.chosen
@@ -103,7 +102,7 @@ def test_alone_is_the_plan_that_borrows_nothing(prior: Prior, program: Path, nam
 
 def test_borrowing_changes_a_policy(prior: Prior, program: Path) -> None:
     """Gives most of some items another policy than they would get alone."""
-    given = [answered(item, Settings(borrow=ALL, **SHORT), prior, program) for item in [*CATALOGUE.values()][:4]]
+    given = [answered(item, prior, program) for item in [*CATALOGUE.values()][:4]]
     assert sum(single != other for single, other in map(alone_and_chosen, given)) >= 2
 
 
@@ -187,9 +186,8 @@ def test_allowed_laws_are_round_the_law_of_the_item(prior: Prior) -> None:
 def test_confidence(prior: Prior, program: Path, way: str, leads: tuple[int, ...]) -> None:
     """Keeps a wanted fill rate under 80% of the laws that the history allows, and says what this costs."""
     item = replace(CATALOGUE["I-006"], fill=Fraction(9, 10), backlog=None, leads=leads)
-    plain = answered(item, Settings(borrow=way, **SHORT), prior, program)
+    plain, sure = (answered(item, prior, program, way, confidence) for confidence in (None, 0.8))
     settings = Settings(borrow=way, confidence=0.8, **SHORT)
-    sure = answered(item, settings, prior, program)
     assert kept_under(item, settings, prior, sure) >= 0.8 > kept_under(item, settings, prior, plain)
     price = sure.chosen.cost - plain.chosen.cost
     assert sure.confidence_cost == pytest.approx(price) and price > 0 and plain.confidence_cost is None
@@ -197,17 +195,15 @@ def test_confidence(prior: Prior, program: Path, way: str, leads: tuple[int, ...
 
 def test_confidence_is_one_in_a_wanted_fill_rate(prior: Prior, program: Path) -> None:
     """Changes nothing of an item without a wanted fill rate."""
-    with_it, without = (answered(CATALOGUE["I-004"], Settings(borrow=ALL, confidence=its, **SHORT), prior, program)
-                        for its in (0.8, None))
-    assert with_it == without
+    item = CATALOGUE["I-004"]
+    assert answered(item, prior, program, ALL, 0.8) == answered(item, prior, program)
 
 
 def test_a_promise_that_no_policy_keeps(program: Path, monkeypatch: pytest.MonkeyPatch) -> None:
     """Plans an item by its own law, and says so, if no policy keeps its fill rate under enough laws."""
     monkeypatch.setattr(Promises, "cheapest", lambda *_: NO_POLICY)
     item = replace(CATALOGUE["I-006"], fill=Fraction(9, 10), backlog=None)
-    plain = answered(item, Settings(borrow=NONE, **SHORT), Prior(NONE), program)
-    sure = answered(item, Settings(borrow=NONE, confidence=0.8, **SHORT), Prior(NONE), program)
+    plain, sure = (answered(item, Prior(NONE), program, NONE, confidence) for confidence in (None, 0.8))
     assert sure.chosen == plain.chosen and sure.confidence_cost == 0
     remark, = (it for it in sure.remarks if it not in plain.remarks)
     assert sentence(remark) == ("its fill rate holds for its own law: no policy keeps it under 80% of the laws that "
@@ -217,15 +213,14 @@ def test_a_promise_that_no_policy_keeps(program: Path, monkeypatch: pytest.Monke
 def test_an_item_without_a_policy_alone(prior: Prior, program: Path, monkeypatch: pytest.MonkeyPatch) -> None:
     """Has no policy of the item alone if its own law has none."""
     def refused(_: Question) -> Question:
-        """Refuses the item."""
         raise crn.Refused("no policy is best")
     monkeypatch.setattr(Question, "alone", refused)
-    assert answered(CATALOGUE["I-004"], Settings(borrow=ALL, **SHORT), prior, program).alone is None
+    assert answered(CATALOGUE["I-004"], prior, program).alone is None
 
 
 def test_items_with_one_demand_are_marked(prior: Prior, program: Path) -> None:
     """Says that the law of an item with one demand is nearly that of the catalogue, or hardly known."""
     item = replace(CATALOGUE["I-004"], counts=(*[0] * 30, 2, *[0] * 9))
     for way, said in ((ALL, "nearly that of the catalogue"), (NONE, "hardly known")):
-        answer = answered(item, Settings(borrow=way, **SHORT), prior, program)
+        answer = answered(item, prior, program, way)
         assert f"demand in 1 period alone, so its law is {said}" in map(sentence, answer.remarks)

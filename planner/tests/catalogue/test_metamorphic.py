@@ -19,7 +19,7 @@ import pytest
 
 from crnplan import Scenario
 from crnplan.theory.lattice import theories_of
-from planner.tests.conftest import Command
+from planner.tests.conftest import Command, rows_of
 
 START, WEEKS = datetime.date(2024, 12, 2), 60  # a Monday
 SETTINGS = {"periods": 48, "replications": 6, "least": 13}
@@ -44,7 +44,8 @@ class Item:
 
 @dataclass(frozen=True)
 class Files:
-    """How a catalogue is written: the step between two periods, and the seed by which rows are shuffled (0: not)."""
+    """How a catalogue is written: the step between two periods, the seed by which rows are shuffled (0: not), and
+    whether larger movements stand in two rows."""
 
     items: Sequence[Item]
     days: int = 7
@@ -52,6 +53,7 @@ class Files:
     shuffled: int = 0
     words: Row = field(default_factory=dict)
     units: Sequence[str] = ()
+    is_split: bool = False
 
     def write(self, folder: Path) -> list[str]:
         """Writes the files into a folder, and returns the words of the command."""
@@ -62,6 +64,9 @@ class Files:
         if self.shuffled:
             random.Random(self.shuffled).shuffle(moves)
             random.Random(self.shuffled).shuffle(masters)
+        if self.is_split:
+            moves = [[day, name, *part] for day, name, asked, back in moves
+                     for part in ([(str(int(asked) - 1), back), ("1", "0")] if int(asked) > 2 else [(asked, back)])]
         heading = ["item", *self.items[0].master]
         for name, rows in (("demand", [["date", "item", "quantity", "returned"], *moves]),
                            ("items", [heading, *masters])):
@@ -130,14 +135,12 @@ def counted_in(item: Item, size: int) -> Item:
 def planner(tmp_path: Path, crnplan: Command, program: Path, monkeypatch: pytest.MonkeyPatch) -> Planner:
     """Returns a function that plans a catalogue in a new folder, and returns the rows of its decisions."""
     def plan(files: Files) -> list[Row]:
-        """Plans it."""
         folder = tmp_path / str(len([*tmp_path.iterdir()]))
         folder.mkdir()
         monkeypatch.chdir(folder)
         told = crnplan(*files.write(folder), "--program", program)
         assert told.status == 0, told.errors
-        with (folder / "plan/decisions.csv").open(encoding="utf-8", newline="") as file:
-            rows = [*csv.DictReader(file)]
+        rows = [*rows_of(folder / "plan/decisions.csv").values()]
         assert len(rows) == len(files.items), (folder / "plan/rejects.csv").read_text("utf-8")
         return rows
     return plan
@@ -187,19 +190,7 @@ def test_rows_and_items_stand_in_another_order(planner: Planner) -> None:
 def test_a_movement_is_split_in_two(planner: Planner) -> None:
     """Two rows of a day with half of the amount each, more or less, are one row."""
     items = slow_sellers()
-    before, whole = planner(Files(items)), Files.write
-    def split(files: Files, folder: Path) -> list[str]:
-        """Writes the files with larger movements in two rows."""
-        words = whole(files, folder)
-        heading, *rows = [*csv.reader((folder / "demand.csv").open(encoding="utf-8"))]
-        parts = [[day, name, *pair] for day, name, asked, back in rows
-                 for pair in ([(str(int(asked) - 1), back), ("1", "0")] if int(asked) > 2 else [(asked, back)])]
-        with (folder / "demand.csv").open("w", encoding="utf-8", newline="") as file:
-            csv.writer(file).writerows([heading, *parts])
-        return words
-    with pytest.MonkeyPatch.context() as patch:
-        patch.setattr(Files, "write", split)
-        assert planner(Files(items)) == before
+    assert planner(Files(items, is_split=True)) == planner(Files(items))
 
 
 def test_a_period_is_a_day(planner: Planner) -> None:

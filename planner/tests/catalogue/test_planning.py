@@ -21,7 +21,7 @@ from crnplan.plan.question import Question, Settings
 from planner.tests.catalogue.audit import audit
 from planner.tests.catalogue.conftest import FILES, SETTINGS, TABLES, WORDS, leave_few
 from planner.tests.catalogue.made import NO_PLAN, START, TITLES, WEEKS, Made
-from planner.tests.conftest import Command
+from planner.tests.conftest import Command, rows_of
 
 ALONE = ("s_alone", "S_alone")
 SCENARIO = """version = 1
@@ -44,17 +44,11 @@ S = {S_chosen}
 """
 
 
-def rows_of(path: Path, kind: str = "") -> dict[str, dict[str, str]]:
-    """Returns the rows of a table by item, of one kind if the table has several."""
-    with path.open(encoding="utf-8", newline="") as file:
-        return {row["item"]: row for row in csv.DictReader(file) if row.get("kind", "") == kind}
-
-
 def test_figures_are_the_programs(planned: Path, files: Path, program: Path) -> None:
     """Has the exact figures of a scenario that is made of the second program's sums, run by the program alone."""
     last = START + datetime.timedelta(days=7 * WEEKS)
     sums, exact = audit(files / FILES[0], len(TITLES) + 1, START, last), rows_of(planned / "exact.csv")
-    masters = {its["Artikel"]: its for its in csv.DictReader((files / FILES[1]).open(encoding="utf-8"), delimiter=";")}
+    masters = rows_of(files / FILES[1], "Artikel", delimiter=";")
     tested = 0
     for name in sorted(exact):
         its, lead = exact[name], masters[name]["Lieferzeit"]
@@ -79,7 +73,7 @@ def test_figures_are_the_programs(planned: Path, files: Path, program: Path) -> 
 
 def test_rates_are_the_masters(planned: Path, files: Path) -> None:
     """Has whole rates that are the master's costs times one scale, and a backlog rate if there is such a cost."""
-    masters = {its["Artikel"]: its for its in csv.DictReader((files / FILES[1]).open(encoding="utf-8"), delimiter=";")}
+    masters = rows_of(files / FILES[1], "Artikel", delimiter=";")
     for name, its in rows_of(planned / "exact.csv").items():
         for rate, column in (("setup", "Bestellkosten"), ("holding", "Lagerkosten"), ("backlog", "Fehlmengenkosten")):
             cost = Fraction(masters[name][column].replace(",", ".") or 0)
@@ -88,7 +82,7 @@ def test_rates_are_the_masters(planned: Path, files: Path) -> None:
 
 def test_decisions(planned: Path, planted: Made) -> None:
     """Plans each item that is not left out: wanted shares are reached, and theory's cost is at most today's."""
-    table, rejects = rows_of(planned / "decisions.csv"), rows_of(planned / "rejects.csv", "item")
+    table, rejects = rows_of(planned / "decisions.csv"), rows_of(planned / "rejects.csv", kind="item")
     bad = {*set.union(*planted.bad_items.values()), NO_PLAN}
     assert not set(table) & bad and bad <= set(rejects)
     assert "too far apart" in rejects[NO_PLAN]["reason"] and int(rejects[NO_PLAN]["rows"]) > 0
@@ -232,7 +226,7 @@ def test_learning_from_others(begun: Path, files: Path, crnplan: Command, progra
     before = rows_of(begun / "plan/decisions.csv")
     add_column(begun / FILES[1], "borrow", {"A-034": "None", "A-035": "some"})
     told = crnplan(*words)
-    table, rejects = rows_of(begun / "plan/decisions.csv"), rows_of(begun / "plan/rejects.csv", "item")
+    table, rejects = rows_of(begun / "plan/decisions.csv"), rows_of(begun / "plan/rejects.csv", kind="item")
     assert planned_now(told) == 1 and "the masters say otherwise for 1 items (borrow)" in told.output
     assert table["A-034"]["law"] != "borrowed" == before["A-034"]["law"]
     assert [table["A-034"][it] for it in ("s_chosen", "S_chosen")] == [before["A-034"][it] for it in ALONE]
@@ -292,7 +286,6 @@ def test_other_folders_are_refused(folder: Path, crnplan: Command) -> None:
 def test_a_fault_of_ours_has_its_status(folder: Path, crnplan: Command, monkeypatch: pytest.MonkeyPatch) -> None:
     """An item that breaks our own code is a reject, and the command ends with the status of our faults."""
     def broken(question: Question) -> None:
-        """Breaks as a bug would."""
         raise ZeroDivisionError(question.item.name)
     monkeypatch.setattr(Question, "theory", broken)
     told = crnplan("catalogue", *WORDS, "--out", "plan", "--jobs", "1")

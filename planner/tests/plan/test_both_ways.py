@@ -14,7 +14,7 @@ from crnplan.plan.catalogue import planned_folder
 from crnplan.plan.item import planned, read_item
 from crnplan.records.catalogue_reading import read_catalogue
 from crnplan.records.item import Item
-from planner.tests.conftest import Command
+from planner.tests.conftest import Command, rows_of
 from planner.tests.plan.items import WEEKS, several
 
 ITEMS, START = 50, datetime.date(2024, 1, 1)  # a Monday
@@ -94,7 +94,8 @@ def test_fifty_items_have_the_same_answer(items: Mapping[str, Item], folder: Pat
     assert len(answers) == ITEMS and len({it.verdict for it in answers.values() if isinstance(it, Answer)}) > 1
     for name, item in items.items():
         room = write(tmp_path / name, item)
-        assert planned(read_item(room / "history.csv", room / "settings.toml"), program).depth.answer == answers[name], name
+        alone = planned(read_item(room / "history.csv", room / "settings.toml"), program)
+        assert alone.depth.answer == answers[name], name
 
 
 @pytest.mark.parametrize("name", ["I-001", "I-002"])
@@ -104,14 +105,9 @@ def test_both_commands_show_the_same(items: Mapping[str, Item], folder: Path, tm
     room = write(tmp_path / name, items[name])
     told = crnplan("item", room / "history.csv", room / "settings.toml", "--out", room / "plan", "--program", program)
     assert told.status == 0, told.errors
-
-    def rows(path: Path, key: str) -> dict[str, dict[str, str]]:
-        """Returns the rows of a table by a column."""
-        with path.open(encoding="utf-8") as file:
-            return {row[key]: row for row in csv.DictReader(file)}
-    exact, = rows(room / "plan/exact.csv", "item").values()
-    assert exact == rows(folder / "exact.csv", "item")[name]
-    decided, policies = rows(folder / "decisions.csv", "item")[name], rows(room / "plan/policies.csv", "policy")
+    exact, = rows_of(room / "plan/exact.csv").values()
+    assert exact == rows_of(folder / "exact.csv")[name]
+    decided, policies = rows_of(folder / "decisions.csv")[name], rows_of(room / "plan/policies.csv", "policy")
     for policy, row in policies.items():
         if policy not in ("today", "chosen"):
             continue

@@ -83,7 +83,6 @@ def raised(times: float) -> Any:
     honest = Question.theory
 
     def theory(question: Question) -> LongRun:
-        """Returns it."""
         found = honest(question)
         found.setup = found.setup * times
         return found

@@ -13,7 +13,7 @@ import math
 from collections.abc import Iterable, Iterator, Mapping, Sequence
 from dataclasses import dataclass, replace
 from pathlib import Path
-from typing import TYPE_CHECKING, NamedTuple
+from typing import TYPE_CHECKING
 
 import numpy as np
 
@@ -143,37 +143,6 @@ def gathered(folder: PlannedFolder, kept: Store[Candidates], names: Iterable[str
     return Gathered(folder, items, points, shown, sorted(left_out, key=lambda pair: pair[0]), new)
 
 
-class Confirmation(NamedTuple):
-    """The value of the mean stock of some items: by theory, and by crnsim with its standard error."""
-
-    theory: float
-    runs: float
-    error: float
-
-    @property
-    def share(self) -> float:
-        """Returns the difference of the runs from theory, as a share of it; 0 if there is no stock."""
-        return self.runs / self.theory - 1 if self.theory else 0.0
-
-
-@dataclass(frozen=True)
-class Confirmed:
-    """What crnsim counts for each named point, for so many of all items that are on the curve."""
-
-    points: Mapping[str, Confirmation]
-    sample: int
-    items: int
-
-    def lines(self, said: Mapping[str, str]) -> list[str]:
-        """Returns a line on each point. `said` says what it is for a reader."""
-        wide = max(map(len, said.values()))
-        lines = [f"crnsim: the stock of {self.sample:,} of {self.items:,} items, taken at random, is worth"]
-        lines += [f"{said[name].ljust(wide)}  {stock.runs:,.2f} by runs (standard error {stock.error:,.2f}), "
-                  f"{stock.theory:,.2f} by theory ({stock.share:+.2%})" for name, stock in self.points.items()]
-        far = [said[name] for name, stock in self.points.items() if abs(stock.share) > CLOSE]
-        return [*lines, f"More than {CLOSE:.0%} apart, so look at these items: {', '.join(far)}."] if far else lines
-
-
 def sample_of(names: Sequence[str], seed: str, count: int) -> list[int]:
     """Returns the places of so many names, chosen by a digest of the seed and the name: the same in each run."""
     order = sorted(range(len(names)),
@@ -191,13 +160,12 @@ def stocks_by_run(question: Question, asked: Iterable[Levels], program: str | Pa
     return dict(zip(levels, np.array(report.costs, float).T * box / report.periods))
 
 
-def confirmed(its: Gathered, choices: Mapping[str, Choice], count: int, program: str | Path | None) -> Confirmed:
-    """Counts the mean stock of a sample of items in the long run: today's, the chosen, and that of each choice.
-
-    Raises Refused and ProgramError.
-    """
+def confirmed(its: Gathered, choices: Mapping[str, Choice], said: Mapping[str, str], count: int,
+              program: str | Path | None) -> list[str]:
+    """Returns a line on each named point, of which `said` says what it is for a reader: the value of the mean stock of
+    a sample of items by theory, and by crnsim with its standard error. Raises Refused and ProgramError."""
     items, sample = its.items, sample_of(its.items.names, its.folder.settings.seed, count)
-    sums = {name: np.zeros(3) for name in (*its.points, *choices)}  # by theory, by runs, and the variance of these
+    sums = {name: np.zeros(3) for name in said}  # by theory, by runs, and the variance of these
     for place in sample:
         item, answer = its.folder.item(items.names[place])
         price = float(item.price or 0)
@@ -210,14 +178,21 @@ def confirmed(its: Gathered, choices: Mapping[str, Choice], count: int, program:
         for name, (levels, value) in stocks.items():
             runs = price * counted[levels]
             sums[name] += value, runs.mean(), runs.var(ddof=1) / KEYS
-    points = {name: Confirmation(theory, runs, math.sqrt(variance)) for name, (theory, runs, variance) in sums.items()}
-    return Confirmed(points, len(sample), len(items.names))
+    lines = [f"crnsim: the stock of {len(sample):,} of {len(items.names):,} items, taken at random, is worth"]
+    wide, far = max(map(len, said.values())), list[str]()
+    for name, (theory, run, variance) in sums.items():
+        share = run / theory - 1 if theory else 0.0
+        far += [said[name]] * (abs(share) > CLOSE)
+        lines.append(f"{said[name].ljust(wide)}  {run:,.2f} by runs (standard error {math.sqrt(variance):,.2f}), "
+                     f"{theory:,.2f} by theory ({share:+.2%})")
+    return [*lines, f"More than {CLOSE:.0%} apart, so look at these items: {', '.join(far)}."] if far else lines
 
 
 @dataclass(frozen=True)
 class Drawn(Result):
     """The curve: its points by price, the points that have a name with their gaps, what each is for a reader, and why
-    others are missing. `written` names the point whose policies are written: `rows` of the candidates."""
+    others are missing. `written` names the point whose policies are written: `rows` of the candidates. `confirmed` has
+    lines on what crnsim counts."""
 
     gathered: Gathered
     curve: list[tuple[float, Point]]
@@ -226,7 +201,7 @@ class Drawn(Result):
     missing: dict[str, str]
     written: str
     rows: Whole
-    confirmed: Confirmed | None
+    confirmed: list[str]
 
     @property
     def named(self) -> dict[str, Point]:
@@ -243,7 +218,21 @@ class Drawn(Result):
     @property
     def text(self) -> str:
         """Returns the named points as a table, and what they mean."""
-        return curve_text(self)
+        folder, left = self.gathered.folder, self.gathered.left_out
+        money, every = min(folder.decimals, 2), folder.every
+        rows = [["", "stock value", "met at once", f"orders a {every}", f"setup and holding a {every}",
+                 "above the best"]]
+        for name, (point, gap) in self.points.items():
+            rows.append([self.said[name], f"{point.value:,.{money}f}", f"{point.fill:.2%}", f"{point.orders:,.4g}",
+                         f"{point.cost:,.{money}f}", gap_text(gap)])
+        lines = [f"{len(self.gathered.items.names):,} items are on the curve"]
+        if left:
+            lines[0] += f"; {len(left):,} are left out, as {left[0][0]}: {sentence(left[0][1])} ({LEFT_OUT} names all)"
+        lines += ["", aligned(rows)]
+        lines += [f"{SAID[name]}: there is no such point: {why}" for name, why in self.missing.items()]
+        policies = SAID.get(self.written, "the least stock")
+        lines += [*NOTES, f'{CURVE} has the curve; {POLICIES} has the policies of "{policies}", in {folder.path}.']
+        return "\n".join([*lines, *([""] if self.confirmed else []), *self.confirmed]) + "\n"
 
     @property
     def notes(self) -> str:
@@ -326,35 +315,16 @@ def draw(its: Gathered, budget: Budget, confirm: int, program: str | Path | None
     written = next((name for name in (BUDGET, SAME_SERVICE, SAME_STOCK) if name in choices), ON_CURVE)
     # If neither of today's figures is on the curve, the policies are those of its beginning.
     rows = Ladder(its.items).with_price(float(PRICES[0])) if not choices else choices[written].rows
-    sample = confirmed(its, choices, confirm, program) if confirm else None
     said = {name: SAID[name] for name in points}
     for name, choice in choices.items():
         said[name] += " (more orders)" * bool(choice.dearer.stock) + " (fewer orders)" * bool(choice.dearer.orders)
+    sample = confirmed(its, choices, said, confirm, program) if confirm else []
     return Drawn(its, curve_points(its.items), points, said, missing, written, rows, sample)
 
 
 def gap_text(gap: float) -> str:
     """Returns a gap for a reader, rounded up: it is a bound."""
     return f"{math.ceil(gap * 10_000 - 1e-6) / 100:.2f}%" if gap < math.inf else "not known"
-
-
-def curve_text(drawn: Drawn) -> str:
-    """Returns the curve for a reader: the named points as a table, and what they mean."""
-    its, left = drawn.gathered, drawn.gathered.left_out
-    money, every = min(its.folder.decimals, 2), its.folder.every
-    rows = [["", "stock value", "met at once", f"orders a {every}", f"setup and holding a {every}", "above the best"]]
-    for name, (point, gap) in drawn.points.items():
-        rows.append([drawn.said[name], f"{point.value:,.{money}f}", f"{point.fill:.2%}", f"{point.orders:,.4g}",
-                     f"{point.cost:,.{money}f}", gap_text(gap)])
-    lines = [f"{len(its.items.names):,} items are on the curve"]
-    if left:
-        lines[0] += (f"; {len(left):,} are left out, as {left[0][0]}: {sentence(left[0][1])} ({LEFT_OUT} names all)")
-    lines += ["", aligned(rows)]
-    lines += [f"{SAID[name]}: there is no such point: {why}" for name, why in drawn.missing.items()]
-    policies = SAID.get(drawn.written, "the least stock")
-    lines += [*NOTES, f'{CURVE} has the curve; {POLICIES} has the policies of "{policies}", in {its.folder.path}.']
-    lines += ["", *drawn.confirmed.lines(drawn.said)] if drawn.confirmed else []
-    return "\n".join(lines) + "\n"
 
 
 def plan_digest(answers: Store[Answer]) -> str:
