@@ -4,9 +4,10 @@ there.
 from __future__ import annotations
 
 import sys
-from collections.abc import Iterator
+from collections.abc import Iterator, Sequence
 from pathlib import Path
 from typing import NamedTuple
+from unittest.mock import Mock
 
 import pytest
 
@@ -144,6 +145,16 @@ def test_a_batch_that_hangs(cluster: Cluster, room: Path, monkeypatch: pytest.Mo
         assert swept() == here.text and taken(room, "leaves").ended < taken(room, "leaves").begun
 
 
+@pytest.mark.parametrize("late, wanted", [([], None), (["one"], ["b", "c"]), (["one", "two", "three"], None)])
+def test_a_late_batch_goes_to_another_worker(late: Sequence[str], wanted: Sequence[str] | None) -> None:
+    """Gives a batch to none of the workers that are late with it, if there are others."""
+    running = {"a": ["one"], "b": ["two"], "c": ["three"]}
+    client = Mock(processing=lambda: running, scheduler_info=lambda: {"workers": running}, ncores=lambda: {"a": 3},
+                  run=lambda *_, **__: {})
+    jobs.Cluster(client, "").submit(len, [[]], [Mock(key=key) for key in late])
+    assert client.submit.call_args.kwargs["workers"] == wanted
+
+
 def test_a_stranger_that_comes_later(cluster: Cluster, room: Path) -> None:
     """Refuses a worker with another crnplan that joins in the middle, and keeps what the others did."""
     start(cluster, "sweep", "--program", "./holding", "--out", "kept")
@@ -167,10 +178,10 @@ def test_missing_distributed_is_refused(room: Path, crnplan: Command, monkeypatc
 def test_tls_without_certificates(room: Path, crnplan: Command, program: Path, monkeypatch: pytest.MonkeyPatch) -> None:
     """Refuses an address that needs certificates if Dask has none, in one line."""
     monkeypatch.setenv("DASK_CONFIG", str(room / "no_settings"))
-    told = crnplan("sweep", "examples/two_policies.toml", *GRID, "--cluster", f"tls://{LOOPBACK}:1", "--program",
-                   program)
-    assert told[:2] == (2,
-                        "") and "--cluster tls://127.0.0.1:1: TLS expects" in told.errors and told.errors.count("\n") == 1
+    words = ["--cluster", f"tls://{LOOPBACK}:1", "--program", program]
+    told = crnplan("sweep", "examples/two_policies.toml", *GRID, *words)
+    assert told[:2] == (2, "") and told.errors.count("\n") == 1
+    assert "--cluster tls://127.0.0.1:1: TLS expects" in told.errors
 
 
 pytestmark = pytest.mark.timeout(2 * SECONDS)

@@ -2,12 +2,10 @@
 from __future__ import annotations
 
 import contextlib
-import os
-import signal
+import csv
+import json
 import sqlite3
 import subprocess
-import sys
-import time
 from collections.abc import Callable
 from pathlib import Path
 
@@ -15,7 +13,7 @@ import numpy as np
 import pytest
 
 import crnplan as crn
-from planner.tests.conftest import Command, heed_interrupts
+from planner.tests.conftest import Command
 from planner.tests.decide.answers import changed, priced
 
 COUNTING = '#!/bin/sh\necho >> "{room}/runs"\n{how}"{program}"\n'
@@ -185,42 +183,7 @@ def test_a_base_with_the_name_of_a_pair_is_refused(base: Path, crnplan: Command)
 
 def test_json_has_the_fields_of_the_report(base: Path, crnplan: Command) -> None:
     """Compares the data with the table, cell by cell."""
-    import csv
-    import json
     heading, *rows = csv.reader(crnplan("sweep", base, *GRID).output.splitlines())
     data = json.loads(crnplan("sweep", base, *GRID, "--json").output)
     assert [list(it) for it in data] == [heading] * len(rows)
     assert [["-" if it is None else str(it) for it in record.values()] for record in data] == rows
-
-
-# A program whose third run waits for a minute, unless it is interrupted or the file go_on is there.
-WAITING = """#!/bin/sh
-echo >> "{room}/runs"
-if [ "$(wc -l < "{room}/runs")" -eq 3 ] && [ ! -e "{room}/go_on" ]; then touch "{room}/third"; exec sleep 60; fi
-exec "{program}"
-"""
-
-
-def test_goes_on_after_an_interrupt(base: Path, room: Path, program: Path, crnplan: Command,
-                                    runs: Callable[[], int]) -> None:
-    """Interrupts a sweep at its third scenario, as Ctrl-C does. The same sweep begun again runs the rest alone."""
-    (room / "counting").write_text(WAITING.format(room=room, program=program), "utf-8")
-    words = ["sweep", str(base), *GRID, "--s", "1", "60", "3", "--out", "kept"]
-    with subprocess.Popen([sys.executable, "-m", "crnplan", *words], stdout=subprocess.PIPE,
-                          stderr=subprocess.PIPE, text=True, start_new_session=True,
-                          preexec_fn=heed_interrupts) as process:
-        for _ in range(600):
-            if (room / "third").exists() and len(kept(room / "kept")) == 2:
-                break
-            time.sleep(0.05)
-        os.killpg(process.pid, signal.SIGINT)
-        output, errors = process.communicate(timeout=60)
-    assert (process.returncode, output) == (130, "") and errors.endswith("crnplan: "
-                                                                         "interrupted\n") and "are done and kept" in errors
-    # The interrupt ends the third run too, so the next one may have begun before all are cancelled.
-    assert len(kept(room / "kept")) == 2 and runs() in (3, 4)
-    (room / "go_on").touch()
-    after = crnplan(*words)
-    parts = len(kept(room / "kept"))
-    assert after.status == 0 and runs() == parts - 2 > 1
-    assert after.output == crnplan(*words[:-2]).output and runs() == parts
