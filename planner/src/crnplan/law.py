@@ -54,7 +54,7 @@ class Law:
 
     @property
     def tree(self) -> dict[str, list[int]]:
-        """Returns the tree that tomllib would read."""
+        """Returns the tree that TOML has."""
         return {"values": list(self.values), "weights": list(self.weights)}
 
     def toml(self, name: str) -> str:

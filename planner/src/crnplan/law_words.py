@@ -120,7 +120,7 @@ CHECKS: dict[str, Say] = {
     "season untested": lambda it: f"{'weekdays are' if it['season'] == 'weekday' else 'a season is'} tested from "
     f"{it['periods']} {it['unit']}s on"}
 
-# How a law was fitted (demand/fitted.py).
+# How a law was fitted (demand/fitted.py), and why it is that of the item alone (demand/borrowing.py).
 ALONE = {"nothing borrowed": "nothing is borrowed", "demand in boxes": "demand is counted in boxes of {box}",
          "packs of few others": "all demands are packs of {pack}, as those of few others",
          "large sizes": "the mean size of a demand is above {most:g}",
@@ -162,7 +162,6 @@ def _figures(facts: Facts) -> str:
 
 FITS: dict[str, Say] = {
     **{code: f"its law is learned from no others: {reason}" for code, reason in ALONE.items()},
-    "alone": lambda it: f"{ALONE[it['reason']].format_map(it)}, so the law is that of the item alone",
     "learned law": _learned, "guard": _guard, "families": _families, "figures of a law": _figures,
     "law of the catalogue": "with so few demands the law is all but that of the catalogue; look at it",
     "likelier by the catalogue": lambda it: f"the history is 10^{it['log10_bayes']:.1f} times as likely under what was "

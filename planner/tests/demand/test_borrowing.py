@@ -7,7 +7,6 @@ import math
 import pickle
 from collections.abc import Sequence
 from dataclasses import replace
-from pathlib import Path
 
 import numpy as np
 import pytest
@@ -165,14 +164,12 @@ def test_large_catalogue(monkeypatch: pytest.MonkeyPatch, mixed: dict[str, list[
 
 
 @pytest.mark.parametrize("borrow", ["all", "class", "none"])
-def test_file(borrow: str, packed: dict[str, list[int]], tmp_path: Path) -> None:
-    """A file has the same bytes once it is read and written again, and gives the same laws, as does a pickled prior."""
+def test_text_of_a_prior(borrow: str, packed: dict[str, list[int]]) -> None:
+    """A text has the same bytes once it is read and written again, and gives the same laws, as does a pickled prior."""
     classes = {name: f"Größe {number % 2}" for number, name in enumerate(packed)}
     prior = learn(packed, classes, borrow)
-    prior.write(tmp_path / "prior.json")
-    found = Prior.read(tmp_path / "prior.json")
-    found.write(tmp_path / "again.json")
-    assert (tmp_path / "again.json").read_bytes() == (tmp_path / "prior.json").read_bytes()
+    found = Prior.parse(prior.text, "prior.json")
+    assert found.text == prior.text
     for numbers in (RARE, packed["packs 2"]):
         expected = law_of(prior, numbers, "Größe 1")
         for it in (found, pickle.loads(pickle.dumps(prior))):
@@ -194,15 +191,13 @@ DAMAGES = [
 
 
 @pytest.mark.parametrize(("damage", "message"), DAMAGES)
-def test_damaged_file(damage: object, message: str, known: Prior, tmp_path: Path) -> None:
-    """A file that is no prior is refused, with what to do."""
+def test_damaged_text(damage: object, message: str, known: Prior) -> None:
+    """A text that is no prior is refused, with what to do."""
     assert callable(damage)
     tree = damage(json.loads(known.text))
-    path = tmp_path / "prior.json"
-    path.write_text(tree if isinstance(tree, str) else json.dumps(tree))
     with pytest.raises(Refused) as refused:
-        Prior.read(path)
-    assert str(refused.value).startswith(f"{path}: {message}")
+        Prior.parse(tree if isinstance(tree, str) else json.dumps(tree), "prior.json")
+    assert str(refused.value).startswith(f"prior.json: {message}")
 
 
 def test_refused_catalogues(mixed: dict[str, list[int]]) -> None:
@@ -270,7 +265,7 @@ def test_law_of_the_item_alone(numbers: list[int], alone: str, known: Prior) -> 
     assert law == expected and (reason(law), found.share, found.single) == (alone, 0, expected)
     assert replace(law.diagnostics, borrowed=None) == replace(expected.diagnostics, borrowed=None)
     assert borrowed_laws(known, numbers, times=3) == allowed_laws(numbers, times=3)
-    assert f"demand: {alone}, so the law is that of the item alone" in notes_of(law, "demand")
+    assert f"demand: its law is learned from no others: {alone}" in notes_of(law, "demand")
     if found.guard:
         assert min(found.guard) <= 0.05
     nothing = law_of(learn([], borrow="none"), RARE)

@@ -165,7 +165,7 @@ def fit_remarks(law: FittedLaw) -> Iterator[Remark]:
 
 def _of_borrowed(borrowed: Borrowed) -> Iterator[Remark]:
     if borrowed.alone:
-        yield Remark("alone", {"reason": borrowed.alone.code, **borrowed.alone.facts})
+        yield borrowed.alone
     else:
         yield Remark("learned law", {"prior": borrowed.prior, "demands": borrowed.demands, "seen": 1 - borrowed.share})
         if borrowed.few:

@@ -55,9 +55,8 @@ def boxes_of(observed: Observed | Iterable[Number], box: int) -> list[int]:
 def share_of(sample: Sample, base: Floats) -> float:
     """Returns the share of a law in its mixture with the sample: 1 if the sample does not speak against the law.
 
-    A Dirichlet process round the law counts for so many periods beside the sample as its marginal likelihood is
-    greatest (Antoniak, Mixtures of Dirichlet processes with applications to Bayesian nonparametric problems, 1974;
-    Minka, Estimating a Dirichlet distribution, 2000).
+    A Dirichlet process round the law counts for as many periods beside the sample as make its marginal likelihood
+    greatest (Minka, Estimating a Dirichlet distribution, 2000).
     """
     chances = np.zeros(max(len(base), sample.most + 1))
     chances[:len(base)] = base
@@ -73,10 +72,10 @@ def share_of(sample: Sample, base: Floats) -> float:
 
 
 def cap_of(sample: Sample) -> int:
-    """Returns the largest demand that `auto` allows: two to three times the largest one seen.
+    """Returns the largest demand that `auto` allows: that of 300 demands, two to three times the largest one seen.
 
     The largest of n sizes with an exponential tail grows as the logarithm of n (Gumbel, Statistics of Extremes, 1958,
-    section 4.2), so after few demands larger ones are to be expected: as the largest of 300.
+    section 4.2).
     """
     times = math.log(DEMANDS_OF_CAP) / math.log(sample.demands + 1)
     return math.ceil(min(max(times, LEAST_TIMES), MOST_TIMES) * sample.most)
@@ -159,10 +158,8 @@ def leads_of(observed: Observed | Iterable[Number]) -> list[int]:
 
 
 def blurred(counts: Mapping[int, float], side: float) -> dict[int, float]:
-    """Returns the law that has the share `side` of each lead time one period earlier, and as much one later.
-
-    What would be earlier than 1 or later than 32 stays where it is.
-    """
+    """Returns the law that has the share `side` of each lead time one period earlier, and as much one later. What would
+    be earlier than 1 or later than 32 stays where it is."""
     total = sum(counts.values())
     law: dict[int, float] = {}
     for lead, count in counts.items():

@@ -108,12 +108,9 @@ def size_likelihoods(samples: Sequence[Sample]) -> Floats:
 
 
 class Cells(NamedTuple):
-    """Likelihoods of cells, the means over their points.
-
-    Histories with as many periods and demands are a group, since they have the same likelihoods of the share. `shares`
-    has a row for each group, `sizes` one for each history. `starts` has the row of `sizes` that each group starts at,
-    `groups` the group of each history.
-    """
+    """Likelihoods of cells, the means over their points. Histories with as many periods and demands are a group, since
+    they have the same likelihoods of the share. `shares` has a row for each group, `sizes` one for each history.
+    `starts` has the row of `sizes` that each group starts at, `groups` the group of each history."""
 
     shares: Floats
     sizes: Floats
@@ -167,10 +164,8 @@ def blurred(prior: Floats, part: float) -> Floats:
 
 def estimated(chunks: Sequence[Cells], start: Floats, pull: Floats, *, steps: int = STEPS,
               blur: float = BLUR) -> Floats:
-    """Returns the prior after so many steps, each the mean of the posterior laws of all histories, blurred.
-
-    `pull` is a prior times the number of items that it counts for. No cell that has some of it gets the chance 0.
-    """
+    """Returns the prior after so many steps, each the mean of the posterior laws of all histories, blurred. `pull` is a
+    prior times the number of items that it counts for. No cell that has some of it gets the chance 0."""
     prior = start
     for _ in range(steps):
         expected = pull.copy()

@@ -6,14 +6,12 @@ from collections import defaultdict
 from collections.abc import Iterable, Mapping, Sequence
 from dataclasses import asdict, dataclass, field
 from functools import cached_property
-from pathlib import Path
 from typing import Any
 
 import numpy as np
 
 from ..chances import Floats, Whole
 from ..errors import Fault, Refused, RefusedFaults
-from ..files import new_file
 from ..formats import MOST_DEMAND
 from ..records.item import BORROW
 from ..records.observed import Observed
@@ -21,7 +19,7 @@ from .fitted import check, numbers_of
 from .grid import FLAT, MOST_SIZE, chunks_of, estimated, group_of, marginal
 from .sample import Sample
 
-VERSION = 2  # of the file; another grid is another version
+VERSION = 2  # of the text; another grid is another version
 UNITS = 2**40  # of a chance of 1: the last bits of a sum, which differ by machine, are rounded off
 KIND = "prior of crnplan"
 NONE, CLASS, ALL = BORROW  # "all" is the name of the prior of the whole catalogue too
@@ -61,7 +59,7 @@ class Learned:
 
     @classmethod
     def from_tree(cls, tree: Mapping[str, Any]) -> Learned:
-        """Returns what a file has. Raises ValueError, TypeError or LookupError if it cannot be."""
+        """Returns what a text has. Raises ValueError, TypeError or LookupError if it cannot be."""
         units = np.array(tree["units"], np.int64).reshape(FLAT.shape)
         if units.min() < 1:
             raise ValueError("units are positive")
@@ -70,7 +68,7 @@ class Learned:
 
 @dataclass(frozen=True, eq=False)
 class Prior:
-    """What a catalogue says of the laws of demand of its items. Processes may share it: as a file, or pickled.
+    """What a catalogue says of the laws of demand of its items. Processes may share it: as a text, or pickled.
 
     `borrow` is "all", "class" or "none": each item learns from the whole catalogue, from its class, or from nothing.
     `outside` is how many items were left out, since their sizes are larger than those of the grid. `whole` is the prior
@@ -96,20 +94,10 @@ class Prior:
 
     @property
     def text(self) -> str:
-        """Returns the text of a file: JSON in one line, of the same bytes each time."""
+        """Returns all of it as JSON in one line, of the same bytes each time."""
         tree = {"kind": KIND, "version": VERSION, **asdict(self)}
         text = json.dumps(tree, ensure_ascii=False, separators=(",", ":"), default=lambda units: units.ravel().tolist())
         return text + "\n"
-
-    def write(self, path: Path | str) -> None:
-        """Writes a file, whole. Raises OSError."""
-        with new_file(Path(path)) as file:
-            file.write(self.text)
-
-    @classmethod
-    def read(cls, path: Path | str) -> Prior:
-        """Reads a file that `write` wrote. Raises OSError, and Refused if it is none."""
-        return cls.parse(Path(path).read_bytes(), str(path))
 
     @classmethod
     def parse(cls, text: str | bytes, name: str) -> Prior:
@@ -138,7 +126,7 @@ def is_outside(sample: Sample) -> bool:
 
 
 def samples_of(items: Iterable[tuple[str, Any]]) -> list[Sample]:
-    """Counts the numbers of all histories. Raises RefusedFaults with the faults of all."""
+    """Counts the numbers of histories by name. Raises RefusedFaults with the faults of all."""
     samples: list[Sample] = []
     faults: list[Fault] = []
     for name, observed in items:

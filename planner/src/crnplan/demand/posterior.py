@@ -60,21 +60,17 @@ class AllowedLaws:
 
 
 def stratified(random: np.random.Generator, rows: int, times: int) -> Floats:
-    """Returns rows of uniform numbers, one in each of `times` equal strata, so that few draws have less luck in them.
-
-    Source: McKay, Beckman and Conover, A comparison of three methods for selecting values of input variables, 1979.
-    """
+    """Returns rows of uniform numbers, one in each of `times` equal strata, so few draws are spread evenly (McKay,
+    Beckman and Conover, A comparison of three methods for selecting values of input variables, 1979)."""
     strata = np.array([random.permutation(times) for _ in range(rows)])
     return np.asarray((strata + random.random((rows, times))) / times)
 
 
 def round_history(base: Floats, sample: Sample, share: float, random: np.random.Generator,
                   counted: float = 1.0) -> Floats:
-    """Draws a law from a Dirichlet process round a law that has seen a sample.
-
-    Its mean has this share of the law and the rest of the sample; with the share 0 it is the Bayesian bootstrap, with 1
-    the law itself. Each number counts as `counted` numbers.
-    """
+    """Draws a law from a Dirichlet process round a law that has seen a sample. Its mean has this share of the law and
+    the rest of the sample: with 0 it is the Bayesian bootstrap, with 1 the law itself. Each number counts as `counted`
+    numbers."""
     if share == 1:
         return base
     periods = sample.size * share / (1 - share)
@@ -117,11 +113,8 @@ def members_of(name: str, fit: Fit, packs: Sample, random: np.random.Generator) 
 
 
 def end_of(sample: Sample) -> float:
-    """Returns where laws end at most, in largest demands seen.
-
-    The largest of n sizes with an exponential tail grows as the logarithm of n (Gumbel, Statistics of Extremes, 1958,
-    section 4.2), so after few demands the largest one possible may be many times the largest one seen.
-    """
+    """Returns where laws end at most, in largest demands seen: at that of 30,000 demands (as `fitting.cap_of`), so after
+    few demands it may be many times the largest one seen."""
     return max(math.log(DEMANDS_OF_END) / math.log(sample.demands + 1), LEAST_END)
 
 
