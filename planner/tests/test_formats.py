@@ -81,6 +81,7 @@ def test_commands_and_statuses() -> None:
 
 
 def test_keys_need_a_version() -> None:
-    """The keys of a version need that one, and others of the document none."""
-    assert [formats.version_with(formats.SHAPES[it]) for it in formats.VERSIONS] == list(formats.VERSIONS)
-    assert formats.version_with(["colour"]) == formats.VERSIONS[0]
+    """A document needs the version of its newest key; other keys need none."""
+    names = [(table or name, since) for table, name, _, since in KEYS]
+    assert {name: formats.version_with(["colour", name]) for name, _ in names} == dict(names)
+    assert formats.version_with(names) == formats.version_with([]) == formats.VERSIONS[0]

@@ -17,7 +17,7 @@ from crnplan.formats import Key
 
 from tests.documents.conftest import Ask
 from tests.documents.markdown import numbers_of, text_of
-from tests.hostile.range_ends import least_scenario
+from tests.shapes import SHAPES, least_scenario
 
 Judge = Callable[[str, int], bool | str]
 # Other values at keys of a table, and the number of the rule that is then broken. A value None: the key is left out.
@@ -118,14 +118,14 @@ def with_key(tree: dict[str, Any], key: Key, value: Any) -> dict[str, Any]:
 
 def version_ends(_: Key) -> Changed:
     """Yields each version, also with a key of a later one and without one that it adds, and versions on either side."""
-    known, newest, first = formats.VERSIONS, least_scenario(), formats.SHAPES[formats.VERSIONS[0]]
+    known, newest, first = formats.VERSIONS, least_scenario(), SHAPES[formats.VERSIONS[0]]
     for version in known:
         its = {**dict.fromkeys(newest), **least_scenario(version)}
         yield its, 0
         for key in (it for it in formats.KEYS if it.since > known[0]):
             is_known = key.since <= version
             yield with_key(its, key, None if is_known else 0), 4 if is_known else 3
-        yield from (({**its, table: None}, 4) for table in formats.SHAPES[version] if table not in first)
+        yield from (({**its, table: None}, 4) for table in SHAPES[version] if table not in first)
     yield from (({"version": version}, 2) for version in (known[0] - 1, known[-1] + 1))
 
 

@@ -15,6 +15,7 @@ from typing import Any
 from crnplan import formats
 
 from tests.hostile.second_reader import MARK, Tree
+from tests.shapes import SHAPES, Shape
 
 Change = Callable[[Random, bytes], bytes]
 # The ends of the range of each key's numbers, and of all entries of lists.
@@ -108,7 +109,7 @@ TEXT_CHANGES: list[Change] = [with_other_bytes, with_other_lines, cut_off, with_
 # ---- trees of scenarios
 
 
-def some_draws(chance: Random, keys: formats.Shape) -> Tree:
+def some_draws(chance: Random, keys: Shape) -> Tree:
     """Returns values with their weights."""
     _, low, high = keys["values"]
     high = min(high, low + chance.choice([5, high]))
@@ -116,7 +117,7 @@ def some_draws(chance: Random, keys: formats.Shape) -> Tree:
     return {"values": values, "weights": [chance.randint(1, 9) for _ in values]}
 
 
-def some_policies(chance: Random, keys: formats.Shape) -> list[Tree]:
+def some_policies(chance: Random, keys: Shape) -> list[Tree]:
     """Returns policies with names of their own."""
     policies = [a_table(chance, keys) for _ in range(chance.choice([1, 2, 3, formats.POLICIES[1]]))]
     for number, it in enumerate(policies):
@@ -143,7 +144,7 @@ def a_value(chance: Random, kind: str, *more: Any) -> Any:
     return "A"
 
 
-def a_table(chance: Random, keys: formats.Shape) -> Tree:
+def a_table(chance: Random, keys: Shape) -> Tree:
     """Returns a table with a value at each of these keys."""
     return {key: a_value(chance, kind, *more) for key, (kind, *more) in keys.items() if kind != "version"}
 
@@ -151,7 +152,7 @@ def a_table(chance: Random, keys: formats.Shape) -> Tree:
 def a_scenario(chance: Random) -> Tree:
     """Returns the tree of a scenario that has no fault."""
     version = chance.choice(formats.VERSIONS)
-    return {"version": version, **a_table(chance, formats.SHAPES[version])}
+    return {"version": version, **a_table(chance, SHAPES[version])}
 
 
 def places_of(tree: Any) -> list[tuple[Any, Any]]:

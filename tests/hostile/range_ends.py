@@ -9,30 +9,13 @@ from crnplan import formats
 
 from tests.hostile import second_reader as reader
 from tests.hostile.second_reader import MOST_A_PERIOD, Checkpoint, State, Tree
+from tests.shapes import SHAPES, Shape, least_scenario
 
 MOST_LETTERS, MOST_WEIGHT, MOST_ITEMS = formats.MOST_LETTERS, formats.MOST_WEIGHT, formats.MOST_ITEMS
 NAMES = ["", "a", "a" * MOST_LETTERS, "a" * (MOST_LETTERS + 1), "B", "b", "A B", "azAZ09_-", "\u00e4", "a\n", "."]
 WORDS = ["0" * 16, "0" * 15, "0" * 17, "g" + "0" * 15, "F" * 16, "f" * 16, "-" + "0" * 15, " " + "0" * 15]
 WEIGHTS = [[0, 0], [0, 1], [MOST_WEIGHT, 0], [MOST_WEIGHT - 1, 1], [MOST_WEIGHT, 1], [MOST_WEIGHT + 1, 0], [-1, 2], [1],
            [1, 1, 1], []]
-
-
-def least_value(kind: str, *more: Any) -> Any:
-    """Returns a small value of a kind, without a fault."""
-    if kind in ("table", "draws"):
-        least = {name: least_value(*its) for name, its in more[0].items()}
-        return {**least, "weights": [1]} if kind == "draws" else least
-    if kind == "policies":
-        return [least_value("table", more[0])]
-    if kind in formats.OWN_KINDS:
-        return {"version": formats.VERSIONS[-1], "key": ["0" * formats.DIGITS_OF_WORD] * formats.WORDS_OF_KEY,
-                "ring": 1, "name": "A"}[kind]
-    return [more[0] + 1] if kind == "numbers" else more[0]
-
-
-def least_scenario(version: int = formats.VERSIONS[-1]) -> dict[str, Any]:
-    """Returns a scenario's tree of a version: each number is at its least, each list has one entry."""
-    return {**least_value("table", formats.SHAPES[version]), "version": version}
 
 
 def a_scenario(version: int) -> Tree:
@@ -65,7 +48,7 @@ def with_value(tree: Tree, path: list[Any], value: Any) -> Tree:
     return tree
 
 
-def table_ends(tree: Tree, path: list[Any], keys: formats.Shape) -> Iterator[Tree]:
+def table_ends(tree: Tree, path: list[Any], keys: Shape) -> Iterator[Tree]:
     """Yields the tree with each number of a table at its ends."""
     for key, (kind, *more) in keys.items():
         place = [*path, key]
@@ -84,7 +67,7 @@ def table_ends(tree: Tree, path: list[Any], keys: formats.Shape) -> Iterator[Tre
 def scenario_ends() -> Iterator[Tree]:
     """Yields trees of scenarios with one number, name, word, list or count at an end."""
     for version in formats.VERSIONS:
-        tree, shape = a_scenario(version), formats.SHAPES[version]
+        tree, shape = a_scenario(version), SHAPES[version]
         yield tree
         yield from table_ends(tree, [], shape)
         yield from (with_value(tree, ["version"], it) for it in around(version, version))

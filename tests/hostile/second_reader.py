@@ -13,6 +13,8 @@ from typing import Any, NamedTuple
 
 from crnplan import formats
 
+from tests.shapes import SHAPES, Shape
+
 Tree = dict[str, Any]
 
 MARK = b"\xef\xbb\xbf"
@@ -111,7 +113,7 @@ def key_faults(value: Any) -> set[int]:
     return set() if len(value) == formats.WORDS_OF_KEY and all(map(formats.WORD.fullmatch, value)) else {6}
 
 
-def policies_faults(value: Any, keys: formats.Shape) -> set[int]:
+def policies_faults(value: Any, keys: Shape) -> set[int]:
     """Returns the faults of a list of policies, each by itself."""
     if not isinstance(value, list):
         return {5}
@@ -141,7 +143,7 @@ def value_faults(value: Any, kind: str, *more: Any) -> set[int]:
     return policies_faults(value, *more)
 
 
-def table_faults(table: Tree, keys: formats.Shape) -> set[int]:
+def table_faults(table: Tree, keys: Shape) -> set[int]:
     """Returns the faults of a table's keys and of their values."""
     faults = {3} if table.keys() - keys.keys() else set()
     faults |= {4} if keys.keys() - table.keys() else set()
@@ -171,7 +173,7 @@ def scenario_of(data: bytes) -> tuple[int, Tree | None]:
         return 1, None
     if not is_integer(tree.get("version")) or tree["version"] not in formats.VERSIONS:
         return 2, None
-    faults = table_faults(tree, formats.SHAPES[tree["version"]])
+    faults = table_faults(tree, SHAPES[tree["version"]])
     # Values are compared with each other only if each is of its kind. The faults up to 5 are below those that this
     # finds.
     if not faults & {3, 4, 5}:

@@ -9,15 +9,6 @@ import tomllib
 from collections.abc import Iterable
 from dataclasses import dataclass
 from pathlib import Path
-from typing import Any
-
-# What stands at each key of a table: a kind, then the limits of a number or of the numbers of a list, or the shape of a
-# table.
-Shape = dict[str, tuple[Any, ...]]
-
-# Keys that are judged by rules of their own, by which their kind is named.
-OWN_KINDS = ("version", "key", "ring", "name")
-
 
 @dataclass(frozen=True)
 class Key:
@@ -39,26 +30,9 @@ def limits(table: str, name: str) -> tuple[int, int]:
     return (limits(table, low)[0] if isinstance(low, str) else low), high
 
 
-def _shape(version: int) -> Shape:
-    """Returns what stands at each key of the document in a version.
-
-    A table has the kind `table`, `draws` (values with weights) or `policies`, and its keys in the same way.
-    """
-    tables: dict[str, Shape] = {}
-    for key in (key for key in KEYS if key.since <= version):
-        kind = "numbers" if key.table in DRAWS else "number"
-        rule = (key.name,) if key.name in OWN_KINDS else (kind, *limits(key.table, key.name))
-        tables.setdefault(key.table, {})[key.name] = rule
-    document = tables.pop("")
-    for name, shape in tables.items():
-        document[name] = ("policies" if name == "policy" else "draws" if name in DRAWS else "table", shape)
-    return document
-
-
 def version_with(names: Iterable[str]) -> int:
     """Returns the first version that has all those of these keys of the document that some version has."""
-    known = SHAPES[VERSIONS[-1]].keys() & set(names)
-    return next(version for version in VERSIONS if known <= SHAPES[version].keys())
+    return max(SINCE.get(name, VERSIONS[0]) for name in ("version", *names))
 
 
 def status_of(fault: str) -> int:
@@ -77,7 +51,8 @@ KEYS: tuple[Key, ...] = tuple(
 _RANGES = {(key.table, key.name): key.ranges for key in KEYS}
 DRAWS: tuple[str, ...] = tuple(key.table for key in KEYS if key.name == "values")
 COSTS: tuple[str, ...] = tuple(key.name for key in KEYS if key.table == "costs")
-SHAPES: dict[int, Shape] = {version: _shape(version) for version in VERSIONS}
+# The keys of the document, tables among them, in order, each with the first version that has it.
+SINCE: dict[str, int] = {key.table or key.name: key.since for key in KEYS}
 POLICIES: tuple[int, int] = (_SCENARIO["policies"][0], _SCENARIO["policies"][1])
 WEIGHT_SUMS: tuple[int, int] = (int(_RANGES["demand", "weights"][1][0]), _RANGES["demand", "weights"][1][1])
 WORDS_OF_KEY: int = _SCENARIO["words_of_key"]

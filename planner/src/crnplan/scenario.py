@@ -38,7 +38,7 @@ Policies = Iterable[object] | Mapping[str, tuple[int, int]] | Result
 # What is said of all figures of a scenario.
 BY_ITS_LAWS = "by this law of demand, and this law of lead times; crnplan doubt says what else a history allows"
 # The fields that `Scenario.changed` takes.
-CHANGEABLE = (*(name for name in formats.SHAPES[formats.VERSIONS[-1]] if name != "policy"), "policies")
+CHANGEABLE = (*(name for name in formats.SINCE if name != "policy"), "policies")
 
 
 @dataclass(frozen=True)

@@ -115,23 +115,21 @@ CHECKS: dict[str, Check] = {"version": lambda path, value: [], "key": _key_fault
                             "name": name_faults}
 
 
-def _rule(kind: str, *more: Any) -> Key | Table:
-    """Returns what may stand at a key of a kind, given its range, or its shape if it is a table."""
-    if kind in CHECKS:
-        return Key(CHECKS[kind], needed=kind != "version")
-    if kind in ("number", "numbers"):
-        return Key((number if kind == "number" else numbers)(*more), needed=True)
-    keys = {name: _rule(*shape) for name, shape in more[0].items()}
-    if kind == "policies":
-        return Table(keys, True, is_list=True, joint=_levels_faults, joint_of_list=_policies_faults)
-    return Table(keys, True, joint=_draws_faults) if kind == "draws" else Table(keys, True)
-
-
 def _rules(version: int) -> Table:
     """Returns the rules of a version's scenarios."""
-    shape, newest = formats.SHAPES[version], formats.SHAPES[formats.VERSIONS[-1]]
-    newer = {key: f"write version = {formats.version_with([key])}, which has {key}" for key in newest.keys() - shape}
-    return Table({key: _rule(*kind) for key, kind in shape.items()}, elsewhere=newer)
+    tables: dict[str, dict[str, Key | Table]] = {}
+    for key in formats.KEYS:
+        if key.since <= version:
+            in_range = numbers if key.table in formats.DRAWS else number
+            check = CHECKS.get(key.name) or in_range(*formats.limits(key.table, key.name))
+            tables.setdefault(key.table, {})[key.name] = Key(check, needed=key.name != "version")
+    document = tables.pop("")
+    document |= {name: Table(keys, True, joint=_draws_faults) if name in formats.DRAWS else Table(keys, True)
+                 for name, keys in tables.items()}
+    document["policy"] = Table(tables["policy"], True, is_list=True, joint=_levels_faults,
+                               joint_of_list=_policies_faults)
+    newer = {key: f"write version = {since}, which has {key}" for key, since in formats.SINCE.items() if since > version}
+    return Table(document, elsewhere=newer)
 
 
 NEWEST = _rules(formats.VERSIONS[-1])
@@ -140,11 +138,10 @@ JUDGES = {version: Judge(_rules(version), NEWEST, says_both=True) for version in
 
 def _advice_on_version() -> str:
     """Returns what to write as the version, with the tables that each adds."""
-    ways, before = list[str](), formats.SHAPES[formats.VERSIONS[0]]
+    first, ways = formats.VERSIONS[0], list[str]()
     for version in formats.VERSIONS:
-        added = [key for key in formats.SHAPES[version] if key not in before]
-        ways.append(f"version = {version}" + (f" with a table {' and '.join(added)}" if added else ""))
-        before = formats.SHAPES[version]
+        added = [key for key, since in formats.SINCE.items() if first < since == version]
+        ways.append(f"version = {version}" + f" with a table {' and '.join(added)}" * bool(added))
     return f"write {', or '.join(ways)}, above the first table"
 
 
