@@ -7,6 +7,8 @@ import math
 import pickle
 from collections.abc import Sequence
 from dataclasses import replace
+from functools import partial
+from typing import Any
 
 import numpy as np
 import pytest
@@ -30,6 +32,8 @@ from crnplan.words import sentence
 from planner.tests.demand.made import (RARE, TRUE_MEAN, TRUE_SHARE, TRUE_SIZE, chances_of, check_law, history,
                                        logarithms)
 
+ONE_STEP = partial(grid.estimated, steps=1, blur=0)
+
 
 @pytest.fixture(scope="module")
 def known() -> Prior:
@@ -50,11 +54,6 @@ def borrowed(law: FittedLaw) -> Borrowed:
     return law.diagnostics.borrowed
 
 
-def one_step(chunks: Sequence[Cells], prior: Floats, pull: Floats) -> Floats:
-    """Returns the mean of the posterior laws of all histories, and of items that have the flat prior."""
-    return grid.estimated(chunks, prior, pull, steps=1, blur=0)
-
-
 def reason(law: FittedLaw) -> str:
     """Returns in words why the law of an item alone is taken; empty if it is not."""
     alone = borrowed(law).alone
@@ -65,7 +64,7 @@ def test_learned_prior(mixed: dict[str, list[int]]) -> None:
     """The prior is that of a hundred steps from the flat one, each blurred by 5%, with the flat prior as one item."""
     chunks, prior = chunks_of(Sample.of(it) for it in mixed.values()), grid.FLAT
     for _ in range(100):
-        prior = grid.blurred(one_step(chunks, prior, grid.FLAT), 0.05)
+        prior = grid.blurred(ONE_STEP(chunks, prior, grid.FLAT), 0.05)
     whole = learn(mixed).whole
     assert whole and np.allclose(whole.chances, prior, rtol=1e-5, atol=1e-9)
     gains = np.log10(marginal(chunks, prior) / marginal(chunks, grid.FLAT))
@@ -89,8 +88,8 @@ def test_many_histories_in_chunks(monkeypatch: pytest.MonkeyPatch, mixed: dict[s
     monkeypatch.setattr("crnplan.demand.grid.CHUNK", 7)
     parts = chunks_of(samples)
     assert (len(whole), len(parts)) == (1, 19)
-    prior = one_step(whole, grid.FLAT, grid.FLAT)
-    assert np.allclose(one_step(parts, grid.FLAT, grid.FLAT), prior, rtol=1e-9, atol=0)
+    prior = ONE_STEP(whole, grid.FLAT, grid.FLAT)
+    assert np.allclose(ONE_STEP(parts, grid.FLAT, grid.FLAT), prior, rtol=1e-9, atol=0)
     assert marginal(parts, prior) == pytest.approx(marginal(whole, prior))
 
 
@@ -142,7 +141,7 @@ def test_known_law_of_an_item(known: Prior) -> None:
     assert rejected <= 1 and ours < 0.03 and alone > 2 * ours
 
 
-def test_order_and_names(mixed: dict[str, list[int]]) -> None:
+def test_order_and_names(monkeypatch: pytest.MonkeyPatch, mixed: dict[str, list[int]]) -> None:
     """Neither the order of items, nor their names, nor the order of periods change a byte of the prior."""
     expected = learn(mixed).text
     names = [*mixed]
@@ -151,10 +150,7 @@ def test_order_and_names(mixed: dict[str, list[int]]) -> None:
     assert learn(np.array(mixed[name]) for name in names).text == expected
     assert learn([mixed[name][::-1] for name in names]).text == expected
     assert learn([Observed(tuple(mixed[name]), (None,) * len(mixed[name]), (), ()) for name in names]).text == expected
-
-
-def test_large_catalogue(monkeypatch: pytest.MonkeyPatch, mixed: dict[str, list[int]]) -> None:
-    """Of more items than are estimated on, those drawn depend on the seed alone, not on the order."""
+    # Of more items than are estimated on, those drawn depend on the seed alone.
     monkeypatch.setattr(learning, "MOST_ITEMS", 60)
     prior = learn(mixed)
     assert prior.whole and (prior.items, prior.whole.items, prior.whole.sampled) == (130, 130, 60)
@@ -200,28 +196,23 @@ def test_damaged_text(damage: object, message: str, known: Prior) -> None:
     assert str(refused.value).startswith(f"prior.json: {message}")
 
 
-def test_refused_catalogues(mixed: dict[str, list[int]]) -> None:
+@pytest.mark.parametrize("items, words, message", [
+    (57, {}, "there are 57 items to learn from, and it takes 100; ask for it with least=57, or fit each alone with "
+     'borrow="none"'),
+    (57, {"least": 29}, "a law cannot be learned from 29 items; the least is 30"),
+    (29, {"least": 30}, r"there are 29 items to learn from \(4 more have larger sizes .*\), and it takes 30; fit each "
+     "item alone,"),
+    (130, {"borrow": "some"}, "there is no way to borrow 'some'; say none, class or all"),
+    (130, {"borrow": "class"}, "there are no classes to borrow from"),
+    (130, {"borrow": "class", "classes": ["a"] * 130}, "give classes by item if the histories are by item"),
+    (130, {"borrow": "class", "classes": {}, "histories": [[1]] * 130}, "give classes by item if the histories are by"),
+    (130, {"borrow": "class", "classes": ["a", "b"], "histories": [[1]] * 130},
+     "there are 130 histories and 2 classes; give one for each")])
+def test_refused_catalogues(items: int, words: dict[str, Any], message: str, mixed: dict[str, list[int]]) -> None:
     """What cannot be learned from is refused, with what to do."""
-    few = {name: mixed[name] for name in [*mixed][:57]}
-    message = ("there are 57 items to learn from, and it takes 100; ask for it with least=57, or fit each alone "
-               'with borrow="none"')
+    histories = dict([*mixed.items()][:items]) | ({f"large {it}": [0, 500] for it in range(4)} if items == 29 else {})
     with pytest.raises(Refused, match=message):
-        learn(few)
-    assert learn(few, least=57).items == 57
-    with pytest.raises(Refused, match="a law cannot be learned from 29 items; the least is 30"):
-        learn(few, least=29)
-    large = {f"large {it}": [0, 500] for it in range(4)}
-    message = r"there are 29 items to learn from \(4 more have larger sizes .*\), and it takes 30; fit each item alone,"
-    with pytest.raises(Refused, match=message):
-        learn({**{name: mixed[name] for name in [*mixed][:29]}, **large}, least=30)
-    with pytest.raises(Refused, match="there is no way to borrow 'some'; say none, class or all"):
-        learn(mixed, borrow="some")
-    with pytest.raises(Refused, match="there are no classes to borrow from"):
-        learn(mixed, borrow="class")
-    with pytest.raises(Refused, match="give classes by item if the histories are by item"):
-        learn(mixed, ["a"] * 130, "class")
-    with pytest.raises(Refused, match="there are 130 histories and 2 classes; give one for each"):
-        learn(mixed.values(), ["a", "b"], "class")
+        learn(**{"histories": histories} | words)
 
 
 def test_refused_histories(mixed: dict[str, list[int]]) -> None:
@@ -242,6 +233,7 @@ def test_outside_the_grid(mixed: dict[str, list[int]]) -> None:
     large = {"large": [0, 90, 0, 180], "larger": [0, 20_000] + [1] * 400}
     prior = learn({**mixed, **large})
     assert prior.whole and (prior.items, prior.outside, prior.whole.items) == (132, 2, 130)
+    assert learn([*mixed.values()][:57], least=57).items == 57
     assert prior.whole.units.tolist() == learn(mixed).whole.units.tolist()  # type: ignore[union-attr]
     law = law_of(prior, large["large"])
     assert reason(law) == "the mean size of a demand is above 101" and borrowed(law).log10_bayes is None
@@ -275,7 +267,7 @@ def test_law_of_the_item_alone(numbers: list[int], alone: str, known: Prior) -> 
 def test_entry_point(known: Prior) -> None:
     """fit_demand borrows from a prior, which replaces its method."""
     law, expected = crn.fit_demand(RARE, borrow=known, item_class="a"), law_of(known, RARE, "a")
-    assert law == expected and law.diagnostics == expected.diagnostics and crn.learn is learn and crn.Prior is Prior
+    assert law == expected and law.diagnostics == expected.diagnostics
     with pytest.raises(Refused, match="a law is either borrowed or fitted by the method 'poisson'; leave one out"):
         crn.fit_demand(RARE, method="poisson", borrow=known)
 
@@ -446,3 +438,62 @@ def test_any_history(numbers: list[int], known: Prior) -> None:
     law = law_of(known, numbers, beside=False)
     check_law(law, None)
     assert law == law_of(known, iter(numbers), beside=False)
+
+
+@settings(max_examples=20)
+@given(numbers=st.lists(st.integers(0, 300), min_size=1, max_size=60))
+def test_likelihoods(numbers: list[int]) -> None:
+    """The likelihoods at all points are those of scipy's laws, but for a factor."""
+    samples, expected = [Sample.of(numbers)], logarithms(numbers)
+    found = np.outer(grid.share_likelihoods(samples)[0], grid.size_likelihoods(samples)[0])
+    assert found.max() == 1 and np.allclose(found, np.exp(expected - expected.max()), rtol=1e-6, atol=1e-12)
+
+
+def test_points() -> None:
+    """The points are even in the logit of the share and in the logarithm of the mean, within the ranges."""
+    steps = np.diff(special.logit(grid.SHARES).ravel())
+    assert steps == pytest.approx(12 / 240) and special.logit(grid.SHARES[0, 0]) == pytest.approx(-5.5 + 12 / 480)
+    means = np.log(grid.SIZE_MEANS[::8].ravel())
+    step = math.log(100 / 0.05) / 192
+    assert np.diff(means) == pytest.approx(step) and means[-1] == pytest.approx(math.log(100) - step / 2)
+    assert grid.SIZE_DISPERSIONS[:9, 0].tolist() == [0.4, 0.7, 1, 1.6, 3, 6, 15, 60, 0.4]
+
+
+@pytest.mark.parametrize("cell", [0, 5, 90, 188, 191])
+def test_size_laws(cell: int) -> None:
+    """The laws of sizes are negative binomial from 1 on, all but a tail."""
+    law, size = grid.size_laws()[cell], grid.SIZE_DISPERSIONS[cell, 0]
+    for row, mean in zip(law, grid.SIZE_MEANS[cell]):
+        expected = stats.nbinom.pmf(np.arange(len(row)), size, size / (size + mean))
+        assert np.allclose(row, expected, rtol=0, atol=1e-8) and 1 - expected.sum() < 1.01e-9
+
+
+@settings(max_examples=25)
+@given(histories=st.lists(st.lists(st.integers(0, 60), min_size=1, max_size=30), min_size=2, max_size=12),
+       flat=st.sampled_from([0.0, 1.0]))
+def test_each_step_raises_the_likelihood(histories: list[list[int]], flat: float) -> None:
+    """Without a blur no step makes the histories less likely, with the flat items that count beside thgrid."""
+    chunks = chunks_of(Sample.of(it) for it in histories)
+    prior, last = grid.FLAT, -math.inf
+    for _ in range(15):
+        likelihood = float(np.log(marginal(chunks, prior)).sum())
+        if flat:
+            likelihood += float(flat * (grid.FLAT * np.log(prior)).sum())
+        assert likelihood >= last - 1e-9
+        prior, last = ONE_STEP(chunks, prior, flat * grid.FLAT), likelihood
+    assert prior.sum() == pytest.approx(1) and prior.min() >= 0
+
+
+@settings(max_examples=20)
+@given(seed=st.integers(0, 1000), part=st.floats(0, 0.3))
+def test_blur(seed: int, part: float) -> None:
+    """The blur is a random walk by one cell on each axis, which stays where it would leave the grid."""
+    prior = np.random.default_rng(seed).dirichlet(np.full(grid.FLAT.size, 0.01)).reshape(grid.FLAT.shape)
+    walks = []
+    for cells in grid.SHAPE:
+        walk = np.diag(np.full(cells, 1 - 2 * part)) + part * (np.eye(cells, k=1) + np.eye(cells, k=-1))
+        walk[0, 0] += part
+        walk[-1, -1] += part
+        walks.append(walk)
+    expected = np.einsum("abc,ai,bj,ck->ijk", prior.reshape(grid.SHAPE), *walks, optimize=True)
+    assert np.allclose(grid.blurred(prior, part).reshape(grid.SHAPE), expected, rtol=0, atol=1e-14)

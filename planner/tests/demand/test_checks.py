@@ -5,7 +5,7 @@ import bisect
 import math
 import time
 from collections.abc import Sequence
-from datetime import date, timedelta
+from datetime import date
 from pathlib import Path
 from typing import Any
 
@@ -16,7 +16,7 @@ from hypothesis import strategies as st
 from scipy import optimize, stats
 
 import crnplan as crn
-from crnplan.demand.checks import (STUDIED, Check, Checks, Season, check_history, loss_of, losses, outliers_of,
+from crnplan.demand.checks import (STUDIED, Check, Checks, Loss, Season, check_history, loss_of, losses, outliers_of,
                                    remarks_of, rosner_bound, seasons_of)
 from crnplan.demand.permutation import (Orders, Tilted, autocorrelation_seen, bound_of, drawn_orders, least_seen,
                                         p_value, season_seen, statistics_of, trend_seen)
@@ -48,14 +48,9 @@ ERRATIC = RANDOM.negative_binomial(1.5, 1 / 3, 104).tolist()
 RARE = np.where(RANDOM.random(104) < 0.2, RANDOM.geometric(1 / 8, 104), 0).tolist()
 
 
-def history_of(numbers: Sequence[int], first: date, every: str, folder: Path) -> crn.History:
-    """Writes a history with a movement in each period, and reads it."""
-    days = [date(first.year + month // 12, month % 12 + 1, 1) for month in range(first.month - 1, len(numbers) + 12)]
-    if every != "month":
-        days = [first + timedelta((7 if every == "week" else 1) * it) for it in range(len(numbers))]
-    path = folder / "history.csv"
-    path.write_text("at,n\n" + "".join(f"{day},{number}\n" for day, number in zip(days, numbers)))
-    return crn.read_history(path, demand="n", date="at", every=every)
+def history_of(numbers: Sequence[int], first: date, every: str) -> crn.History:
+    """Returns a history whose first period has a day."""
+    return crn.History(tuple(numbers), (None,) * len(numbers), (), (), every, period_of(first, every))
 
 
 def named(checks: Checks, name: str) -> Any:
@@ -74,7 +69,10 @@ def seasons(length: int, first: date, every: str) -> list[Season]:
 
 
 def test_quiet_history() -> None:
-    """A history of independent periods of one law has no warning, and says what would have been seen."""
+    """A history of independent periods of one law has no warning, and says what would have been seen. A test warns up
+    to 5% over the number of tests."""
+    tests = [Check(str(p), p, 0.0, {}) for p in (0.0125, 0.0126, 0.05, 0.9)]
+    assert Checks(9, 9, tuple(tests)).warned == ("0.0125",) and Checks(9, 9, tuple(tests[:1])).level == 0.05
     checks = check_history(STEADY, season=52)
     assert (checks.warnings, checks.notes, checks.warned) == ((), (), ())
     assert (checks.periods, checks.demands, checks.level) == (208, 208, 0.0125)
@@ -83,13 +81,6 @@ def test_quiet_history() -> None:
     assert line == ("demand: no warning is no proof: in 8 of 10 such histories the tests see an autocorrelation of "
                     f"{sizes[0]}, a trend from {1 - sizes[1]:.0%} to {1 + sizes[1]:.0%} of the mean and a season of "
                     f"±{sizes[2]:.0%}")
-
-
-def test_level() -> None:
-    """A test warns up to 5% over the number of tests."""
-    tests = [Check(str(p), p, 0.0, {}) for p in (0.0125, 0.0126, 0.05, 0.9)]
-    assert Checks(9, 9, tuple(tests), (), (), ()).warned == ("0.0125",)
-    assert Checks(9, 9, tuple(tests[:1]), (), (), ()).level == 0.05
 
 
 def test_trend() -> None:
@@ -119,9 +110,9 @@ def test_shift() -> None:
     assert not any(it.code == "trend" for it in checks.warnings)
 
 
-def test_shift_with_dates(tmp_path: Path) -> None:
+def test_shift_with_dates() -> None:
     """With dates, the period has its name and the advice the option with its first day."""
-    checks = check_history(history_of([3] * 40 + [9, 8] * 10, date(2025, 1, 6), "week", tmp_path))
+    checks = check_history(history_of([3] * 40 + [9, 8] * 10, date(2025, 1, 6), "week"))
     assert "from 2025-W42 on the mean is 183% above that before" in said(checks.warnings)[0]
     assert "(start=2025-10-13)" in said(checks.warnings)[0]
     assert said(checks.unknown)[-1] == "a season is tested from 104 weeks on"
@@ -143,28 +134,26 @@ def test_season() -> None:
     assert checks.warned == ("autocorrelation", "season") and len(checks.warnings) == 2
     assert said(checks.warnings)[1].endswith("What the other warnings say may be why")
     assert "no season was tested" in said(check_history(SEASONAL).unknown)[-1]
-
-
-def test_trend_beside_a_season() -> None:
-    """A trend is named beside a season."""
     both = RANDOM.poisson(10 * (1 + 0.6 * SINE) * np.linspace(0.6, 1.4, 208)).tolist()
     assert {"trend", "season"} <= {*check_history(both, season=52).warned}
 
 
-def test_quarters_of_months(tmp_path: Path) -> None:
-    """Months are divided by the quarters of the calendar, whichever month comes first."""
-    numbers = [30 if month % 12 in (9, 10, 11) else 10 for month in range(2, 38)]
-    numbers = [it + place % 3 for place, it in enumerate(numbers)]
-    checks = check_history(history_of(numbers, date(2023, 3, 1), "month", tmp_path))
+def test_quarters() -> None:
+    """Months are divided by the quarters of the calendar, whichever month comes first. The week from 2024-12-30 is in
+    January, and that from 2024-04-29 in the second quarter: weeks belong to the quarter of their Thursday."""
+    numbers = [(30 if month % 12 in (9, 10, 11) else 10) + (month - 2) % 3 for month in range(2, 38)]
+    checks = check_history(history_of(numbers, date(2023, 3, 1), "month"))
     assert "times the mean from October to December, " in said(checks.warnings)[0]
-    parts = seasons(36, date(2023, 3, 1), "month")[0].parts
-    assert parts[:11] == (0, 1, 1, 1, 2, 2, 2, 3, 3, 3, 0)
+    months, = seasons(36, date(2023, 3, 1), "month")
+    weeks, = seasons(120, date(2024, 1, 1), "week")
+    assert months.parts[:11] == (0, 1, 1, 1, 2, 2, 2, 3, 3, 3, 0)
+    assert weeks.parts[12:14] == (0, 1) and weeks.parts[51:53] == (3, 0)
 
 
-def test_weekdays(tmp_path: Path) -> None:
+def test_weekdays() -> None:
     """Days are divided by weekdays from two weeks on, and by quarters from two years on."""
     numbers = [0 if it % 7 > 4 else 5 + it % 3 for it in range(70)]
-    checks = check_history(history_of(numbers, date(2025, 1, 6), "day", tmp_path))
+    checks = check_history(history_of(numbers, date(2025, 1, 6), "day"))
     assert said(checks.warnings)[0].startswith("demand follows the weekdays: 1.4 times the mean on ")
     assert "0 times on Sat" in said(checks.warnings)[0] and "Take weeks (every=week)" in said(checks.warnings)[0]
     assert said(checks.unknown)[-1] == "a season is tested from 730 days on" and named(checks, "weekday").p < 0.002
@@ -175,16 +164,9 @@ def test_weekdays(tmp_path: Path) -> None:
     assert not short and said(untested)[0] == "weekdays are tested from 14 days on"
 
 
-def test_weeks_belong_to_the_quarter_of_their_thursday() -> None:
-    """The week from 2024-12-30 is in January, and that from 2024-04-29 in the second quarter."""
-    season, = seasons(120, date(2024, 1, 1), "week")
-    assert season.parts[12:14] == (0, 1) and season.parts[51:53] == (3, 0)
-
-
-def test_season_of_a_named_length(tmp_path: Path) -> None:
+def test_season_of_a_named_length() -> None:
     """A named length takes the place of the calendar's, counts from the first period, and needs two seasons."""
-    history = history_of([4, 1, 1, 1, 1] * 8, date(2025, 1, 6), "week", tmp_path)
-    checks = check_history(history, season=5)
+    checks = check_history(history_of([4, 1, 1, 1, 1] * 8, date(2025, 1, 6), "week"), season=5)
     assert checks.warned[-1] == "season" and "2.5 times the mean in period 1 of 5" in said(checks.warnings)[0]
     assert said(check_history([1, 2] * 10, season=11).unknown)[-1] == "a season is tested from 22 periods on"
     assert "season" in [it.name for it in check_history([1, 2] * 11, season=11).tests]
@@ -221,22 +203,18 @@ def test_losses() -> None:
 
 def test_words_of_losses() -> None:
     """A sentence has the figures of a loss in their places, with their signs in words."""
-    def advice(name: str, **facts: Any) -> str:
-        """Returns the advice of a warning with some facts."""
-        return advised(Remark(name, {"p": 0.001, "change": 0.5, "name": "period 9", "beside": 0, **facts}))
-    trend = {"effect": "trend", "effect_size": 25, "effect_length": 0, "regret": 70.2, "promise": -37.1, "level": 16.2}
-    assert advice("trend", study="steady", **trend).endswith(
+    def advice(*loss: Any) -> str:
+        """Returns the advice of a warning with a loss."""
+        facts = {"p": 0.001, "change": 0.5, "name": "period 9", "beside": 0, "unit": "quarter", "most": 1.2,
+                 "most_first": 1, "most_last": 1, "least": 0.8, "least_first": 4, "least_last": 4}
+        return advised(Remark(loss[0], facts | Loss(*loss)._asdict()))
+    assert advice("trend", "steady", 25, 0, 70.2, -37.1, 16.2).endswith(
         "In a study (Poisson, mean 10; trend +25%) such a plan cost 70% more than the best policy, whose S was 16% "
         "higher, and promised a cost 37% too low")
-    shift = {"effect": "shift", "effect_size": -25, "effect_length": 0, "regret": 6.4, "promise": 4.5, "level": -13.8}
-    assert advice("shift", study="erratic", **shift).endswith(
+    assert advice("shift", "erratic", -25, 0, 6.4, 4.5, -13.8).endswith(
         "In a study (negative binomial, mean 3, variance 9; shift -25%) such a plan cost 6.4% more than the best "
         "policy, whose S was 14% lower, and promised a cost 4.5% too high")
-    parts = {"unit": "quarter", "most": 1.2, "most_first": 1, "most_last": 1, "least": 0.8, "least_first": 4,
-             "least_last": 4}
-    season = {"effect": "season", "effect_size": 60, "effect_length": 52, "regret": 29.3, "promise": -31.1,
-              "level": 12.6}
-    assert "season of ±60% in 52 periods" in advice("season", study="steady", **season, **parts)
+    assert "season of ±60% in 52 periods" in advice("season", "steady", 60, 52, 29.3, -31.1, 12.6)
 
 
 @pytest.mark.parametrize("counts, periods, chance", [
@@ -252,17 +230,6 @@ def test_no_recent_demand(counts: list[int], periods: int, chance: float) -> Non
     assert note.facts["chance"] == pytest.approx(chance, rel=0.01)
     shorter = counts[:len(counts) - periods] + [0] * (periods // 4)
     assert not any(it.code == "no recent demand" for it in check_history(shorter).notes)
-
-
-@settings(max_examples=40)
-@given(data=st.data())
-def test_remarks_of_a_catalogue(data: st.DataObject) -> None:
-    """They are the warnings and the notes of all checks, though most p values are not computed."""
-    numbers = data.draw(st.lists(st.integers(0, 9), min_size=1, max_size=30) | st.sampled_from(
-        [STEADY, RISING, RAISED, SEASONAL, CHAINED, RARE[:60], [0] * 40 + [5, 9] * 6, [3, 4] * 20]))
-    season = data.draw(st.sampled_from([None, 4, 52]))
-    checks = check_history(numbers, season=season)
-    assert remarks_of(numbers, season=season) == (*checks.warnings, *checks.notes)
 
 
 @pytest.mark.parametrize("numbers, notes", [
@@ -327,13 +294,16 @@ def test_nothing_to_test(numbers: list[int]) -> None:
     assert said(checks.unknown) == ([few] if len(numbers) < 8 else [])
 
 
-@settings(max_examples=60)
-@given(numbers=st.lists(st.integers(0, 10_000) | st.integers(0, 2), min_size=1, max_size=50),
-       season=st.none() | st.integers(2, 30))
+@settings(max_examples=100)
+@given(numbers=st.lists(st.integers(0, 10_000) | st.integers(0, 2), min_size=1, max_size=50) | st.sampled_from(
+    [STEADY, RISING, RAISED, SEASONAL, CHAINED, RARE[:60], [0] * 40 + [5, 9] * 6, [3, 4] * 20]),
+       season=st.sampled_from([None, 4, 52]) | st.integers(2, 30))
 def test_any_history(numbers: list[int], season: int | None) -> None:
-    """Each history has checks, always the same, with p values of 1 to 1,200 of 1,200."""
+    """Each history has checks, always the same, with p values of 1 to 1,200 of 1,200. Those of an item of a catalogue
+    have the same warnings and notes, though most p values are not computed."""
     checks = check_history(numbers, season=season)
     assert checks == check_history(iter(numbers), season=season)
+    assert remarks_of(numbers, season=season) == (*checks.warnings, *checks.notes)
     assert all(it.p * 1200 == pytest.approx(round(it.p * 1200)) and 0 < it.p <= 1 for it in checks.tests)
     assert all(it.startswith("demand: ") and "nan" not in it for it in checks.lines)
     assert not checks.tests or len(checks.tests) == 3 + (season is not None and 2 * season <= len(numbers))

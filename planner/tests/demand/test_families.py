@@ -17,7 +17,7 @@ from crnplan.demand.families import beta_negative_binomial, fits_of, greatest_me
 from crnplan.demand.fitting import fit_demand
 from crnplan.demand.posterior import allowed_laws
 from crnplan.demand.sample import Sample
-from planner.tests.demand.made import ERRATIC, HISTORIES
+from planner.tests.demand.made import HISTORIES
 
 BULKY = [0, 1, 0, 14, 2, 0, 0, 1, 0, 0, 19, 0, 3, 0, 1, 0, 0, 11, 0, 0, 1, 2, 0, 1, 0, 0]
 
@@ -232,15 +232,6 @@ def test_beta_negative_binomial(size: float, periods: int, total: int, most_mean
         expected = sum(integrate.quad(lambda p, value=value: law.pdf(p) * stats.nbinom.pmf(value, size, p), *ends,
                                       limit=400)[0] for ends in [(least, middle), (middle, 1)])
         assert chances[value] == pytest.approx(expected, rel=1e-6, abs=1e-12)
-
-
-def test_distances() -> None:
-    """The distance of Cramer and von Mises agrees with scipy's where the law is all but continuous."""
-    law = np.full(5000, 1 / 5000)
-    data = np.random.default_rng(5).integers(0, 5000, (3, 40))
-    found = guard.distances(np.sort(data), law)
-    expected = [stats.cramervonmises((it + 0.5) / 5000, "uniform").statistic for it in data]
-    assert found == pytest.approx(expected, rel=0.02)
 
 
 @settings(max_examples=50, deadline=None)

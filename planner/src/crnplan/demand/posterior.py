@@ -113,7 +113,7 @@ def members_of(name: str, fit: Fit, packs: Sample, random: np.random.Generator) 
 
 
 def end_of(sample: Sample) -> float:
-    """Returns where laws end at most, in largest demands seen: at that of 30,000 demands (as `fitting.cap_of`), so after
+    """Returns where laws end at most, in largest demands seen: at that of 30,000 demands (as `fitting.cap_of`). After
     few demands it may be many times the largest one seen."""
     return max(math.log(DEMANDS_OF_END) / math.log(sample.demands + 1), LEAST_END)
 
