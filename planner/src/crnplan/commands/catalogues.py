@@ -21,7 +21,7 @@ from ..plan.catalogue import Lost, plan_into
 from ..plan.item import plan_item
 from ..plan.question import Settings
 from ..plan.settings import CONFIG, as_setting, read_config
-from ..records.catalogue_reading import Catalogue, kinds_of, read_into
+from ..records.catalogue_reading import Catalogue, read_into
 from ..records.catalogued import CATALOGUE
 from ..records.cells import DECIMALS, EVERY
 from ..records.columns import ROLES
@@ -194,6 +194,18 @@ def words_of(asked: Mapping[str, Any], config: Mapping[str, Any]) -> tuple[Words
         """Returns the stated fields of a record."""
         return {it.name: stated[it.name] for it in fields(kind) if stated.get(it.name) is not None}
     return Words(**given(Words)), Settings(**given(Settings))
+
+
+def kinds_of(words: Sequence[str], option: str, example: str) -> dict[str, dict[str, str]]:
+    """Returns texts by file and role from words such as `demand.quantity=Menge`. Raises Refused."""
+    columns: dict[str, dict[str, str]] = {}
+    for word in words:
+        place, sign, name = word.partition("=")
+        kind, dot, role = place.strip().partition(".")
+        if not (sign and dot and name.strip()):
+            raise Refused(f"{option} {word!r} is not FILE.ROLE={example}")
+        columns.setdefault(kind, {})[role] = name.strip()
+    return columns
 
 
 def factors_of(words: Sequence[str]) -> dict[str, int]:

@@ -10,7 +10,7 @@ from dataclasses import dataclass, field
 from pathlib import Path
 from typing import TYPE_CHECKING, cast
 
-from ..errors import Fault, Refused, RefusedFaults, argument, worded
+from ..errors import Fault, RefusedFaults, argument, worded
 from ..files import Folder, faults_of, own_folder
 from ..table import Json
 from .catalogued import CATALOGUE, Catalogued, Writer
@@ -224,15 +224,3 @@ def _date_lines(rows: Rows, reader: DateReader) -> Iterator[str]:
         yield f"# of dates with slashes, {first}"
     if unclear:
         yield f"# dates that may have the day or the month first: {unclear:,}; say {formats}"
-
-
-def kinds_of(words: Sequence[str], option: str, example: str) -> dict[str, dict[str, str]]:
-    """Returns texts by file and role from words such as `demand.quantity=Menge`. Raises Refused."""
-    columns: dict[str, dict[str, str]] = {}
-    for word in words:
-        place, sign, name = word.partition("=")
-        kind, dot, role = place.strip().partition(".")
-        if not (sign and dot and name.strip()):
-            raise Refused(f"{option} {word!r} is not FILE.ROLE={example}")
-        columns.setdefault(kind, {})[role] = name.strip()
-    return columns

@@ -60,10 +60,10 @@ def read_lead_times(table: Table, *, lead: str | None = None, every: str | None 
     """Reads lead times in whole periods from a CSV file (`-` is standard input), a sheet or a DataFrame.
 
     With `lead`, the name of a column, each row is a lead time; if its heading names a unit of time, as `Days`, and
-    `every` is known, it is converted. Without it each row is an order, with the dates on which
-    it was placed and received, and `every` is day, week or month. An order that was placed on any day of period t and
-    received on any day of period t + L has lead time L, and 1 if both fell in one period. Orders not yet received are
-    left out, with a note. Further words are those of `Rules`. Raises RefusedFaults with all faults of the file.
+    `every` is known, it is converted. Without it each row is an order, with the dates on which it was placed and
+    received, and `every` is day, week or month. An order that was placed on any day of period t and received on any day
+    of period t + L has lead time L, and 1 if both fell in one period. Orders not yet received are left out, with a
+    note. Further words are those of `Rules`. Raises RefusedFaults with all faults of the file.
     """
     rules = Rules(delimiter, encoding, decimal, tuple(date_formats), item or {}, leave_out)
     if lead is None and every not in EVERY:
@@ -118,7 +118,6 @@ class Movements(Reading):
         """Reads the movements. Raises RefusedFaults."""
         super().__init__(sheet, {**names, "date": date})
         self.every, self.reader = every, self.rows.date_reader()
-        self.has_rest = sum(map(bool, self.rows.source.heading)) > len(names)
         self.skip_blank()
         columns: dict[str, list[Any]] = {"date": self.read("date", self.reader.read)}
         columns |= {role: self.amounts(role, "negative movement", None if net else 0) for role in names}
@@ -256,7 +255,7 @@ def _orders(reading: Reading, every: str) -> LeadTimes:
     reading.skip_blank()
     orders = len(reading.chosen)
     received = [row for row in reading.chosen if reading.text("received", row)]
-    if not received:
+    if reading.chosen and not received:
         raise reading.refused(reading.chosen[0], "received", "no order has a date of receipt; take orders of longer "
                               "ago")
     reading.chosen, reading.count = received, reading.count - orders + len(received)
@@ -275,7 +274,6 @@ def _orders(reading: Reading, every: str) -> LeadTimes:
     reading.note(f"lead times in {every}s: {len(rows)}, orders not yet received and left out: {orders - len(received)}")
     for role in dates:
         reading.note_forms(role, rows, kept[role])
-    reading.has_rest = True
     reading.note_twins(rows)
     places = reading.places([reading.cell(row, "received", f"the lead time of {number} {every}s since the order of "
                                           f"{reading.text('ordered', row)}")

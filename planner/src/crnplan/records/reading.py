@@ -1,6 +1,8 @@
 """Reads the rows of one item as amounts and dates, and collects all faults and notes in one pass."""
 from __future__ import annotations
 
+import csv
+import io
 from collections.abc import Callable, Iterator, Mapping, Sequence
 from dataclasses import replace
 from itertools import compress
@@ -14,7 +16,7 @@ from .cells import Cell, other_reading, text_of
 from .columns import DAYS, NO_ROW, Column, bare_name, factor_of, headed, plain_name, stated_columns
 from .faults import MOST_NAMED, TOTAL, RefusedFiles, Reject, Unreadable, named_lines, said, shown
 from .observed import Day
-from .rows import TIMES_NEXT, Rows, far_above
+from .rows import DATES, TIMES_NEXT, Rows, far_above
 from .sources import Sheet
 
 Value = TypeVar("Value")
@@ -47,7 +49,8 @@ class Reading:
         except RefusedFaults as refused:
             # What else is wrong may come from the encoding.
             raise RefusedFaults([sheet.fault] if sheet.fault else refused.faults) from refused
-        self.lines, self.has_rest = self.rows.lines.tolist(), sum(map(bool, source.heading)) > len(names)
+        self.lines = self.rows.lines.tolist()
+        self.has_rest = sum(map(bool, source.heading)) > sum(role not in DATES for role in names)
         self._faults, self._notes = list[Said](), list[Said]()
         if source.titles:
             texts = ", ".join(repr(shown(" ".join(filter(None, cells)))) for _, cells in source.titles)
@@ -177,8 +180,9 @@ class Reading:
     def total_reason(self, row: int, number: int | None, others: Sequence[int]) -> str | None:
         """Returns why a row looks like a total of the rows above, the numbers of which are given; None if it
         doesn't."""
-        cells = self.sheet.cells(self.sheet.texts([self.lines[row]])[self.lines[row]])
-        word = next((it for it in cells if TOTAL.match(it)), None)
+        text = io.StringIO(self.sheet.texts([self.lines[row]])[self.lines[row]], newline="")
+        cells: list[str] = next(csv.reader(text, delimiter=self.sheet.delimiter, skipinitialspace=True), [])
+        word = next((cell.strip() for cell in cells if TOTAL.match(cell)), None)
         if word is not None:
             return f"it has {shown(word)!r}"
         is_sum = len(others) >= LEAST_SUMMED and number == sum(others) and sum(map(bool, others)) > 1

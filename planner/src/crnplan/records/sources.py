@@ -244,10 +244,10 @@ def stored(cell: Any) -> Cell:
 
 class Sheet:
     """A table before its columns are known: its name in messages, how it is written, the rules by which it is read, and
-    what is wrong with its bytes. This one has no text of its own: its cells are parted by commas in messages."""
+    what is wrong with its bytes. One that has no text of its own has cells with commas between them in messages."""
 
     def __init__(self, name: str, written: str, rules: Rules) -> None:
-        self.name, self.written, self.rules, self.sign = name, written, rules, ","
+        self.name, self.written, self.rules, self.delimiter, self.sign = name, written, rules, ",", ","
         self.fault: Fault | None = None
 
     def head(self, wanted: Sequence[str], role_of: RoleOf) -> list[Row]:
@@ -267,10 +267,6 @@ class Sheet:
         """Returns the line and the column in which a cell of a row begins, by the text of the row."""
         return line, place + 1
 
-    def cells(self, text: str) -> list[str]:
-        """Returns the cells of a row, by its text."""
-        return [cell.strip() for cell in text.split(",")]
-
 
 class TextSheet(Sheet):
     """A CSV file."""
@@ -280,7 +276,7 @@ class TextSheet(Sheet):
         self.encoding, self.text, fault = head_of(path, name, rules)
         super().__init__(name, self.encoding, rules)
         self.fault = fault
-        self.delimiter = DELIMITERS[rules.delimiter] if rules.delimiter else ","
+        self.delimiter = DELIMITERS[rules.delimiter or ","]
 
     def head(self, wanted: Sequence[str], role_of: RoleOf) -> list[Row]:
         """Returns the first rows, by the delimiter that fits best."""
@@ -354,11 +350,6 @@ class TextSheet(Sheet):
         start = next((cell.start() for cell in itertools.islice(cells, place, None)), len(text))
         start += len(text[start:]) - len(text[start:].lstrip(" "))
         return line + text.count("\n", 0, start), start - text.rfind("\n", 0, start)
-
-    def cells(self, text: str) -> list[str]:
-        """Returns the cells of a row, by its text."""
-        rows = csv.reader(io.StringIO(text, newline=""), delimiter=self.delimiter, skipinitialspace=True)
-        return [cell.strip() for cell in next(rows, [])]
 
 
 class BookSheet(Sheet):
