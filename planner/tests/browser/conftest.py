@@ -1,19 +1,18 @@
 """Fixtures of the tests of pages: a browser, and the pages that it shows."""
 from __future__ import annotations
 
-import csv
 import datetime
 import random
-from collections.abc import Callable, Iterable, Iterator
+from collections.abc import Callable, Iterator
 from pathlib import Path
 
+import pandas as pd
 import pytest
 
 from crnplan.pages.exports import report
 from crnplan.pages.catalogue_page import file_of
 from crnplan import plan
 from crnplan.plan.item import plan_item
-from crnplan.records.catalogue_reading import read_catalogue
 from planner.tests.browser.browser import Browser
 from planner.tests.catalogue.conftest import SETTINGS
 from planner.tests.item.conftest import furnished
@@ -72,12 +71,6 @@ def planned_item(folder: Path) -> Path:
     return folder / "plan/summary.html"
 
 
-def write_table(path: Path, rows: Iterable[Iterable[object]]) -> None:
-    """Writes rows as CSV."""
-    with path.open("w", encoding="utf-8", newline="") as file:
-        csv.writer(file).writerows(rows)
-
-
 def planned(folder: Path, program: Path) -> Path:
     """Plans a catalogue of few items with hostile names, and returns its folder."""
     source = random.Random(1)
@@ -85,8 +78,6 @@ def planned(folder: Path, program: Path) -> Path:
               for name in PLANNED for week in range(60)]
     wanted = {name: ("", 0.95) if name == ARABIC else (9, "") for name in PLANNED}
     masters = [(name, "of a shelf", 45, 0.6, *wanted[name], 2, 6, 20, 9, 30) for name in PLANNED]
-    write_table(folder / "demand.csv", [("item", "date", "quantity"), *demand])
-    write_table(folder / "items.csv", [MASTERS, *masters])
-    plan(read_catalogue(folder / "demand.csv", folder / "items.csv"), out=folder / "plan", jobs=1, program=program,
-         **SETTINGS)
+    plan(pd.DataFrame(demand, columns=["item", "date", "quantity"]), pd.DataFrame(masters, columns=MASTERS),
+         out=folder / "plan", jobs=1, program=program, **SETTINGS)
     return folder / "plan"

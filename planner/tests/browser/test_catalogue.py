@@ -19,7 +19,7 @@ COLUMNS = ("item", "description", "class", "verdict", "s_today", "S_today", "s_c
            "value_today", "value_chosen", "warnings")
 # Seconds in which thousands of items are sorted on a quiet machine.
 LONGEST_SORT = 0.3
-MOST_BYTES, MOST_LAYOUTS = 2_000_000, 100
+MOST_LAYOUTS = 100
 
 
 @pytest.fixture
@@ -127,11 +127,6 @@ def test_link_leads_to_the_page_of_the_item(browser: Browser, pages: Pages, name
     link.click()
     assert browser.driver.current_url == pages(name).as_uri()
     assert name in browser.driver.find_element(By.TAG_NAME, "main").text
-
-
-def test_page_of_thousands_is_small(pages: Pages) -> None:
-    """The page of three thousand items can be sent by mail."""
-    assert pages("catalogue of thousands").stat().st_size < MOST_BYTES
 
 
 def test_rows_of_thousands_that_are_found_stand_together(browser: Browser, pages: Pages) -> None:

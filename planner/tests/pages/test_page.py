@@ -1,17 +1,16 @@
 """Tests the scales, numbers and security policy of a page."""
 from __future__ import annotations
 
-import base64
-import hashlib
 import itertools
 import math
-import re
+from pathlib import Path
 
 import pytest
 from hypothesis import given
 from hypothesis import strategies as st
 
 from crnplan.pages.page import UNITS, Chances, Scale, number, percent, rendered, source, tick
+from planner.tests.pages.page_reader import Page
 
 VALUES = st.lists(st.floats(-1e9, 1e9).filter(lambda it: it == 0 or abs(it) > 1e-6), min_size=1, max_size=5)
 
@@ -77,12 +76,16 @@ def test_source(text: str, wanted: str) -> None:
     assert source(text) == wanted
 
 
-def test_page_allows_its_own_style_alone() -> None:
-    """The policy of a page allows the style that stands in it, no script if there is none, and no other file."""
+def test_page_allows_its_own_style_alone(tmp_path: Path) -> None:
+    """The policy of a page allows the style that stands in it, no script if there is none, and no other file. What
+    would run besides is found."""
+    page = tmp_path / "page.html"
     text = rendered("base.html", {})
-    (style,) = re.findall("<style>(.*?)</style>", text, re.DOTALL)
-    (policy,) = re.findall('http-equiv="Content-Security-Policy" content="(.*?)"', text)
-    digest = base64.b64encode(hashlib.sha256(style.encode()).digest()).decode()
-    assert policy == (f"default-src 'none'; style-src 'sha256-{digest}'; script-src 'none'; img-src data:; "
-                      "base-uri 'none'; form-action 'none'")
-    assert "<script" not in text and not re.search(r"\s(style|on\w+)=", text)
+    page.write_text(text)
+    Page(page).check_alone()
+    assert not Page(page).elements["script"]
+    for old, new in (("<main>", '<main style="top: 0">'), ("body {", "h4 {"), ("<main>", "<main><img src='a.png'>"),
+                     ("data:;", "*;"), ("</main>", "<p></main>"), ("<main>", '<main><a href="http://a">a</a>')):
+        page.write_text(text.replace(old, new, 1))
+        with pytest.raises(AssertionError):
+            Page(page).check_alone()

@@ -46,35 +46,29 @@ def test_png(crnplan: Command, name: str, option: str, tmp_path: Path) -> None:
     assert path.read_bytes().startswith(PNG)
 
 
-def test_same_bytes(crnplan: Command, tmp_path: Path) -> None:
-    """A picture drawn again has the same bytes."""
-    for folder in ("one", "two"):
-        (tmp_path / folder).mkdir()
-        drawn(crnplan, "few", tmp_path / folder)
-    for name in ("plot.svg", "map.svg"):
-        assert (tmp_path / "one" / name).read_bytes() == (tmp_path / "two" / name).read_bytes()
+def test_few_policies(crnplan: Command, tmp_path: Path) -> None:
+    """The picture of four policies says what it compares. Drawn again, both pictures have the same bytes. Settings of
+    matplotlib outside are as before."""
+    import matplotlib
+    before, pictures = (dict(matplotlib.rcParams), sys.modules.get("matplotlib.pyplot")), []
+    for _ in range(2):
+        assert FEW <= set(drawn(crnplan, "few", tmp_path)[0])
+        pictures.append([(tmp_path / name).read_bytes() for name in ("plot.svg", "map.svg")])
+    assert pictures[0] == pictures[1]
+    assert (dict(matplotlib.rcParams), sys.modules.get("matplotlib.pyplot")) == before
 
 
-def test_texts_of_few_differences(crnplan: Command, tmp_path: Path) -> None:
-    """The picture of four policies says what it compares."""
-    assert FEW <= set(drawn(crnplan, "few", tmp_path)[0])
-
-
-def test_twenty_of_many_differences(crnplan: Command, tmp_path: Path) -> None:
-    """Of many policies 20 are drawn, the base among them."""
-    texts = drawn(crnplan, "many", tmp_path)[0]
+def test_many_policies(crnplan: Command, tmp_path: Path, top: Path) -> None:
+    """Of many policies 20 are drawn, the base among them. The map names the best and the base with their costs."""
+    texts, of_map = drawn(crnplan, "many", tmp_path)
     assert len([it for it in texts if it and it.startswith("s") and it.endswith(")")]) == 19
     assert "today (15, 30)" in texts and "64 replications, 20 of 121 policies shown" in texts
-
-
-def test_texts_of_a_map(crnplan: Command, tmp_path: Path, top: Path) -> None:
-    """The map names the best and the base with their costs."""
     base, *others = csv.DictReader((top / "examples/case/sweep.csv").read_text().splitlines())
     best = min(others, key=lambda row: int(row["total"]))
     wanted = {f"{word}: {row['policy']} ({row['s']}, {row['S']}), {float(Fraction(row['per_period'])):,.3f} a period"
               for word, row in (("best", best), ("base", base))}
-    assert wanted | {"cost per period, in the scenario's money (dark is cheap)", "reorder point s, in items"} <= set(
-        drawn(crnplan, "many", tmp_path)[1])
+    wanted |= {"cost per period, in the scenario's money (dark is cheap)", "reorder point s, in items"}
+    assert wanted <= {*of_map}
 
 
 @pytest.mark.parametrize("option", ["--plot", "--map"])
@@ -98,11 +92,3 @@ def test_other_kind(crnplan: Command, name: str) -> None:
     """A file's name must end with a kind of picture."""
     status, output, errors = crnplan("decide", *REPORTS["few"], "--plot", name)
     assert (status, output, errors) == (2, "", f"crnplan: '{name}' does not end with .png or .svg\n")
-
-
-def test_nothing_else_is_changed(crnplan: Command, tmp_path: Path) -> None:
-    """Texts of an SVG stay texts, and settings of matplotlib outside are as before."""
-    import matplotlib
-    before = dict(matplotlib.rcParams), sys.modules.get("matplotlib.pyplot")
-    assert drawn(crnplan, "few", tmp_path)[0]
-    assert (dict(matplotlib.rcParams), sys.modules.get("matplotlib.pyplot")) == before

@@ -181,12 +181,12 @@ def planned(folder: Folder, settings: Settings, asked: Mapping[str, Any]) -> lis
 
 def words_of(asked: Mapping[str, Any], config: Mapping[str, Any]) -> tuple[Words, Settings]:
     """Returns how files are read and how items are planned: by the command's words, else by the configuration."""
-    named = kinds_of(asked["columns"], "--column", "NAME, as demand.quantity=Menge")
+    named = {f"{kind}.{role}": name for kind in ROLES for role, name in config.get(kind, {}).items()}
     stated: dict[str, Any] = {
         **config, "start": config.get("from"), "end": config.get("to"),
         **{name: value for name, value in asked.items() if value not in (None, ())},
-        "columns": {kind: {**config.get(kind, {}), **named.get(kind, {})} for kind in {*named, *ROLES}},
-        "units": {**_by_kind(config.get("units", {})), **kinds_of(asked["units"], "--unit", "UNIT, as items.lead=day")},
+        "columns": _by_kind(named | entries_of(asked["columns"], "--column", "NAME, as demand.quantity=Menge")),
+        "units": _by_kind(config.get("units", {}) | entries_of(asked["units"], "--unit", "UNIT, as items.lead=day")),
         "names": _by_kind(config.get("names", {})), "factors": factors_of(asked["factors"]) or config.get("factors"),
         "date_formats": tuple(asked["date_formats"] or config.get("date_formats", ()))}
 
@@ -196,16 +196,15 @@ def words_of(asked: Mapping[str, Any], config: Mapping[str, Any]) -> tuple[Words
     return Words(**given(Words)), Settings(**given(Settings))
 
 
-def kinds_of(words: Sequence[str], option: str, example: str) -> dict[str, dict[str, str]]:
-    """Returns texts by file and role from words such as `demand.quantity=Menge`. Raises Refused."""
-    columns: dict[str, dict[str, str]] = {}
+def entries_of(words: Sequence[str], option: str, form: str) -> dict[str, str]:
+    """Returns texts by FILE.ROLE from words such as `demand.quantity=Menge`. Raises Refused."""
+    entries = {}
     for word in words:
-        place, sign, name = word.partition("=")
-        kind, dot, role = place.strip().partition(".")
-        if not (sign and dot and name.strip()):
-            raise Refused(f"{option} {word!r} is not FILE.ROLE={example}")
-        columns.setdefault(kind, {})[role] = name.strip()
-    return columns
+        place, _, text = (part.strip() for part in word.partition("="))
+        if not text or "." not in place:
+            raise Refused(f"{option} {word!r} is not FILE.ROLE={form}")
+        entries[place] = text
+    return entries
 
 
 def factors_of(words: Sequence[str]) -> dict[str, int]:

@@ -27,10 +27,10 @@ def item_page(words: ItemWords) -> str:
         "laws": [*laws_of(words).spelt(is_shown=True)], "law_plot": plot_of_laws(words),
         "history_plot": history_plot(item.counts, words.period_names, words.every, words.question.demand, item.box),
         "stock_plot": stock_plot(stocks, depth.chosen, words.every), "regrets": regrets(words, doubted),
-        "decided": [difference(words, row.name, row.difference, row.ends or (None, None), row.verdict)
+        "decided": [difference(words, row.name, row.verdict, row.difference, *(row.ends or (None, None)))
                     for row in words.compared],
-        "coming": [difference(words, row.policy, mean, ends, row.verdict) for row in words.coming.rows
-                   for mean, *ends in [words.ends_of(row)]] if words.coming else []})
+        "coming": [difference(words, row.policy, row.verdict, *words.ends_of(row)) for row in words.coming.rows]
+                  if words.coming else []})
 
 
 def plot_of_laws(words: ItemWords) -> Plot:
@@ -48,14 +48,13 @@ def scale_of(rows: Sequence[Range]) -> Scale:
     return Scale.of([end for row in rows for end in (row.low, row.high)])
 
 
-def difference(words: ItemWords, name: str, mean: float, ends: Sequence[float | None], verdict: str) -> Range:
+def difference(words: ItemWords, name: str, verdict: str, mean: float, low: float | None, high: float | None) -> Range:
     """Returns a policy's difference from today's, in money of a period. Both ends of its interval are None if it has
     none."""
     figures, value = words.figures[name], words.money(mean)
-    low, high = (mean if end is None else end for end in ends)
-    between = "" if ends[0] is None else f", from {words.money(low)} to {words.money(high)}"
-    return Range(name, figures.point, figures.level, mean, low, high, value, verdict, verdict,
-                 f"{name}: {value}{between}, {verdict}")
+    between = "" if low is None else f", from {words.money(low)} to {words.money(high)}"
+    return Range(name, figures.point, figures.level, mean, mean if low is None else low, mean if high is None else high,
+                 value, verdict, verdict, f"{name}: {value}{between}, {verdict}")
 
 
 def regrets(words: ItemWords, doubted: Mapping[str, Mapping[str, float]]) -> list[Range]:
