@@ -199,7 +199,7 @@ def test_units_that_cannot_be_converted(heading: str, words: Sequence[str], said
 
 
 def test_stated_units(check: Checked, tmp_path: Path) -> None:
-    """A stated unit is that of its column, whatever the period is, by --unit as by crnplan.toml."""
+    """A stated unit is that of its column, whatever the period is, by --unit as by crnplan.toml, to which it adds."""
     words = ["--every", "month", "--least", "2", "--unit", "items.lead=week", "--unit", "items.holding=year", "--unit",
              "items.backlog=month", "--unit", "demand.quantity=12"]
     _, rejects = check(demand_of(["2"]), *words, masters=f"{MASTERS}\nA,45,12,10,9,3,9\n")
@@ -208,10 +208,10 @@ def test_stated_units(check: Checked, tmp_path: Path) -> None:
     assert not rejects and item.leads[:6] in ((2,), (2,) * 6)
     assert (item.holding, item.backlog, sum(item.counts)) == (1, 10, 24 * WEEKS)
     settings = tmp_path / "mine.toml"
-    settings.write_text('[catalogue]\nevery = "month"\nleast = 2\n[catalogue.units]\n"items.lead" = '
-                        '"week"\n"items.holding" '
-                        '= "year"\n"items.backlog" = "month"\n"demand.quantity" = "12"\n', "utf-8")
-    check(demand_of(["2"]), "--config", settings, masters=f"{MASTERS}\nA,45,12,10,9,3,9\n")
+    settings.write_text('[catalogue]\nevery = "month"\nleast = 2\n[catalogue.units]\n"items.lead" = "day"\n'
+                        '"items.holding" = "year"\n"items.backlog" = "month"\n"demand.quantity" = "12"\n', "utf-8")
+    check(demand_of(["2"]), "--config", settings, "--unit", "items.lead=week",
+          masters=f"{MASTERS}\nA,45,12,10,9,3,9\n")
     assert check.items["A"] == item
 
 
