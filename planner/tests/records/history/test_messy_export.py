@@ -127,15 +127,3 @@ def test_second_command_gives_tables(export: Export, path: Path, answer: Callabl
                  f":{odd['thousand']}{MENGE}: '1.000,000' is read as 1000 (1 of {count - 4} rows are written so; "
                  "with another decimal sign it would be 1)", "weeks from 2025-W01 to 2026-W45: 97, filled with 0: "):
         assert part in errors
-
-
-def test_total_row_that_is_no_fault(file: Callable[..., Path], answer: Callable[..., Any]) -> None:
-    """A total in a file without dates, or with one, is read as a number and named."""
-    rows = "".join(f"{number};{number % 4 + 1}\n" for number in range(8))
-    status, output, errors = answer([file(f"week;n\n{rows}8;20\n"), "--demand", "n"])
-    assert status == 0 and "[1, 2, 3, 4, 20]" in output
-    assert ":10:3: column 'n': the last row looks like a total of the rows above (20 is the sum of all others" in errors
-    assert "total" not in answer([file(f"week;n\n{rows}8;21\n"), "--demand", "n"]).errors
-    path = file("at;n\n2026-03-01;1\n2026-03-02 ;1\n2026-03-02;2\n2026-03-03;Total\n")
-    errors = answer([path, "--demand", "n", "--date", "at", "--every", "day"]).errors
-    assert ":5:12: column 'n': 'Total' is not a number" in errors

@@ -68,50 +68,6 @@ def test_rejects_that_cannot_be_written(file: Files, answer: Answers, tmp_path: 
     assert status == 2 and "No such file or directory; name" in errors
 
 
-@pytest.mark.parametrize("titles, note", [
-    ("Report\n", "line 1 above the heading passed over: 'Report'"),
-    ("Report;of;today\n\n;;\n", "lines 1, 2, 3 above the heading passed over: 'Report of today', '', ''"),
-    ('"A title\nof two lines"\nn\n', "lines 1, 3 above the heading passed over: 'A title\\nof two lines', 'n'"),
-])
-def test_titles_are_passed_over(titles: str, note: str, file: Files, answer: Answers) -> None:
-    """Lines above the heading are passed over, and named. Lines count from the top of the file."""
-    path = file(f"{titles}at;n\n2026-03-01;1\n2026-03-02;x\n")
-    status, _, errors = answer([path, *DATED, "--leave-out"])
-    assert status == 0
-    assert f"crnplan: {path}: {note}\n" in errors
-    assert f"{path}:{titles.count(chr(10)) + 3}:12: column 'n': 'x'" in errors
-
-
-@pytest.mark.parametrize("rows, words, counts", [
-    ("02.01.25 2025-01-03 04.01.2025 05/01/2025 31/01/25", [], [1, 1, 1, 1] + [0] * 25 + [1]),
-    ("13/03/2026 03/14/2026 03/03/2026", [], [1] + [0] * 9 + [1, 1]),
-    ("01.02.69 02.02.1969", ["--leave-out"], None),
-    ("13.03.26 03/14/26", ["--date-format", "%d.%m.%y", "--date-format", "%m/%d/%y"], [1, 1]),
-])
-def test_several_forms_of_dates(rows: str, words: list[str], counts: list[int] | None, file: Files,
-                                answer: Answers) -> None:
-    """Dates of several forms are read if each is unambiguous, and the forms are named."""
-    path = file("at,n\n" + "".join(f"{it},1\n" for it in rows.split()))
-    status, output, errors = answer([path, *DATED, *words])
-    if counts is None:
-        assert status == 2 and errors.count("the year is not from 1980 to 2199") == 2
-    else:
-        assert status == 0 and f"weights = {[counts.count(it) for it in sorted(set(counts))]}" in output
-        assert " forms: " in errors
-
-
-def test_blank_rows(file: Files, answer: Answers) -> None:
-    """Blank rows between movements are passed over and counted. Without dates a blank row may be a period, so it is a
-    fault."""
-    path = file("at,n\n2026-03-01,1\n,\n \n2026-03-02,2\n,\n\n")
-    assert f"crnplan: {path}: blank rows passed over: 2 (lines 3, 4)\n" in answer([path, *DATED]).errors
-    status, _, errors = answer([path, "--demand", "n"])
-    assert status == 2 and ":3:2: column 'n': the cell is empty" in errors and ":4:" in errors and ":6:" not in errors
-    orders = file("ordered,received\n2026-03-02,2026-03-09\n,\n2026-03-03,\n", "orders.csv")
-    assert "lead times in weeks: 1, orders not yet received and left out: 1" in answer(
-        [file("n\n1\n", "WEEK"), "--demand", "n", "--every", "week", "--orders", orders]).errors
-
-
 def test_standard_input(file: Files, answer: Answers) -> None:
     """`-` is standard input, for one of the files."""
     fault = "crnplan: standard input:3:1: column 'n': 'x' is not a number; write digits, as 12\n"
@@ -123,18 +79,6 @@ def test_standard_input(file: Files, answer: Answers) -> None:
 
 
 ITEMS = "part,site,at,n\nA,1,2026-03-05,3\nB,1,2026-03-02,x\nA,2,2026-03-06,9\nB,1,2026-03-09,1\nA,1,2026-03-07,2\n"
-
-
-def test_one_item(file: Files, answer: Answers) -> None:
-    """Only rows of the item are read. The record is that of the whole file, so days without demand at both ends
-    count."""
-    path = file(ITEMS)
-    status, output, errors = answer([path, *DATED, "--item", "part=A", "--item", " site = 1 "])
-    assert (status, output) == (0, "\n[demand]\nvalues = [0, 2, 3]\nweights = [6, 1, 1]\n")
-    assert f"crnplan: {path}: rows with part = A and site = 1: 2 of 5\n" in errors
-    assert f"crnplan: {path}: days from 2026-03-02 to 2026-03-09: 8, filled with 0: 6; " in errors
-    assert "\nvalues = [2, 3, 9]\nweights = [1, 1, 1]\n" in answer([path, "--demand", "n", "--item", "part=A"]).output
-    assert answer([path, *DATED, "--item", "part=B"]).status == 2
 
 
 def test_item_of_other_files(file: Files, answer: Answers) -> None:
@@ -178,35 +122,6 @@ def test_suspicions(rows: str, words: str, notes: list[str], file: Files, answer
     assert [note for note in notes if note not in errors] == []
 
 
-@pytest.mark.parametrize("text, words, note", [
-    ("w,n\n1,5\n2,5\n1,5\n", "", ":4: the row is the same as that of line 2; if they were exported twice, remove them"),
-    ("w,n\n1,5\n1,5\n2,5\n1,5\n2,5\n", "",
-     ":3: the row is the same as that of line 2, and 2 more as others above them (lines 5, 6); if they"),
-    ("n\n5\n5\n5\n", "", None),
-    ("w,n\n1,5\n1,6\n", "", None),
-    ("at,n\n2026-03-01,5\n2026-03-01,5\n", "--date at --every day", ":3: the row is the same as that of line 2; "),
-    ("p,at,n\nA,2026-03-01,5\nB,2026-03-02,5\nB,2026-03-02,5\n", "--date at --every day --item p=A", None),
-    ("w,n\n1,x\n1,x\n2,5\n", "--leave-out", None),
-])
-def test_rows_that_stand_twice(text: str, words: str, note: str | None, file: Files, answer: Answers) -> None:
-    """Rows of use that are the same are noted, unless nothing tells rows apart."""
-    status, _, errors = answer([file(text), "--demand", "n", *words.split()])
-    assert status == 0 and (note in errors if note else "the same as" not in errors)
-
-
-def test_total_words(file: Files, answer: Answers) -> None:
-    """A last row with a word for a total is a fault if it has no date, and a note if it has one."""
-    rows = "at,what,n\n2026-03-01,sale,1\n2026-03-02,sale,2\n"
-    status, _, errors = answer([file(f"{rows},Grand total,17\n"), *DATED])
-    assert status == 2
-    assert ":4:1: column 'at': the row looks like a total of the rows above (it has 'Grand total'); leave it" in errors
-    status, _, errors = answer([file(f"{rows}2026-03-02,Gesamtsumme:,3\n"), *DATED])
-    assert status == 0
-    assert ":4:25: column 'n': the last row looks like a total of the rows above (it has 'Gesamtsumme:'" in errors
-    status, _, errors = answer([file(f"{rows},sale,3\n"), *DATED])
-    assert status == 2 and ":4:1: column 'at': the cell is empty; write the date, or leave the row out" in errors
-
-
 @pytest.mark.parametrize("text, line, column", [
     ('a,n\n"x, y",z\n', 2, 8), ('a,n\n"x ""y"", y", z\n', 2, 15), ('a,n\n"x\ny",z\n', 3, 4), ("a,n\n5,z", 2, 3),
     ("a,n\r\n5\r\n", 2, 2), ('a,n\n5" tube,z\n', 2, 9), ("a\tn\n1\tz\n", 2, 3), ('a,n\n"5","z\n"\n', 2, 5)])
@@ -215,14 +130,6 @@ def test_places(text: str, line: int, column: int, file: Files) -> None:
     with pytest.raises(RefusedFaults) as refused:
         read_history(file(text), demand="n")
     assert [(it.line, it.column) for it in refused.value.faults] == [(line, column)]
-
-
-def test_likely_encoding(file: Files, answer: Answers) -> None:
-    """Bytes that only cp1252 has lead to that encoding, and the rest of the file is checked with it."""
-    status, _, errors = answer([file("n \u20ac,m\nx,1\n", encoding="cp1252"), "--demand", "n \u20ac"])
-    assert status == 2
-    assert ":1:3: the byte 0x80 is not UTF-8; say --encoding cp1252" in errors
-    assert ":2:1: column 'n \u20ac': 'x' is not a number" in errors
 
 
 def test_series(file: Files) -> None:
