@@ -62,7 +62,6 @@ def test_faults_that_no_input_is_to_blame_for(crnplan: Command, monkeypatch: pyt
                                               part: str) -> None:
     """Ends with status 3 and one line, whatever is raised."""
     def raised(*words: object) -> Scenario:
-        """Raises the fault."""
         raise fault
     monkeypatch.setattr(Scenario, "read", raised)
     status, output, errors = crnplan("run", "base.toml")

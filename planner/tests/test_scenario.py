@@ -32,14 +32,12 @@ LAW: dict[str, Any] = {"demand": [1, 2], "lead": [1], "setup": 32, "holding": 1,
 
 
 def made(**changes: Any) -> Scenario:
-    """Makes a scenario of two demands, with changes."""
     its = {**LAW, **changes}
     return Scenario.of(its.pop("demand"), its.pop("lead"), **its)
 
 
 @pytest.fixture
 def scenario(two_policies: str) -> Scenario:
-    """Returns the base example."""
     return Scenario.parse(two_policies)
 
 
@@ -54,7 +52,6 @@ def test_read_and_written(path: Path) -> None:
 
 
 def test_standard_input(two_policies: str, crnplan: Command) -> None:
-    """Reads a scenario from standard input."""
     assert crnplan("why", "-", data=two_policies.encode()) == (0, "no fault\n", "")
     faults = crnplan("run", "-", data=b"version = 3")
     start = "crnplan: 1:1: fault 2: the document, key version: 3 is not 1 or 2"
@@ -80,7 +77,6 @@ def test_faults_have_places(tmp_path: Path, two_policies: str) -> None:
 
 
 def test_files_that_are_not_read(tmp_path: Path) -> None:
-    """Refuses a file that is missing, and one that is too long."""
     path = tmp_path / "asked.toml"
     with pytest.raises(Refused, match=f"{path}: No such file or directory"):
         Scenario.read(path)
@@ -100,7 +96,6 @@ LAWS: dict[str, Any] = {
 
 @pytest.mark.parametrize("name", LAWS)
 def test_laws(name: str) -> None:
-    """Makes a table of each kind of law; its numbers are Python's."""
     table = made(demand=LAWS[name]).demand
     assert table == Law((1, 2, 5), (1, 2, 1)) and table.mean == Fraction(10, 4)
     assert {type(it) for it in (*table.values, *table.weights)} == {int}
@@ -165,7 +160,6 @@ WRONG: dict[str, tuple[dict[str, Any], type[Exception], str]] = {
 
 @pytest.mark.parametrize("name", WRONG)
 def test_wrong(name: str) -> None:
-    """Checks what is said of data that make no scenario."""
     changes, kind, message = WRONG[name]
     with pytest.raises(kind, match=f"^{re.escape(message)}"):
         made(**changes)
@@ -250,7 +244,6 @@ def test_changed_text_has_the_tree(data: st.DataObject) -> None:
 
 
 def test_changed_is_checked(scenario: Scenario) -> None:
-    """Refuses unknown fields and costs, and numbers out of their ranges."""
     with pytest.raises(Refused, match="a scenario has no field 'period'; it has version, key, periods, .*, policies"):
         scenario.changed(period=1)
     with pytest.raises(ScenarioError, match="fault 3: table costs, key rent: there should be no such key"):
@@ -275,7 +268,6 @@ POLICIES: dict[str, tuple[Any, list[Policy]]] = {
 
 @pytest.mark.parametrize("name", POLICIES)
 def test_policies(name: str) -> None:
-    """Reads policies in each form."""
     given_ones, wanted = POLICIES[name]
     assert policies_of(given_ones) == wanted
 
@@ -287,13 +279,11 @@ def test_policies(name: str) -> None:
     (TABLE[["s"]], "policies: the table lacks the column s or S; name them policy, s and S")],
     ids=["numbers", "triple", "part", "table"])
 def test_no_policies(given_ones: Any, message: str) -> None:
-    """Refuses what are no policies."""
     with pytest.raises(Refused, match=f"^{re.escape(message)}"):
         policies_of(given_ones)
 
 
 def test_policies_of_words(tmp_path: Path) -> None:
-    """Reads policies from a pair, a table and a scenario, and refuses other words."""
     path = tmp_path / "policies.csv"
     path.write_text("\ufeffpolicy,cost,S,s\nlow,1,2,1\n,1,4,3\n")
     assert read_policies(str(path)) == [Policy("low", 1, 2), Policy("s3_S4", 3, 4)]
@@ -311,7 +301,6 @@ def test_policies_of_words(tmp_path: Path) -> None:
 
 
 def ran(program: Path, text: str) -> str:
-    """Returns what the program writes about a text."""
     return subprocess.run([program], input=text, capture_output=True, text=True, check=True, timeout=60).stdout
 
 

@@ -26,7 +26,6 @@ ALLOWED = {
 
 
 def names_in(node: ast.AST) -> Iterator[str]:
-    """Yields the names and attributes that a node consists of."""
     for its in ast.walk(node):
         if isinstance(its, ast.Name):
             yield its.id

@@ -19,7 +19,6 @@ def room(tmp_path: Path, top: Path, program: Path, monkeypatch: pytest.MonkeyPat
 
 @pytest.fixture
 def crnplan(room: Path, crnplan: Command) -> Command:
-    """Returns a function that runs a command of crnplan in the folder."""
     return crnplan
 
 

@@ -51,5 +51,4 @@ def test_the_report_of_an_example_is_stored(top: Path, program: Path, name: str)
 
 
 def test_each_example_has_a_report(top: Path) -> None:
-    """Checks that no example is left out above."""
     assert {it.stem for it in (top / "examples").glob("*.toml")} == {"mail_order", "spare_part", "two_policies"}

@@ -55,9 +55,7 @@ OWN = "5eed000000000001 0000000000000000 0000000000000000 0000000000000000"
 
 @pytest.fixture
 def write_program(room: Path) -> Write:
-    """Returns a function that writes a program, and returns its path."""
     def write(name: str, text: str) -> Path:
-        """Writes the program."""
         (room / name).write_text(text, "utf-8")
         (room / name).chmod(0o755)
         return room / name
@@ -66,14 +64,12 @@ def write_program(room: Path) -> Write:
 
 @pytest.fixture
 def part(room: Path) -> Path:
-    """Returns the path of examples/spare_part.toml with a price of the item."""
     path = room / "priced_part.toml"
     path.write_text(priced(room / "examples/spare_part.toml", 5), "utf-8")
     return path
 
 
 def run(program: Path, text: str) -> str:
-    """Returns the report of a scenario."""
     return subprocess.run([program], input=text, capture_output=True, text=True, check=True).stdout
 
 
@@ -164,7 +160,6 @@ def test_runs_the_scenario_but_for_key_and_order(part: Path, room: Path, program
 
 
 def test_keys_are_drawn_anew(room: Path, crnplan: Command) -> None:
-    """Checks that two checks without a key draw two keys."""
     words = ["check", "examples/spare_part.toml", "both", "--replications", "2"]
     lines = [crnplan(*words).output.split("\n")[0] for _ in range(2)]
     assert all(re.fullmatch("key( [0-9a-f]{16}){4}", line) for line in lines) and lines[0] != lines[1]

@@ -56,15 +56,12 @@ Costs = Mapping[str, Sequence[int]]
 
 
 def report_of(program: Path, text: str, *words: str) -> str:
-    """Returns what the program writes."""
     return subprocess.run([program, *words], input=text, capture_output=True, text=True, check=True).stdout
 
 
 @pytest.fixture
 def write_priced(room: Path, program: Path) -> Callable[[str, str], None]:
-    """Returns a function that writes a scenario and its report."""
     def write(name: str, text: str) -> None:
-        """Writes both files."""
         (room / f"{name}.toml").write_text(text, "utf-8")
         (room / f"{name}.csv").write_text(report_of(program, text), "utf-8")
     return write
@@ -72,7 +69,6 @@ def write_priced(room: Path, program: Path) -> Callable[[str, str], None]:
 
 @pytest.fixture
 def cases_room(room: Path, write_priced: Callable[[str, str], None]) -> Path:
-    """Returns the folder with the files of the cases."""
     rows = (room / "examples/spare_part.csv").read_text("utf-8").splitlines(keepends=True)
     for name, part in PARTS.items():
         (room / f"{name}.csv").write_text("".join(part(rows)), "latin-1")
@@ -99,7 +95,6 @@ def test_prints_or_refuses(cases_room: Path, crnplan: Command, words: str, statu
 
 
 def test_standard_input_is_a_report(room: Path, crnplan: Command) -> None:
-    """Checks that `-` reads the report from standard input."""
     given = crnplan("decide", "-", "--replications", "64", data=(room / "examples/spare_part.csv").read_bytes())
     assert given == crnplan("decide", "examples/spare_part.csv", "--replications", "64") and given.status == 0
     empty = crnplan("decide", "-", "--replications", "64")
@@ -114,12 +109,15 @@ def test_lists_so_many_rows(crnplan: Command, option: list[str], count: int) -> 
     assert len(lines) == count and "\ntoday" in told.output
 
 
-def test_json_has_the_figures_of_the_table(crnplan: Command) -> None:
-    """Compares the data with the table: the same rows, the same figures once they are rounded."""
-    words = ["decide", "examples/case/sweep.csv", "--replications", "64", "--level", "0.9"]
-    heading, *rows = csv.reader(crnplan(*words, "--csv").output.splitlines())
-    data = json.loads(crnplan(*words, "--json").output)
-    assert [data[it] for it in ("base", "replications", "level", "warnings")] == ["today", 64, 0.9, []]
+@pytest.mark.parametrize("words", [
+    "decide examples/case/sweep.csv --replications 64 --level 0.9",
+    "decide priced.csv --scenario priced.toml --long-run", "run SPARE.toml --long-run --keys 5", "check SPARE.toml both --key 00000000000000a1 --replications 4",
+    "sensitivity SPARE.toml", "doubt SPARE.toml demand.csv --times 10"], ids=lambda it: it.split()[0])
+def test_json_has_the_figures_of_csv(cases_room: Path, crnplan: Command, words: str) -> None:
+    asked = words.replace("SPARE", "examples/spare_part").split()
+    heading, *rows = csv.reader(crnplan(*asked, "--csv").output.splitlines())
+    data = json.loads(crnplan(*asked, "--json").output)
+    assert rows and data.get("level", 0.95) == (0.9 if "0.9" in asked else 0.95)
     for row, record in zip(rows, data["policies"], strict=True):
         assert list(record) == heading
         for text, value in zip(row, record.values()):
@@ -171,7 +169,6 @@ def test_warns_of_end_effects_as_counted(room: Path, program: Path, write_priced
 
 
 def test_does_not_warn_without_unit(crnplan: Command) -> None:
-    """Checks that there is no warning of `unit` if that is 0."""
     shown = crnplan("decide", "examples/spare_part.csv", "--scenario", "examples/spare_part.toml")
     assert shown.status == 0 and "unit" not in shown.output + shown.errors
 
@@ -207,7 +204,6 @@ def rows_of_costs(costs: Costs, periods: int) -> list[Row]:
 def costs(replications: st.SearchStrategy[int], least: int = 0) -> st.SearchStrategy[Costs]:
     """Returns a strategy for the costs of two to five policies in so many replications."""
     def of_shape(shape: tuple[int, int]) -> st.SearchStrategy[Costs]:
-        """Returns a strategy for the costs of so many policies and replications."""
         policies, count = shape
         its = st.lists(st.integers(least, 10**6) | st.integers(least, 3 + least), min_size=count, max_size=count)
         return st.fixed_dictionaries({f"p{number}": its for number in range(policies)})
@@ -216,7 +212,6 @@ def costs(replications: st.SearchStrategy[int], least: int = 0) -> st.SearchStra
 
 @pytest.mark.parametrize(("probability", "degrees", "printed"), CASES["quantiles"])
 def test_quantile_is_as_tables_print_it(probability: float, degrees: int, printed: str) -> None:
-    """Compares a quantile of Student's t with published tables."""
     assert f"{t_quantile(2 * (1 - probability), degrees):.3f}" == printed
 
 
@@ -233,7 +228,6 @@ def rounding(ends: list[float]) -> float:
 
 
 def near(ends: list[float]) -> object:
-    """Returns what equals both ends of an interval but for rounding."""
     return pytest.approx(ends, rel=0, abs=rounding(ends))
 
 
@@ -274,7 +268,6 @@ def test_own_variance_is_exact(drawn: Costs) -> None:
 
 @given(costs(st.integers(1, 12), least=1), st.integers(1, 9), st.integers(1, 24))
 def test_a_report_is_of_its_own_number_of_replications_alone(drawn: Costs, periods: int, other: int) -> None:
-    """Checks that a report is accepted with its number of replications, and that another number is rejected."""
     rows, count = rows_of_costs(drawn, periods), len(drawn["p0"])
     assume(other != count and any(row.diff_total for row in rows))
     check_replications(rows, count, "it.csv")
@@ -283,7 +276,6 @@ def test_a_report_is_of_its_own_number_of_replications_alone(drawn: Costs, perio
 
 
 def test_a_single_replication_has_no_intervals() -> None:
-    """Checks that nothing is known of spread after one replication."""
     for it in with_intervals(rows_of_costs({"p0": [7], "p1": [5]}, 1), 1, 0.95):
         assert (it.std_error, it.low, it.high, it.cost_low, it.cost_high) == (None,) * 5
         assert it.verdict == ("base" if it.policy == "p0" else "undecided")
@@ -294,7 +286,6 @@ def test_a_single_replication_has_no_intervals() -> None:
     {"diff_total": 4, "diff_mean": Fraction(2)}, {"diff_var": Fraction(-1), "cov": Fraction(9)}, {"cov": Fraction(-9)}],
     ids=str)
 def test_figures_that_contradict_each_other_are_rejected(fields: dict[str, object]) -> None:
-    """Checks that a row with one wrong figure is no row of the report."""
     base, other = rows_of_costs({"p0": [3, 4], "p1": [5, 5]}, 1)
     with pytest.raises(Refused, match="^it.csv:3: this is no report of 2 replications"):
         check_replications([base, dataclasses.replace(other, **fields)], 2, "it.csv")

@@ -2,8 +2,6 @@
 the intervals: its items, its exact targets by a Markov chain, and a small part."""
 from __future__ import annotations
 
-import csv
-import io
 import json
 import math
 import statistics
@@ -47,13 +45,11 @@ LEVELS = {0: (8, 46), 1: (15, 384), 3: (2623, 4069), 4: (55, 85), 5: (25, 139)}
 
 
 def by_name(found: Decision) -> dict[str, Compared]:
-    """Returns the rows by the names of their policies."""
     return {it.policy: it for it in found.rows}
 
 
 @pytest.fixture(scope="module")
 def report(program: Path) -> LongRunReport:
-    """Returns a report of the long run."""
     return PART.long_run(program=program)
 
 
@@ -150,9 +146,6 @@ def test_no_warning_if_theory_cannot_tell(program: Path, monkeypatch: pytest.Mon
     bias.theory.exact = False
     monkeypatch.setattr(long_run, "start_bias", lambda scenario: bias)
     assert not start_warning(rows, PART)
-
-    def refuse(scenario: Scenario) -> None:
-        raise NoTheory("too far apart")
     monkeypatch.setattr(long_run, "start_bias", refuse)
     assert not start_warning(rows, PART)
 
@@ -173,13 +166,12 @@ def test_decide_warns_of_the_start(crnplan: Command, room: Path, program: Path) 
     assert "WARNING" not in crnplan("decide", "report.csv", "--replications", "64").output
 
 
-@pytest.mark.parametrize("way", ["own starts", "corrected"])
-def test_no_interval_for_fewer_than_two_orders(way: str, program: Path) -> None:
-    found = (long_run_decision(SLOW.long_run(keys=2, program=program)) if way == "own starts" else
-             corrected_decision(SLOW.run(program=program).rows, SLOW))
-    row = by_name(found)["more"]
-    assert (row.std_error, row.low, row.high, row.cost_low, row.verdict) == (None, None, None, None, "undecided")
-    assert Remark("few orders", {"policies": "more", "least": 2}) in found.warnings
+def test_no_interval_for_fewer_than_two_orders(program: Path) -> None:
+    for found in (long_run_decision(SLOW.long_run(keys=2, program=program)),
+                  corrected_decision(SLOW.run(program=program).rows, SLOW)):
+        row = by_name(found)["more"]
+        assert (row.std_error, row.low, row.high, row.cost_low, row.verdict) == (None, None, None, None, "undecided")
+        assert Remark("few orders", {"policies": "more", "least": 2}) in found.warnings
 
 
 def test_no_interval_without_spread(program: Path) -> None:
@@ -212,9 +204,11 @@ def test_disagreement_with_theory_is_said(report: LongRunReport, monkeypatch: py
     assert "by theory, rounded to steps of 1 items, so not compared with the intervals\n" in coarse.notes
 
 
+def refuse(scenario: Scenario) -> None:
+    raise NoTheory("too far apart")
+
+
 def test_runs_without_theory(report: LongRunReport, monkeypatch: pytest.MonkeyPatch) -> None:
-    def refuse(scenario: Scenario) -> None:
-        raise NoTheory("too far apart")
     monkeypatch.setattr(long_run, "theory_of", refuse)
     found = long_run_decision(report)
     assert "theory_cost" not in found.table.names and "theory is not known: too far apart" in found.text
@@ -230,12 +224,8 @@ def test_run_prints_the_long_run(crnplan: Command, room: Path) -> None:
     forms: list[list[str]] = [[], ["--csv"], ["--json"]]
     text, table, tree = (crnplan("run", "part.toml", "--long-run", *form).output for form in forms)
     assert text.startswith("The long run\n\npolicy ") and "each policy from a state of its own" in text
-    cells = list(csv.reader(io.StringIO(table)))
-    assert [line.split() for line in text.splitlines()[2:6]] == cells
-    read = json.loads(tree)
-    assert read["horizon"] == "the long run"
-    assert [it["policy"] for it in read["policies"]] == [it[0] for it in cells[1:]]
-    assert [f"{it['diff']:.3f}" for it in read["policies"]] == [it[cells[0].index("diff")] for it in cells[1:]]
+    assert [",".join(line.split()) for line in text.splitlines()[2:6]] == table.splitlines()
+    assert json.loads(tree)["horizon"] == "the long run"
     assert crnplan("run", "part.toml", "--long-run", "--csv").output == table
     pair = crnplan("run", "part.toml", "--long-run", "--csv", "--policies", "6,14", "--keys", "5", "--level", "0.5")
     assert [line.split(",")[0] for line in pair.output.splitlines()[1:]] == ["today", "s6_S14"]
@@ -342,7 +332,6 @@ def test_exact_savings_are_those_of_a_chain() -> None:
 
 @pytest.fixture(scope="module")
 def outcomes(program: Path) -> list[Outcome]:
-    """Returns the outcomes of the small part."""
     return outcomes_of(items_of(SEEDS[0], SMALL), SEEDS[0], program, 1)
 
 

@@ -2,7 +2,6 @@
 from __future__ import annotations
 
 import csv
-import json
 import subprocess
 from fractions import Fraction
 from pathlib import Path
@@ -44,7 +43,6 @@ Rows = dict[str, dict[str, str]]
 
 @pytest.fixture
 def owing(room: Path) -> str:
-    """Writes the changed scenario, and returns its text."""
     text = changed((room / "examples/two_policies.toml").read_text("utf-8"), *CHANGES)
     (room / "owing.toml").write_text(text, "utf-8")
     return text
@@ -52,7 +50,6 @@ def owing(room: Path) -> str:
 
 @pytest.fixture
 def shown(owing: str, crnplan: Command) -> Rows:
-    """Returns the rows of the changed scenario's table, in order, by policy."""
     lines = crnplan("sensitivity", "owing.toml", "--csv").output.splitlines()
     return {row["policy"]: row for row in csv.DictReader(lines)}
 
@@ -106,18 +103,9 @@ def test_an_example_by_hand(crnplan: Command) -> None:
     assert " ".join(row.split()).startswith(f"B 60 80 {regrets}")
 
 
-def test_json_has_the_figures_of_the_table(owing: str, crnplan: Command, shown: Rows) -> None:
-    """Compares the data with the table, and reads the scenario from standard input."""
-    data = json.loads(crnplan("sensitivity", "-", "--json", data=owing.encode()).output)
-    for record, row in zip(data["policies"], shown.values(), strict=True):
-        assert {name: f"{it:.6f}" if isinstance(it, float) else str(it) for name, it in record.items()} == row
-    assert data["notes"] == []
-
-
 @pytest.mark.parametrize(("tenths", "weights"), [
     (11, {1: 9, 2: 17, 3: 18, 4: 12, 5: 4}), (9, {0: 1, 1: 13, 2: 22, 3: 18, 4: 6})], ids=["up", "down"])
 def test_changes_demand_as_by_hand(tenths: int, weights: dict[int, int]) -> None:
-    """Compares a changed demand with one by hand."""
     assert changed_demand(Law((1, 2, 3, 4), (1, 2, 2, 1)), tenths) == Law.of(weights)
 
 

@@ -45,7 +45,6 @@ def test_number_is_that_of_the_program(example: str, case: list[Any], top: Path,
 
 @pytest.mark.parametrize("part, case", cases("messages"))
 def test_messages(part: str, case: list[Any], two_policies: str) -> None:
-    """Compares each line on an edited scenario."""
     old, new, *wanted = case
     assert old in two_policies
     faults = read_scenario(two_policies.replace(old, new, 1).encode())[1]
@@ -97,6 +96,5 @@ def test_files_that_are_no_scenarios(name: str, tmp_path: Path, crnplan: Command
 
 
 def test_a_missing_file(tmp_path: Path, crnplan: Command) -> None:
-    """Checks what is said of a file that is not there."""
     path = tmp_path / "missing.toml"
     assert crnplan("why", path) == (2, "", f"crnplan: {path}: No such file or directory\n")
