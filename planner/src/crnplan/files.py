@@ -35,7 +35,6 @@ UNFINISHED = re.compile(r"unfinished-[0-9a-f]{16}/")
 
 
 def bytes_digest(data: bytes) -> str:
-    """Returns the SHA-256 of bytes, in hexadecimal."""
     return hashlib.sha256(data).hexdigest()
 
 

@@ -184,7 +184,6 @@ class Cluster(Workers):
             check_worker(strangeness(f"{workers.get(address, {}).get('id')} ({address})", self.own, answer))
 
     def share(self, word: Any) -> Any:
-        """Sends a word to all workers."""
         return self.client.scatter(word, broadcast=True)
 
     def submit(self, function: Callable[..., Any], words: Sequence[Any], late: Sequence[Any] = ()) -> Any:
@@ -198,7 +197,6 @@ class Cluster(Workers):
                                   workers=others or None)
 
     def wait(self, running: Sequence[Any], seconds: float) -> None:
-        """Waits until one of the futures is done, or for so long."""
         distributed: Any = importlib.import_module("distributed")
         with contextlib.suppress(distributed.TimeoutError):
             distributed.wait(running, seconds, "FIRST_COMPLETED")

@@ -40,7 +40,6 @@ def quoted(names: Iterable[str]) -> str:
 
 
 def _tuples(value: Any) -> Any:
-    """Returns lists within lists as tuples."""
     return tuple(map(_tuples, value)) if isinstance(value, list) else value
 
 
@@ -185,5 +184,4 @@ class Store(Generic[Row]):
             yield row[0], row[1], self._answer(row)
 
     def close(self) -> None:
-        """Closes the file."""
         self.base.close()

@@ -58,7 +58,6 @@ WORDS: dict[str, tuple[Say, Say]] = {
 
 
 def _said(say: Say, facts: Facts) -> str:
-    """Returns the words for facts."""
     return worded(say.format_map(facts) if isinstance(say, str) else say(facts))
 
 
@@ -71,11 +70,9 @@ class _Blank(str):
     """A fact that is left out."""
 
     def __format__(self, style: str) -> str:
-        """Returns a mark, whatever the style."""
         return "\u2026"
 
     def __repr__(self) -> str:
-        """Returns a mark."""
         return "\u2026"
 
 

@@ -91,7 +91,6 @@ class Items:
 
     @property
     def asked(self) -> float:
-        """Returns the value of the demand of all items."""
         return float(self.demand.sum())
 
     def at(self, chosen: Whole) -> Point:
@@ -157,7 +156,6 @@ class Ladder:
         return chosen
 
     def _changes(self, figure: Floats) -> Floats:
-        """Returns by how much each step raises a figure."""
         changes: Floats = figure[self.above] - figure[self.below]
         return changes
 
@@ -240,7 +238,6 @@ class Budget:
     orders: float | None = None
 
     def __post_init__(self) -> None:
-        """Checks the numbers one by one."""
         for name, number in (("stock_value", self.value), ("orders", self.orders)):
             if number is not None and not 0 < number < math.inf:
                 raise Refused(f"{argument(name, f'{number:g}')} is not above 0")

@@ -29,7 +29,6 @@ class Figures:
 
     @property
     def levels(self) -> tuple[int, int]:
-        """Returns s and S in items."""
         return self.point, self.level
 
 

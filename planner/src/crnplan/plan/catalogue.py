@@ -59,7 +59,6 @@ class Sums(defaultdict[str, list[float]]):
             self[name] = [whole, math.fsum([*parts, -whole])]
 
     def total(self, name: str) -> float:
-        """Returns a sum."""
         return math.fsum(self[name]) if name in self else 0.0
 
 
@@ -104,7 +103,6 @@ class Totals:
         return self.verdicts.total()
 
     def __getitem__(self, name: str) -> float:
-        """Returns a sum of money."""
         return self.sums.total(name)
 
     def add(self, item: Item, answer: Answer) -> None:
@@ -145,7 +143,6 @@ class Planned:
     common: str
 
     def keep(self, answers: Store[Answer]) -> None:
-        """Keeps it beside the answers."""
         tree = {"settings": dataclasses.asdict(self.settings), "borrow": self.prior.borrow, "common": self.common}
         answers.keep_facts({PLANNED: json.dumps(tree)})
 
@@ -197,7 +194,6 @@ class PlannedFolder:
         return item, answer
 
     def question(self, item: Item) -> Question:
-        """Returns the question that an item was planned by."""
         return question_of(item, self.settings, self.planned.prior)
 
     def _why_not(self, name: str) -> Refused:
@@ -313,7 +309,6 @@ class Done:
 
 
 def plan_batch(batch: Sequence[Item], settings: Settings, prior: Prior, program: str) -> list[Answer | Remark]:
-    """Returns the answers to items, or why they have none. Raises ProgramError."""
     return [plan_item(item, settings, prior, program) for item in batch]
 
 

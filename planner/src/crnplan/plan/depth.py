@@ -74,7 +74,6 @@ class Depth:
 
     @cached_property
     def theory(self) -> LongRun:
-        """Returns the theory of the question."""
         return self.question.theory()
 
     @cached_property
@@ -201,7 +200,6 @@ class Depth:
         return Found((best[0] * box, best[1] * box), *figures)
 
     def _asked(self, case: Case) -> Question:
-        """Returns the question of a case."""
         question, costs = self.question, dataclasses.asdict(case.scenario.costs)
         demand, lead = case.scenario.demand, case.scenario.lead
         return dataclasses.replace(

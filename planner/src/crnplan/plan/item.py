@@ -50,7 +50,6 @@ class Facts:
 
     @cached_property
     def checks(self) -> Checks:
-        """Returns the checks of the history."""
         return check_history(self.history, season=self.settings["history"]["season"])
 
 

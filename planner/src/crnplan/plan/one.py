@@ -243,7 +243,6 @@ def verdict_of(question: Question, today: Figures, saving: float, low: float | N
 
 
 def law_facts(law: FittedLaw, box: int) -> LawFacts:
-    """Returns what is said of a law."""
     borrowed = law.diagnostics.borrowed
     share = 0.0 if law.family == EMPIRICAL else law.diagnostics.share
     if borrowed and not borrowed.alone:

@@ -52,7 +52,6 @@ class Settings:
     season: int | None = None
 
     def __post_init__(self) -> None:
-        """Checks the settings one by one."""
         for name, word, words in (("fit", self.fit, METHODS), ("lead_fit", self.lead_fit, LEAD_METHODS),
                                   ("borrow", self.borrow or NONE, BORROW)):
             if word not in words:
@@ -108,7 +107,6 @@ class Question:
 
     @property
     def has_backlog(self) -> bool:
-        """Returns whether items owed cost something."""
         return self.item.backlog is not None
 
     @property
