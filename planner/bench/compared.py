@@ -96,11 +96,11 @@ def compared_batch(batch: Sequence[Item], prior: Prior) -> list[Compared]:
     return [compared(question, question.item.group) for question in questions if is_comparable(question)]
 
 
-def batches_of(read: Catalogued, prior: Prior) -> Iterator[tuple[list[Item], Prior]]:
-    """Yields items, some at a time."""
+def batches_of(read: Catalogued, prior: Prior) -> Iterator[tuple[int, tuple[list[Item], Prior]]]:
+    """Yields items, some at a time, with the place of the first."""
     items = [*read.items()]
     for start in range(0, len(items), BATCH):
-        yield items[start:start + BATCH], prior
+        yield start, (items[start:start + BATCH], prior)
 
 
 def compare(folder: Path, items: int, jobs: int) -> list[Compared]:
@@ -110,7 +110,7 @@ def compare(folder: Path, items: int, jobs: int) -> list[Compared]:
     with (own_folder(plan, CATALOGUE) as own, contextlib.closing(Catalogued(path)) as read,
           contextlib.closing(Store(own.store(ANSWERS), Answer)) as answers, processes(jobs) as workers):
         prior = learned_of(answers, read, SETTINGS, False).prior
-        return [it for its in workers.answers(compared_batch, batches_of(read, prior)) for it in its]
+        return [it for _, its in workers.answers(compared_batch, batches_of(read, prior)) for it in its]
 
 
 def figures_of(name: str, its: pd.DataFrame) -> dict[str, Any]:

@@ -65,7 +65,8 @@ def loop_rate(folder: Path, read: Catalogued, planned: Planned, answer: Answer,
              for name in items}
     with (tempfile.TemporaryDirectory(dir=folder) as path,
           contextlib.closing(Store(Path(path) / "answers", Answer)) as answers, given as workers):
-        assert not any(workers.answers(instant, ([[], None, None, answer] for _ in range(BATCH * WORKERS))))
+        none = ((place, [[], None, None, answer]) for place in range(BATCH * WORKERS))
+        assert not any(answers for _, answers in workers.answers(instant, none))
         work, start = Work(answers, names), time.perf_counter()
         work.finish(instant, lambda name: read.item(name.rpartition(" ")[0]), planned.settings, planned.prior, answer,
                     workers=contextlib.nullcontext(workers), shown=False)

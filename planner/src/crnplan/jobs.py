@@ -38,6 +38,7 @@ MOST_LINES = 10
 NO_DISTRIBUTED = f"{argument('cluster')} needs distributed, which is missing here"
 INSTALL = "install it (on Debian: apt-get install python3-distributed)"
 Answer = TypeVar("Answer")
+Key = TypeVar("Key")
 
 
 class Workers:
@@ -47,9 +48,9 @@ class Workers:
     def __init__(self, most: int = 1, pool: futures.Executor | None = None) -> None:
         self.most, self.pool, self.is_late = most, pool, False
 
-    def share(self, word: Any) -> Any:
-        """Returns a word as it is sent to functions, if many of them take it."""
-        return word
+    def share(self, words: Sequence[Any]) -> Sequence[Any]:
+        """Returns words as they are sent to functions, if many of them take these."""
+        return words
 
     def submit(self, function: Callable[..., Any], words: Sequence[Any], late: Sequence[Any] = ()) -> Any:
         """Begins to run a function, not where it is late, and returns the future."""
@@ -68,12 +69,14 @@ class Workers:
         """Returns the result of a future that is done. Raises what the function has raised."""
         return future.result()
 
-    def answers(self, function: Callable[..., Any], batches: Iterable[Sequence[Any]]) -> Iterator[Any]:
-        """Yields what a function returns for each batch of words, as it comes. Raises Failed if one takes too long."""
-        rest, running = iter(batches), list[_Batch]()
+    def answers(self, function: Callable[..., Any],
+                batches: Iterable[tuple[Key, Sequence[Any]]]) -> Iterator[tuple[Key, Any]]:
+        """Yields the key of each batch of words with what a function returns for these, as it comes. Raises Failed if
+        one takes too long."""
+        rest, running = iter(batches), list[_Batch[Key]]()
         while True:
-            for words in itertools.islice(rest, self.most - len(running)):
-                running.append(_Batch(self, function, words))
+            for key, words in itertools.islice(rest, self.most - len(running)):
+                running.append(_Batch(key, self, function, words))
             if not running:
                 return
             seconds = max(0.0, min(batch.due for batch in running) - time.monotonic())
@@ -82,16 +85,16 @@ class Workers:
                 done = next((future for future in batch.futures if future.done()), None)
                 if done is not None:
                     running.remove(batch)
-                    yield self.result(done)
+                    yield batch.key, self.result(done)
                 elif batch.due <= time.monotonic():
                     batch.give()
 
 
-class _Batch:
+class _Batch(Generic[Key]):
     """A batch that is under way: its futures, one for each worker that it was given to, and when it is due."""
 
-    def __init__(self, workers: Workers, function: Callable[..., Any], words: Sequence[Any]) -> None:
-        self.workers, self.function, self.words = workers, function, words
+    def __init__(self, key: Key, workers: Workers, function: Callable[..., Any], words: Sequence[Any]) -> None:
+        self.key, self.workers, self.function, self.words = key, workers, function, words
         self.futures: list[Any] = []
         self.give()
 
@@ -183,8 +186,9 @@ class Cluster(Workers):
         for address, answer in answers.items():
             check_worker(strangeness(f"{workers.get(address, {}).get('id')} ({address})", self.own, answer))
 
-    def share(self, word: Any) -> Any:
-        return self.client.scatter(word, broadcast=True)
+    def share(self, words: Sequence[Any]) -> Sequence[Any]:
+        shared: Sequence[Any] = self.client.scatter(words, broadcast=True)
+        return shared
 
     def submit(self, function: Callable[..., Any], words: Sequence[Any], late: Sequence[Any] = ()) -> Any:
         """Begins to run a function on a worker, not on those where it is late, if there are others."""
@@ -280,8 +284,8 @@ class Work(Generic[Answer]):
         try:
             with workers as them, progress(total, done, shown, unit) as show:
                 shared = them.share(words)
-                for some, answers in them.answers(named, ((function, some, [*map(asked, some)], shared)
-                                                          for some in batches)):
+                for some, answers in them.answers(function, ((some, [[*map(asked, some)], *shared])
+                                                             for some in batches)):
                     rows = zip(some, answers, strict=True)
                     self.answers.keep([(name, self.digests[name], answer) for name, answer in rows])
                     done += len(some)
@@ -290,12 +294,6 @@ class Work(Generic[Answer]):
             if shown and done:
                 print(f"{done:,} of {total:,} {unit} are done and kept; run again to go on", file=sys.stderr)
             raise
-
-
-def named(function: Callable[..., list[Any]], names: list[str], asked: list[Any],
-          words: Sequence[Any]) -> tuple[list[str], list[Any]]:
-    """Returns names with what a function returns for what is asked of them."""
-    return names, function(asked, *words)
 
 
 def lines(total: int, kept: int, unit: str) -> Callable[[int], None]:

@@ -17,12 +17,10 @@ from pathlib import Path
 import pytest
 
 from crnplan.curve.exchange_curve import CANDIDATES, CURVE, LEFT_OUT, POLICIES, exchange_curve
-from crnplan import plan
-from crnplan.records.catalogue_reading import read_catalogue
-from crnplan.plan.catalogue import ANSWERS
-from crnplan.jobs import BATCH
 from crnplan.files import MARKER
-from planner.tests.catalogue.conftest import FILES, SETTINGS, TABLES, WORDS, leave_few
+from crnplan.jobs import BATCH
+from crnplan.plan.catalogue import ANSWERS
+from planner.tests.catalogue.conftest import FAST, TABLES, WORDS, leave_few
 from planner.tests.catalogue.made import Made
 from planner.tests.conftest import Command, heed_interrupts
 from planner.tests.jobs.clusters import SECONDS, Cluster
@@ -54,7 +52,9 @@ def whole(planted: Made, tmp_path_factory: pytest.TempPathFactory, program: Path
     """Returns the plan of the few items, which was never interrupted."""
     files = planted.write(tmp_path_factory.mktemp("few"))
     leave_few(files, FEW)
-    plan(read_catalogue(*(files / it for it in FILES)), out=files / "plan", jobs=1, program=program, **SETTINGS)
+    (files / "crnplan.toml").write_text(FAST, "utf-8")
+    subprocess.run([sys.executable, "-m", "crnplan", *PLAN[0], "--jobs", "1", "--program", program], cwd=files,
+                   check=True, capture_output=True)
     return files / "plan"
 
 
