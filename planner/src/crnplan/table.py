@@ -3,6 +3,7 @@ from __future__ import annotations
 
 import csv
 import html
+import io
 import math
 import re
 from abc import ABC, abstractmethod
@@ -125,8 +126,10 @@ class DataTable:
     @property
     def lines(self) -> Iterator[str]:
         """Yields the lines of the table as CSV. Rows may be many: they are not kept."""
-        writer = csv.writer(_Echo())  # which quotes a lone carriage return if it ends lines by one
-        yield from (str(writer.writerow(row)).removesuffix("\r\n") + "\n" for row in self.spelt())
+        for row in self.spelt():
+            line = io.StringIO(newline="")
+            csv.writer(line).writerow(row)  # which quotes a lone carriage return if it ends lines by one
+            yield line.getvalue().removesuffix("\r\n") + "\n"
 
     @property
     def csv(self) -> str:
@@ -168,14 +171,6 @@ class DataTable:
         body = "".join("<tr>" + "".join(f'<td style="text-align: {style}">{html.escape(cell)}</td>'
                                         for cell, style in zip(row, styles)) + "</tr>\n" for row in rows)
         return f"<table>\n<thead><tr>{head}</tr></thead>\n<tbody>\n{body}</tbody>\n</table>\n"
-
-
-class _Echo:
-    """A file that returns what is written."""
-
-    def write(self, line: str) -> str:
-        """Returns a line."""
-        return line
 
 
 class Result(ABC):

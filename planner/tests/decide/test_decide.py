@@ -111,7 +111,8 @@ def test_lists_so_many_rows(crnplan: Command, option: list[str], count: int) -> 
 
 @pytest.mark.parametrize("words", [
     "decide examples/case/sweep.csv --replications 64 --level 0.9",
-    "decide priced.csv --scenario priced.toml --long-run", "run SPARE.toml --long-run --keys 5", "check SPARE.toml both --key 00000000000000a1 --replications 4",
+    "decide priced.csv --scenario priced.toml --long-run", "run SPARE.toml --long-run --keys 5",
+    "check SPARE.toml both --key 00000000000000a1 --replications 4",
     "sensitivity SPARE.toml", "doubt SPARE.toml demand.csv --times 10"], ids=lambda it: it.split()[0])
 def test_json_has_the_figures_of_csv(cases_room: Path, crnplan: Command, words: str) -> None:
     asked = words.replace("SPARE", "examples/spare_part").split()

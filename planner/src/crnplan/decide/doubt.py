@@ -1,13 +1,9 @@
 """Says how sure a choice among policies is, if the demand is known from a short history alone.
 
-Laws are drawn that the history allows (`demand/posterior.py`), and each policy's long run is computed under each of
-them (`theory/many_laws.py`). The mean cost over these laws is the cost to promise, since it includes the doubt about
-the law. The regret of a policy under a law is its cost over that of the best of the policies, less 1. Through crnsim
-the same laws are scenarios with one key, for the coming periods. How often such statements hold was measured:
-planner/studies/README.md, "Doubt".
-
-What theory computes is rounded and unproved; crnsim's figures are exact and proved for its stream, and the decimals
-made of them are rounded.
+Each policy's long run is computed under laws that the history allows. The mean cost over these laws is the cost to
+promise, since it includes the doubt about the law. The regret of a policy under a law is its cost over that of the best
+of the policies, less 1. Through crnsim the same laws are scenarios with one key, for the coming periods. How often such
+statements hold was measured: planner/studies/README.md, "Doubt". What theory computes is rounded and unproved.
 """
 from __future__ import annotations
 

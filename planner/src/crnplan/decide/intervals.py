@@ -13,7 +13,7 @@ from __future__ import annotations
 
 import math
 import sys
-from collections.abc import Iterator, Sequence
+from collections.abc import Sequence
 from dataclasses import dataclass
 from fractions import Fraction
 from pathlib import Path
@@ -119,10 +119,10 @@ def verdict_of(low: float | None, high: float | None) -> str:
 
 
 def compared(rows: Sequence[Row], estimates: Sequence[Estimate], percents: Sequence[float | None], level: float,
-             replications: int) -> Iterator[Compared]:
-    """Yields the policies of a report, in its order, with their intervals. Raises Refused if the level is not between 0
-    and 1."""
-    tails, joint, single = 1 - checked_level(level), 0.0, 0.0
+             replications: int) -> list[Compared]:
+    """Returns the policies of a report, in its order, with their intervals. Raises Refused if the level is not between
+    0 and 1."""
+    tails, joint, single, policies = 1 - checked_level(level), 0.0, 0.0, list[Compared]()
     if replications > 1:
         joint = t_quantile(tails / max(1, len(rows) - 1), replications - 1)
         single = t_quantile(tails, replications - 1)
@@ -131,8 +131,9 @@ def compared(rows: Sequence[Row], estimates: Sequence[Estimate], percents: Seque
         low, high = (None, None) if error is None else (own.difference - joint * error, own.difference + joint * error)
         half = None if own.own_error is None else single * own.own_error
         cost_low, cost_high = (None, None) if half is None else (own.cost - half, own.cost + half)
-        yield Compared(row.policy, row.s, row.S, own.cost, cost_low, cost_high, own.difference, percent, error, low,
-                       high, verdict_of(low, high) if place else "base")
+        policies.append(Compared(row.policy, row.s, row.S, own.cost, cost_low, cost_high, own.difference, percent,
+                                 error, low, high, verdict_of(low, high) if place else "base"))
+    return policies
 
 
 def with_intervals(rows: Sequence[Row], replications: int, level: float) -> list[Compared]:
@@ -146,9 +147,7 @@ def with_intervals(rows: Sequence[Row], replications: int, level: float) -> list
             own, error = own / float(_periods_of(row, replications) or 1), math.sqrt(row.diff_var or 0)
         estimates.append(Estimate(row.policy, float(row.per_period), own, float(row.diff_mean), error, None))
     percents = [float(100 * Fraction(row.diff_total, base.total)) if base.total else None for row in rows]
-    ranked = sorted(zip(rows, compared(rows, estimates, percents, level, replications)),
-                    key=lambda pair: pair[0].diff_total)
-    return [row for _, row in ranked]
+    return sorted(compared(rows, estimates, percents, level, replications), key=lambda row: row.diff)
 
 
 def with_verdict(rows: Sequence[Compared], verdict: str) -> list[str]:

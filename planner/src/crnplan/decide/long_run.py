@@ -38,7 +38,7 @@ def _ranked(rows: Sequence[Row], estimates: Sequence[Estimate], level: float, re
     """Returns the policies of a report in the long run, the cheapest first."""
     base = estimates[0].cost
     percents = [100 * own.difference / base if base else None for own in estimates]
-    ranked = [*compared(rows, estimates, percents, level, replications)]
+    ranked = compared(rows, estimates, percents, level, replications)
     if theory is not None:
         ranked = [replace(row, theory_cost=cost, theory_diff=cost - theory[0]) for row, cost in zip(ranked, theory)]
     if effects is not None:
