@@ -122,11 +122,6 @@ class Posterior:
         """Returns the mixture of both."""
         return mixture([(self.share, self.predictive), (1 - self.share, self.packs.law)])
 
-    def laws_round(self, uniform: Floats, random: np.random.Generator) -> list[Floats]:
-        """Draws laws round which the mixture lies, as many as there are columns of uniform numbers."""
-        return [round_history(scaled(law[:self.most + 1]), self.packs, self.share, random)
-                for law in self.drawn(uniform)]
-
     def drawn(self, uniform: Floats) -> list[Floats]:
         """Draws laws of demand, one for each column of uniform numbers. Its three rows choose the cell, the point of
         the share within it, and that of the sizes."""
@@ -222,6 +217,6 @@ def borrowed_laws(prior: Prior, observed: Observed | Iterable[Any], item_class: 
         return allowed_laws(boxes, times=times, seed=seed)
     *uniform, choice = stratified(random, ROWS, times)
     chosen = np.searchsorted(np.cumsum([weight for weight, _ in parts])[:-1], choice, side="right")
-    laws = (law for place, (_, part) in enumerate(parts)
-            for law in part.laws_round(np.array(uniform)[:, chosen == place], random))
+    laws = (round_history(scaled(law[:part.most + 1]), part.packs, part.share, random)
+            for place, (_, part) in enumerate(parts) for law in part.drawn(np.array(uniform)[:, chosen == place]))
     return AllowedLaws({FAMILY: times}, tuple(law_of_chances(in_items(law, sample.pack), sample.most) for law in laws))

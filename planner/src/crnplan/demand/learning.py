@@ -156,19 +156,15 @@ def classes_of(items: Sequence[tuple[str, Any]], histories: Histories, classes: 
     return [str(name or "") for name in names]
 
 
-def drawn(samples: Iterable[Sample], seed: int) -> list[Sample]:
-    """Returns at most 3,000 histories, drawn at random from more, in an order of their own whatever order they have."""
+def learned(samples: Sequence[Sample], seed: int, above: Floats | None = None) -> Learned:
+    """Estimates the prior of a catalogue, or of a class from that of the catalogue, `above`. It does not depend on the
+    order of histories; of more than 3,000 so many are drawn at random."""
     every = sorted(samples, key=lambda sample: (*group_of(sample), sample.values.astype(">i8").tobytes(),
                                                 sample.counts.astype(">i8").tobytes()))
-    if len(every) <= MOST_ITEMS:
-        return every
-    places = np.random.default_rng(seed).choice(len(every), MOST_ITEMS, replace=False)
-    return [every[place] for place in np.sort(places)]
-
-
-def learned(samples: Sequence[Sample], seed: int, above: Floats | None = None) -> Learned:
-    """Estimates the prior of a catalogue, or of a class from that of the catalogue, `above`."""
-    chunks = chunks_of(drawn(samples, seed))
+    if len(every) > MOST_ITEMS:
+        places = np.random.default_rng(seed).choice(len(every), MOST_ITEMS, replace=False)
+        every = [every[place] for place in np.sort(places)]
+    chunks = chunks_of(every)
     pulled = above is not None and len(samples) <= MOST_PULLED
     start, items = (above, CLASS_ITEMS) if above is not None and pulled else (FLAT, FLAT_ITEMS)
     chances = estimated(chunks, start, items * start)
