@@ -18,7 +18,7 @@ import pytest
 from matplotlib.figure import Figure
 
 import crnplan as crn
-from crnplan.commands import COMMANDS, group
+from crnplan.commands import COMMANDS, as_option, group
 from planner.tests.conftest import Command
 
 PLANNER = Path(__file__).parents[1]
@@ -125,5 +125,4 @@ def test_wrong_words(words: list[str], message: str, crnplan: Command) -> None:
 
 def test_options_of_the_command_that_read() -> None:
     """A page that is written again names the options of the command that read the files."""
-    assert group.get_command(click.Context(group), "report") and group.as_option("end", "") == "--to"
-    assert group.get_command(click.Context(group), "run") and group.as_option("end", "") == "--end"
+    assert group.get_command(click.Context(group), "report") and as_option("end", "") == "--to"

@@ -290,7 +290,8 @@ def test_all_faults_of_a_history(room: Path, plan: Plan) -> None:
 def test_no_program(room: Path, plan: Plan) -> None:
     """Without the program nothing is done."""
     status, output, errors = plan(used=room / "missing")
-    assert (status, output, errors.count("\n")) == (2, "", 1) and "there is no program" in errors
+    assert (status, output, errors.count("\n")) == (2, "", 1)
+    assert errors.startswith(f"crnplan: --program: there is no program {room / 'missing'}; ")
     assert not (room / "plan").exists()
 
 

@@ -126,8 +126,8 @@ def test_page_stands_alone(whole: Path) -> None:
     assert set(page.addresses) == {"data:,"} and not page.parts["script"] and all(page.pictures.values())
     assert [caption.strip() for caption in page.parts["caption"]] == [*page.tables]
     wanted = " ".join((whole / "summary.txt").read_text().split())
-    told = re.search(r"^(Below .*?) (history: .*? weeks[.]) policy s S .* (In the long run .*?[.]) The chosen policy is ",
-                     wanted)
+    told = re.search(r"^(Below .*?) (history: .*? weeks[.]) policy s S .* (In the long run .*?[.]) The chosen policy "
+                     "is ", wanted)
     assert told and all(part in page.words for part in told.groups())
     scenario = Scenario.read(whole / "scenario.toml")
     assert [it.name for it in scenario.policies] and set(rows_of(whole, "policies.csv")) == {

@@ -11,7 +11,7 @@ import io
 import os
 import sys
 import traceback
-from collections.abc import Iterator, Mapping
+from collections.abc import Iterator
 from pathlib import Path
 from typing import Any, TextIO, cast
 
@@ -45,11 +45,13 @@ COMMANDS = {
 }
 
 
-class Group(click.Group):
-    """A group whose subcommands are imported when they are asked for. `options` has, by the arguments of the library,
-    those of the one that was asked for, and of others of its module: a page may tell what `crnplan catalogue` read."""
+# By the arguments of the library, the options of the subcommand that was asked for, and of others of its module: a page
+# may tell what `crnplan catalogue` read.
+options: dict[str, str] = {}
 
-    options: Mapping[str, str] = {}
+
+class Group(click.Group):
+    """A group whose subcommands are imported when they are asked for."""
 
     def list_commands(self, ctx: click.Context) -> list[str]:
         """Returns the names of the subcommands, in order."""
@@ -61,8 +63,9 @@ class Group(click.Group):
             module = importlib.import_module(f"{__name__}.{COMMANDS[cmd_name][0]}")
             command: click.Command = getattr(module, cmd_name)
             others = [its for its in vars(module).values() if isinstance(its, click.Command)]
-            self.options = {option.name or "": option.opts[0] for its in (*others, command) for option in its.params
-                            if isinstance(option, click.Option)}
+            options.clear()
+            options.update({option.name or "": option.opts[0] for its in (*others, command) for option in its.params
+                            if isinstance(option, click.Option)})
             return command
         return None
 
@@ -80,10 +83,6 @@ class Group(click.Group):
         with formatter.section("Commands"):
             formatter.write_dl([(name, line) for name, (_, line) in COMMANDS.items()])
 
-    def as_option(self, name: str, value: str) -> str:
-        """Returns an argument of the library as the option that has its name."""
-        return self.options.get(name, f"--{name.replace('_', '-')}") + f" {value}" * bool(value)
-
 
 @click.group(cls=Group, context_settings={"help_option_names": ["-h", "--help"], "max_content_width": 100},
              epilog="Example: crnplan item history.csv settings.toml --out plan")
@@ -93,6 +92,11 @@ def group() -> None:
 
     What the program crnsim computes is exact and proved for its stream; what theory computes is rounded and unproved.
     """
+
+
+def as_option(name: str, value: str) -> str:
+    """Returns an argument of the library as the option that has its name."""
+    return options.get(name, f"--{name.replace('_', '-')}") + f" {value}" * bool(value)
 
 
 def note(message: str) -> None:
@@ -105,8 +109,7 @@ def note(message: str) -> None:
 def main() -> None:
     """Runs the command. Ends with status 0; 1 if the answer is no; 2 if an input or a word is refused; 3 if no input is
     to blame; 130 if interrupted."""
-    assert isinstance(group, Group)
-    with _shown_safely(), spelt(group.as_option):
+    with _shown_safely(), spelt(as_option):
         try:
             result: Any = group.main(prog_name="crnplan", standalone_mode=False)
             print(end="", flush=True)

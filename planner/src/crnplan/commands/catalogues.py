@@ -3,7 +3,7 @@ from __future__ import annotations
 
 import sys
 import tempfile
-from collections.abc import Iterator, Mapping, Sequence
+from collections.abc import Iterator, Mapping
 from dataclasses import fields
 from pathlib import Path
 from typing import Any
@@ -27,9 +27,9 @@ from ..records.cells import DECIMALS, EVERY
 from ..records.columns import ROLES
 from ..records.item import BORROW
 from ..records.items import KEEP, LEAVE_OUT, Words
-from . import note
+from . import as_option, note
 from .histories import writing_options
-from .words import Picture, program_option, worker_options
+from .words import Picture, pairs_of, program_option, worker_options
 
 # So many reasons are named on the terminal.
 MOST_REASONS = 10
@@ -67,7 +67,11 @@ def item(history: str, settings: str, out: str, program: str | None) -> int:
         if sys.stderr.isatty():
             print(f"{part} ..", file=sys.stderr)
 
-    with spelt(as_setting):
+    def spelling(name: str, value: str) -> str:
+        """Returns an argument of the library as a key of the settings, or as an option of this command."""
+        return (as_option if name in ("out", "program") else as_setting)(name, value)
+
+    with spelt(spelling):
         try:
             print(plan_item(history, settings, out, program=program, told=told).summary, end="")
         except CrnplanError as fault:
@@ -89,11 +93,14 @@ def item(history: str, settings: str, out: str, program: str | None) -> int:
               help="End with status 0 even if no item can be planned, or more than half of a file's rows were "
               "rejected.")
 @click.option("--column", "columns", metavar="FILE.ROLE=NAME", multiple=True,
+              callback=pairs_of(r"([^=]*\.[^=]*)=(.*\S.*)", "demand.quantity=Menge"),
               help="A column, as demand.quantity=Menge. May be given several times.")
 @click.option("--unit", "units", metavar="FILE.ROLE=UNIT", multiple=True,
+              callback=pairs_of(r"([^=]*\.[^=]*)=(.*\S.*)", "items.lead=day"),
               help="What a column counts, as items.lead=day, items.holding=percent (of the price a year), "
               "items.price=100, demand.quantity=12. May be given several times.")
 @click.option("--factor", "factors", metavar="MEASURE=NUMBER", multiple=True,
+              callback=pairs_of(r"(.*\S.*)=(0*[1-9][0-9]*)", "KAR=12"),
               help="How many items one of a unit of measure is, as KAR=12. May be given several times.")
 @click.option("--every", type=click.Choice(EVERY), help="The period; by default week. Weeks are ISO weeks.")
 @click.option("--from", "start", metavar="DATE", help="The first day of the record, for all items.")
@@ -182,40 +189,18 @@ def planned(folder: Folder, settings: Settings, asked: Mapping[str, Any]) -> lis
 def words_of(asked: Mapping[str, Any], config: Mapping[str, Any]) -> tuple[Words, Settings]:
     """Returns how files are read and how items are planned: by the command's words, else by the configuration."""
     named = {f"{kind}.{role}": name for kind in ROLES for role, name in config.get(kind, {}).items()}
+    factors = {measure: int(number) for measure, number in asked["factors"].items()}
     stated: dict[str, Any] = {
         **config, "start": config.get("from"), "end": config.get("to"),
         **{name: value for name, value in asked.items() if value not in (None, ())},
-        "columns": _by_kind(named | entries_of(asked["columns"], "--column", "NAME, as demand.quantity=Menge")),
-        "units": _by_kind(config.get("units", {}) | entries_of(asked["units"], "--unit", "UNIT, as items.lead=day")),
-        "names": _by_kind(config.get("names", {})), "factors": factors_of(asked["factors"]) or config.get("factors"),
+        "columns": _by_kind(named | asked["columns"]), "units": _by_kind(config.get("units", {}) | asked["units"]),
+        "names": _by_kind(config.get("names", {})), "factors": factors or config.get("factors"),
         "date_formats": tuple(asked["date_formats"] or config.get("date_formats", ()))}
 
     def given(kind: type) -> dict[str, Any]:
         """Returns the stated fields of a record."""
         return {it.name: stated[it.name] for it in fields(kind) if stated.get(it.name) is not None}
     return Words(**given(Words)), Settings(**given(Settings))
-
-
-def entries_of(words: Sequence[str], option: str, form: str) -> dict[str, str]:
-    """Returns texts by FILE.ROLE from words such as `demand.quantity=Menge`. Raises Refused."""
-    entries = {}
-    for word in words:
-        place, _, text = (part.strip() for part in word.partition("="))
-        if not text or "." not in place:
-            raise Refused(f"{option} {word!r} is not FILE.ROLE={form}")
-        entries[place] = text
-    return entries
-
-
-def factors_of(words: Sequence[str]) -> dict[str, int]:
-    """Returns how many items one of a unit of measure is, from words such as `KAR=12`. Raises Refused."""
-    factors = {}
-    for word in words:
-        measure, _, number = word.rpartition("=")
-        if not measure or not number.isdecimal() or int(number) < 1:
-            raise Refused(f"--factor {word!r} is not MEASURE=NUMBER, as KAR=12")
-        factors[measure.strip()] = int(number)
-    return factors
 
 
 def _by_kind(table: Mapping[str, Any]) -> dict[str, dict[str, Any]]:

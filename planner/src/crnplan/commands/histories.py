@@ -24,7 +24,8 @@ from ..records.sources import Rules
 from ..scenario import Scenario
 from ..toml.documents import places_of
 from . import note
-from .words import Picture, form_options, program_option, scenario_argument, show, together, usage_error
+from .words import (Picture, form_options, pairs_of, program_option, scenario_argument, show, together,
+                    usage_error)
 
 if TYPE_CHECKING:
     from ..demand.fitted import FittedLaw
@@ -40,15 +41,6 @@ def stripped(context: click.Context, option: click.Parameter, text: str | None) 
     return text and text.strip()
 
 
-def item_of(context: click.Context, option: click.Parameter, words: tuple[str, ...]) -> dict[str, str]:
-    """Returns the columns and texts of `COLUMN=VALUE`."""
-    pairs = [word.partition("=") for word in words]
-    wrong = next((word for word, pair in zip(words, pairs) if not pair[0].strip() or not pair[1]), None)
-    if wrong is not None:
-        raise click.BadParameter(f"'{wrong}' is not COLUMN=VALUE, as part=A-17", context, option)
-    return {name.strip(): text.strip() for name, _, text in pairs}
-
-
 demand_option = click.option("--demand", metavar="COLUMN", callback=stripped, help="What customers asked for.")
 record_options = together(
     click.option("--date", metavar="COLUMN", callback=stripped, help="Each row is a movement at this date."),
@@ -59,7 +51,8 @@ record_options = together(
     click.option("--to", "end", metavar="DATE", help="The last day of the record."),
     click.option("--net", is_flag=True, help="Take amounts below 0 off their period."),
     click.option("--whole", is_flag=True, help="Leave out the first and the last period if they may be partial."),
-    click.option("--item", metavar="COLUMN=VALUE", multiple=True, callback=item_of,
+    click.option("--item", metavar="COLUMN=VALUE", multiple=True,
+                 callback=pairs_of(r"([^=]*[^=\s][^=]*)=(.*)", "part=A-17"),
                  help="Read only rows with this text; the record is that of all rows. May be given several times."),
     click.option("--box", type=click.IntRange(1), default=1, metavar="N",
                  help="Count each period in boxes of N items, rounded up."))

@@ -2,6 +2,7 @@
 from __future__ import annotations
 
 import json
+import re
 import sys
 from collections.abc import Callable
 from pathlib import Path
@@ -30,6 +31,20 @@ class Picture(click.ParamType):
         if not value.lower().endswith(PICTURES):
             raise Refused(f"{value!r} does not end with {' or '.join(PICTURES)}")
         return Path(value)
+
+
+def pairs_of(form: str, example: str) -> Callable[[click.Context, click.Parameter, tuple[str, ...]], dict[str, str]]:
+    """Returns the callback of an option that reads texts by name from words of a form: a pattern with two groups."""
+    def read(context: click.Context, option: click.Parameter, words: tuple[str, ...]) -> dict[str, str]:
+        """Returns the texts by their names. Raises Refused for the first word of another form."""
+        pairs = {}
+        for word in words:
+            pair = re.fullmatch(form, word)
+            if pair is None:
+                raise Refused(f"{option.opts[0]} {word!r} is not {option.metavar}, as {example}")
+            pairs[pair[1].strip()] = pair[2].strip()
+        return pairs
+    return read
 
 
 def together(*options: Decorator) -> Decorator:
