@@ -119,6 +119,8 @@ def figures_of_laws(scenario: Scenario, laws: Sequence[tuple[Law, Law]],
             continue
         is_long = shape.leads > 1 and shape.lead > LONG_LEAD
         least = math.nan if is_long else least_cost(theory, -(-widest // theory.step) + 1)
+        gaps = {gap for policy in policies for gap, _ in theory.gaps_of(policy.s, policy.S)}
+        theory.rows_of(np.array(sorted(gaps)))  # which takes less time than one by one
         figures = [theory.figures(policy.s, policy.S) for policy in policies]
         rows.append((place, [its.cost for its in figures], [its.fill for its in figures], least, theory.step))
         if not theory.exact and len(coarse) < CHECKED:
