@@ -113,7 +113,7 @@ def test_many_periods(case: str, monkeypatch: pytest.MonkeyPatch) -> None:
     """All ways to compute many reviews agree with single reviews, and the bias settles as the periods grow."""
     asked = replace(CASES[case], periods=1024, initial=30, policies=(Policy("it", 4, 11), Policy("other", 9, 9)))
     found, shorter = start_bias(asked), start_bias(replace(asked, periods=900))
-    monkeypatch.setattr("crnplan.theory.run_effects.MOST_WIDTH", 0)
+    monkeypatch.setattr("crnplan.theory.run_effects.MOST_SUMS", -1)
     assert start_bias(asked).biases == pytest.approx(found.biases, abs=1e-7)
     monkeypatch.setattr("crnplan.theory.reviews.MOST_DENSE", 0)
     assert start_bias(asked).biases == pytest.approx(found.biases, abs=1e-7)
@@ -130,7 +130,7 @@ def test_all_reviews_at_once(weights: list[int], lead: Pair, s: int, gap: int, i
                     costs=COSTS, periods=periods, initial=initial, policies=(Policy("it", s, s + gap),))
     runs = Runs(theory_of(asked), asked)
     at_once = runs.bias(asked.policies[0], gap)
-    runs.falls = None
+    runs.sums = None
     assert at_once == pytest.approx(runs.bias(asked.policies[0], gap), rel=1e-8, abs=1e-7)
 
 

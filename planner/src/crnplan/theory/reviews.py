@@ -12,12 +12,9 @@ computed one by one.
 """
 from __future__ import annotations
 
-import math
-from functools import cached_property
 from typing import NamedTuple
 
 import numpy as np
-import numpy.typing as npt
 from scipy import fft
 
 from ..chances import Floats
@@ -63,89 +60,55 @@ def reciprocal(series: Floats, count: int) -> Floats:
     return inverse
 
 
-class ReviewSums:
-    """The laws of the net demand of 0, 1, .. count - 1 reviews, up to the width, in cells.
+def review_sums(net: LatticeLaw, width: int, count: int) -> Floats:
+    """Returns the laws of the net demand of 0, 1, .. reviews up to the width, in cells, a row each: those of less than
+    `count` reviews, or of as many as are within the width with some chance.
 
-    The law of i * m + j reviews is the product of that of i * m and that of j reviews. Only these two factors are kept,
-    so a weighted sum of all laws takes about 2 sqrt(count) products (Paterson and Stockmeyer, On the number of
-    nonscalar multiplications necessary to evaluate polynomials, SIAM Journal on Computing 2, 1973).
+    The net demand of a review is never below 0, and not always 0.
     """
+    size = width + 1
+    room, rows = room_for(2 * size - 1), np.eye(1, size)
+    once = np.zeros(max(net.high + 1, size))
+    once[net.low:net.high + 1] = net.chances
+    law = once[:size]  # of as many reviews as there are rows
+    while len(rows) < count and law.sum() > LEAST_MASS:
+        transforms = fft.rfft(np.vstack([rows, law]), room)
+        sums = fft.irfft(transforms * transforms[-1], room)[:, :size]
+        sums[sums < LEAST_CHANCE] = 0.0
+        rows, law = np.vstack([rows, sums[:-1]]), sums[-1]
+    return rows[:count]
 
-    def __init__(self, net: LatticeLaw, width: int, count: int) -> None:
-        """Takes the law of the net demand of a review. It is never below 0, and not always 0."""
-        self.size, self.count = width + 1, count
-        self.room = room_for(2 * self.size - 1)
-        once = np.zeros(max(net.high + 1, self.size))
-        once[net.low:net.high + 1] = net.chances
-        likely = min(count, 1 + width / net.mean)
-        self.few, then = self._powers(once[:self.size], 2**math.ceil(math.log2(likely) / 2))
-        self.many, _ = self._powers(then, -(-count // len(self.few)))
 
-    def _powers(self, law: Floats, count: int) -> tuple[Floats, Floats]:
-        """Returns the laws of 0, 1, .. times an amount, a row each, and the next one: at least `count` rows, or as many
-        as are within the width with some chance."""
-        rows = np.zeros((1, self.size))
-        rows[0, 0] = 1.0
-        while len(rows) < count and law.sum() > LEAST_MASS:
-            given = fft.rfft(np.vstack([rows, law]), self.room)
-            sums = fft.irfft(given * given[-1], self.room)[:, :self.size]
-            sums[sums < LEAST_CHANCE] = 0.0
-            rows, law = np.vstack([rows, sums[:-1]]), sums[-1]
-        return rows, law
+def falling(sums: Floats, start: Start, gap: int, periods: int, counted: int) -> Reviews:
+    """Returns the reviews of so many periods if nothing comes back, of which the first `counted` matter for the stock.
 
-    @cached_property
-    def _below(self) -> Floats:
-        """Returns the chances that many reviews take at most 0, 1, .. cells."""
-        return np.cumsum(self.many, axis=1)
-
-    @cached_property
-    def _transforms(self) -> npt.NDArray[np.complex128]:
-        """Returns the transforms of the laws of many reviews."""
-        transforms: npt.NDArray[np.complex128] = fft.rfft(self.many, self.room)
-        return transforms
-
-    def within(self, width: int) -> Floats:
-        """Returns the chances that 0, 1, .. count - 1 reviews take at most so many cells; none if that is below 0."""
-        chances = np.zeros(self.count)
-        if width >= 0:
-            known = (self._below[:, width::-1] @ self.few[:, :width + 1].T).ravel()[:self.count]
-            chances[:len(known)] = known
+    `sums` are the laws of `review_sums` up to the most that can be asked for between the start and an order.
+    """
+    def within(width: int) -> Floats:
+        """Returns the chances that 0, 1, .. reviews take at most so many cells."""
+        chances = np.zeros(periods)
+        chances[:len(sums)] = sums[:, :max(width + 1, 0)].sum(axis=1)
         return chances
-
-    def weighted(self, weights: Floats) -> Floats:
-        """Returns the sum of the laws of 0, 1, .. reviews with these weights, at most `count`."""
-        some = weights[:len(self.many) * len(self.few)]
-        given = np.zeros((len(self.many), len(self.few)))
-        given.flat[:len(some)] = some
-        parts = fft.rfft(given @ self.few, self.room)
-        total: Floats = fft.irfft((parts * self._transforms).sum(axis=0), self.room)[:self.size]
-        return total
-
-
-def falling(falls: ReviewSums, start: Start, gap: int, counted: int) -> Reviews:
-    """Returns the reviews if nothing comes back: all those of `falls`, of which the first `counted` matter for the
-    stock."""
     low, cells = min(start.law.low, 0), zip(start.law.cells.tolist(), start.law.chances.tolist())
     begun = [] if start.ordered else [(cell, chance) for cell, chance in cells if chance]
-    first = np.zeros(falls.count)
+    first = np.zeros(periods)
     first[0] = start.ordered
     for cell, chance in begun:
-        first[1:] -= chance * np.diff(falls.within(gap - cell))
-    cycle = np.diff(falls.within(gap), prepend=0.0)
-    placing = convolved(first, reciprocal(cycle, falls.count))[:falls.count]
+        first[1:] -= chance * np.diff(within(gap - cell))
+    cycle = np.diff(within(gap), prepend=0.0)
+    placing = convolved(first, reciprocal(cycle, periods))[:periods]
 
     def law_of(from_start: Floats, from_order: Floats) -> LatticeLaw:
         """Returns the sum of laws after 0, 1, .. reviews from the start and from an order, with these weights."""
+        after_start, after_order = (weights[:len(sums)] @ sums[:len(weights)] for weights in (from_start, from_order))
         chances = np.zeros(gap - low + 1)
-        chances[-low:] = falls.weighted(from_order)[:gap + 1]
-        if begun:
-            after = falls.weighted(from_start)
-            for cell, chance in begun:
-                chances[cell - low:] += chance * after[:gap - cell + 1]
+        chances[-low:] = after_order[:gap + 1]
+        for cell, chance in begun:
+            chances[cell - low:] += chance * after_start[:gap - cell + 1]
         return LatticeLaw(low, np.clip(chances, 0, None))
     shares = np.full(counted, 1 / max(counted, 1))
     mean = law_of(shares, np.cumsum(placing[:counted])[::-1] / max(counted, 1))
-    return Reviews(float(placing.sum()), mean, law_of(np.eye(1, falls.count, falls.count - 1)[0], placing[::-1]))
+    return Reviews(float(placing.sum()), mean, law_of(np.eye(1, periods, periods - 1)[0], placing[::-1]))
 
 
 class Moves:

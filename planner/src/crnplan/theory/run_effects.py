@@ -34,7 +34,7 @@ from .lattice import (MOST_GAPS, MOST_TRANSFORM, finest, has_room, height_of, la
                       shape_of, theory_on, values_of)
 from .lattice_law import NOTHING, LatticeLaw, Surplus, power_of, room_for, sum_of
 from .long_run import LongRun
-from .reviews import Reviews, ReviewSums, Start, falling, moving
+from .reviews import Reviews, Start, falling, moving, review_sums
 from .several_leads import lateness, renewed, transforms_of
 from .walk import Walk
 
@@ -43,7 +43,7 @@ if TYPE_CHECKING:
 
 MOST_WORK = 40_000_000  # for late orders of all policies, by `work_of`
 MOST_BIAS_GAPS = 17_000  # with one lead time: the reviews of a run take longer than figures
-MOST_WIDTH = 50_000  # cells from the start to an order: for more, all reviews at once would take too much memory
+MOST_SUMS = 2_000_000  # cells of the laws of all reviews at once: more would take too much memory
 MOST_PRODUCTS = 300_000_000  # of cells of gaps and of demands, for mean positions
 
 
@@ -111,14 +111,14 @@ class Runs:
         self.starts = {(policy, gap): start_of(theory, scenario.initial, policy, gap)
                        for policy in scenario.policies for gap, _ in theory.gaps_of(policy.s, policy.S)}
         widest = max(gap - min(start.law.low, 0) for (_, gap), start in self.starts.items())
-        self.falls = None
-        if theory.net.low >= 0 and widest <= MOST_WIDTH:
-            self.falls = ReviewSums(theory.net, widest, self.periods)
+        self.sums: Floats | None = None
+        if theory.net.low >= 0 and widest * min(self.periods, 2 * widest / theory.net.mean) <= MOST_SUMS:
+            self.sums = review_sums(theory.net, widest, self.periods)
 
     def reviews(self, start: Start, gap: int) -> Reviews:
         """Returns the reviews from a start."""
-        if self.falls:
-            return falling(self.falls, start, gap, self.counted)
+        if self.sums is not None:
+            return falling(self.sums, start, gap, self.periods, self.counted)
         usual = self.theory.positions(gap), 1 / self.theory.periods(gap)
         return moving(self.theory.net, start, *usual, self.periods, self.counted)
 
