@@ -14,7 +14,6 @@ from hypothesis import given, settings
 from hypothesis import strategies as st
 from scipy import integrate, stats
 
-from crnplan.chances import mixture
 from crnplan.demand import FAMILIES, METHODS
 from crnplan.demand.families import fits_of, predictive_of
 from crnplan.demand.fitted import notes_of
@@ -49,9 +48,7 @@ def test_weights(chances: list[float]) -> None:
 
 def test_weights_within_range() -> None:
     """Demands above 10,000 count as 10,000."""
-    law = np.zeros(10_400)
-    law[[3, 10_000, 10_399]] = 0.5, 0.25, 0.25
-    assert Law.of_chances(law) == Law((3, 10_000), (32_768, 32_768))
+    assert Law.of_chances(np.bincount([3, 10_000, 10_399], [0.5, 0.25, 0.25])) == Law((3, 10_000), (32_768, 32_768))
 
 
 def test_bulks() -> None:
@@ -150,15 +147,6 @@ def test_cap(demands: int, cap: int) -> None:
     assert cap_of(Sample.of([0] * 40 + [3] * (demands - 1) + [10])) == cap
 
 
-def test_the_history_speaks_against() -> None:
-    """A law like the history stands alone, and one unlike it has a small share."""
-    sample = Sample.of(np.random.default_rng(1).poisson(4, 300).tolist())
-    like, unlike = stats.poisson.pmf(np.arange(40), 4), stats.poisson.pmf(np.arange(40), 9)
-    assert share_of(sample, like) == 1 and share_of(sample, unlike) < 0.2
-    both = mixture([(0.5, like), (0.5, np.array([0, 1.0]))])
-    assert both[:3] == pytest.approx([like[0] / 2, like[1] / 2 + 0.5, like[2] / 2])
-
-
 def test_packs() -> None:
     """If all demands are packs, and not by luck, so are those of the law."""
     packs = RANDOM.poisson(0.7, 60)
@@ -200,6 +188,11 @@ def test_diagnostics() -> None:
     history = law.diagnostics.history
     assert history.quantiles == {it: int(np.quantile(ERRATIC, it, method="inverted_cdf")) for it in expected}
     assert (history.mean, history.variance) == pytest.approx((np.mean(ERRATIC), np.var(ERRATIC, ddof=1)))
+    law = fit_demand([0, 0, 2, 6], method="empirical")
+    seen = law.diagnostics.history
+    assert (law.diagnostics.seen.size, seen.mean, seen.variance, seen.most) == (4, 2.0, 8.0, 6)
+    assert fit_demand([3], method="empirical").diagnostics.history.variance is None and law.figures.variance == 6
+    assert law.toml("demand") == "[demand]\nvalues = [0, 2, 6]\nweights = [2, 1, 1]\n"
 
 
 def test_notes() -> None:
@@ -228,16 +221,6 @@ def test_empirical_law(numbers: list[int], box: int) -> None:
     assert (law.box, law.family, law.table) == (box, "empirical", Law(law.values, law.weights))
 
 
-def test_figures_of_what_was_seen() -> None:
-    """The empirical law knows how many numbers there were, their mean and their variance."""
-    law = fit_demand([0, 0, 2, 6], method="empirical")
-    seen = law.diagnostics.history
-    assert (law.diagnostics.seen.size, seen.mean, seen.variance, seen.most) == (4, 2.0, 8.0, 6)
-    assert fit_demand([3], method="empirical").diagnostics.history.variance is None
-    assert law.table == Law((0, 2, 6), (2, 1, 1)) and law.figures.variance == 6
-    assert law.toml("demand") == "[demand]\nvalues = [0, 2, 6]\nweights = [2, 1, 1]\n"
-
-
 @pytest.mark.parametrize("numbers", [
     [1, 2, 2], (1.0, 2.0, 2.0), np.array([1, 2, 2], np.uint8), np.array([1.0, 2, 2]), pd.Series([1, 2, 2]),
     iter([1, 2, 2]), pd.Series([1, 2, 2], dtype="Int64")],
@@ -259,6 +242,16 @@ def test_refused_numbers(numbers: Sequence[Any], part: str) -> None:
     """What is no whole number is refused, with its place."""
     with pytest.raises(Refused, match=part):
         fit_demand(numbers)
+
+
+@pytest.mark.parametrize("fit, words, message", [
+    (fit_demand, {"method": "normal"}, "there is no method 'normal' to fit demand; say auto, predictive, empirical, "),
+    (fit_lead, {"method": "poisson"}, "there is no method 'poisson' to fit lead times; say auto or empirical"),
+    (fit_demand, {"box": 0}, "0 is no number of items in a box; it is at least 1")])
+def test_refused_words(fit: Any, words: dict[str, Any], message: str) -> None:
+    """A method that isn't there and a box of nothing are refused."""
+    with pytest.raises(Refused, match=message):
+        fit([1], **words)
 
 
 def test_range_of_demand(tmp_path: Path) -> None:
@@ -286,16 +279,6 @@ def test_range_of_lead_times(tmp_path: Path) -> None:
         fit_lead(read_lead_times(tmp_path / "file.csv", lead="weeks"))
 
 
-def test_refused_words() -> None:
-    """A method that isn't there and a box of nothing are refused."""
-    with pytest.raises(Refused, match="there is no method 'normal' to fit demand; say auto, predictive, empirical, "):
-        fit_demand([1], method="normal")
-    with pytest.raises(Refused, match="there is no method 'poisson' to fit lead times; say auto or empirical"):
-        fit_lead([1], method="poisson")
-    with pytest.raises(Refused, match="0 is no number of items in a box; it is at least 1"):
-        fit_demand([1], box=0)
-
-
 @given(numbers=st.lists(st.integers(1, 32), min_size=2, max_size=19))
 def test_blurred_law(numbers: list[int]) -> None:
     """The law is within a period of what was seen and within 1 to 32, its weights add up, and the mean stays inside."""
@@ -313,7 +296,8 @@ def test_blurred_law(numbers: list[int]) -> None:
 def test_many_lead_times_or_one(numbers: list[int]) -> None:
     """Twenty lead times are enough, and a single one is what the supplier says: they stay as they are."""
     law = fit_lead(numbers, method="auto")
-    assert law == fit_lead(numbers, method="empirical") and dict(zip(law.values, law.weights)) == Counter(numbers)
+    assert law == fit_lead(numbers, method="empirical") == fit_lead(np.array(numbers), method="empirical")
+    assert dict(zip(law.values, law.weights)) == Counter(numbers)
     assert fit_lead([3] * 19).values == (2, 3, 4) and fit_lead([3] * 20).values == (3,)
 
 
