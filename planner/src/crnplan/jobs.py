@@ -282,10 +282,10 @@ class Work(Generic[Answer]):
             return
         batches = iter(lambda: [*itertools.islice(names, batch)], [])
         try:
-            with workers as them, progress(total, done, shown, unit) as show:
-                shared = them.share(words)
-                for some, answers in them.answers(function, ((some, [[*map(asked, some)], *shared])
-                                                             for some in batches)):
+            with workers as running, progress(total, done, shown, unit) as show:
+                shared = running.share(words)
+                asked_of = ((some, [[*map(asked, some)], *shared]) for some in batches)
+                for some, answers in running.answers(function, asked_of):
                     rows = zip(some, answers, strict=True)
                     self.answers.keep([(name, self.digests[name], answer) for name, answer in rows])
                     done += len(some)

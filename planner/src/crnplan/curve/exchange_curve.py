@@ -104,33 +104,33 @@ def gather(own: Folder, folder: PlannedFolder, jobs: int | None, address: str | 
         work = Work(kept, digests)
         work.finish(candidates_batch, folder.read.item, folder.planned.settings, folder.planned.prior,
                     workers=workers_of(jobs, address), shown=shown)
-        return gathered(folder, kept, digests, left_out, len(work.left))
+        return added_up(folder, kept, digests, left_out, len(work.left))
 
 
-def gathered(folder: PlannedFolder, kept: Store[Candidates], names: Iterable[str], left_out: list[tuple[str, Remark]],
+def added_up(folder: PlannedFolder, kept: Store[Candidates], names: Iterable[str], left_out: list[tuple[str, Remark]],
              new: int) -> Gathered:
     """Returns what is kept of some items beside those that are left out. Raises Refused if no item can be on the
     curve."""
     # Of today's and of the chosen policies: the value of the stock, the demand that is not met, orders and costs.
     sums, shown, asked = np.zeros((2, 4)), list[tuple[str, int, int]](), 0.0
 
-    def candidates() -> Iterator[tuple[str, float, Candidates]]:
+    def on_curve() -> Iterator[tuple[str, float, Candidates]]:
+        """Yields names with prices and candidates as they are added up."""
         nonlocal asked
         for name in names:
-            item, answer, its = folder.read.item(name), folder.store.answer(name), kept.answer(name)
-            if isinstance(its, Remark):
-                left_out.append((name, its))
+            item, answer, candidates = folder.read.item(name), folder.store.answer(name), kept.answer(name)
+            if isinstance(candidates, Remark):
+                left_out.append((name, candidates))
                 continue
             assert item is not None and item.price is not None and isinstance(answer, Answer)
-            price = float(item.price)
-            demand = price * its.demand
+            price, setup, holding = float(item.price), candidates.setup, candidates.holding
+            demand = price * candidates.demand
             asked += demand
-            sums[...] += [(price * theory.stock, demand * (1 - theory.fill), theory.orders,
-                           its.setup * theory.orders + its.holding * theory.stock)
-                          for theory in (answer.today, answer.chosen)]
+            sums[...] += [(price * policy.stock, demand * (1 - policy.fill), policy.orders,
+                           setup * policy.orders + holding * policy.stock) for policy in (answer.today, answer.chosen)]
             shown.append((item.description, *item.levels))
-            yield name, price, its
-    first = next(rest := candidates(), None)
+            yield name, price, candidates
+    first = next(rest := on_curve(), None)
     if first is None:
         why, what = "no item is in the plan", ""
         if left_out:
@@ -160,21 +160,21 @@ def stocks_by_run(question: Question, asked: Iterable[Levels], program: str | Pa
     return dict(zip(levels, np.array(report.costs, float).T * box / report.periods))
 
 
-def confirmed(its: Gathered, choices: Mapping[str, Choice], said: Mapping[str, str], count: int,
+def confirmed(gathered: Gathered, choices: Mapping[str, Choice], said: Mapping[str, str], count: int,
               program: str | Path | None) -> list[str]:
     """Returns a line on each named point, of which `said` says what it is for a reader: the value of the mean stock of
     a sample of items by theory, and by crnsim with its standard error. Raises Refused and ProgramError."""
-    items, sample = its.items, sample_of(its.items.names, its.folder.settings.seed, count)
+    items, sample = gathered.items, sample_of(gathered.items.names, gathered.folder.settings.seed, count)
     sums = {name: np.zeros(3) for name in said}  # by theory, by runs, and the variance of these
     for place in sample:
-        item, answer = its.folder.item(items.names[place])
+        item, answer = gathered.folder.item(items.names[place])
         price = float(item.price or 0)
         stocks = {name: (figures.levels, price * figures.stock)
                   for name, figures in ((TODAY, answer.today), (CHOSEN, answer.chosen))}
         for name, choice in choices.items():
             row = choice.rows[place]
             stocks[name] = (int(items.point[row]), int(items.level[row])), float(items.value[row])
-        counted = stocks_by_run(its.folder.question(item), (levels for levels, _ in stocks.values()), program)
+        counted = stocks_by_run(gathered.folder.question(item), (levels for levels, _ in stocks.values()), program)
         for name, (levels, value) in stocks.items():
             runs = price * counted[levels]
             sums[name] += value, runs.mean(), runs.var(ddof=1) / KEYS
@@ -261,19 +261,19 @@ class Drawn(Result):
         return DataTable(LEFT_OUT_COLUMNS, rows, missing="")
 
 
-def points_of(its: Gathered, budget: Budget) -> tuple[dict[str, Choice], dict[str, str]]:
+def points_of(gathered: Gathered, budget: Budget) -> tuple[dict[str, Choice], dict[str, str]]:
     """Returns the choices that have a name, and of others why there are none. Raises Refused for a budget that no
     choice keeps."""
-    today, choices, missing = its.points[TODAY], dict[str, Choice](), dict[str, str]()
+    today, choices, missing = gathered.points[TODAY], dict[str, Choice](), dict[str, str]()
     for name, asked in ((SAME_STOCK, Budget(value=today.value)), (SAME_SERVICE, Budget(fill=today.fill))):
         try:
-            choices[name] = _as_today(its.items, today, asked)
+            choices[name] = _as_today(gathered.items, today, asked)
         except OffCurve as off:
             missing[name] = off.why
     if budget.orders is not None and budget.value is budget.fill is None:
         budget = Budget(fill=today.fill, orders=budget.orders)
     if budget != Budget():
-        choices[BUDGET] = chosen_by(its.items, budget)
+        choices[BUDGET] = chosen_by(gathered.items, budget)
     return choices, missing
 
 
@@ -307,19 +307,20 @@ def curve_points(items: Items) -> list[tuple[float, Point]]:
     return points
 
 
-def draw(its: Gathered, budget: Budget, confirm: int, program: str | Path | None) -> Drawn:
+def draw(gathered: Gathered, budget: Budget, confirm: int, program: str | Path | None) -> Drawn:
     """Returns the curve with its points, and perhaps what crnsim counts."""
-    choices, missing = points_of(its, budget)
-    points = {name: (point, gap_of(its.items, point)) for name, point in its.points.items()}
-    points |= {name: (choice.point, gap_of(its.items, choice.point, choice.dearer)) for name, choice in choices.items()}
+    choices, missing = points_of(gathered, budget)
+    items = gathered.items
+    points = {name: (point, gap_of(items, point)) for name, point in gathered.points.items()}
+    points |= {name: (choice.point, gap_of(items, choice.point, choice.dearer)) for name, choice in choices.items()}
     written = next((name for name in (BUDGET, SAME_SERVICE, SAME_STOCK) if name in choices), ON_CURVE)
     # If neither of today's figures is on the curve, the policies are those of its beginning.
-    rows = Ladder(its.items).with_price(float(PRICES[0])) if not choices else choices[written].rows
+    rows = Ladder(items).with_price(float(PRICES[0])) if not choices else choices[written].rows
     said = {name: SAID[name] for name in points}
     for name, choice in choices.items():
         said[name] += " (more orders)" * bool(choice.dearer.stock) + " (fewer orders)" * bool(choice.dearer.orders)
-    sample = confirmed(its, choices, said, confirm, program) if confirm else []
-    return Drawn(its, curve_points(its.items), points, said, missing, written, rows, sample)
+    sample = confirmed(gathered, choices, said, confirm, program) if confirm else []
+    return Drawn(gathered, curve_points(items), points, said, missing, written, rows, sample)
 
 
 def gap_text(gap: float) -> str:
