@@ -12,7 +12,7 @@ from typing import TYPE_CHECKING
 
 from .crnsim.program import find_program
 from .errors import Refused, argument
-from .files import Folder, own_folder
+from .files import own_folder
 from .pages.catalogue_tables import catalogue_summary, decisions_of, faults_of, rejects_of
 from .pages.exports import CATALOGUE_FILES, report
 from .pages.item_page import item_page
@@ -226,23 +226,17 @@ def plan(sales: str | Path | pd.DataFrame | Catalogue, masters: str | Path | pd.
     room = tempfile.TemporaryDirectory(prefix="crnplan-") if out is None else None
     path = Path(room.name if room else out or "")
     with own_folder(path, CATALOGUE, CATALOGUE_FILES) as folder:
-        if isinstance(sales, Catalogue):
-            copy_read(sales, folder)
-        else:
+        if not isinstance(sales, Catalogue):
             read_into(folder, {"demand": sales, "items": masters, "orders": orders}, words)
+        elif sales.path.resolve() != folder.store(READ).resolve():  # it was read elsewhere
+            part = folder.room() / READ
+            shutil.copyfile(sales.path, part)
+            part.replace(folder.path / READ)
         done = plan_into(folder, settings, jobs=jobs, address=cluster, program=program, again=learn_again,
                          shown=progress)
     if done.missing:
         raise Lost("; ".join(done.missing))
     return Plan(path, done.learned, program, room)
-
-
-def copy_read(catalogue: Catalogue, folder: Folder) -> None:
-    """Copies what was read into a folder, if it was read elsewhere."""
-    if catalogue.path.resolve() != folder.store(READ).resolve():
-        part = folder.room() / READ
-        shutil.copyfile(catalogue.path, part)
-        part.replace(folder.path / READ)
 
 
 def open_plan(folder: str | Path, *, program: str | Path | None = None) -> Plan:

@@ -259,18 +259,6 @@ class Budget:
         return choice if choice and choice.point.orders <= (self.orders or math.inf) * (1 + NEAR) else None
 
 
-def check_most(ladder: Ladder, budget: Budget) -> None:
-    """Raises OffCurve for a budget beyond the end of the curve."""
-    items = ladder.items
-    most, end = float(ladder.along(items.value).max()), 1 - float(ladder.along(items.unmet)[-1]) / items.asked
-    if budget.value is not None and budget.value > most * (1 + NEAR):
-        raise OffCurve(argument("stock_value", f"{budget.value:,.10g}"),
-                       f"the most stock on the curve is worth {most:,.2f}", "name less")
-    if budget.fill is not None and budget.fill > end + NEAR:
-        raise OffCurve(argument("fill", f"{budget.fill:g}"), f"the curve ends with {end:.8f} of demand by value",
-                       "name less")
-
-
 def chosen_by(items: Items, budget: Budget) -> Choice:
     """Returns the choice for a budget. Raises OffCurve if no choice keeps it, and for more than the curve has.
 
@@ -279,13 +267,18 @@ def chosen_by(items: Items, budget: Budget) -> Choice:
     are made dearer.
     """
     ladder = Ladder(items)
-    check_most(ladder, budget)
-    value, fill = float(ladder.along(items.value).min()), 1 - float(ladder.along(items.unmet)[0]) / items.asked
+    values, fills = ladder.along(items.value), 1 - ladder.along(items.unmet) / items.asked
+    if budget.value is not None and budget.value > values.max() * (1 + NEAR):
+        raise OffCurve(argument("stock_value", f"{budget.value:,.10g}"),
+                       f"the most stock on the curve is worth {values.max():,.2f}", "name less")
+    if budget.fill is not None and budget.fill > fills[-1] + NEAR:
+        raise OffCurve(argument("fill", f"{budget.fill:g}"),
+                       f"the curve ends with {fills[-1]:.8f} of demand by value", "name less")
     first = budget.choice(items)
-    is_below = first is None or (budget.fill is not None and budget.fill < fill * (1 - NEAR))
+    is_below = first is None or (budget.fill is not None and budget.fill < fills[0] * (1 - NEAR))
     if is_below and budget.orders is None:
-        what, least = ("fill", f"begins with {fill:.4f} of demand by value") if first else \
-            ("stock_value", f"has stock worth {value:,.2f} at least")
+        what, least = ("fill", f"begins with {fills[0]:.4f} of demand by value") if first else \
+            ("stock_value", f"has stock worth {values.min():,.2f} at least")
         raise OffCurve(argument(what, f"{budget.fill or budget.value:,.10g}"), f"the curve {least}",
                        f"name more, or allow more orders than it has there, by {argument('orders')}")
     if first is None or is_below:

@@ -172,23 +172,18 @@ def finest(rates: Mapping[str, int], scale: Fraction) -> tuple[dict[str, int], F
     return {name: rate * times for name, rate in rates.items()}, scale * times
 
 
-def rates_of(item: Item) -> tuple[dict[str, int], Fraction, float]:
-    """Returns the costs of an item as whole rates of a box, their scale, and the greatest relative error of rounding.
-    Raises Refused if they are too far apart."""
-    costs = {"setup": item.setup, "holding": item.box * item.holding}
-    if item.backlog is not None:
-        costs["backlog"] = item.box * item.backlog
-    if item.unit:
-        costs["unit"] = item.box * item.unit
-    rates, scale, error = rounded_costs(costs, "holding")
-    return (*finest(rates, scale), error) if item.backlog is None else (rates, scale, error)
-
-
 def question_of(item: Item, settings: Settings, prior: Prior | None = None) -> Question:
     """Returns the question of an item, whose law is perhaps learned. Raises Refused if its numbers are none of a
     scenario."""
     prior, box = prior or Prior(NONE), item.box
-    rates, scale, error = rates_of(item)
+    costs = {"setup": item.setup, "holding": box * item.holding}
+    if item.backlog is not None:
+        costs["backlog"] = box * item.backlog
+    if item.unit:
+        costs["unit"] = box * item.unit
+    rates, scale, error = rounded_costs(costs, "holding")
+    if item.backlog is None:
+        rates, scale = finest(rates, scale)
     borrow = NONE if settings.fit != "auto" else item.borrow or settings.borrow or NONE
     group = item.group if borrow == CLASS else None
     demand = fit_demand(item.counts, method=settings.fit, box=box) if borrow == NONE else \
