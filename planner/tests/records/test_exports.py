@@ -7,6 +7,7 @@ import datetime
 import os
 import sys
 import threading
+import tomllib
 from collections.abc import Callable, Sequence
 from fractions import Fraction
 from pathlib import Path
@@ -21,6 +22,7 @@ from crnplan.records.item import Item
 Answers = Callable[..., Any]
 WEEKS = 26
 MONDAY = datetime.date(2026, 3, 2)
+CASES = tomllib.loads(Path(__file__).with_name("exports.toml").read_text("utf-8"))
 DAYS = [str(MONDAY + datetime.timedelta(days=7 * week)) for week in range(WEEKS)]
 HEADING = "item,date,quantity"
 MASTERS = "item,setup,holding,backlog,lead,s,S"
@@ -151,50 +153,22 @@ def test_stated_sign_decides(decimal: str, value: str, check: Checked, crnplan: 
     assert its.status == 0 and f"values = [{value}]" in its.output
 
 
-LEADS = "item,setup,holding,backlog,{},s,S"
-WEEKS_OF_YEAR = Fraction(1461, 28)
-
-
-@pytest.mark.parametrize("heading, cells, role, value", [
-    (LEADS.format("Lead time (days)"), "A,45,1,10,14,3,9", "leads", [2]),
-    (LEADS.format("Lieferzeit (Tage)"), "A,45,1,10,3,3,9", "leads", [1]),
-    # Placed on four days of the week it is there in the next week, on three in the week after.
-    (LEADS.format("PLIFZ"), "A,45,1,10,10,3,9", "leads", [1, 1, 1, 1, 2, 2, 2]),
-    (LEADS.format("提前期（天）"), "A,45,1,10,21,3,9", "leads", [3]),
-    (LEADS.format("lead"), "A,45,1,10,14D,3,9", "leads", [2]),
-    (LEADS.format("czas dostawy (tygodnie)"), "A,45,1,10,3,3,9", "leads", [3]),
-    ("item,setup,Holding cost per year,backlog,lead,s,S", "A,45,52.18,10,2,3,9", "holding",
-     Fraction("52.18") / WEEKS_OF_YEAR),
-    ("item,setup,holding,Backlog cost per day,lead,s,S", "A,45,1,3,2,3,9", "backlog", 21),
-    ("item,setup,Lagerkostensatz (%),backlog,lead,s,S,Preis je 100", "A,45,20,10,2,3,9,500", "holding",
-     Fraction(1, 5) * 5 / WEEKS_OF_YEAR),
-    ("item,setup,holding rate,backlog,lead,s,S,price", "A,45,25%,10,2,3,9,8", "holding", 2 / WEEKS_OF_YEAR),
-    (f"{MASTERS},Price per 100", "A,45,1,10,2,3,9,250", "price", Fraction(5, 2)),
-    (f"{MASTERS},price,Preiseinheit", "A,45,1,10,2,3,9,250,1000", "price", Fraction(1, 4)),
-    (LEADS.format("lead").replace("s,S", "s (packs of 12),S (dozen)"), "A,45,1,10,2,1,3", "levels", [12, 36]),
-    ("item,setup,holding,Service level (%),lead,s,S", "A,45,1,95,2,3,9", "fill", Fraction(19, 20))])
+@pytest.mark.parametrize("heading, cells, role, value", CASES["units"])
 def test_units_of_masters(heading: str, cells: str, role: str, value: Any, check: Checked, tmp_path: Path) -> None:
     """Numbers are converted from the unit that their heading names, and that is said."""
     answer, rejects = check(demand_of(["2", "3"]), masters=f"{heading}\n{cells}\n")
     assert answer.status == 0 and not rejects
     its = getattr(check.items["A"], role)
-    assert (list(its) if isinstance(value, list) else its) == value
+    assert list(its) == value if isinstance(value, list) else its == Fraction(value)
     is_plain = "lead" in heading.split(",") and role == "leads" or "tygodnie" in heading or "Preiseinheit" in heading
     assert ("converted from" in answer.errors) != is_plain
 
 
-@pytest.mark.parametrize("heading, words, said", [
-    (LEADS.format("lead time (hours)"), (), "say --unit items.lead=UNIT"),
-    ("item,setup cost per year,holding,backlog,lead,s,S", (), "say --unit items.setup=UNIT"),
-    (f"{MASTERS},stock (boxes)", (), "say --unit items.stock=UNIT"),
-    (MASTERS, ("--every", "month"), "the column 'lead' names no unit, and may count months or weeks"),
-    (MASTERS, ("--every", "month"), "the column 'holding' names no unit, and may count months or weeks"),
-    (MASTERS, ("--unit", "items.lead=fortnight"), "'fortnight' is none of its units: period, day, week, month, year"),
-    (MASTERS, ("--unit", "items.cost=day"), "there is no column items.cost; they are demand.item,")])
-def test_units_that_cannot_be_converted(heading: str, words: Sequence[str], said: str, check: Checked) -> None:
+@pytest.mark.parametrize("heading, words, said", CASES["refused"])
+def test_units_that_cannot_be_converted(heading: str, words: str, said: str, check: Checked) -> None:
     """A unit that can't be converted is refused, with what to say."""
     cells = "A,45,1,10,2,3,9" + ",4" * (heading.count(",") - 6)
-    answer, _ = check(demand_of(["2", "3"]), *words, masters=f"{heading}\n{cells}\n")
+    answer, _ = check(demand_of(["2", "3"]), *words.split(), masters=f"{heading}\n{cells}\n")
     assert answer.status == 2 and said in answer.errors
 
 
@@ -227,30 +201,7 @@ def test_rows_in_two_units_of_measure(words: Sequence[str], total: int | None, c
         assert not rejects and sum(check.items["A"].counts) == total
 
 
-@pytest.mark.parametrize("demand, masters", [
-    ("Material;Buchungsdatum;Menge in ErfassME;ErfassME",
-     "Material;Materialkurztext;Bestellkosten;Lagerkosten pro Woche;"
-     "Fehlmengenkosten pro "
-     "Woche;Planlieferzeit;Meldebestand;Höchstbestand;LABST;Standardpreis;Preiseinheit;ABC-Kennzeichen"),
-    ("MATNR;BUDAT;MENGE;MEINS", "MATNR;MAKTX;setup;holding;backlog;PLIFZ;MINBE;MABST;LABST;STPRS;PEINH;MAABC"),
-    ("Item No.;Posting Date;Invoiced Quantity;Unit of Measure Code",
-     "Item No.;Description;Ordering Cost;Carrying Cost;Stockout "
-     "Cost;Lead Time Calculation (days);Reorder Point;Maximum Inventory;Inventory;Unit Cost;Price Unit;Item Category "
-     "Code"),
-    ("Item;Date;Qty. Sold;UoM",
-     "Item;Display Name;Setup cost;Holding cost;Backorder cost;Lead Time (Days);Reorder Point;Preferred "
-     "Stock Level;Qty on Hand;Average Cost;Price Unit;Category"),
-    ("Référence;Date comptable;Quantité vendue;Unité de mesure",
-     "Référence;Désignation;Coût de commande;Coût de possession;Coût "
-     "de rupture;Délai de livraison (jours);Point de commande;Stock maximum;Stock actuel;Prix unitaire;Unité de "
-     "prix;Catégorie"),
-    ("Código;Fecha contable;Cantidad vendida;Unidad de medida",
-     "Código;Descripción;Costo de pedido;Costo de almacenamiento;Coste de "
-     "rotura;Plazo de entrega (días);Punto de reorden;Stock máximo;Existencias;Precio unitario;Unidad de precio;Clase"),
-    ("Kod towaru;Data sprzedaży;Ilość;Jednostka miary",
-     "Kod towaru;Nazwa;Koszt zamówienia;Koszt utrzymania zapasu;Koszt braku;"
-     "Czas dostawy (dni);Punkt zamawiania;Zapas maksymalny;Stan magazynowy;Cena;Jednostka ceny;Kategoria"),
-    ("物料编码;出库日期;出库数量;单位", "物料编码;物料描述;订货成本;持有成本;缺货成本;提前期（天）;再订货点;最大库存;现有库存;单价;价格单位;类别")])
+@pytest.mark.parametrize("demand, masters", CASES["headings"])
 def test_headings_of_exports(demand: str, masters: str, check: Checked, tmp_path: Path) -> None:
     """Headings of common exports are found, each as its role, without a word of the planner."""
     rows = "".join(f"A;{day};2;ST\n" for day in DAYS)

@@ -27,7 +27,6 @@ from typing import TYPE_CHECKING, Any, Union
 
 from ..errors import Fault, Refused, RefusedFaults, argument
 from .cells import DECIMALS, Cell, check_format, text_of
-from .faults import shown
 
 if TYPE_CHECKING:
     import pandas as pd
