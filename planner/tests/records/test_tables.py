@@ -248,3 +248,14 @@ def test_units_of_demand(heading: str, factor: int, tmp_path: Path) -> None:
     said = f"column '{heading}': quantity: converted from packs of {factor} to items"
     for notes in (history.notes, dated.notes):
         assert any(said in str(note) for note in notes) == (factor > 1)
+
+
+@pytest.mark.parametrize("more", ['A,2026-03-02,"1,234.5",x,y\n', ',2026-03-02,"1,234.5"\n'])
+def test_a_rejected_row_decides_nothing(more: str, tmp_path: Path) -> None:
+    """A row that has too many cells, or no item, decides no decimal sign: its cells may be those of other columns."""
+    rows = weekly([2] * WEEKS) + 'A,2026-03-02,"1,000"\n' + more
+    rejects = read(tmp_path, rows).rejects
+    assert [line for line, reason in zip(rejects.line, rejects.reason) if "may be 1000 or 1" in reason] == [WEEKS + 2]
+    if more.startswith("A"):
+        with pytest.raises(RefusedFaults, match="'1,000' may be 1000 or 1, and no other number of the column decides"):
+            read_history(tmp_path / "demand.csv", demand="quantity")

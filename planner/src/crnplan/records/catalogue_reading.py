@@ -15,7 +15,7 @@ from ..files import Folder, faults_of, own_folder
 from ..table import Json
 from .catalogued import CATALOGUE, Catalogued, Writer
 from .cells import NAMES, DateReader, text_of
-from .columns import ROLES, Source, open_source
+from .columns import ROLES, Source, Stated, open_source
 from .faults import Unreadable, on_one_line
 from .item import AMOUNTS
 from .items import KEEP, LEAVE_OUT, Counts, Reader, Words
@@ -140,7 +140,8 @@ def open_sources(tables: Mapping[str, Table | None], words: Words,
                 continue
             try:
                 sheet = stack.enter_context(opened(table, kind, words, room))
-                sources[kind] = open_source(kind, sheet, words.stated(kind), words.every)
+                stated = Stated(words.columns.get(kind, {}), words.units.get(kind, {}), words.names.get(kind, {}))
+                sources[kind] = open_source(kind, sheet, stated, words.every)
             except RefusedFaults as refused:
                 faults += refused.faults
         if faults:
@@ -204,7 +205,7 @@ def _date_lines(rows: Rows, reader: DateReader) -> Iterator[str]:
     """Yields a line for each form of the dates of a table, and says what decides a form that could be two."""
     forms: dict[str, tuple[str, int]] = {}
     unclear = 0
-    for cell, count in (pair for role in DATES if role in rows.columns for pair in rows.counts(role)):
+    for cell, count in (pair for role in DATES for pair in rows.counts(role)):
         try:
             form = reader.read(cell)[1]
         except Unreadable as why:

@@ -41,7 +41,7 @@ def read_history(table: Table, *, demand: str, returns: str | None = None, date:
     if date is None:
         _check_undated({("every",): every, ("net", "whole"): net or whole, ("start", "end"): start or end})
         with opened(table, "history", rules) as sheet:
-            return _undated(Reading(sheet, names), [*names])
+            return _undated(Reading(sheet, names, counts_blank=True), [*names])
     if every not in EVERY:
         raise Refused(NEED_PERIOD)
     first, last = ends_of(start, end)
@@ -118,7 +118,6 @@ class Movements(Reading):
         """Reads the movements. Raises RefusedFaults."""
         super().__init__(sheet, {**names, "date": date})
         self.every, self.reader = every, self.rows.date_reader()
-        self.skip_blank()
         columns: dict[str, list[Any]] = {"date": self.read("date", self.reader.read)}
         columns |= {role: self.amounts(role, "negative movement", None if net else 0) for role in names}
         if columns["date"] and columns["date"][-1] is None:
@@ -233,7 +232,6 @@ def _ends_text(partial: Sequence[bool], whole: bool) -> str:
 
 def _lead_times(reading: Reading, every: str | None) -> LeadTimes:
     """Returns the lead times of a column, converted from the unit in its heading if the period is known."""
-    reading.skip_blank()
     reading.check_count("lead", "rows")
     rows, columns = reading.kept({"lead": reading.amounts("lead", "below 1", 1, if_empty="no lead")})
     numbers, column = columns["lead"], reading.columns["lead"]
@@ -252,7 +250,6 @@ def _lead_times(reading: Reading, every: str | None) -> LeadTimes:
 
 def _orders(reading: Reading, every: str) -> LeadTimes:
     """Returns the lead times between the dates of orders and of their receipts."""
-    reading.skip_blank()
     orders = len(reading.chosen)
     received = [row for row in reading.chosen if reading.text("received", row)]
     if reading.chosen and not received:

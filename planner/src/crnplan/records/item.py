@@ -83,13 +83,6 @@ def borrowed_from(cell: Cell) -> str:
     return source
 
 
-def checked_lead(lead: int) -> int:
-    """Returns a lead time in periods. Raises Unreadable if a scenario can't have it."""
-    if not 1 <= lead <= MOST_LEAD:
-        raise Unreadable("lead range", lead=lead, most=MOST_LEAD)
-    return lead
-
-
 def leads_of(cell: Cell, unit: str, every: str) -> list[int]:
     """Returns the lead times of a cell in periods: one, or several that were observed. `unit` is that of the column,
     empty for periods; a number may have its own behind it, as 14D. Raises Unreadable."""
@@ -105,7 +98,10 @@ def leads_of(cell: Cell, unit: str, every: str) -> list[int]:
             raise Unreadable("no lead time", cell)
         is_whole = is_periods or number == 0
         leads += [int(number)] if is_whole else periods_of(number * factor_of("lead", own, every))
-    return [checked_lead(lead) for lead in leads]
+    for lead in leads:
+        if not 1 <= lead <= MOST_LEAD:
+            raise Unreadable("lead range", lead=lead, most=MOST_LEAD)
+    return leads
 
 
 class Masters:

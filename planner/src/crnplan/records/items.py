@@ -16,7 +16,7 @@ from ..formats import MOST_ITEMS, MOST_LEAD
 from ..remarks import Remark
 from .catalogued import Reject, Writer
 from .cells import EVERY, Cell, period_name, period_of, text_of
-from .columns import ROLES, Stated, factor_of, unit_fault
+from .columns import ROLES, factor_of, unit_fault
 from .faults import TOTAL, UNPRINTABLE, Unreadable, named_lines, on_one_line
 from .item import AMOUNTS, MONEY, CellFault, Item, Masters
 from .observed import Day, Numbers, ends_of, record_of, summed
@@ -67,10 +67,6 @@ class Words(Rules):
             for role, unit in units.items():
                 if reason := unit_fault(role, unit):
                     raise Refused(f"{argument('units', f'{kind}.{role}={unit}')}: {reason}")
-
-    def stated(self, kind: str) -> Stated:
-        """Returns what is stated of the columns of a file."""
-        return Stated(self.columns.get(kind, {}), self.units.get(kind, {}), self.names.get(kind, {}))
 
 
 class FileCounts(TypedDict):
@@ -132,7 +128,8 @@ class Reader:
                              "rejected": 0, "with_item": 0} for kind, its in rows.items()},
             "items": dict.fromkeys(("open_orders", "twice", "named", "ready", "left_out", "late"), 0)}
         self.names = [str(name) for name in rows["items"].columns["item"].distinct]
-        self.good = {kind: self._named(kind) for kind in rows}
+        for kind in rows:
+            self._reject_nameless(kind)
         self.dates = {kind: its.date_reader() for kind, its in rows.items()}
         currencies: dict[str, str] = {}
         self.amounts = {role: rows[kind].amount_reader(role, currencies if role in MONEY else None)
@@ -145,7 +142,7 @@ class Reader:
         self.record = record_of(days, words.every, start, end, words.today)
         self.masters = Masters(self.amounts, rows["items"].source.columns, words.every)
         self.twice, self.master_twins = Counter[int](), rows["items"].twins()
-        self.measures = (rows["demand"].by_item(np.flatnonzero(self.good["demand"]))
+        self.measures = (rows["demand"].by_item(np.flatnonzero(rows["demand"].good))
                          if "measure" in rows["demand"].columns else None)
 
     def column(self, kind: str, role: str) -> str:
@@ -153,13 +150,12 @@ class Reader:
         columns = self.rows[kind].source.columns if kind in self.rows else {}
         return columns[role].name if role in columns else role
 
-    def _named(self, kind: str) -> Flags:
-        """Returns which rows of a table name an item. The others, and those with too many cells, are rejected."""
+    def _reject_nameless(self, kind: str) -> None:
+        """Rejects the rows of a table that name no item, and those with too many cells."""
         rows = self.rows[kind]
         wrong = {code: name for code, name in enumerate(self.names) if not name or UNPRINTABLE.search(name)}
-        good = ~rows.having("item", wrong)
-        good[[*rows.wide]] = False
-        for row in np.flatnonzero(~good).tolist():
+        rows.good &= ~rows.having("item", wrong)
+        for row in np.flatnonzero(~rows.good).tolist():
             role, text, remark = "item", text_of(rows.cell("item", row)), Remark("no item")
             if row in rows.wide:
                 role, (cells, text) = "", rows.wide[row]
@@ -168,7 +164,6 @@ class Reader:
             elif text:
                 remark = Remark("unprintable name")
             self._reject(kind, row, "", [(role, text, remark)])
-        return good
 
     def _reject(self, kind: str, row: int, name: str, faults: Sequence[CellFault]) -> None:
         self.counts["files"][kind]["rejected"] += 1
@@ -185,9 +180,9 @@ class Reader:
         """Reads all items. Those of totals alone are none."""
         moves, move_ends, no_items = self._moves()
         leads, lead_ends, orders = self._leads()
-        masters, master_ends = self.rows["items"].by_item(np.flatnonzero(self.good["items"]))
+        masters, master_ends = self.rows["items"].by_item(np.flatnonzero(self.rows["items"].good))
         known = {code for kind, table in self.rows.items()
-                 for code in np.unique(table.codes("item")[self.good[kind]]).tolist()}
+                 for code in np.unique(table.codes("item")[table.good]).tolist()}
         waiting: list[Item] = []
         for item in sorted(known - no_items, key=self.names.__getitem__):
             mine, rows = moves.of(_span(move_ends, item)), masters[_span(master_ends, item)].tolist()
@@ -239,7 +234,7 @@ class Reader:
     def _moves(self) -> tuple[Moves, Numbers, set[int]]:
         """Returns the movements of all items, by item, where those of each item end, and the items of totals alone.
         Rows with faults, and twins if they are to be left out, are rejected."""
-        rows, good = self.rows["demand"], self.good["demand"]
+        rows = self.rows["demand"]
         bad = np.zeros(len(rows), bool)
         _, periods, dated = self._dates("demand", "date")
         faults, amounts = {"date": dated}, dict[str, Numbers]()
@@ -248,8 +243,8 @@ class Reader:
             amounts[role] = np.array(values, np.int64)[rows.codes(role)]
         for role, its in faults.items():
             bad |= rows.having(role, its)
-        no_items = self._reject_moves(np.flatnonzero(good & bad), faults)
-        good = self._without_twins(good & ~bad)
+        no_items = self._reject_moves(np.flatnonzero(rows.good & bad), faults)
+        good = self._without_twins(rows.good & ~bad)
         if "measure" in rows.columns and self.words.factors:
             units = rows.columns["measure"].distinct
             factors = np.array([self.words.factors.get(text_of(unit), 1) for unit in units], np.int64)
@@ -299,7 +294,7 @@ class Reader:
         if "orders" not in self.rows:
             nothing = np.zeros(len(self.names), np.int64)
             return nothing[:0], nothing, nothing
-        rows, good = self.rows["orders"], self.good["orders"]
+        rows, good = self.rows["orders"], self.rows["orders"].good
         placed, first, placed_faults = self._dates("orders", "ordered")
         there, last, there_faults = self._dates("orders", "received")
         is_open = rows.having("received", {code: cell for code, cell in enumerate(rows.columns["received"].distinct)

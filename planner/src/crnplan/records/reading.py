@@ -32,9 +32,10 @@ class Reading:
     """A table of one item while it is read: the rows that are of use, and what is wrong with them or to be said of
     them."""
 
-    def __init__(self, sheet: Sheet, names: Mapping[str, str], *, own_item: bool = False) -> None:
+    def __init__(self, sheet: Sheet, names: Mapping[str, str], *, own_item: bool = False,
+                 counts_blank: bool = False) -> None:
         """Reads the cells of the columns that are named for roles. Only the history must have the columns of the item;
-        other tables may be of one item alone. Raises RefusedFaults."""
+        other tables may be of one item alone. Blank rows are passed over unless they count. Raises RefusedFaults."""
         self.sheet, self.rules = sheet, sheet.rules
         source = headed("history", sheet, [*names.values(), *(() if own_item else self.rules.item)])
         items = {f"item {name}": name for name in self.rules.item if not own_item or name in source.heading}
@@ -56,6 +57,8 @@ class Reading:
             texts = ", ".join(repr(shown(" ".join(filter(None, cells)))) for _, cells in source.titles)
             self.note(f"{named_lines([line for line, _ in source.titles])} above the heading passed over: {texts}")
         self.blank = [] if items else [line for line in self.rows.blank if line < self.lines[-1]]
+        if self.blank and not counts_blank:
+            self.note(f"blank rows passed over: {len(self.blank):,} ({named_lines(self.blank)})")
         self._choose(items)
 
     def _choose(self, items: Mapping[str, str]) -> None:
@@ -77,8 +80,7 @@ class Reading:
             why = Unreadable("long", cells=self.rows.wide[row][0], columns=width, sign=self.sheet.sign)
             self._faults.append((self.lines[row], width, str(why)))
         self.count = int(is_chosen.sum())
-        is_chosen[[*self.rows.wide]] = False
-        self.chosen: list[int] = np.flatnonzero(is_chosen).tolist()
+        self.chosen: list[int] = np.flatnonzero(is_chosen & self.rows.good).tolist()
 
     def text(self, role: str, row: int) -> str:
         """Returns the text of a cell."""
@@ -104,11 +106,6 @@ class Reading:
     def refused(self, row: int, role: str, what: str) -> RefusedFaults:
         """Returns the error of a cell for which the whole file is refused."""
         return RefusedFaults(self.placed([self.cell(row, role, what)]))
-
-    def skip_blank(self) -> None:
-        """Passes over blank rows, with a note."""
-        if self.blank:
-            self.note(f"blank rows passed over: {len(self.blank):,} ({named_lines(self.blank)})")
 
     def miss_blank(self, roles: Sequence[str]) -> None:
         """Rejects blank rows, each of which is a period whose amounts are missing."""

@@ -52,7 +52,7 @@ class Codes(dict[Cell, int]):
 
 class Rows:
     """The rows of a table, but for blank ones, whose lines are in `blank`. `wide` has how many cells those rows have
-    that have more than the heading, and their texts."""
+    that have more than the heading, and their texts. `good` says which rows are of use: the others decide nothing."""
 
     def __init__(self, source: Source, names: Codes | None = None) -> None:
         """Reads all rows, in the columns of the table. Tables of one catalogue share the names of items. With patterns
@@ -66,6 +66,8 @@ class Rows:
         self.blank = array("i")
         self.wide: dict[int, tuple[int, str]] = {}
         self._fill()
+        self.good: Flags = np.ones(len(self), bool)
+        self.good[[*self.wide]] = False
 
     def _fill(self) -> None:
         width = len(self.source.heading)
@@ -119,9 +121,10 @@ class Rows:
         return {role: self.cell(role, row) for role in self.columns}
 
     def counts(self, role: str) -> Iterator[tuple[Cell, int]]:
-        """Yields each value of a column, and how many rows have it."""
-        distinct = self.columns[role].distinct
-        yield from zip(distinct, np.bincount(self.codes(role), minlength=len(distinct)).tolist())
+        """Yields each value of a column that good rows have, and how many have it; nothing if there is no column."""
+        if role in self.columns:
+            counts = np.bincount(self.codes(role)[self.good]).tolist()
+            yield from ((cell, count) for cell, count in zip(self.columns[role].distinct, counts) if count)
 
     def by_item(self, rows: Numbers) -> tuple[Numbers, Numbers]:
         """Returns rows in the order of their items' codes, and where those of each item end. Rows of one item stay in
@@ -132,13 +135,11 @@ class Rows:
 
     def date_reader(self) -> DateReader:
         """Returns what reads the dates of the table, after a look at all of them."""
-        return DateReader([cell for role in DATES if role in self.columns for cell in self.columns[role].distinct],
-                          self.patterns)
+        return DateReader([cell for role in DATES for cell, _ in self.counts(role)], self.patterns)
 
     def amount_reader(self, role: str, currencies: dict[str, str] | None = None) -> AmountReader:
         """Returns what reads the amounts of a column, after a look at all of them."""
-        cells = self.columns[role].distinct if role in self.columns else ()
-        return AmountReader(self.source.sheet.rules.decimal, currencies).look(cells)
+        return AmountReader(self.source.sheet.rules.decimal, currencies).look(cell for cell, _ in self.counts(role))
 
     def values(self, role: str, read: Callable[[Cell], Value], default: Value) -> tuple[list[Value], dict[int, Remark]]:
         """Returns what a function reads in each distinct value of a column, the default in one that can't be read, and
