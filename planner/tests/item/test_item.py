@@ -101,26 +101,19 @@ def test_worked_case(top: Path, tmp_path: Path, crnplan: Command, program: Path)
     assert Scenario.read(out / "scenario.toml").demand == Scenario.read(case / "scenario.toml").demand
 
 
-def test_a_horizon_is_that_of_the_commands(room: Path, plan: Plan, program: Path) -> None:
-    """With a horizon all policies are compared by crnsim over these periods from the stock of today."""
-    plan()
-    scenario = Scenario.read(room / "plan/scenario.toml").changed(periods=12, initial=20, replications=4)
-    wanted = {row.policy: row for row in scenario.run(program=program).rows}
-    rows = rows_of(room / "plan/coming.csv")
-    assert [row["policy"] for row in rows] == sorted(wanted, key=lambda name: wanted[name].diff_total) or \
-        {row["policy"] for row in rows} == {*wanted}
-    for row in rows:
-        assert float(row["cost"]) == pytest.approx(float(wanted[row["policy"]].per_period) / 10, abs=0.006)
-
-
-def test_the_run_is_that_of_the_scenario(room: Path, plan: Plan, program: Path) -> None:
-    """The scenario that is kept gives the exact figures of the run, and a report on all policies."""
-    plan()
-    exact, = rows_of(room / "plan/exact.csv")
-    report = {row.policy: row for row in Scenario.read(room / "plan/scenario.toml").run(program=program).rows}
+def test_runs_are_those_of_the_scenario(whole: Path, program: Path) -> None:
+    """The scenario that is kept gives the exact figures of the run on all policies. With a horizon they are compared by
+    crnsim over these periods from the stock of today, the cheapest first."""
+    scenario, (exact,) = Scenario.read(whole / "scenario.toml"), rows_of(whole / "exact.csv")
+    report = {row.policy: row for row in scenario.run(program=program).rows}
     assert [str(report[it].total) for it in ("today", "chosen")] == [exact["total_today"], exact["total_chosen"]]
     assert Fraction(exact["saving"]) == -report["chosen"].diff_mean / 1_024 / Fraction(exact["units_of_money"])
-    assert {*report} == {row["policy"] for row in rows_of(room / "plan/policies.csv")}
+    assert {*report} == {row["policy"] for row in rows_of(whole / "policies.csv")}
+    coming = scenario.changed(periods=12, initial=20, replications=4).run(program=program).rows
+    wanted, rows = {row.policy: row for row in coming}, rows_of(whole / "coming.csv")
+    assert [row["policy"] for row in rows] == sorted(wanted, key=lambda name: wanted[name].diff_total)
+    for row in rows:
+        assert float(row["cost"]) == pytest.approx(float(wanted[row["policy"]].per_period) / 10, abs=0.006)
 
 
 def test_laws_that_the_history_allows(room: Path, plan: Plan) -> None:

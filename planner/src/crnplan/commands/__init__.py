@@ -150,21 +150,17 @@ class _Shown:
     is no fault: what is left is dropped, and the command goes on."""
 
     def __init__(self, stream: TextIO) -> None:
-        """Takes the stream."""
         self.stream = stream
 
     def __getattr__(self, name: str) -> Any:
-        """Returns what the stream has."""
         return getattr(self.stream, name)
 
     def write(self, text: str) -> int:
-        """Writes a text."""
         with self._dropped():
             self.stream.write(escaped(text))
         return len(text)
 
     def flush(self) -> None:
-        """Writes what waits."""
         with self._dropped():
             self.stream.flush()
 

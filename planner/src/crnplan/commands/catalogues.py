@@ -63,7 +63,6 @@ def item(history: str, settings: str, out: str, program: str | None) -> int:
     With [run] horizon the policies are compared over so many coming periods from [today] stock too.
     """
     def told(part: str) -> None:
-        """Names a part on a terminal."""
         if sys.stderr.isatty():
             print(f"{part} ..", file=sys.stderr)
 

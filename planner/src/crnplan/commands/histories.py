@@ -24,8 +24,7 @@ from ..records.sources import Rules
 from ..scenario import Scenario
 from ..toml.documents import places_of
 from . import note
-from .words import (Picture, form_options, pairs_of, program_option, scenario_argument, show, together,
-                    usage_error)
+from .words import Picture, form_options, pairs_of, program_option, scenario_argument, show, together, usage_error
 
 if TYPE_CHECKING:
     from ..demand.fitted import FittedLaw
@@ -34,16 +33,9 @@ Made = TypeVar("Made")
 VERSION = "# A scenario with the table [returns] has version = 2.\n"
 # The words of `crnplan suggest` that need no history.
 OWN = ("scenario", "initial", "unit_zero", "file", "form")
-
-
-def stripped(context: click.Context, option: click.Parameter, text: str | None) -> str | None:
-    """Returns the name of a column without blanks around it."""
-    return text and text.strip()
-
-
-demand_option = click.option("--demand", metavar="COLUMN", callback=stripped, help="What customers asked for.")
+demand_option = click.option("--demand", metavar="COLUMN", type=str.strip, help="What customers asked for.")
 record_options = together(
-    click.option("--date", metavar="COLUMN", callback=stripped, help="Each row is a movement at this date."),
+    click.option("--date", metavar="COLUMN", type=str.strip, help="Each row is a movement at this date."),
     click.option("--every", type=click.Choice(EVERY),
                  help="The period of --date and --orders. Weeks are ISO weeks, from Monday."),
     click.option("--from", "start", metavar="DATE",
@@ -63,11 +55,11 @@ writing_options = together(
     click.option("--date-format", "date_formats", metavar="PATTERN", multiple=True,
                  help="A pattern as %d/%m/%y in place of the usual forms. May be given several times."))
 file_options = together(
-    click.option("--lead", type=(str, str), metavar="FILE.csv COLUMN", help="Lead times, in periods."),
+    click.option("--lead", type=(str, str.strip), metavar="FILE.csv COLUMN", help="Lead times, in periods."),
     click.option("--orders", metavar="FILE.csv",
                  help="Dates of orders and of their receipts. Open orders are left out."),
-    click.option("--ordered", metavar="COLUMN", default="ordered", show_default=True, callback=stripped),
-    click.option("--received", metavar="COLUMN", default="received", show_default=True, callback=stripped),
+    click.option("--ordered", metavar="COLUMN", default="ordered", show_default=True, type=str.strip),
+    click.option("--received", metavar="COLUMN", default="received", show_default=True, type=str.strip),
     writing_options,
     click.option("--decimal", type=click.Choice(DECIMALS), help="The decimal sign; without it the point."),
     click.option("--leave-out", is_flag=True, help="Go on without rows that have a fault."),
@@ -88,7 +80,6 @@ class Attempts:
     """Reads files and fits laws one by one, and keeps what was read and the faults of all."""
 
     def __init__(self) -> None:
-        """Starts with nothing."""
         self.read: list[Observed] = []
         self.faults: list[Fault] = []
         self.notes: list[Fault] = []
@@ -113,7 +104,7 @@ class Attempts:
         history = self.made(lambda: read_history(asked["file"], every=every, **words, **rules))
         leads: LeadTimes | None = None
         if asked["lead"]:
-            leads = self.made(lambda: read_lead_times(asked["lead"][0], lead=asked["lead"][1].strip(), every=every,
+            leads = self.made(lambda: read_lead_times(asked["lead"][0], lead=asked["lead"][1], every=every,
                                                       **rules))
         if asked["orders"]:
             orders = {name: asked[name] for name in ("every", "ordered", "received")}
@@ -178,7 +169,6 @@ def laws_of(asked: dict[str, Any], attempts: Attempts) -> dict[str, FittedLaw]:
     method = "empirical" if asked["fit"] == "empirical" else "auto"
 
     def fitted(name: str, observed: Observed) -> FittedLaw:
-        """Returns the law of a table."""
         if name == "lead":
             return fit_lead(observed, method=method)
         return fit_demand(observed, method=asked["fit"], box=asked["box"])
@@ -190,7 +180,7 @@ def laws_of(asked: dict[str, Any], attempts: Attempts) -> dict[str, FittedLaw]:
 @click.command(epilog="Example: crnplan history sales.csv --demand Menge --date Datum --every week --decimal , --net")
 @click.argument("file", metavar="HISTORY.csv", type=click.Path())
 @demand_option
-@click.option("--returns", metavar="COLUMN", callback=stripped,
+@click.option("--returns", metavar="COLUMN", type=str.strip,
               help="What customers gave back, for a scenario of version 2.")
 @record_options
 @click.option("--fit", type=click.Choice(METHODS), metavar="METHOD", default="auto", show_default=True,

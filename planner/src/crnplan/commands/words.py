@@ -50,7 +50,6 @@ def pairs_of(form: str, example: str) -> Callable[[click.Context, click.Paramete
 def together(*options: Decorator) -> Decorator:
     """Returns a decorator that adds options to a command, in this order."""
     def decorated(command: Callable[..., Any]) -> Callable[..., Any]:
-        """Adds the options."""
         for option in reversed(options):
             command = option(command)
         return command

@@ -95,7 +95,6 @@ def catalogue_page(folder: PlannedFolder, totals: Totals) -> str:
     columns = [column for column in COLUMNS if not column.is_optional or any(row.cells[column.name] for row in rows)]
 
     def money(amount: float) -> str:
-        """Returns a total of money."""
         return number(amount, 0 if abs(amount) >= LARGE else min(folder.decimals, 2))
     return rendered("catalogue.html", {
         "every": folder.every, "money": money, "decimals": folder.decimals, "settings": settings, "totals": totals,

@@ -76,7 +76,6 @@ NOTES = (
 
 
 def policy_cells(figures: Figures | None) -> tuple[Cell, Cell]:
-    """Returns s and S of a policy."""
     return (None, None) if figures is None else (figures.point, figures.level)
 
 
@@ -188,7 +187,6 @@ def catalogue_summary(folder: PlannedFolder, totals: Totals, learned: Sequence[R
     half, saving = totals.half_width(settings.level), totals["run_saving"]
 
     def money(amount: float) -> str:
-        """Returns an amount."""
         return f"{amount:z,.{min(folder.decimals, 2)}f}"
     verdicts = ", ".join(f"{count:,} {verdict}" for verdict, count in sorted(totals.verdicts.items()))
     by_run = f" ({totals.by_run:,} items by crnsim)" * bool(totals.by_run)

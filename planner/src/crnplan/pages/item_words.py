@@ -70,7 +70,6 @@ class ItemWords:
 
     def __init__(self, depth: Depth, every: str, decimals: int, coming: Coming | None = None,
                  heard: Sequence[Fault | Remark] = ()) -> None:
-        """Takes what was computed of the item."""
         self.depth, self.every, self.decimals, self.coming, self.heard = depth, every, decimals, coming, heard
         self.question, self.answer = depth.question, depth.answer
         self.item, self.settings = depth.question.item, depth.question.settings
@@ -88,7 +87,6 @@ class ItemWords:
 
     @cached_property
     def compared(self) -> Sequence[Compared]:
-        """Returns all policies, the cheapest first."""
         return self.depth.compared()
 
     @cached_property
@@ -106,7 +104,6 @@ class ItemWords:
 
     @cached_property
     def moves(self) -> Moves:
-        """Returns how the best policy moves."""
         return self.depth.moves()
 
     @cached_property
@@ -137,7 +134,6 @@ class ItemWords:
         return self.question.money(row.diff / periods), low, high
 
     def spoken(self, saving: float) -> str:
-        """Returns a saving in words."""
         return f"{self.money(abs(saving))} {'more' if saving < 0 else 'less'}"
 
     @property

@@ -96,7 +96,6 @@ def name_right(axes: Axes, names: Sequence[str]) -> None:
 
 
 def label_of(row: Compared) -> str:
-    """Returns a policy's name with its levels."""
     return f"{row.policy} ({row.s}, {row.S})"
 
 
