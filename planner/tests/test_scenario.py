@@ -28,6 +28,7 @@ from planner.tests.conftest import Command
 
 TOP = Path(__file__).parents[2]
 EXAMPLES = [TOP / f"examples/{it}.toml" for it in ("two_policies", "mail_order", "spare_part")]
+COMMENTED = Path(__file__).with_name("commented.toml").read_text("utf-8")
 LAW: dict[str, Any] = {"demand": [1, 2], "lead": [1], "setup": 32, "holding": 1, "backlog": 5, "today": (20, 40)}
 
 
@@ -135,6 +136,7 @@ def test_money(name: str) -> None:
     assert Scenario.parse(found.toml()) == found.changed(initial=found.initial)
 
 
+TABLE = pd.DataFrame({"policy": ["low", "high"], "s": [1, 3], "S": np.array([2, 4], dtype=np.int8), "cost": [0.5, 0.7]})
 WRONG: dict[str, tuple[dict[str, Any], type[Exception], str]] = {
     "no-amount": ({"setup": "x"}, Refused, "costs: setup: 'x' is not an amount; write it as 12.50"),
     "a-comma": ({"holding": "0,06"}, Refused, "costs: holding: '0,06' is not an amount; write it as 12.50"),
@@ -156,6 +158,18 @@ WRONG: dict[str, tuple[dict[str, Any], type[Exception], str]] = {
     "empty": ({"demand": []}, ScenarioError, "fault 6: table demand, key values: the list is empty"),
     "periods": ({"periods": 2000}, ScenarioError, "fault 6: the document, key periods: 2000 is not from 1 to 1,024"),
     "key": ({"key": ["1"]}, ScenarioError, "fault 6: the document, key key: there are 1 texts, not 4")}
+# The same of changes of a scenario, and of policies.
+WRONG_CHANGES: list[tuple[dict[str, Any], type[Exception], str]] = [
+    ({"period": 1}, Refused, "a scenario has no field 'period'; it has version, key, periods, replications, initial, "
+     "ring, costs, demand, lead, returns, policies"),
+    ({"costs": {"rent": 1}}, ScenarioError, "fault 3: table costs, key rent: there should be no such key"),
+    ({"version": 2}, ScenarioError, "fault 4: the document: the key returns is missing"),
+    ({"policies": [1, 2]}, Refused, "policies: 1 is not a pair (s, S); give two levels in items"),
+    ({"policies": {"low": (1, 2, 3)}}, Refused, "policies: low: (1, 2, 3) is not a pair"),
+    ({"policies": [(1, 2.5)]}, Refused, "policies: S: 2.5 is not a whole number"),
+    ({"policies": TABLE[["s"]]}, Refused, "policies: the table lacks the column s or S; name them policy, s and S"),
+    *(({name: law}, Refused, f"{name}: {what}: ") for name in ("demand", "lead", "returns") for law, what in (
+        ("x", "entry 1"), ({1: 0.5}, "weight of 1"), ({0.5: 1}, "value"), ([2, 1.5], "entry 2")))]
 
 
 @pytest.mark.parametrize("name", WRONG)
@@ -165,40 +179,10 @@ def test_wrong(name: str) -> None:
         made(**changes)
 
 
-COMMENTED = """# A spare part.
-version = 1 # no returns
-key = ["0000000000000000", "0000000000000000", "0000000000000000", "0000000000000000"]
-periods = 4
-replications = 1
-initial = 6_0    # from the count of 2 May
-ring = 2
-
-# in cents
-[costs]
-setup = 32
-unit = 0
-holding = 1 # a week
-backlog = 5
-
-[demand]
-values = [1, 2, 3, 4] # a year
-weights = [1, 2, 2, 1]
-
-[lead]
-values = [1]
-weights = [1]
-
-# since 2019
-[[policy]]
-name = "A"
-s = 20 # low
-S = 40
-
-[[policy]]
-name = "B"
-s = 60
-S = 80
-"""
+@pytest.mark.parametrize("changes, kind, message", WRONG_CHANGES, ids=lambda it: it if isinstance(it, str) else "")
+def test_wrong_changes(scenario: Scenario, changes: dict[str, Any], kind: type[Exception], message: str) -> None:
+    with pytest.raises(kind, match=f"^{re.escape(message)}"):
+        scenario.changed(**changes)
 
 
 def test_comments_are_kept() -> None:
@@ -243,17 +227,6 @@ def test_changed_text_has_the_tree(data: st.DataObject) -> None:
     assert again == changed and again.toml() == changed.toml() and changed.toml().startswith("# A spare part.\n")
 
 
-def test_changed_is_checked(scenario: Scenario) -> None:
-    with pytest.raises(Refused, match="a scenario has no field 'period'; it has version, key, periods, .*, policies"):
-        scenario.changed(period=1)
-    with pytest.raises(ScenarioError, match="fault 3: table costs, key rent: there should be no such key"):
-        scenario.changed(costs={"rent": 1})
-    with pytest.raises(ScenarioError, match="fault 4: the document: the key returns is missing"):
-        scenario.changed(version=2)
-    assert scenario.changed(policies=[Policy("A", 1, 2)]).policies == (Policy("A", 1, 2),)
-
-
-TABLE = pd.DataFrame({"policy": ["low", "high"], "s": [1, 3], "S": np.array([2, 4], dtype=np.int8), "cost": [0.5, 0.7]})
 POLICIES: dict[str, tuple[Any, list[Policy]]] = {
     "policies": ([Policy("low", 1, 2), Policy("high", 3, 4)], [Policy("low", 1, 2), Policy("high", 3, 4)]),
     "pairs": ([(1, 2), (np.int64(3), 4.0)], [Policy("s1_S2", 1, 2), Policy("s3_S4", 3, 4)]),
@@ -270,17 +243,6 @@ POLICIES: dict[str, tuple[Any, list[Policy]]] = {
 def test_policies(name: str) -> None:
     given_ones, wanted = POLICIES[name]
     assert policies_of(given_ones) == wanted
-
-
-@pytest.mark.parametrize("given_ones, message", [
-    ([1, 2], "policies: 1 is not a pair (s, S); give two levels in items"),
-    ({"low": (1, 2, 3)}, "policies: low: (1, 2, 3) is not a pair"),
-    ([(1, 2.5)], "policies: S: 2.5 is not a whole number"),
-    (TABLE[["s"]], "policies: the table lacks the column s or S; name them policy, s and S")],
-    ids=["numbers", "triple", "part", "table"])
-def test_no_policies(given_ones: Any, message: str) -> None:
-    with pytest.raises(Refused, match=f"^{re.escape(message)}"):
-        policies_of(given_ones)
 
 
 def test_policies_of_words(tmp_path: Path) -> None:
@@ -352,14 +314,3 @@ def test_command_run(program: Path, crnplan: Command, tmp_path: Path) -> None:
     assert report.output.splitlines()[3].startswith("low,1,2,")
     answer = crnplan("run", path, "--program", program, "--json")
     assert '"diff_total": 74,\n    "diff_mean": "74/1",\n    "diff_var": null' in answer.output
-
-
-@pytest.mark.parametrize("name", ["demand", "lead", "returns"])
-def test_a_changed_law_that_is_none(name: str) -> None:
-    """A law is named in its fault, whichever it is, and None is no returns."""
-    scenario = Scenario.parse(COMMENTED).changed(returns={0: 1, 1: 1})
-    for law, what in (("x", "entry 1"), ({1: 0.5}, "weight of 1"), ({0.5: 1}, "value"), ([2, 1.5], "entry 2")):
-        with pytest.raises(Refused, match=f"^{name}: {what}: "):
-            scenario.changed(**{name: law})
-    if name == "returns":
-        assert scenario.changed(returns=None).returns is None
