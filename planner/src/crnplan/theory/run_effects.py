@@ -30,13 +30,11 @@ from scipy import fft
 
 from ..chances import Floats, Whole
 from ..scenario import Policy, Scenario
-from .lattice import (MOST_GAPS, MOST_TRANSFORM, finest, has_room, height_of, late_work, lattice_of, moments_of,
-                      shape_of, theory_on, values_of)
+from .lattice import MOST_GAPS, NoTheory, has_room, late_work, lattice_of, shape_of, theory_on, values_of
 from .lattice_law import NOTHING, LatticeLaw, Surplus, power_of, room_for, sum_of
 from .long_run import LongRun
 from .reviews import Reviews, Start, falling, moving, review_sums
 from .several_leads import lateness, renewed, transforms_of
-from .walk import Walk
 
 if TYPE_CHECKING:
     from ..crnsim.report import Row
@@ -44,7 +42,6 @@ if TYPE_CHECKING:
 MOST_WORK = 40_000_000  # for late orders of all policies, by `work_of`
 MOST_BIAS_GAPS = 17_000  # with one lead time: the reviews of a run take longer than figures
 MOST_SUMS = 2_000_000  # cells of the laws of all reviews at once: more would take too much memory
-MOST_PRODUCTS = 300_000_000  # of cells of gaps and of demands, for mean positions
 
 
 def theory_of(scenario: Scenario, most_gaps: int = MOST_GAPS) -> LongRun:
@@ -192,29 +189,14 @@ def start_bias(scenario: Scenario) -> StartBias:
                      on_lattice)
 
 
-def walk_of(scenario: Scenario, gap: int) -> Walk | None:
-    """Returns the position of a scenario on a lattice that is fine enough for gaps up to so many items.
-
-    None if nothing is to be ordered in the long run, or if the tables of such a lattice are too large.
-    """
-    (demand, _), (back, _) = moments_of(scenario.demand), moments_of(scenario.returns)
-    if demand - back <= 1e-9 * demand:
-        return None
-    values = values_of(scenario)
-    base, high = math.gcd(*values), max(values)
-    height = height_of(scenario, high)
-    step = finest(base, max(high, gap), lambda step: max(gap / step * min(high, gap) / step / MOST_PRODUCTS,
-                                                         4 * height / step / MOST_TRANSFORM), lambda excess: 2)
-    return None if step is None else Walk(scenario, step, step == base)
-
-
 def end_effects(scenario: Scenario, policies: Sequence[Policy | Row]) -> list[float] | None:
     """Returns what `unit` adds per replication to each policy's cost by its final stock, less that of the first one.
 
     None if there is no long-run mean, or if its tables are too large.
     """
-    walk = walk_of(scenario, max(policy.S - policy.s for policy in policies))
-    if walk is None:
+    try:
+        theory = theory_of(scenario.with_policies(Policy.of_levels(policy.s, policy.S) for policy in policies))
+    except NoTheory:
         return None
-    positions = [walk.mean_position(policy.s, policy.S) for policy in policies]
+    positions = [theory.mean_position(policy.s, policy.S) for policy in policies]
     return [scenario.costs.unit * (position - positions[0]) for position in positions]

@@ -1,4 +1,4 @@
-"""Compares the bias of the start with a chain of all states, period by period from the start, and with simulations."""
+"""Compares what the start and the end of a run add with a chain of all states, and with simulations."""
 from __future__ import annotations
 
 import itertools
@@ -13,7 +13,7 @@ from hypothesis import strategies as st
 
 from crnplan.scenario import Costs, Policy, Scenario
 from crnplan.theory.lattice import NoTheory
-from crnplan.theory.run_effects import Runs, start_bias, theory_of
+from crnplan.theory.run_effects import Runs, end_effects, start_bias, theory_of
 from planner.tests.theory.chain import by_chain
 from planner.tests.theory.finite import expected
 from planner.tests.theory.scenarios import Pair, scenario_of
@@ -134,6 +134,46 @@ def test_all_reviews_at_once(weights: list[int], lead: Pair, s: int, gap: int, i
     assert at_once == pytest.approx(runs.bias(asked.policies[0], gap), rel=1e-8, abs=1e-7)
 
 
-def test_no_long_run() -> None:
-    with pytest.raises(NoTheory, match="nothing to order in the long run"):
-        start_bias(scenario_of(([1], [1]), back=([1], [1])))
+# Demands and returns, and policies whose mean positions are compared with a chain.
+CHAINS = [(([0, 1, 2, 3, 5], [8, 14, 22, 4, 1]), None, [(10, 26), (7, 26), (10, 20), (7, 20), (9, 9)]),
+          (([1, 4, 7], [3, 1, 2]), None, [(0, 0), (3, 30), (5, 6), (1, 12)]),
+          (([0, 1, 2, 4], [3, 3, 2, 2]), ([0, 1, 3], [6, 3, 1]), [(4, 12), (2, 12), (6, 6), (0, 25)]),
+          (([0, 3], [1, 1]), ([0, 1, 2], [1, 1, 1]), [(5, 9), (5, 30), (8, 9)])]
+
+
+def ends_of(scenario: Scenario, pairs: list[tuple[int, int]]) -> list[float]:
+    """Returns what `unit` adds by the final stock of policies with these levels."""
+    found = end_effects(scenario, [Policy.of_levels(*pair) for pair in pairs])
+    assert found is not None
+    return found
+
+
+@pytest.mark.parametrize("demand, back, pairs", CHAINS)
+def test_end_effects_are_those_of_a_chain(demand: Pair, back: Pair | None, pairs: list[tuple[int, int]]) -> None:
+    scenario = scenario_of(demand, back=back, costs=Costs(0, 10, 1, 1))
+    means = [by_chain(scenario.with_policies([Policy.of_levels(*pair)]))[-1] for pair in pairs]
+    assert ends_of(scenario, pairs) == pytest.approx([10 * (mean - means[0]) for mean in means], abs=1e-4)
+
+
+def test_end_effects_of_large_numbers() -> None:
+    """Far below S the lows are evenly spread, so the mean depth grows by half of what S - s grows by."""
+    wide = scenario_of((range(0, 10_001, 5), [1] * 2001), costs=Costs(0, 1, 1, 1))
+    effects = ends_of(wide, [(0, 20_000), (0, 60_000), (30_000, 70_000)])
+    assert effects == pytest.approx([0, 20_000, 40_000], abs=150)
+
+
+def test_end_effects_in_steps_of_several_items(monkeypatch: pytest.MonkeyPatch) -> None:
+    middle = scenario_of((range(0, 501, 3), [1 + it % 4 for it in range(167)]), costs=Costs(0, 1, 1, 1))
+    pairs = [(0, 3000), (0, 1500), (900, 1000), (700, 700)]
+    exact = ends_of(middle, pairs)
+    monkeypatch.setattr("crnplan.theory.run_effects.lattice_of", lambda *_: (9, False))
+    assert 1e-9 < max(abs(a - b) for a, b in zip(ends_of(middle, pairs), exact)) < 1
+
+
+@pytest.mark.parametrize("scenario", [scenario_of(([1], [1]), back=([1], [1])),
+                                      scenario_of(([0, 1], [30_000, 30_001]), back=([0, 1], [1, 1]))],
+                         ids=["nothing to order", "hardly anything to order"])
+def test_no_long_run(scenario: Scenario) -> None:
+    assert end_effects(scenario, [Policy.of_levels(1, 2), Policy.of_levels(3, 4)]) is None
+    with pytest.raises(NoTheory, match="nothing to order in the long run|too far apart"):
+        start_bias(scenario)
