@@ -1,9 +1,7 @@
-"""Compares trajectories with FORMATS.md's example, with checkpoints, and with a simulation from the program's random
-words."""
+"""Compares trajectories with FORMATS.md's example, and with a slow simulation."""
 from __future__ import annotations
 
 import json
-import math
 import os
 import re
 import subprocess
@@ -22,12 +20,11 @@ from crnplan.crnsim import trajectory
 from crnplan.crnsim.trajectory import trajectories
 from crnplan.scenario import Scenario
 from planner.tests.conftest import Command
+from planner.tests.crnsim.slow import History, draws_of, simulate
 
 # The example of docs/FORMATS.md, "What happens in a period": orders, net demands, stocks and positions.
 ON_PAGE = {"A": [(0, 1, 59, 59), (0, 2, 57, 57), (0, 2, 55, 55), (0, 4, 51, 51)],
            "B": [(0, 1, 59, 59), (21, 2, 57, 78), (0, 2, 76, 76), (0, 4, 72, 72)]}
-PERIODS = 40
-POLICIES = {"spare_part": ["today", "both", "smaller", "lower"], "mail_order": ["best", "today"]}
 NINE = "today level_20 level_25 level_36 point_8 point_10 point_12 point_18 both_8_25"
 REFUSED = [("two_policies.toml C", "there is no policy 'C'; the scenario has A, B"),
            ("two_policies.toml A A", "give 1 to 8 policies, each once"),
@@ -51,46 +48,16 @@ def rows_of(output: str) -> dict[str, list[tuple[int, ...]]]:
     return found
 
 
-def draws_of(program: Path, tree: dict[str, Any], periods: int) -> list[tuple[int, int, int]]:
-    """Returns the demand, the lead time and the returns of each period of replication 0, from the program's random
-    words."""
-    drawn: dict[str, list[int]] = {"demand": [], "lead": [], "returns": []}
-    for block in range(math.ceil(periods / 4)):
-        words = subprocess.run([program, "words", *tree["key"], str(block)], capture_output=True, text=True, check=True)
-        for name, *numbers in map(str.split, words.stdout.splitlines()):
-            law = tree.get(name, {"values": [0], "weights": [1]})
-            spread = [value for value, weight in zip(law["values"], law["weights"]) for _ in range(weight)]
-            drawn[name] += [spread[int(number, 16) * len(spread) >> 64] for number in numbers]
-    return list(zip(*drawn.values()))[:periods]
-
-
-def simulated(tree: dict[str, Any], policy: dict[str, int], draws: list[tuple[int, int, int]]) -> list[tuple[int, ...]]:
-    """Returns the periods of a policy. In each it adds up all earlier orders, demands and returns anew."""
-    placed: list[tuple[int, int]] = []
-    found = []
-    for period, (demand, lead, returned) in enumerate(draws):
-        net = sum(its[0] - its[2] for its in draws[:period])
-        position = tree["initial"] - net + sum(amount for amount, _ in placed)
-        placed.append((policy["S"] - position if position < policy["s"] else 0, period + lead))
-        arrived = sum(amount for amount, due in placed if due <= period)
-        net += demand - returned
-        found.append((placed[-1][0], demand - returned, tree["initial"] - net + arrived,
-                      position + placed[-1][0] - demand + returned))
-    return found
-
-
-def states_of(program: Path, text: str, block: int) -> dict[str, tuple[int, int]]:
-    """Returns stock and position of each policy before a block, from the checkpoint there."""
-    ran = subprocess.run([program, "leg", str(block)], input=text, capture_output=True, text=True, check=True)
-    states: dict[str, tuple[int, int]] = {}
-    for kind, *fields in (line.split(",") for line in ran.stdout.splitlines()):
-        if kind == "policy":
-            name = fields[0]
-        elif kind == "state":
-            states[name] = int(fields[0]), int(fields[0])
-        elif kind == "due":
-            states[name] = states[name][0], states[name][1] + int(fields[1])
-    return states
+def check(program: Path, scenario: Scenario) -> None:
+    """Compares all periods of a scenario's policies with the simulation."""
+    found = trajectories(scenario, scenario.periods, program=program)
+    for policy, told in zip(scenario.policies, found, strict=True):
+        history, periods = History(scenario.initial), []
+        for draw in draws_of(scenario, scenario.key, scenario.periods):
+            simulate(scenario, policy, history, [draw])
+            stock, waiting = history.stock(), sum(history.due().values())
+            periods.append((history.placed[-1][0], history.net[-1], stock, stock + waiting))
+        assert told == periods
 
 
 def test_example_of_the_page(crnplan: Command, program: Path, top: Path) -> None:
@@ -114,29 +81,10 @@ def test_json(crnplan: Command, program: Path, top: Path) -> None:
     assert [tuple(it.values())[2:] for it in json.loads(told.output)] == ON_PAGE["B"]
 
 
-@pytest.mark.parametrize("name", POLICIES)
-def test_every_fourth_period_is_that_of_the_checkpoint(crnplan: Command, name: str, program: Path, top: Path) -> None:
-    """Compares stock and position with the checkpoints at all blocks."""
-    path = top / f"examples/{name}.toml"
-    told = crnplan("trajectory", path, *POLICIES[name], "--csv", "--periods", str(PERIODS), "--program", program)
-    found = rows_of(told.output)
-    assert list(found) == POLICIES[name]
-    for block in range(1, PERIODS // 4 + 1):
-        states = states_of(program, path.read_text(), block)
-        assert {it: found[it][4 * block - 1][2:] for it in found} == {it: states[it] for it in found}, f"block {block}"
-
-
-def check(program: Path, tree: dict[str, Any]) -> None:
-    """Compares a scenario's trajectories with the simulation."""
-    draws = draws_of(program, tree, tree["periods"])
-    found = trajectories(Scenario.of_tree(tree), tree["periods"], program=program)
-    assert found == [simulated(tree, policy, draws) for policy in tree["policy"]]
-
-
 @pytest.mark.parametrize("name", ["two_policies", "spare_part", "mail_order", "case/scenario"])
 def test_examples_are_as_simulated(name: str, program: Path, top: Path) -> None:
     """Compares all periods and policies of an example."""
-    check(program, tomllib.loads((top / f"examples/{name}.toml").read_text()))
+    check(program, Scenario.read(top / f"examples/{name}.toml"))
 
 
 def laws(least: int, most: int) -> st.SearchStrategy[dict[str, list[int]]]:
@@ -165,7 +113,7 @@ def trees(draw: st.DrawFn) -> dict[str, Any]:
 @settings(max_examples=40)
 def test_random_scenarios_are_as_simulated(program: Path, tree: dict[str, Any]) -> None:
     """Compares all periods of scenarios at random, packed and apart."""
-    check(program, tree)
+    check(program, Scenario.of_tree(tree))
 
 
 @pytest.mark.parametrize("level, runs", [(9_999 - 4, 1), (9_999 - 3, 3)])
@@ -183,7 +131,7 @@ def test_packed_up_to_the_greatest_cost(level: int, runs: int, program: Path, to
         return run_all(path, kept, *jobs)
 
     monkeypatch.setattr(trajectory, "run_all", counting)
-    check(program, tree)
+    check(program, Scenario.of_tree(tree))
     assert counted == [4, 4 * runs]
 
 
@@ -191,14 +139,15 @@ def test_demand_beyond_a_million_items(program: Path, top: Path) -> None:
     """A run whose demand comes to more than any stock is counted all the same."""
     tree = tomllib.loads((top / "examples/two_policies.toml").read_text())
     tree |= {"periods": 120, "demand": {"values": [9997, 9998, 9999, 10000], "weights": [1, 2, 2, 1]}}
-    check(program, tree)
-    assert sum(it[0] for it in draws_of(program, tree, 120)) > 1_000_000
+    scenario = Scenario.of_tree(tree)
+    check(program, scenario)
+    assert sum(demand for demand, _, _ in draws_of(scenario, scenario.key, 120)) > 1_000_000
 
 
 def test_longest_run(program: Path, top: Path) -> None:
     """1,024 periods are the most that a scenario has, and take the most replications that the net demand can need."""
     tree = tomllib.loads((top / "examples/two_policies.toml").read_text())
-    check(program, tree | {"periods": 1024, "policy": tree["policy"][:1]})
+    check(program, Scenario.of_tree(tree | {"periods": 1024, "policy": tree["policy"][:1]}))
 
 
 @pytest.mark.parametrize("words, part", REFUSED, ids=[words for words, _ in REFUSED])

@@ -1,4 +1,4 @@
-"""Tests figures and searches with a Markov chain, a second theory, published optima and all pairs."""
+"""Tests figures with a Markov chain, and searches with published optima and a second theory."""
 from __future__ import annotations
 
 import math
@@ -9,7 +9,6 @@ from hypothesis import given, settings
 from hypothesis import strategies as st
 
 from crnplan.scenario import Costs, Policy, Scenario
-from crnplan.theory import one_lead
 from crnplan.theory.lattice import theories_of
 from crnplan.theory.long_run import FEW, LongRun, gap_grid
 from crnplan.theory.one_lead import OneLead
@@ -86,24 +85,6 @@ def test_a_published_optimum(mean: int, point: int, level: int, cost: str) -> No
     assert (f"{best.cost:.3f}", best.point - 1, best.level) == (cost, point, level)
 
 
-@pytest.mark.parametrize("lead", [([2], [1]), ([1, 2, 4], [1, 2, 1])], ids=["one lead time", "three lead times"])
-def test_the_best_of_all_pairs(lead: Pair) -> None:
-    scenario = scenario_of(([0, 1, 5], [5, 3, 2]), lead, costs=Costs(20, 0, 2, 9))
-    theory = theory_of(scenario)
-    best, fill = theory.best(), theory.best_with_fill(0.98)
-    shorts = [shortfall_of(scenario, gap) for gap in range(31)]
-    costs = {(level - gap, level): cost_of(scenario, shorts[gap], level)
-             for level in range(31) for gap in range(level + 1)}
-    assert (best.point, best.level) == min(costs, key=costs.__getitem__)
-    for number in (2, 9, 14):
-        least = [min(cost for pair, cost in costs.items() if pair[place] == number) for place in (0, 1)]
-        told = theory.best_with_point(number).cost, theory.best_with_level(number).cost
-        assert told == pytest.approx(least, abs=1e-7)
-    filled = {pair: cost for pair, cost in costs.items() if theory.figures(*pair).fill >= 0.98}
-    assert (fill.point, fill.level) == min(filled, key=filled.__getitem__)
-    assert fill.cost == pytest.approx(filled[fill.point, fill.level], abs=1e-7)
-
-
 @pytest.mark.parametrize("scenario", STEEP, ids=["lead time 1", "lead time 2"])
 def test_the_best_if_the_first_found_has_a_high_level(scenario: Scenario) -> None:
     theory = theory_of(scenario)
@@ -116,30 +97,3 @@ def test_the_best_if_the_first_found_has_a_high_level(scenario: Scenario) -> Non
     least = min(cost_of(scenario, it, level) for it in shorts.values() for level in levels)
     assert best.cost == pytest.approx(least, abs=1e-6)
     assert cost_of(scenario, shorts[gap], best.level) == pytest.approx(least, abs=1e-6)
-
-
-def test_the_best_looks_at_few_levels(monkeypatch: pytest.MonkeyPatch) -> None:
-    """A level far above the demand of a lead time costs more than any good policy, so it is not priced."""
-    most, priced = 0, OneLead.figures_from
-
-    def spy(self: OneLead, levels: one_lead.Whole) -> one_lead.Floats:
-        nonlocal most
-        most = max(most, len(levels))
-        return priced(self, levels)
-
-    monkeypatch.setattr(OneLead, "figures_from", spy)
-    theory = theory_of(scenario_of(([0, 1, 5], [5, 3, 2]), ([2], [1]), costs=Costs(20, 0, 2, 9)))
-    best = theory.best()
-    assert best.level < most < 200
-
-
-@settings(max_examples=25)
-@given(demand=laws(st.integers(0, 9), 3).filter(lambda it: max(it[0]) > 0), lead=laws(st.integers(1, 4), 1),
-       costs=st.builds(Costs, st.integers(0, 60), st.just(0), st.integers(1, 9), st.integers(1, 99)))
-def test_the_best_of_one_lead_time_costs_least(demand: Pair, lead: Pair, costs: Costs) -> None:
-    scenario = scenario_of(demand, lead, costs=costs)
-    best = theory_of(scenario).best()
-    shorts = [shortfall_of(scenario, gap) for gap in range(80)]
-    least = min(cost_of(scenario, short, level) for gap, short in enumerate(shorts) for level in range(gap, 120))
-    its = cost_of(scenario, shortfall_of(scenario, best.level - best.point), best.level)
-    assert best.cost == pytest.approx(its, abs=1e-6) and best.cost <= least + 1e-6

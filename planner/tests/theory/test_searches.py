@@ -54,12 +54,14 @@ def check(scenario: Scenario, found: Candidate, pairs: np.ndarray, share: float 
     assert found.cost <= least + 1e-6 * max(1, found.cost)
 
 
-@settings(max_examples=10)
+@settings(max_examples=20)
 @given(demand=laws(7, 3).filter(lambda it: max(it[0]) > 0), back=st.none() | laws(1, 2),
        lead=st.sampled_from([[1], [2], [3], [1, 3], [1, 2, 4], [2, 4]]),
        costs=st.builds(Costs, st.integers(0, 60), st.just(0), st.integers(2, 9), st.integers(1, 40)))
 @example(([0, 6], [3, 1]), [2], None, Costs(20, 0, 2, 9))
 @example(([0, 6], [3, 1]), [1, 3], None, Costs(20, 0, 2, 9))
+@example(([0, 1, 5], [5, 3, 2]), [2], None, Costs(20, 0, 2, 9))
+@example(([0, 1, 5], [5, 3, 2]), [1, 2, 4], None, Costs(20, 0, 2, 9))
 @example(([1], [1]), [1], None, Costs(0, 0, 2, 1))
 @example(([0, 3, 7], [5, 1, 1]), [1], None, Costs(60, 0, 2, 1))
 @example(([0, 5, 7], [9, 1, 1]), [1], None, Costs(60, 0, 9, 1))
