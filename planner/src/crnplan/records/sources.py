@@ -245,17 +245,16 @@ class Sheet:
     """A table before its columns are known: its name in messages, how it is written, the rules by which it is read, and
     what is wrong with its bytes. One that has no text of its own has cells with commas between them in messages."""
 
-    def __init__(self, name: str, written: str, rules: Rules) -> None:
-        self.name, self.written, self.rules, self.delimiter, self.sign = name, written, rules, ",", ","
-        self.fault: Fault | None = None
+    delimiter = sign = ","
+    fault: Fault | None = None
+
+    def __init__(self, name: str, written: str, rules: Rules, rows: Callable[[], Iterator[Row]]) -> None:
+        """Takes what yields the line in which each row begins, and its cells."""
+        self.name, self.written, self.rules, self.rows = name, written, rules, rows
 
     def head(self, wanted: Sequence[str], role_of: RoleOf) -> list[Row]:
         """Returns the first rows, with the lines in which they begin."""
         return [(line, texts_of(cells)) for line, cells in itertools.islice(self.rows(), SAMPLE_ROWS)]
-
-    def rows(self) -> Iterator[Row]:
-        """Yields the line in which each row begins, and its cells."""
-        raise NotImplementedError
 
     def texts(self, lines: Iterable[int]) -> dict[int, str]:
         """Returns the text of each of the rows that begin in these lines."""
@@ -273,7 +272,7 @@ class TextSheet(Sheet):
     def __init__(self, path: Path, name: str, rules: Rules) -> None:
         self.path, self.state = path, state_of(path)
         self.encoding, self.text, fault = head_of(path, name, rules)
-        super().__init__(name, self.encoding, rules)
+        super().__init__(name, self.encoding, rules, self._rows)
         self.fault = fault
         self.delimiter = DELIMITERS[rules.delimiter or ","]
 
@@ -285,7 +284,7 @@ class TextSheet(Sheet):
         self.written = f"{self.encoding}, delimiter {self.sign}"
         return list(sample(self.text, self.delimiter))
 
-    def rows(self) -> Iterator[Row]:
+    def _rows(self) -> Iterator[Row]:
         """Yields the rows. Raises RefusedFaults for bytes or quotes that can't be read."""
         with self._lines() as lines:
             yield from rows_of_lines(self.name, lines, self.delimiter)
@@ -351,47 +350,38 @@ class TextSheet(Sheet):
         return line + text.count("\n", 0, start), start - text.rfind("\n", 0, start)
 
 
-class BookSheet(Sheet):
-    """A sheet of a workbook."""
+def sheet_of_book(path: Path, sheet: str | None, rules: Rules) -> Sheet:
+    """Returns a sheet of a workbook, whose lines are the numbers of rows. Raises Refused for a workbook that can't be
+    read, or if it isn't clear which sheet is meant."""
+    import openpyxl
+    try:
+        book = openpyxl.load_workbook(path, read_only=True, data_only=True)
+    except (OSError, zipfile.BadZipFile, KeyError, ValueError) as fault:
+        raise Refused(f"{path}: this is no workbook that can be read ({fault}); export it again, or as CSV") from fault
+    names = book.sheetnames
+    if sheet is None and len(names) > 1 or sheet is not None and sheet not in names:
+        known = ", ".join(names[:MOST_LISTED])
+        raise Refused(f"{path}: which sheet is meant is not clear; say {path}!SHEET; the sheets are: {known}")
+    name, state, table = f"{path}{f'!{sheet}' if sheet else ''}", state_of(path), book[sheet or names[0]]
 
-    def __init__(self, path: Path, sheet: str | None, rules: Rules) -> None:
-        """Opens the workbook. Raises Refused for one that can't be read, or if it isn't clear which sheet is meant."""
-        import openpyxl
-        try:
-            self.book = openpyxl.load_workbook(path, read_only=True, data_only=True)
-        except (OSError, zipfile.BadZipFile, KeyError, ValueError) as fault:
-            raise Refused(f"{path}: this is no workbook that can be read ({fault}); export it again, or as "
-                          "CSV") from fault
-        names = self.book.sheetnames
-        if sheet is None and len(names) > 1 or sheet is not None and sheet not in names:
-            known = ", ".join(names[:MOST_LISTED])
-            raise Refused(f"{path}: which sheet is meant is not clear; say {path}!SHEET; the sheets are: {known}")
-        self.sheet = self.book[sheet or names[0]]
-        self.path, self.state = path, state_of(path)
-        super().__init__(f"{path}{f'!{sheet}' if sheet else ''}", f"sheet {sheet or names[0]}", rules)
-
-    def rows(self) -> Iterator[Row]:
-        """Yields the rows of the sheet that have a cell, with their numbers."""
-        with unchanged(self.path, self.name, self.state):
-            self.sheet.reset_dimensions()
-            for number, cells in enumerate(self.sheet.iter_rows(values_only=True), 1):
+    def rows() -> Iterator[Row]:
+        with unchanged(path, name, state):
+            table.reset_dimensions()
+            for number, cells in enumerate(table.iter_rows(values_only=True), 1):
                 yield number, [stored(cell) for cell in cells]
+    return Sheet(name, f"sheet {sheet or names[0]}", rules, rows)
 
 
-class FrameSheet(Sheet):
-    """A DataFrame. Its heading is line 1, so that its first row is line 2."""
+def sheet_of_frame(frame: pd.DataFrame, name: str, rules: Rules) -> Sheet:
+    """Returns a DataFrame as a sheet, with its index as columns if that has names. Its heading is line 1."""
+    if any(it is not None for it in frame.index.names):
+        frame = frame.reset_index()
 
-    def __init__(self, frame: pd.DataFrame, name: str, rules: Rules) -> None:
-        """Takes the frame, and its index as columns if that has names."""
-        super().__init__(name, "DataFrame", rules)
-        has_names = any(it is not None for it in frame.index.names)
-        self.frame = frame.reset_index() if has_names else frame
-
-    def rows(self) -> Iterator[Row]:
-        """Yields the rows of the frame."""
-        yield 1, [str(name) for name in self.frame.columns]
-        for number, cells in enumerate(self.frame.itertuples(index=False, name=None), 2):
+    def rows() -> Iterator[Row]:
+        yield 1, [str(name) for name in frame.columns]
+        for number, cells in enumerate(frame.itertuples(index=False, name=None), 2):
             yield number, [stored(cell) for cell in cells]
+    return Sheet(name, "DataFrame", rules, rows)
 
 
 @contextlib.contextmanager
@@ -402,12 +392,12 @@ def opened(table: Table, kind: str, rules: Rules, folder: Path | None = None) ->
     has the name of its kind. Raises Refused and RefusedFaults for what can't be read.
     """
     if not isinstance(table, (str, Path)):
-        yield FrameSheet(table, kind, rules)
+        yield sheet_of_frame(table, kind, rules)
         return
     name, path = "standard input" if str(table) == "-" else str(table), Path(table)
     book, sign, sheet = name.rpartition("!")
     if sign and Path(book).suffix.lower() in BOOKS:
-        yield BookSheet(Path(book), sheet, rules)
+        yield sheet_of_book(Path(book), sheet, rules)
         return
     with contextlib.ExitStack() as stack:
         if str(table) == "-" or path.exists() and not (path.is_file() or path.is_dir()):
@@ -416,4 +406,4 @@ def opened(table: Table, kind: str, rules: Rules, folder: Path | None = None) ->
             path = Path(room) / Path(name).name
             with path.open("xb") as copy:
                 shutil.copyfileobj(stream, copy)
-        yield BookSheet(path, None, rules) if path.suffix.lower() in BOOKS else TextSheet(path, name, rules)
+        yield sheet_of_book(path, None, rules) if path.suffix.lower() in BOOKS else TextSheet(path, name, rules)
