@@ -1,4 +1,5 @@
-"""Tests the page of an item of a catalogue: its figures are those of the tables, and what has no page is refused."""
+"""Tests the page of an item of a catalogue: its figures are those of the tables, what has no page is refused, and
+each has a file of its own."""
 from __future__ import annotations
 
 import contextlib
@@ -9,13 +10,15 @@ from collections.abc import Callable
 from pathlib import Path
 
 import pytest
+from hypothesis import example, given
+from hypothesis import strategies as st
 
 import crnplan
 from crnplan import plan
-from crnplan.records.catalogue_reading import read_catalogue
-from crnplan.pages.exports import report
-from crnplan.pages.catalogue_page import file_of
 from crnplan.errors import CrnplanError, Refused
+from crnplan.pages.catalogue_page import file_name, file_of
+from crnplan.pages.exports import report
+from crnplan.records.catalogue_reading import read_catalogue
 from planner.tests.catalogue.conftest import FILES, SETTINGS
 from planner.tests.catalogue.made import NO_PLAN, TODAY, made
 from planner.tests.conftest import rows_of
@@ -29,6 +32,10 @@ COLUMNS = {"s": "s", "S": "S", "cost a week": "cost", "met at once": "fill", "me
            "value of the mean stock": "value", "orders a week": "orders"}
 SAVINGS = {"saving a week": "saving", "saving a week, by crnsim": "run_saving", "its low end": "run_low",
            "its high end": "run_high"}
+
+NAMES = st.text(st.characters(blacklist_categories=["Cs"]), min_size=1, max_size=60)
+# Names that a careless spelling would give one file, or a file elsewhere.
+LIKE = st.text("aA%~./\\41 ", min_size=1, max_size=6)
 
 
 def plain(text: str) -> str:
@@ -212,3 +219,28 @@ def test_learned_law_stands_beside_the_items_own(learned: Path, program: Path) -
     levels = [f"({row[f's_{it}']}, {row[f'S_{it}']})" for it in ("today", "chosen", "alone")]
     assert len({*levels}) < 3 or [row["s_alone"], row["S_alone"]] in [it[1:3] for it in page.tables[ALL]]
     assert re.search(r"A fill rate of \d+(\.\d+)?% is wanted", page.words)
+
+
+@given(st.lists(NAMES | LIKE, min_size=2, max_size=8, unique=True))
+@example(["a", "A", "a~1", "A~1", "%41", "~", "%7E", ".", "..", "%2E."])
+@example(["x" * 200, "x" * 201, "X" * 200, "x" * 120, "x" * 119])
+def test_names_that_differ_have_files_that_differ(names: list[str]) -> None:
+    """Each item has a file of its own, of plain ASCII, also where the case of letters is ignored."""
+    files = [file_name(it) for it in names]
+    assert len({it.lower() for it in files}) == len(files)
+    assert all(re.fullmatch("[A-Za-z0-9_%-][A-Za-z0-9_.%~-]*[.]html", it) and len(it) <= 200 for it in files)
+
+
+@given(NAMES | LIKE)
+def test_file_stands_in_its_folder(name: str) -> None:
+    """No name leads out of the folder of the pages."""
+    folder = Path("/plan")
+    assert file_of(folder, name).resolve().parent == folder / "items"
+
+
+@pytest.mark.parametrize("name, wanted", [
+    ("P01118", "P01118.html"), ("A-1_2.5", "A-1_2.5.html"), ("M8/40", "M8%2F40.html"), ("Ä", "%C3%84.html"),
+    ("../B", "%2E.%2FB.html"), ("Ab", "Ab~2.html"), ("ab", "ab~3.html"), ("A~", "A%7E.html")])
+def test_spelling(name: str, wanted: str) -> None:
+    """An item number in capitals stays as it is."""
+    assert file_name(name) == wanted

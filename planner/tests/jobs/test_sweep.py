@@ -1,11 +1,15 @@
-"""Tests of crnplan sweep: its table, what it refuses, and sweeps that are cut off and go on."""
+"""Tests of crnplan sweep: its table, what it refuses, sweeps that are cut off and go on, and its progress: a bar on a
+terminal, and at most ten lines in a log."""
 from __future__ import annotations
 
 import contextlib
 import csv
 import json
+import os
+import pty
 import sqlite3
 import subprocess
+import sys
 from collections.abc import Callable
 from pathlib import Path
 
@@ -13,6 +17,7 @@ import numpy as np
 import pytest
 
 import crnplan as crn
+from crnplan.jobs import lines, progress
 from planner.tests.conftest import Command
 from planner.tests.decide.answers import changed, priced
 
@@ -20,6 +25,9 @@ COUNTING = '#!/bin/sh\necho >> "{room}/runs"\n{how}"{program}"\n'
 GRID = ["--s", "10", "60", "10", "--S", "40", "90", "10", "--jobs", "1", "--program", "./counting"]
 PAIRS = [(s, S) for s in range(10, 61, 10) for S in range(40, 91, 10) if s <= S and (s, S) != (20, 40)]
 SCENARIOS = 3
+# Ten scenarios without the base: 150 pairs.
+WORDS = ["sweep", "examples/two_policies.toml", "--s", "1", "10", "1", "--S", "41", "55", "1", "--jobs", "1"]
+TEN = 10
 
 
 @pytest.fixture
@@ -187,3 +195,56 @@ def test_json_has_the_fields_of_the_report(base: Path, crnplan: Command) -> None
     data = json.loads(crnplan("sweep", base, *GRID, "--json").output)
     assert [list(it) for it in data] == [heading] * len(rows)
     assert [["-" if it is None else str(it) for it in record.values()] for record in data] == rows
+
+
+def read_part(terminal: int) -> bytes:
+    """Returns what comes next from a terminal; nothing if its other side is closed."""
+    try:
+        return os.read(terminal, 4096)
+    except OSError:
+        return b""
+
+
+def test_a_log_has_a_line_for_each_ninth(crnplan: Command) -> None:
+    """Checks the lines of a sweep whose standard error is no terminal."""
+    told = crnplan(*WORDS)
+    wanted = [f"{done} of {TEN} scenarios (0 kept)" for done in (0, 2, 3, 4, 5, 6, 7, 8, 9, 10)]
+    assert told.status == 0 and told.errors.splitlines() == wanted and "\r" not in told.errors
+
+
+def test_a_log_of_many_scenarios_has_at_most_ten_lines(crnplan: Command) -> None:
+    """Checks that the number of lines does not grow with that of the scenarios."""
+    told = crnplan(*WORDS[:2], "--s", "1", "40", "1", "--S", "41", "100", "1")
+    shown = told.errors.splitlines()
+    assert told.status == 0 and "\r" not in told.errors
+    assert 2 <= len(shown) <= 10 and shown[-1].startswith("160 of 160 ")
+
+
+@pytest.mark.parametrize("total", [1, 2, 8, 9, 10, 11, 100, 12345])
+def test_lines_begin_and_end(capsys: pytest.CaptureFixture[str], total: int) -> None:
+    """Checks the first and the last line, and that there are at most ten, for each kept number of a few."""
+    for kept in {0, total // 2, total}:
+        show = lines(total, kept, "scenarios")
+        for done in range(kept + 1, total + 1):
+            show(done)
+        shown = capsys.readouterr().err.splitlines()
+        assert shown[0] == f"{kept} of {total} scenarios ({kept} kept)" and len(shown) <= 10
+        assert shown[-1] == f"{total} of {total} scenarios ({kept} kept)"
+
+
+def test_a_terminal_has_a_bar(room: Path) -> None:
+    """Runs a sweep whose standard error is a terminal."""
+    ours, theirs = pty.openpty()
+    with subprocess.Popen([sys.executable, "-m", "crnplan", *WORDS], stdin=subprocess.DEVNULL,
+                          stdout=subprocess.DEVNULL, stderr=theirs) as process:
+        os.close(theirs)
+        shown = b"".join(iter(lambda: read_part(ours), b"")).decode()
+    os.close(ours)
+    assert process.returncode == 0 and "100%" in shown and "10/10" in shown and "0 kept" in shown
+
+
+def test_the_function_is_silent(capsys: pytest.CaptureFixture[str]) -> None:
+    """Checks that nothing is shown unless it is asked for."""
+    with progress(3, 0, False, "items") as show:
+        show(3)
+    assert capsys.readouterr() == ("", "")

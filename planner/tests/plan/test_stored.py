@@ -1,6 +1,7 @@
-"""Tests that answers are kept in columns as they are, and that a file which was changed is named."""
+"""Tests that answers are kept in columns as they are, that a file which was changed is named, and that sums are exact."""
 from __future__ import annotations
 
+import math
 import sqlite3
 from fractions import Fraction
 from pathlib import Path
@@ -10,6 +11,7 @@ from hypothesis import given
 from hypothesis import strategies as some
 
 from crnplan.plan.answer import Answer, LawFacts
+from crnplan.plan.catalogue import Sums
 from crnplan.records.item import Item
 from crnplan.remarks import Remark
 from crnplan.stored import Columns, Damaged, Store
@@ -83,3 +85,14 @@ def test_a_file_that_is_none_is_damaged(tmp_path: Path) -> None:
     path.write_bytes(data[:len(data) // 2] + bytes(4_096) + data[len(data) // 2 + 4_096:])
     with pytest.raises(Damaged, match="kept: "):
         [*Store(path, Item).answers()]
+
+
+@given(some.lists(some.floats(-1e15, 1e15), max_size=50), some.integers(1, 100))
+def test_sums_are_exact(numbers: list[float], times: int) -> None:
+    """Numbers that cancel one another leave the others whole, in any number and order."""
+    sums = Sums()
+    many = [*numbers, *([1e16, 0.1, -1e16] * 12)] * times
+    for number in many:
+        sums.add("x", number)
+    assert math.isclose(sums.total("x"), float(sum(map(Fraction, many))), rel_tol=1e-15, abs_tol=1e-9)
+    assert sums.total("y") == 0
