@@ -158,43 +158,39 @@ class Facts:
         best = int(np.argmax(explained))
         return int(places_of(len(self.numbers))[best]), float(explained[best])
 
+    def autocorrelation(self) -> Effect:
+        """Returns the autocorrelation of neighbours. The facts have the largest one too, if it is of another lag."""
+        by_lag = autocorrelations(centred(self.rows))[:, 0]
+        largest = int(np.argmax(np.abs(by_lag)))
+        return float(by_lag[0]), {"at_1": float(by_lag[0]), "lag": largest + 1, "at_lag": float(by_lag[largest])}
 
-def autocorrelation_of(facts: Facts) -> Effect:
-    """Returns the autocorrelation of neighbours. The facts have the largest one too, if it is of another lag."""
-    by_lag = autocorrelations(centred(facts.rows))[:, 0]
-    largest = int(np.argmax(np.abs(by_lag)))
-    return float(by_lag[0]), {"at_1": float(by_lag[0]), "lag": largest + 1, "at_lag": float(by_lag[largest])}
+    def trend(self) -> Effect:
+        """Returns half of the rise along the straight line through a history, as a share of the mean. The facts have
+        how much the mean of the last third is above that of the first; None if the first third has no demand."""
+        numbers, time = self.rows[0], centred(np.arange(len(self.numbers), dtype=float))
+        third = len(numbers) // 3
+        first, last = float(numbers[:third].mean()), float(numbers[-third:].mean())
+        rise = float(time @ numbers / (time @ time) * time[-1])
+        return rise / self.mean, {"change": last / first - 1 if first > 0 else None}
 
+    def shift(self) -> Effect:
+        """Returns the mean after the step that explains most over the mean before it, less 1."""
+        numbers, place = self.rows[0], self.step[0]
+        before, after = float(numbers[:place].mean()), float(numbers[place:].mean())
+        since = first_day(self.first + place, self.every).isoformat() if self.every else None
+        change = after / before - 1 if before > 0 else None
+        return math.inf if change is None else change, {"change": change, "name": self.name(place), "since": since}
 
-def trend_of(facts: Facts) -> Effect:
-    """Returns half of the rise along the straight line through a history, as a share of the mean. The facts have how
-    much the mean of the last third is above that of the first; None if the first third has no demand."""
-    numbers, time = facts.rows[0], centred(np.arange(len(facts.numbers), dtype=float))
-    third = len(numbers) // 3
-    first, last = float(numbers[:third].mean()), float(numbers[-third:].mean())
-    return (float(time @ numbers / (time @ time) * time[-1]) / facts.mean,
-            {"change": last / first - 1 if first > 0 else None})
-
-
-def shift_of(facts: Facts) -> Effect:
-    """Returns the mean after the step that explains most over the mean before it, less 1."""
-    numbers, place = facts.rows[0], facts.step[0]
-    before, after = float(numbers[:place].mean()), float(numbers[place:].mean())
-    since = first_day(facts.first + place, facts.every).isoformat() if facts.every else None
-    change = after / before - 1 if before > 0 else None
-    return math.inf if change is None else change, {"change": change, "name": facts.name(place), "since": since}
-
-
-def season_of(facts: Facts, season: Season) -> Effect:
-    """Returns the amplitude of a sine whose means over the parts of a season vary as those of the history."""
-    parts = np.array(season.parts)
-    means = {part: float(facts.rows[0][parts == part].mean()) / facts.mean for part in np.unique(parts).tolist()}
-    width = math.pi / len(means)
-    averaged = math.sin(width) / width if season.length > len(season.ends) else 1.0  # a sine within a part
-    most, least = max(means, key=means.__getitem__), min(means, key=means.__getitem__)
-    ends = zip(("most_first", "most_last", "least_first", "least_last"), (*season.ends[most], *season.ends[least]))
-    return (math.sqrt(2 * np.var([*means.values()])) / averaged,
-            {"most": means[most], "least": means[least], **dict(ends), "unit": season.unit, "length": season.length})
+    def season(self, season: Season) -> Effect:
+        """Returns the amplitude of a sine whose means over the parts of a season vary as those of the history."""
+        parts = np.array(season.parts)
+        means = {part: float(self.rows[0][parts == part].mean()) / self.mean for part in np.unique(parts).tolist()}
+        width = math.pi / len(means)
+        averaged = math.sin(width) / width if season.length > len(season.ends) else 1.0  # a sine within a part
+        most, least = max(means, key=means.__getitem__), min(means, key=means.__getitem__)
+        ends = zip(("most_first", "most_last", "least_first", "least_last"), (*season.ends[most], *season.ends[least]))
+        return math.sqrt(2 * np.var([*means.values()])) / averaged, {
+            "most": means[most], "least": means[least], **dict(ends), "unit": season.unit, "length": season.length}
 
 
 def tests_of(facts: Facts, in_full: bool = True) -> tuple[Check, ...]:
@@ -216,8 +212,8 @@ def tests_of(facts: Facts, in_full: bool = True) -> tuple[Check, ...]:
     if rest.taken:
         left = Orders(rest.rows[0]).statistics({name: kinds[name] for name in LEVELS})
         p_values |= {name: p_value(drawn) for name, drawn in left.items()}
-    effects = {"autocorrelation": autocorrelation_of(facts), "trend": trend_of(rest), "shift": shift_of(rest),
-               **{season.name: season_of(facts, season) for season in facts.seasons}}
+    effects = {"autocorrelation": facts.autocorrelation(), "trend": rest.trend(), "shift": rest.shift(),
+               **{season.name: facts.season(season) for season in facts.seasons}}
     least: dict[str, float] = {}
     if in_full:
         law, count = Tilted(orders), len(facts.numbers)
