@@ -75,15 +75,12 @@ def made_pair(source: random.Random, name: str) -> Pair:
     near = saving + error * source.uniform(-1, 1)
     estimate = Estimate(cost, cost - near, near, error, near - QUANTILE * error, near + QUANTILE * error)
     run = Run("0 0 0 0", 1024, 24, 9, Fraction(100), 900, 60, 900, 1_000_000, 900_000, Fraction(-near),
-              Fraction(error)**2,
-              True, estimate)
+              Fraction(error)**2, True, estimate)
     item = Item(name, (0, 3, 1), (2,), (s, s + 9), Fraction(9), Fraction(3, 5), Fraction(9), first=1000, line=7,
-                rows=90,
-                group=source.choice(("X", "Y", "Z", "")), price=price if source.random() > 0.05 else None,
+                rows=90, group=source.choice(("X", "Y", "Z", "")), price=price if source.random() > 0.05 else None,
                 description=f"{source.choice(NOUNS)} {source.randrange(100)}")
     answer = Answer(name, 1, CHEAPER if saving > 0 else SERVICE, THEORY, cost, cost - saving, saving, today, chosen,
-                    None, 1,
-                    None, LawFacts("poisson", 0.5, None, demand), 40, 104, run, source.choice(REMARKS))
+                    None, 1, None, LawFacts("poisson", 0.5, None, demand), 40, 104, run, source.choice(REMARKS))
     return item, with_verdict(source, answer)
 
 
@@ -100,9 +97,8 @@ def with_verdict(source: random.Random, answer: Answer) -> Answer:
     if draw < 0.16:
         its = run.estimate
         low, high = its.low or 0.0, its.high or 0.0
-        return replace(answer, source=RUN, cost_chosen=its.cost_chosen, saving=its.saving, verdict=CHEAPER if low > 0
-                       else
-                       SERVICE if high < 0 else UNDECIDED)
+        verdict = CHEAPER if low > 0 else SERVICE if high < 0 else UNDECIDED
+        return replace(answer, source=RUN, cost_chosen=its.cost_chosen, saving=its.saving, verdict=verdict)
     return answer
 
 
@@ -117,8 +113,7 @@ def made_rejects(source: random.Random, items: int) -> list[Reject]:
                    remark(f"{text!r} is not a number", "write digits alone"), 1)
             for it, text in enumerate(["n/a", "five", "12 pcs"] * (items // 60 + 1))]
     twice = [Reject("suspicious", "demand.csv", 400 + it, f"P{it:05}", "item", f"P{it:05}",
-                    Remark("rows twice", {"rows": it}), 0)
-             for it in range(items // 20)]
+                    Remark("rows twice", {"rows": it}), 0) for it in range(items // 20)]
     return [*left, *rows, *twice]
 
 
