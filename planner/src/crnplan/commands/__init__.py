@@ -27,10 +27,10 @@ for _threads in ("OMP_NUM_THREADS", "OPENBLAS_NUM_THREADS"):
 INTERRUPTED = 130
 # The subcommands in the order in which a planner meets them: the module of each, and its line in the list of `--help`.
 COMMANDS = {
-    "item": ("catalogues", "Plan one item: from a history and settings to a decision."),
+    "item": ("plans", "Plan one item: from a history and settings to a decision."),
     "catalogue": ("catalogues", "Plan all items: from two tables to a decision for each."),
-    "curve": ("catalogues", "Show how much service the whole stock can give for its value."),
-    "report": ("catalogues", "Write the page of a planned catalogue, and of single items."),
+    "curve": ("plans", "Show how much service the whole stock can give for its value."),
+    "report": ("plans", "Write the page of a planned catalogue, and of single items."),
     "history": ("histories", "Make tables of a scenario from a history."),
     "why": ("scenarios", "Say all that is wrong with a scenario, with line and advice."),
     "suggest": ("histories", "Suggest policies from exact long-run theory."),
@@ -43,11 +43,7 @@ COMMANDS = {
     "sweep": ("scenarios", "Run a grid of policies and levels."),
     "where": ("scenarios", "Say which program crnsim is used, and try it."),
 }
-
-
-# By the arguments of the library, the options of the subcommand that was asked for, and of others of its module: a page
-# may tell what `crnplan catalogue` read.
-options: dict[str, str] = {}
+asked: list[str] = []  # the subcommand that was asked for last
 
 
 class Group(click.Group):
@@ -60,13 +56,8 @@ class Group(click.Group):
     def get_command(self, ctx: click.Context, cmd_name: str) -> click.Command | None:
         """Imports a subcommand."""
         if cmd_name in COMMANDS:
-            module = importlib.import_module(f"{__name__}.{COMMANDS[cmd_name][0]}")
-            command: click.Command = getattr(module, cmd_name)
-            others = [its for its in vars(module).values() if isinstance(its, click.Command)]
-            options.clear()
-            options.update({option.name or "": option.opts[0] for its in (*others, command) for option in its.params
-                            if isinstance(option, click.Option)})
-            return command
+            asked[:] = [cmd_name]
+            return _command(cmd_name)
         return None
 
     def resolve_command(
@@ -94,9 +85,19 @@ def group() -> None:
     """
 
 
+def _command(name: str) -> click.Command:
+    """Imports a subcommand."""
+    command: click.Command = getattr(importlib.import_module(f"{__name__}.{COMMANDS[name][0]}"), name)
+    return command
+
+
 def as_option(name: str, value: str) -> str:
-    """Returns an argument of the library as the option that has its name."""
-    return options.get(name, f"--{name.replace('_', '-')}") + f" {value}" * bool(value)
+    """Returns an argument of the library as the option that has its name: of the subcommand that was asked for, else of
+    `crnplan catalogue`, since pages and tables tell what that has read."""
+    options = (option for command in (*asked, "catalogue") for option in _command(command).params
+               if isinstance(option, click.Option))
+    spelling = next((option.opts[0] for option in options if option.name == name), f"--{name.replace('_', '-')}")
+    return spelling + f" {value}" * bool(value)
 
 
 def note(message: str) -> None:

@@ -1,4 +1,4 @@
-"""The commands on a scenario, and the one on the program: words in, one call, a result out."""
+"""The commands on a scenario, and the one on the program. Each imports what takes long itself."""
 from __future__ import annotations
 
 import json
@@ -10,12 +10,7 @@ import click
 
 from .. import __version__, formats
 from ..crnsim.program import program_and_reason, writes_known_report
-from ..crnsim.sweep import numbers_of, sweep as sweep_of
 from ..crnsim.trajectory import MOST_DRAWN, chosen, shown_periods, table_of, trajectories
-from ..decide.intervals import check_policies, read_report
-from ..decide.keys import check_keys, check_long_run
-from ..decide.sensitivity import sensitivity as sensitivity_of
-from ..decide.verdicts import decided
 from ..errors import Refused
 from ..scenario import Scenario, read_policies
 from ..toml.documents import read_bytes
@@ -129,6 +124,8 @@ def decide(report: str, path: str | None, is_sweep: bool, replications: int | No
     scenario = None if path is None else Scenario.read(path)
     if scenario is not None and replications not in (None, scenario.replications):
         raise Refused(f"{path}: it has {scenario.replications} replications, not {replications}")
+    from ..decide.intervals import check_policies, read_report
+    from ..decide.verdicts import decided
     count = scenario.replications if scenario else replications
     assert count is not None
     rows = read_report(report, count)
@@ -196,6 +193,7 @@ def check(scenario: str, best: str, keys: tuple[str, ...], replications: int | N
     --out FOLDER keeps what was run: key_1.toml and key_1.csv for the first key, and pooled.csv with several keys, the
     report of all replications. FOLDER is new, empty, or of an earlier check.
     """
+    from ..decide.keys import check_keys, check_long_run
     options["keys"] = [key.split() for key in keys]
     asked = read_for(scenario, horizon, stock, long_run, is_table=form is None)
     if long_run:
@@ -233,6 +231,7 @@ def sensitivity(scenario: str, horizon: int | None, stock: int | None, long_run:
     warns of it). With --long-run they are those of the long run, as crnplan run --long-run has it, without unit.
     """
     asked = read_for(scenario, horizon, stock, long_run, is_table=form is None)
+    from ..decide.sensitivity import sensitivity as sensitivity_of
     show(sensitivity_of(asked, long_run=long_run, program=program), form)
 
 
@@ -286,6 +285,7 @@ def sweep(base: str, points: tuple[int, int, int], levels: tuple[int, int, int],
 
     How many scenarios are done goes to standard error: on a terminal as a bar, in a log as some ten lines.
     """
+    from ..crnsim.sweep import numbers_of, sweep as sweep_of
     report = sweep_of(Scenario.read(base), numbers_of("s", *points), numbers_of("S", *levels), progress=True, **options)
     show_report(report, form)
 

@@ -6,16 +6,16 @@ import re
 import sys
 from collections.abc import Callable
 from pathlib import Path
-from typing import Any
+from typing import TYPE_CHECKING, Any
 
 import click
 
-from ..crnsim.report import Report
-from ..decide.verdicts import horizon_of
 from ..errors import Refused
 from ..scenario import Scenario
-from ..table import Result
-from ..words import sentence
+
+if TYPE_CHECKING:
+    from ..crnsim.report import Report
+    from ..table import Result
 
 Decorator = Callable[[Callable[..., Any]], Callable[..., Any]]
 PICTURES = (".png", ".svg")
@@ -90,6 +90,8 @@ def read_for(path: str, horizon: int | None, stock: int | None, long_run: bool, 
         asked = asked.changed(periods=asked.periods if horizon is None else horizon,
                               initial=asked.initial if stock is None else stock)
         if not is_table:
+            from ..decide.verdicts import horizon_of
+            from ..words import sentence
             print(f"The {sentence(horizon_of(asked))}", file=sys.stderr)
     return asked
 
