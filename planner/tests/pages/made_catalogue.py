@@ -17,7 +17,7 @@ from crnplan.files import own_folder
 from crnplan.pages.exports import CATALOGUE_FILES, write_catalogue
 from crnplan.plan.answer import (CHEAPER, NO_INTERVAL, RUN, SAME, SERVICE, THEORY, UNDECIDED, UNLIKE, Answer, Estimate,
                                  Figures, LawFacts, Run)
-from crnplan.plan.catalogue import ANSWERS, Done, Planned, PlannedFolder, Totals
+from crnplan.plan.catalogue import ANSWERS, Planned, PlannedFolder, Totals
 from crnplan.plan.question import Settings
 from crnplan.records.catalogued import CATALOGUE, READ, Catalogued, Reject, Writer
 from crnplan.records.item import Item
@@ -60,7 +60,7 @@ def made_folder(path: Path, items: int, names: Sequence[str] = (), has_curve: bo
             if has_curve:
                 keep_curve(answers, made_curve(pairs))
             its = PlannedFolder(path, read, answers, planned)
-            write_catalogue(folder, its, Done(items, 0, Totals.of(its.answers()), (), ()))
+            write_catalogue(folder, its, Totals.of(its.answers()), (), ())
     return path
 
 

@@ -1,7 +1,7 @@
 """Writes what a plan exports into its folder: tables, texts and pages. None of it is read again, but by people."""
 from __future__ import annotations
 
-from collections.abc import Callable, Iterable, Mapping
+from collections.abc import Callable, Iterable, Mapping, Sequence
 from pathlib import Path
 from typing import TYPE_CHECKING
 
@@ -10,6 +10,7 @@ from ..files import Folder, own_folder
 from ..plan.catalogue import PlannedFolder, Totals, planned_folder
 from ..plan.depth import Depth
 from ..records.catalogued import CATALOGUE, Catalogued
+from ..remarks import Remark
 from ..table import DataTable
 from .catalogue_page import ITEMS, catalogue_page, file_name
 from .catalogue_tables import (DECISIONS, EXACT, REJECTS, catalogue_summary, decisions_of, exact_of, faults_of,
@@ -19,7 +20,6 @@ from .item_tables import coming_of, demand_of, doubt_of, exact_of_item, laws_of,
 from .item_words import ItemWords, item_summary
 
 if TYPE_CHECKING:
-    from ..plan.catalogue import Done
     from ..plan.item import ItemPlan
 
 SUMMARY, PAGE, ITEM_PAGE, FOUND = "summary.txt", "report.html", "summary.html", "found.toml"
@@ -41,14 +41,15 @@ def write_rejects(folder: Folder, read: Catalogued) -> None:
     write_table(folder, REJECTS, rejects_of(read.rejects()))
 
 
-def write_catalogue(folder: Folder, planned: PlannedFolder, done: Done) -> str:
+def write_catalogue(folder: Folder, planned: PlannedFolder, totals: Totals, learned: Sequence[Remark],
+                    missing: Sequence[str]) -> str:
     """Writes the tables, the summary and the page of a planned catalogue, and returns the summary."""
     write_table(folder, DECISIONS, decisions_of(planned))
     write_table(folder, EXACT, exact_of(planned))
     write_table(folder, REJECTS, rejects_of(planned.read.rejects(faults_of(planned))))
-    summary = catalogue_summary(planned, done.totals, done.learned, done.missing)
+    summary = catalogue_summary(planned, totals, learned, missing)
     folder.write(SUMMARY, summary)
-    folder.write(PAGE, catalogue_page(planned, done.totals))
+    folder.write(PAGE, catalogue_page(planned, totals))
     return summary
 
 

@@ -304,8 +304,8 @@ class Done:
     kept: int
     totals: Totals
     learned: tuple[Remark, ...]
-    missing: tuple[str, ...]
-    summary: str = ""
+    missing: Sequence[str]
+    summary: str
 
 
 def plan_batch(batch: Sequence[Item], settings: Settings, prior: Prior, program: str) -> list[Answer | Remark]:
@@ -328,6 +328,6 @@ def plan_into(folder: Folder, settings: Settings, *, jobs: int | None = None, ad
         work.finish(plan_batch, read.item, settings, prior, path, workers=workers_of(jobs, address, path), shown=shown)
         catalogue = PlannedFolder(folder.path, read, answers, planned)
         totals = Totals.of(catalogue.answers())
-        done = Done(len(work.left), work.kept, totals, remarks,
-                    tuple(missing_of(catalogue.counts, totals.planned + totals.faults)))
-        return dataclasses.replace(done, summary=write_catalogue(folder, catalogue, done))
+        missing = missing_of(catalogue.counts, totals.planned + totals.faults)
+        summary = write_catalogue(folder, catalogue, totals, remarks, missing)
+        return Done(len(work.left), work.kept, totals, remarks, missing, summary)
