@@ -1,6 +1,6 @@
 """Gives the formats of crnsim as typed constants: keys, ranges, rules, versions, columns, commands and statuses.
- They are read once from formats.toml. docs/FORMATS.md says what each key means. Which scenarios crnsim takes is proved;
-this module is not.
+
+They are read once from formats.toml, and docs/FORMATS.md says what each key means.
 """
 from __future__ import annotations
 

@@ -1,6 +1,6 @@
-"""A scenario of crnsim as a value: made from data, read, changed and written.
- A `Scenario` is immutable. Its numbers are the program's whole numbers. Whether the program takes a scenario is proved
-of the program, not of this module.
+"""Makes scenarios of crnsim from data, reads them, changes them and writes them, as immutable values.
+
+Numbers are the program's whole numbers. Whether it takes a scenario is proved of the program, not of this module.
 """
 from __future__ import annotations
 
@@ -126,21 +126,20 @@ class Scenario:
            replications: int = 64, key: str | Sequence[str] = "crnsim") -> Scenario:
         """Makes a scenario from laws, tables, mappings or observed whole numbers.
 
-        `demand`, `lead` and `returns` are each a `Law`, a mapping of values to weights, or
-        observed whole numbers: items in a period, periods until an order arrives. Costs are amounts of money, as 12.5,
-        "12.50" or a Decimal; `scale` of the result says what one unit of money counts in its `costs`. `today` is the
-        pair (s, S), the policy of that name. `initial` is in items, by default halfway between s and S. `key` has four
-        words of 16 digits of 0-9a-f, or is any text from which they follow. Raises Refused, and ScenarioError with all
-        faults.
+        `demand`, `lead` and `returns` are each a `Law`, a mapping of values to weights, or observed whole numbers:
+        items in a period, periods until an order arrives. Costs are amounts of money, as 12.5, "12.50" or a Decimal;
+        `scale` of the result says what one unit of money counts in its `costs`. `today` is the pair (s, S), the policy
+        of that name. `initial` is in items, by default halfway between s and S. `key` has four words of 16 digits of
+        0-9a-f, or is any text from which they follow. Raises Refused, and ScenarioError with all faults.
         """
         costs, scale = scaled_costs({"setup": setup, "unit": unit, "holding": holding, "backlog": backlog})
         low, high = _levels(today, "today")
-        tree = {"version": 1 if returns is None else 2, "key": key_words(key), "periods": whole(periods, "periods"),
+        laws = {"demand": demand, "lead": lead} | ({} if returns is None else {"returns": returns})
+        tree = {"version": formats.version_with(laws), "key": key_words(key), "periods": whole(periods, "periods"),
                 "replications": whole(replications, "replications"),
                 "initial": (low + high) // 2 if initial is None else whole(initial, "initial"),
-                "ring": formats.RING_SIZES[-1],
-                "costs": costs, "demand": _table(demand, "demand").tree, "lead": _table(lead, "lead").tree,
-                **({} if returns is None else {"returns": _table(returns, "returns").tree}),
+                "ring": formats.RING_SIZES[-1], "costs": costs,
+                **{name: _table(law, name).tree for name, law in laws.items()},
                 "policy": [{"name": "today", "s": low, "S": high}]}
         return dataclasses.replace(cls.of_tree(checked_tree(tree)), scale=scale)
 

@@ -52,9 +52,9 @@ class Check(Result):
     @property
     def sentence(self) -> str:
         """Returns one sentence on what the verdicts say of the best policy."""
-        clauses = [] if not self.holds else ["no policy is better"]
-        for verdict, one, many in (("better", "is better", "are better"),
-                                   ("undecided", *[f"can't be told apart from {self.best}"] * 2),
+        clauses = ["no policy is better"] if self.holds else []
+        alike = f"can't be told apart from {self.best}"
+        for verdict, one, many in (("better", "is better", "are better"), ("undecided", alike, alike),
                                    ("worse", "is worse", "are worse")):
             names = with_verdict(self.decision.rows, verdict)
             clauses += [f"{', '.join(names)} {one if len(names) == 1 else many}"] if names else []

@@ -92,34 +92,28 @@ class Decision(Result):
     @property
     def notes(self) -> str:
         """Returns what the columns mean, the policies by verdict, and the warnings."""
-        comparisons = len(self.rows) - 1
-        lines = [f"replications: {self.replications}, comparisons with {self.base}: {comparisons}, joint level: "
-                 f"{self.level:g}", BY_ITS_LAWS, *(self._coming_lines() if self.runs is None or self.theory is None else
-                                    self._long_run_lines(sentence(self.runs), sentence(self.theory)))]
+        lines = [f"replications: {self.replications}, comparisons with {self.base}: {len(self.rows) - 1}, joint level: "
+                 f"{self.level:g}", BY_ITS_LAWS, *self._column_lines()]
         lines += [f"{words.format(self.base)}: {names_of(with_verdict(self.rows, verdict), self.most)}"
                   for verdict, words in VERDICTS.items()]
         lines += [f"\nWARNING: {warning}" for warning in map(sentence, self.warnings)]
         return "".join(f"\n{line}" for line in lines) + "\n"
 
-    def _coming_lines(self) -> list[str]:
-        """Returns what the columns mean over the periods of a report."""
-        lines, comparisons = list[str](), len(self.rows) - 1
+    def _column_lines(self) -> list[str]:
+        """Returns what the columns mean."""
+        if self.runs and self.theory:
+            names, theory = self.table.names, sentence(self.theory)
+            effect = ["effect: what the start had added to diff, in standard errors; it is taken out"]
+            return [f"cost to verdict: a period by crnsim, {sentence(self.runs)}; unit is left out",
+                    "low to high: the interval of diff; all hold together at the joint level",
+                    f"cost_low to cost_high: the interval of cost, each at {self.level:g} by itself",
+                    f"theory_cost, theory_diff: a period of the long run by theory, {theory}"
+                    if "theory_cost" in names else f"theory is {theory}", *effect * ("effect" in names)]
         if self.replications == 1:
             return ["one replication tells nothing of spread, so there are no intervals"]
-        if comparisons:
-            lines.append(f"low to high: the interval of diff_mean; all {comparisons} hold together at the joint level")
-        return [*lines, f"cost_low to cost_high: the interval of a policy's own cost, each at {self.level:g} by "
-                "itself; to compare policies use low and high"]
-
-    def _long_run_lines(self, runs: str, theory: str) -> list[str]:
-        """Returns what the columns mean in the long run."""
-        names = self.table.names
-        columns = f"theory_cost, theory_diff: a period of the long run by theory, {theory}"
-        effect = ["effect: what the start had added to diff, in standard errors; it is taken out"]
-        return [f"cost to verdict: a period by crnsim, {runs}; unit is left out",
-                "low to high: the interval of diff; all hold together at the joint level",
-                f"cost_low to cost_high: the interval of cost, each at {self.level:g} by itself",
-                columns if "theory_cost" in names else f"theory is {theory}", *effect * ("effect" in names)]
+        joint = [f"low to high: the interval of diff_mean; all {len(self.rows) - 1} hold together at the joint level"]
+        return [*joint * (len(self.rows) > 1), f"cost_low to cost_high: the interval of a policy's own cost, each at "
+                f"{self.level:g} by itself; to compare policies use low and high"]
 
     @property
     def tree(self) -> dict[str, Json]:
