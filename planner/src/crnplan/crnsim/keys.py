@@ -27,11 +27,6 @@ def key_of(words: Sequence[str], own: Key) -> Key:
     return (*words, *own[len(words):])
 
 
-def drawn_key() -> Key:
-    """Draws a key."""
-    return tuple(secrets.token_hex(DIGITS_OF_WORD // 2) for _ in range(WORDS_OF_KEY))
-
-
 def keys_of(given: Sequence[Sequence[str]], count: int | None, own: Key) -> list[Key]:
     """Returns the keys of a check: those that are given, and drawn ones up to `count`, by default one.
 
@@ -51,6 +46,6 @@ def keys_of(given: Sequence[Sequence[str]], count: int | None, own: Key) -> list
             raise Refused(f"{argument('keys', ' '.join(key))} is given twice, with the same histories again; give "
                           "another one")
     while len(keys) < count:
-        drawn = drawn_key()
+        drawn = tuple(secrets.token_hex(DIGITS_OF_WORD // 2) for _ in range(WORDS_OF_KEY))
         keys += [drawn] if drawn not in [own, *keys] else []
     return keys

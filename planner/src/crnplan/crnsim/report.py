@@ -82,7 +82,6 @@ class Row:
 def report_text(rows: Iterable[Row]) -> str:
     """Returns rows as the program would write them."""
     def cell(value: str | int | Fraction | None) -> str:
-        """Returns a cell."""
         if isinstance(value, Fraction):
             return f"{value.numerator}/{value.denominator}"
         return "-" if value is None else str(value)

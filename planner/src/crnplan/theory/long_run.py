@@ -111,6 +111,11 @@ class Means:
 LevelsOf = Callable[[Means], Levels]
 
 
+def place_of_least(costs: Floats) -> int:
+    """Returns the place of the least cost, the first one if others are equal but for rounding."""
+    return int(np.argmax(costs <= costs.min() * (1 + NEAR)))
+
+
 def gap_grid(most: int) -> list[int]:
     """Returns gaps from 0 to the most: all of them while they are small, and further apart as they grow."""
     gaps, gap = [], 0
@@ -308,9 +313,9 @@ class LongRun(Walk, ABC):
         return levels, np.where(levels <= MOST_ITEMS, costs / places.totals, math.inf)
 
     def cheapest_of_gaps(self, gaps: Sequence[int], share: float) -> Candidate:
-        """Returns the cheapest policy of rising gaps that meets a share of demand at once, the first one of equals."""
+        """Returns the cheapest policy of rising gaps that meets a share of demand at once."""
         levels, costs = self.costed(partial(self.best_levels, share=share), gaps)
-        best = int(np.argmax(costs <= costs.min() * (1 + NEAR)))
+        best = place_of_least(costs)
         return self.policy(gaps[best], int(levels[best]))
 
     def best(self) -> Candidate:

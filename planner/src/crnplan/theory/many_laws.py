@@ -214,7 +214,6 @@ class Promises:
         near = sorted(laws, key=levels.__getitem__)[low:place + BESIDE + 1]
 
         def about(gap: int) -> Candidate:
-            """Returns about what a gap keeps."""
             return self.policy(gap, sorted(self.levels_of(near, gap, share))[place - low], share)
         others = sorted({round(first * factor) for factor in FACTORS} - {first})
         self.prepare(near, others)

@@ -26,7 +26,7 @@ from ..chances import Floats, Whole
 from ..formats import MOST_ITEMS
 from ..scenario import Scenario
 from .lattice_law import convolved, power_of, sum_of
-from .long_run import FEW, NEAR, CLOSE, NO_POLICY, Candidate, GapLevels, LongRun, gap_grid
+from .long_run import CLOSE, FEW, NO_POLICY, Candidate, GapLevels, LongRun, gap_grid, place_of_least
 
 EVEN = 1e-10  # Chances that differ by no more than this share are taken as the same by a search, not for figures.
 
@@ -96,7 +96,6 @@ class Lows:
         first = np.array([convolved(uneven, row)[:len(row)] for row in self.table]) if self.even else 0 * self.table
 
         def at(levels: Whole) -> Floats:
-            """Returns the sums of these gaps with these levels."""
             sums: Floats = first[:, levels + 2] + low * (summed[:, levels + 2] - summed[:, levels + 1 - gaps])
             return sums
         below, above = floors, np.full(len(gaps), self.last)  # no floor is beyond the table
@@ -157,19 +156,19 @@ class OneLead(LongRun):
         best = known
         if len(places.gaps):
             levels, costs = self.costs_of(places, self.spare_of(places, lows.allowed))
-            place = int(np.argmax(costs <= costs.min() * (1 + NEAR)))
+            place = place_of_least(costs)
             best = self.policy(int(places.gaps[place]), int(levels[place]))
         is_cut = (lows.last + 1) * self.step > MOST_ITEMS and len(places.gaps) < len(chances)
         return min(best, self.best_with_level(MOST_ITEMS, share)) if is_cut else best
 
-    def place_of_least(self, stock_sums: Floats, is_allowed: npt.NDArray[np.bool_]) -> tuple[float, int]:
+    def least_of(self, stock_sums: Floats, is_allowed: npt.NDArray[np.bool_]) -> tuple[float, int]:
         """Returns the least cost, and its gap, from the sums of the costs of stock over the lows of each gap.
 
-        Gaps that are not allowed are left out. Of costs that are equal but for rounding the first is taken.
+        Gaps that are not allowed are left out.
         """
         costs = (self.setup / self.span + stock_sums) / np.cumsum(self.lows_of(len(stock_sums) - 1))
         costs = np.where(is_allowed, costs, np.inf)
-        gap = int(np.argmax(costs <= costs.min() * (1 + NEAR)))
+        gap = place_of_least(costs)
         return float(costs[gap]), gap
 
     def best_with_rest(self, point: int, rest: int) -> Candidate:
@@ -178,7 +177,7 @@ class OneLead(LongRun):
         while most:
             levels = point + rest + self.items(np.arange(most + 1))
             sums = convolved(self.lows_of(most), self.figures_from(levels)[0])[:most + 1]
-            cost, gap = self.place_of_least(sums, levels <= MOST_ITEMS)
+            cost, gap = self.least_of(sums, levels <= MOST_ITEMS)
             widest = self.widest(cost, point) if cost < math.inf else 0
             most = min(widest, 2 * most) if widest > most else 0
         return self.with_point(gap, point + self.items(gap) + rest, point)
@@ -189,5 +188,5 @@ class OneLead(LongRun):
         levels, lows = level - self.step * gaps, self.lows_of(len(gaps) - 1)
         costs, unmet = np.cumsum(lows * self.figures_from(levels)[:2], axis=1)
         is_allowed = (self.items(gaps) <= level) & (unmet <= self.allowed(share) * np.cumsum(lows))
-        cost, gap = self.place_of_least(costs, is_allowed)
+        cost, gap = self.least_of(costs, is_allowed)
         return self.policy(gap, level) if cost < math.inf else NO_POLICY

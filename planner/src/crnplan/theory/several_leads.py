@@ -131,9 +131,8 @@ class SeveralLeads(LongRun):
         """Returns the gap and the level of the cheapest policy of all gaps that may cost least, if s is at least
         `lowest`; or what a search finds if these take too long."""
         def policies_of(gaps: Sequence[int]) -> Iterable[Candidate]:
-            """Returns the policies of gaps, which stand in place of their reorder points."""
             levels, costs = self.costed(levels_of, gaps)
-            return map(Candidate, costs.tolist(), gaps, levels.tolist())
+            return map(Candidate, costs.tolist(), gaps, levels.tolist())  # gaps stand in place of reorder points
         known = min(policies_of(gap_grid(self.most)[::FEW])).cost
         most = self.widest(known, lowest)
         if (most + 1) * work_of(self.amount + most, self.longest) > MOST_WORK:
@@ -152,14 +151,12 @@ class SeveralLeads(LongRun):
     def best_with_rest(self, point: int, rest: int) -> Candidate:
         """Returns the cheapest policy with a reorder point and a rest of S."""
         def levels_of(means: Means) -> Levels:
-            """Returns the level of each gap."""
             return self.fixed_levels(means, point + self.items(means.gaps) + rest)
         return self.with_point(*self.cheapest(levels_of, point), point)
 
     def best_with_level(self, level: int) -> Candidate:
         """Returns the cheapest policy with an order-up-to level."""
         def levels_of(means: Means) -> Levels:
-            """Returns the level. It costs infinitely much if s is below 0."""
             levels, costs = self.fixed_levels(means, np.full(len(means.gaps), level))
-            return levels, np.where(self.items(means.gaps) <= level, costs, math.inf)
+            return levels, np.where(self.items(means.gaps) <= level, costs, math.inf)  # s is at least 0
         return self.policy(*self.cheapest(levels_of, 0))
