@@ -3,6 +3,7 @@ from __future__ import annotations
 
 import csv
 import dataclasses
+import json
 import re
 import subprocess
 import tomllib
@@ -54,6 +55,8 @@ def test_read_and_written(path: Path) -> None:
 
 def test_standard_input(two_policies: str, crnplan: Command) -> None:
     assert crnplan("why", "-", data=two_policies.encode()) == (0, "no fault\n", "")
+    told = json.loads(crnplan("why", "-", "--json", data=b"version = 3").output)[0]
+    assert (told["rule"], told["line"], told["column"], told["where"]) == (2, 1, 1, "the document, key version")
     faults = crnplan("run", "-", data=b"version = 3")
     start = "crnplan: 1:1: fault 2: the document, key version: 3 is not 1 or 2"
     assert faults.status == 2 and faults.errors.startswith(start)

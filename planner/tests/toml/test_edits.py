@@ -64,7 +64,7 @@ def test_lines_in_many_spellings(name: str) -> None:
     assert not faults
     assert sorted(f"{'/'.join(map(str, path))} {line}" for path, (line, _) in found.items()) == sorted(wanted)
     assert places_of(text_of_document(text.replace("\n", "\r\n").encode()), tree) == found
-    assert places_of(text, {**tree, "other": 1}) == {}
+    assert places_of(text, {**tree, "other": 1}) == places_of(f"{text}\nother", {**tree, "other": 1}) == {}
 
 
 def test_columns(two_policies: str) -> None:
@@ -81,7 +81,7 @@ def test_columns(two_policies: str) -> None:
 
 
 WHOLE = {"empty": (b"", 1), "a picture": (b"\x89PNG\r\n\x1a\n\0\0", 1), "brackets": (b"[" * 5000, 1),
-         "quotes": (b'a = "' * 500, 1), "a long file": (b"#" * 1_048_577, 2)}
+         "quotes": (b'a = "' * 500, 1), "digits": (b"a = " + b"9" * 5000, 1), "a long file": (b"#" * 1_048_577, 2)}
 
 
 @pytest.mark.parametrize("name", WHOLE)
