@@ -1,4 +1,4 @@
-"""Tests that answers are kept in columns as they are, that a file which was changed is named, and that sums are exact."""
+"""Tests that answers are kept in columns as they are, that a changed file is named, and that sums are exact."""
 from __future__ import annotations
 
 import math
