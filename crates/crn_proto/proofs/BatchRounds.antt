@@ -4,7 +4,7 @@ use Rattle.std.proofs.lemmas.Bool.{cases_eq, cases_lt, true≢false}
 use Rattle.std.proofs.lemmas.Option.{slice_get-get_or}
 use Rattle.crn_cipher.specs.declared.TheConstants.{BLOCK_WORDS}
 use Rattle.crn_proto.specs.declared.spec.RingSpec.{RingSpec}
-use Rattle.crn_proto.specs.Ring.{IsRing, Reader, ReaderMove, Ring, Move, ByProducer, ByReader, LoadGate, StoreWord, Publish, Finish, LoadCursor, LoadWord, Take, Step, ReaderMay, PassesGates, storing, reading, open_ring, open_reader}
+use Rattle.crn_proto.specs.Ring.{IsRing, Reader, ReaderMove, Ring, Move, ByProducer, ByReader, LoadGate, StoreWord, Publish, Finish, LoadCursor, LoadWord, Take, LeadsTo, ReaderMay, PassesGates, storing, reading, open_ring, open_reader}
 use Rattle.crn_proto.specs.Traces.{reader_at}
 use Rattle.crn_proto.specs.Batches.{Watch, open_watch, GoingOn, GoesOnTo, mover, is_finished, AllFinish, CanGoOn, MakesProgress, BatchesNeverStick, IsRoundTo, RoundsLead, BatchesEndByRounds}
 use Rattle.crn_proto.proofs.Runs.{producer_law}
@@ -23,7 +23,7 @@ false_of false b h k = k
 
 module _ (spec : RingSpec) (b : ℕ) (some : 0 < b) (s : Ring) (w : Watch) (fits : Fits spec b s w) where
   abbrev GoesOn : ℕ → Type 0
-  GoesOn a = (move : Move) × (mover move ≡ a) × (t : Ring) × Step s move t × GoingOn b s w move
+  GoesOn a = (move : Move) × (mover move ≡ a) × (t : Ring) × LeadsTo s move t × GoingOn b s w move
 
   producer_can : s.producer.ended ≡ false → GoesOn 0
   producer_can going =

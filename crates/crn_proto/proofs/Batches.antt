@@ -6,7 +6,7 @@ use Rattle.std.proofs.lemmas.List.{length-set, length-replicate, get_or-replicat
 use Rattle.std.proofs.lemmas.Option.{slice_get-get_or, get_or_from_slice_get, slice_get_within}
 use Rattle.crn_cipher.specs.declared.TheConstants.{BLOCK_WORDS}
 use Rattle.crn_proto.specs.declared.spec.RingSpec.{RingSpec}
-use Rattle.crn_proto.specs.Ring.{left_mark, IsRing, Reader, ProducerMove, ReaderMove, Ring, Move, ByProducer, ByReader, LoadGate, StoreWord, Publish, Finish, LoadCursor, LoadWord, Take, Leave, Step, ProducerMay, ReaderMay, producer_word, producer_leaves, producer_after, reader_word, reader_leaves, reader_after, open_ring, open_reader, bit}
+use Rattle.crn_proto.specs.Ring.{left_mark, IsRing, Reader, ProducerMove, ReaderMove, Ring, Move, ByProducer, ByReader, LoadGate, StoreWord, Publish, Finish, LoadCursor, LoadWord, Take, Leave, LeadsTo, ProducerMay, ReaderMay, producer_word, producer_leaves, producer_after, reader_word, reader_leaves, reader_after, open_ring, open_reader, bit}
 use Rattle.crn_proto.specs.Traces.{kind_of, reader_at}
 use Rattle.crn_proto.specs.Progress.{is_store}
 use Rattle.crn_proto.specs.Lawful.{ReaderLaw, Lawful, parts_of}
@@ -256,7 +256,7 @@ module _ (spec : RingSpec) (ring : IsRing spec) (b : ℕ) (s : Ring) (w : Watch)
       onward = reader_onward Leave (omega arith) (λ e. refl) (λ e. e);
     }
 
-  pub step_leads : (move : Move) (t : Ring) → Step s move t → GoingOn b s w move → Leads spec b s w move t
+  pub step_leads : (move : Move) (t : Ring) → LeadsTo s move t → GoingOn b s w move → Leads spec b s w move t
   step_leads (ByProducer m) t (may, is) going = rw is (producer_leads m may going)
   step_leads (ByReader r m) t (q, at, may, is) going = rw is (reader_leads r q at m may going)
 
@@ -425,10 +425,10 @@ looked_by_other s w k r LoadWord ne = refl
 looked_by_other s w k r (Take c) ne = rw (ne_eqb r k (λ e. ne (sym e))) refl
 looked_by_other s w k r Leave ne = refl
 
-part_by_other : (s mid : Ring) (k r : ℕ) (m : ReaderMove) → k ≢ r → Step s (ByReader k m) mid → reader_at mid r ≡ reader_at s r
+part_by_other : (s mid : Ring) (k r : ℕ) (m : ReaderMove) → k ≢ r → LeadsTo s (ByReader k m) mid → reader_at mid r ≡ reader_at s r
 part_by_other s mid k r m ne (q, at, may, is) = rw is (get_or-set_other s.readers k r (reader_after q m (slice_index s.words (reader_word s.spec k q m))) (open_reader s.spec) (λ e. ne (sym e)))
 
-part_by_producer : (s mid : Ring) (r : ℕ) (m : ProducerMove) → Step s (ByProducer m) mid → reader_at mid r ≡ reader_at s r
+part_by_producer : (s mid : Ring) (r : ℕ) (m : ProducerMove) → LeadsTo s (ByProducer m) mid → reader_at mid r ≡ reader_at s r
 part_by_producer s mid r m (may, is) = rw is refl
 
 not_producers : (r : ℕ) → bit (0 == suc r) ≡ 0
@@ -454,13 +454,13 @@ module _ (spec : RingSpec) (ring : IsRing spec) (b : ℕ) (s : Ring) (w : Watch)
   abbrev now : Reader
   now = reader_at mid r
 
-  part_now : (m : ReaderMove) → Step s (ByReader r m) mid → (ReaderMay before m) × (now ≡ reader_after before m (slice_index s.words (reader_word s.spec r before m)))
+  part_now : (m : ReaderMove) → LeadsTo s (ByReader r m) mid → (ReaderMay before m) × (now ≡ reader_after before m (slice_index s.words (reader_word s.spec r before m)))
   part_now m (q, at, may, is) =
       let e : before ≡ q = get_or_from_slice_get s.readers r q (open_reader s.spec) at in
       rw (is, e) (may, get_or-set_same s.readers r (reader_after q m (slice_index s.words (reader_word s.spec r q m))) (open_reader s.spec) (slice_get_within s.readers r q at))
 
   -- With a block to take, a move of the reader takes, or leaves, or fewer moves are enough.
-  own_move : r < spec.readers → (m : ReaderMove) → Step s (ByReader r m) mid → GoingOn b s w (ByReader r m) → before.left ≡ false → before.seen_end ≡ false → before.taken < s.producer.published
+  own_move : r < spec.readers → (m : ReaderMove) → LeadsTo s (ByReader r m) mid → GoingOn b s w (ByReader r m) → before.left ≡ false → before.seen_end ≡ false → before.taken < s.producer.published
       → (n : ℕ) → Enough b before (w.looked r) (suc n)
       → ((is_store (kind_of (ByReader r m)) ≡ true) × ((now.left ≡ true) ⊎ (before.taken < now.taken)))
       ⊎ ((now.left ≡ false) × (now.seen_end ≡ false) × (now.taken ≡ before.taken) × Enough b now ((watch_after s w (ByReader r m)).looked r) n)
@@ -492,7 +492,7 @@ module _ (spec : RingSpec) (ring : IsRing spec) (b : ℕ) (s : Ring) (w : Watch)
   own_move known Leave step on stays going below n enough = let (may, is) = part_now Leave step in inl (refl, inl (rw is refl))
 
   -- With the end marked and all blocks taken, a move of the reader shows it the end, or it leaves.
-  own_end : r < spec.readers → (m : ReaderMove) → Step s (ByReader r m) mid → before.left ≡ false → s.producer.ended ≡ true → before.taken ≡ s.producer.published → (now.left ≡ true) ⊎ (now.seen_end ≡ true)
+  own_end : r < spec.readers → (m : ReaderMove) → LeadsTo s (ByReader r m) mid → before.left ≡ false → s.producer.ended ≡ true → before.taken ≡ s.producer.published → (now.left ≡ true) ⊎ (now.seen_end ≡ true)
   own_end known LoadCursor step stays end whole =
       let (may, is) = part_now LoadCursor step in
       let cursor = (producer_law s fits.law).cursor in
@@ -540,7 +540,7 @@ module _ (spec : RingSpec) (ring : IsRing spec) (b r : ℕ) (known : r < spec.re
         let (does, up) = reader_takes moves mid t (watch_after s w (ByReader k m)) v one.fits run (rw part stays) (rw part going) (omega arith) (rw (part, looked) (subst (λ n. Enough b (reader_at s r) (w.looked r) n) count enough)) in
         (omega arith, elim up [ inl left ↦ inl left | inr took ↦ inr (omega arith) ])
     | inl e ↦
-        let step' : Step s (ByReader r m) mid = subst (λ x. Step s (ByReader x m) mid) e step in
+        let step' : LeadsTo s (ByReader r m) mid = subst (λ x. LeadsTo s (ByReader x m) mid) e step in
         let on' : GoingOn b s w (ByReader r m) = subst (λ x. GoingOn b s w (ByReader x m)) e on in
         let run' : GoesOnTo b mid (watch_after s w (ByReader r m)) moves t v = subst (λ x. GoesOnTo b mid (watch_after s w (ByReader x m)) moves t v) e run in
         let one = step_leads spec ring b s w fits (ByReader r m) mid step' on' in
@@ -575,7 +575,7 @@ module _ (spec : RingSpec) (ring : IsRing spec) (b r : ℕ) (known : r < spec.re
         let count : moves_by (suc r) (ByReader k m ∷ moves) ≡ moves_by (suc r) moves = let c = others_count k r ne in omega arith in
         reader_sees_end moves mid t (watch_after s w (ByReader k m)) v one.fits run (rw part stays) still (ap (λ q. q.taken) part ∙ whole ∙ sym same) (omega arith)
     | inl e ↦
-        let step' : Step s (ByReader r m) mid = subst (λ x. Step s (ByReader x m) mid) e step in
+        let step' : LeadsTo s (ByReader r m) mid = subst (λ x. LeadsTo s (ByReader x m) mid) e step in
         let on' : GoingOn b s w (ByReader r m) = subst (λ x. GoingOn b s w (ByReader x m)) e on in
         let run' : GoesOnTo b mid (watch_after s w (ByReader r m)) moves t v = subst (λ x. GoesOnTo b mid (watch_after s w (ByReader x m)) moves t v) e run in
         let one = step_leads spec ring b s w fits (ByReader r m) mid step' on' in

@@ -6,7 +6,7 @@ use Rattle.std.proofs.lemmas.Option.{slice_get-map}
 use Rattle.crn_proto.specs.declared.spec.RingSpec.{RingSpec}
 use Rattle.crn_proto.specs.Stream.{front}
 use Rattle.crn_proto.specs.Broadcast.{Broadcast, Event, Published, Happens, Unfolds, top}
-use Rattle.crn_proto.specs.Ring.{IsRing, Reader, Ring, Move, ByProducer, ByReader, LoadGate, StoreWord, Publish, Finish, LoadCursor, LoadWord, Take, Leave, Step, Runs, ProducerMay, ReaderMay, open_ring, shows, count_of, events, bit}
+use Rattle.crn_proto.specs.Ring.{IsRing, Reader, Ring, Move, ByProducer, ByReader, LoadGate, StoreWord, Publish, Finish, LoadCursor, LoadWord, Take, Leave, LeadsTo, Runs, ProducerMay, ReaderMay, open_ring, shows, count_of, events, bit}
 use Rattle.crn_proto.specs.Lawful.{ProducerLaw, ReaderLaw, OfProducer, OfReader, Lawful, parts_of}
 use Rattle.crn_proto.proofs.Fronts.{length-front, front_append}
 use Rattle.crn_proto.proofs.ProducerMoves.{publish_near}
@@ -24,7 +24,7 @@ producer_law s law = law.of_parts 0 (OfProducer s.producer) refl
 pub reader_law : (s : Ring) → Lawful s.spec s.words (parts_of s) → (r : ℕ) (q : Reader) → slice_get s.readers r ≡ Some q → ReaderLaw s.spec s.words r q
 reader_law s law r q at = law.of_parts (suc r) (OfReader r q) (reader_at s r q at)
 
-pub step_lawful : (s t : Ring) (move : Move) → IsRing s.spec → Lawful s.spec s.words (parts_of s) → Step s move t → (t.spec ≡ s.spec) × Lawful t.spec t.words (parts_of t)
+pub step_lawful : (s t : Ring) (move : Move) → IsRing s.spec → Lawful s.spec s.words (parts_of s) → LeadsTo s move t → (t.spec ≡ s.spec) × Lawful t.spec t.words (parts_of t)
 step_lawful s t (ByProducer m) ring law (may, is) =
     rw is (refl, (producer_moves s.spec ring s.words (parts_of s) 0 s.producer m law (parts_apart s) refl may).0)
 step_lawful s t (ByReader r m) ring law (q, at, may, is) =
@@ -112,7 +112,7 @@ taken_shown s r q c law at may =
 pub ring_at : (spec : RingSpec) → IsRing spec → (other : RingSpec) → other ≡ spec → IsRing other
 ring_at spec ring other e = rw e ring
 
-step_shows : (s t : Ring) (move : Move) → IsRing s.spec → Lawful s.spec s.words (parts_of s) → Step s move t → Unfolds (shows s) (events (move ∷ [])) (shows t)
+step_shows : (s t : Ring) (move : Move) → IsRing s.spec → Lawful s.spec s.words (parts_of s) → LeadsTo s move t → Unfolds (shows s) (events (move ∷ [])) (shows t)
 step_shows s t (ByProducer (LoadGate r)) ring law (may, is) = rw is refl
 step_shows s t (ByProducer StoreWord) ring law (may, is) = rw is refl
 step_shows s t (ByProducer (Publish c)) ring law (may, is) = (_, publish_shows s c ring law may, rw is refl)

@@ -5,7 +5,7 @@ use Rattle.std.specs.List.{concat}
 use Rattle.std.proofs.lemmas.Bool.{true≢false}
 use Rattle.std.proofs.lemmas.Option.{slice_get-get_or}
 use Rattle.crn_proto.specs.Stream.{front, first_words}
-use Rattle.crn_proto.specs.Ring.{IsRing, Reader, Ring, Move, ByProducer, ByReader, LoadGate, StoreWord, Publish, Finish, Take, Step, Runs, ProducerMay, ReaderMay, open_ring, storing}
+use Rattle.crn_proto.specs.Ring.{IsRing, Reader, Ring, Move, ByProducer, ByReader, LoadGate, StoreWord, Publish, Finish, Take, LeadsTo, Runs, ProducerMay, ReaderMay, open_ring, storing}
 use Rattle.crn_proto.specs.Lawful.{Lawful, parts_of}
 use Rattle.crn_proto.specs.Laws.{EveryRunShowsABroadcast, EveryRunIsLawful, IsUnread, NoUnreadSlotIsWritten, WhatIsTakenWasRead, NothingFollowsTheEnd}
 use Rattle.crn_proto.proofs.Fronts.{front_part, concat_front}
@@ -62,7 +62,7 @@ what_is_taken_was_read spec moves s t r c q ring run (p, there, may, is) at =
 
 -- ---- the end
 
-ended_stays : (s t : Ring) (move : Move) → Step s move t → s.producer.ended ≡ true → t.producer.ended ≡ true
+ended_stays : (s t : Ring) (move : Move) → LeadsTo s move t → s.producer.ended ≡ true → t.producer.ended ≡ true
 ended_stays s t (ByProducer (LoadGate r)) (may, is) e = rw is e
 ended_stays s t (ByProducer StoreWord) (may, is) e = rw is e
 ended_stays s t (ByProducer (Publish c)) (may, is) e = rw is e
@@ -77,7 +77,7 @@ ended_at : (moves : List Move) (k : ℕ) (s t : Ring) → Runs s moves t → sli
 ended_at [] k s t run h = cc
 ended_at (move ∷ moves) zero s t (mid, step, run) h =
     let e : move ≡ ByProducer Finish = cc in
-    let done : Step s (ByProducer Finish) mid = rw e at step in
+    let done : LeadsTo s (ByProducer Finish) mid = rw e at step in
     ended_on moves mid t run (rw done.1 refl)
 ended_at (move ∷ moves) (suc k) s t (mid, step, run) h = ended_at moves k mid t run h
 

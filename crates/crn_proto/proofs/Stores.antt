@@ -5,7 +5,7 @@ use Rattle.std.specs.Prelude.{slice_get, slice_index}
 use Rattle.std.proofs.lemmas.Bool.{cases_lt}
 use Rattle.std.proofs.lemmas.List.{length-set, length-replicate}
 use Rattle.crn_proto.specs.declared.spec.RingSpec.{RingSpec}
-use Rattle.crn_proto.specs.Ring.{IsRing, Reader, Ring, Move, ByProducer, ByReader, LoadGate, StoreWord, Publish, Finish, LoadCursor, LoadWord, Take, Leave, Step, Runs, reader_after, reader_word, open_ring, open_reader, bit}
+use Rattle.crn_proto.specs.Ring.{IsRing, Reader, Ring, Move, ByProducer, ByReader, LoadGate, StoreWord, Publish, Finish, LoadCursor, LoadWord, Take, Leave, LeadsTo, Runs, reader_after, reader_word, open_ring, open_reader, bit}
 use Rattle.crn_proto.specs.Lawful.{Lawful, parts_of}
 use Rattle.crn_proto.specs.Traces.{kind_of}
 use Rattle.crn_proto.specs.Progress.{blocks_of, is_store, stores_in, store_limit, StoresAreBounded}
@@ -42,7 +42,7 @@ few_after s r p few here k q at = elim (get_set_cases s.readers r k p q at) [ in
 gains : (first : ℕ) (readers : List Reader) (r : ℕ) (q p : Reader) (n : ℕ) → slice_get readers r ≡ Some q → reader_stored first q + n ≤ reader_stored first p → readers_stored first readers + n ≤ readers_stored first (set readers r p)
 gains first readers r q p n at more = let sum = readers_stored_set first readers r q p at in omega arith
 
-step_stores : (s t : Ring) (move : Move) → IsRing s.spec → Lawful s.spec s.words (parts_of s) → TakenFew s → Step s move t → TakenFew t × (stored_by s + bit (is_store (kind_of move)) ≤ stored_by t)
+step_stores : (s t : Ring) (move : Move) → IsRing s.spec → Lawful s.spec s.words (parts_of s) → TakenFew s → LeadsTo s move t → TakenFew t × (stored_by s + bit (is_store (kind_of move)) ≤ stored_by t)
 step_stores s t (ByProducer (LoadGate r)) ring law few (may, is) = rw is (few, omega arith)
 step_stores s t (ByProducer StoreWord) ring law few (may, is) = rw is (few, omega arith)
 step_stores s t (ByProducer (Publish c)) ring law few (may, is) =
@@ -81,7 +81,7 @@ record Stored (s : Ring) (moves : List Move) (t : Ring) : Type 0 where
   count : length t.readers ≡ length s.readers
   stores : stored_by s + stores_in moves ≤ stored_by t
 
-step_count : (s t : Ring) (move : Move) → Step s move t → length t.readers ≡ length s.readers
+step_count : (s t : Ring) (move : Move) → LeadsTo s move t → length t.readers ≡ length s.readers
 step_count s t (ByProducer m) (may, is) = rw is refl
 step_count s t (ByReader r m) (q, at, may, is) = rw is (length-set s.readers r _)
 

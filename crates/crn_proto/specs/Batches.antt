@@ -3,7 +3,7 @@
 use Rattle.std.specs.Prelude.{◌≡◌, ℕ, zero, suc, ◌+◌, ◌*◌, ◌<◌, ◌≤◌, ◌==◌, ◌||◌, ◌⊎◌, nat_lt, Bool, true, false, if◌then◌else◌, List, [], ◌∷◌, length, slice_index}
 use Rattle.crn_cipher.specs.declared.TheConstants.{BLOCK_WORDS}
 use Rattle.crn_proto.specs.declared.spec.RingSpec.{RingSpec}
-use Rattle.crn_proto.specs.Ring.{IsRing, Ring, Move, ByProducer, ByReader, LoadGate, StoreWord, Publish, Finish, LoadCursor, LoadWord, Take, Leave, Step, left_mark, open_ring, bit}
+use Rattle.crn_proto.specs.Ring.{IsRing, Ring, Move, ByProducer, ByReader, LoadGate, StoreWord, Publish, Finish, LoadCursor, LoadWord, Take, Leave, LeadsTo, left_mark, open_ring, bit}
 use Rattle.crn_proto.specs.Traces.{kind_of, reader_at}
 use Rattle.crn_proto.specs.Progress.{is_store, rounds_of}
 
@@ -57,7 +57,7 @@ GoingOn b s w (ByReader r Leave) = Unit {0}
 -- The moves of actors that go on, one after another, lead from old to new.
 abbrev pub GoesOnTo : ℕ → Ring → Watch → List Move → Ring → Watch → Type 0
 GoesOnTo b old w [] new v = (new ≡ old) × (v ≡ w)
-GoesOnTo b old w (move ∷ moves) new v = (mid : Ring) × Step old move mid × GoingOn b old w move × GoesOnTo b mid (watch_after old w move) moves new v
+GoesOnTo b old w (move ∷ moves) new v = (mid : Ring) × LeadsTo old move mid × GoingOn b old w move × GoesOnTo b mid (watch_after old w move) moves new v
 
 -- ---- what progress is
 
@@ -104,7 +104,7 @@ moves_a_round b spec (suc r) = BLOCK_WORDS * b + 2
 abbrev pub CanGoOn : Type 0
 CanGoOn =
     (spec : RingSpec) (b : ℕ) (moves : List Move) (s : Ring) (w : Watch) → IsRing spec → 0 < b → GoesOnTo b (open_ring spec) open_watch moves s w
-    → (a : ℕ) → a ≤ spec.readers → is_finished s a ≡ false → (move : Move) × (mover move ≡ a) × (t : Ring) × Step s move t × GoingOn b s w move
+    → (a : ℕ) → a ≤ spec.readers → is_finished s a ≡ false → (move : Move) × (mover move ≡ a) × (t : Ring) × LeadsTo s move t × GoingOn b s w move
 
 -- In so many moves of its own actor a stores a word or finishes, whatever moves others make meanwhile.
 abbrev pub MakesProgress : ℕ → Ring → Watch → ℕ → Type 0

@@ -5,7 +5,7 @@ use Rattle.std.specs.Prelude.{◌≡◌, ℕ, ◌-◌, ◌%◌, ◌<◌, ◌≤�
 use Rattle.std.specs.List.{Contains, concat}
 use Rattle.crn_proto.specs.declared.spec.RingSpec.{RingSpec}
 use Rattle.crn_proto.specs.Broadcast.{Unfolds}
-use Rattle.crn_proto.specs.Ring.{IsRing, Reader, Ring, Move, ByProducer, ByReader, StoreWord, Publish, Finish, Take, Step, Runs, storing, open_ring, shows, events}
+use Rattle.crn_proto.specs.Ring.{IsRing, Reader, Ring, Move, ByProducer, ByReader, StoreWord, Publish, Finish, Take, LeadsTo, Runs, storing, open_ring, shows, events}
 use Rattle.crn_proto.specs.Lawful.{Lawful, Apart, parts_of}
 
 -- The events of a run are a run of the broadcast list, to the list that the state shows.
@@ -28,17 +28,17 @@ IsUnread s q j = (q.left ≡ false) × (n : ℕ) × (n % s.spec.size ≡ j) × (
 abbrev pub NoUnreadSlotIsWritten : Type 0
 NoUnreadSlotIsWritten =
     (spec : RingSpec) (moves : List Move) (s t : Ring) (r : ℕ) (q : Reader) → IsRing spec → Runs (open_ring spec) moves s
-    → Step s (ByProducer StoreWord) t → slice_get s.readers r ≡ Some q → ¬ (IsUnread s q (storing s.producer % s.spec.size))
+    → LeadsTo s (ByProducer StoreWord) t → slice_get s.readers r ≡ Some q → ¬ (IsUnread s q (storing s.producer % s.spec.size))
 
 -- A reader that takes has read the very items that it takes.
 abbrev pub WhatIsTakenWasRead : Type 0
 WhatIsTakenWasRead =
     (spec : RingSpec) (moves : List Move) (s t : Ring) (r c : ℕ) (q : Reader) → IsRing spec → Runs (open_ring spec) moves s
-    → Step s (ByReader r (Take c)) t → slice_get s.readers r ≡ Some q
+    → LeadsTo s (ByReader r (Take c)) t → slice_get s.readers r ≡ Some q
     → q.read ≡ concat (take c (drop (q.taken - s.spec.id.first) (shows s).items))
 
 -- After the end mark the ring cursor is not stored again.
 abbrev pub NothingFollowsTheEnd : Type 0
 NothingFollowsTheEnd =
     (spec : RingSpec) (moves : List Move) (s t : Ring) (c : ℕ) → IsRing spec → Runs (open_ring spec) moves s
-    → Contains moves (ByProducer Finish) → (¬ (Step s (ByProducer (Publish c)) t)) × (¬ (Step s (ByProducer Finish) t))
+    → Contains moves (ByProducer Finish) → (¬ (LeadsTo s (ByProducer (Publish c)) t)) × (¬ (LeadsTo s (ByProducer Finish) t))

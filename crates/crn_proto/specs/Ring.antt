@@ -131,13 +131,13 @@ pub data Move : Type 0 where
   ByReader : ℕ → ReaderMove → Move
 
 -- The move may be made in the state old, which is then new: one word and the mover's own part change.
-abbrev pub Step : Ring → Move → Ring → Type 0
-Step old (ByProducer m) new =
+abbrev pub LeadsTo : Ring → Move → Ring → Type 0
+LeadsTo old (ByProducer m) new =
     let i = producer_word old.spec old.producer m in
     let found = slice_index old.words i in
     ProducerMay old.spec old.producer m
     × (new ≡ record old { words = slice_set old.words i (producer_leaves old.spec old.producer m found); producer = producer_after old.producer m found })
-Step old (ByReader r m) new =
+LeadsTo old (ByReader r m) new =
     (q : Reader) × (slice_get old.readers r ≡ Some q) × ReaderMay q m
     × (new ≡ record old {
       words = slice_set old.words (reader_word old.spec r q m) (reader_leaves q m (slice_index old.words (reader_word old.spec r q m)));
@@ -147,7 +147,7 @@ Step old (ByReader r m) new =
 -- The moves, one after another, lead from old to new.
 abbrev pub Runs : Ring → List Move → Ring → Type 0
 Runs old [] new = new ≡ old
-Runs old (move ∷ moves) new = (mid : Ring) × Step old move mid × Runs mid moves new
+Runs old (move ∷ moves) new = (mid : Ring) × LeadsTo old move mid × Runs mid moves new
 
 -- ---- the open state: nothing is published, taken, stored or read
 

@@ -8,7 +8,7 @@ use Rattle.crn_proto.specs.declared.schedule.Actor.TheVariants.{Producer as Prod
 use Rattle.crn_proto.specs.declared.schedule.Kind.{Kind}
 use Rattle.crn_proto.specs.declared.schedule.Kind.TheVariants.{P1, P2, P3, R1, R2, R3}
 use Rattle.crn_proto.specs.declared.schedule.Step.{Step as Answer}
-use Rattle.crn_proto.specs.Ring.{IsRing, Ring, Reader, Move, ByProducer, ByReader, LoadGate, StoreWord, Publish, Finish, LoadCursor, LoadWord, Take, Leave, Step, Runs, producer_word, reader_word, open_ring, open_reader}
+use Rattle.crn_proto.specs.Ring.{IsRing, Ring, Reader, Move, ByProducer, ByReader, LoadGate, StoreWord, Publish, Finish, LoadCursor, LoadWord, Take, Leave, LeadsTo, Runs, producer_word, reader_word, open_ring, open_reader}
 use Rattle.crn_proto.specs.Machine.{MachineState, IsActor, machine_after, machine_answers, open_machine, taker_at}
 
 -- the kind of a move
@@ -47,7 +47,7 @@ IsMoveOf who (ByReader r Leave) = who ≡ LeaveActs r
 abbrev pub IsAnswer : Actor → Ring → List Move → Option Answer → Ring → Type 0
 IsAnswer who old made None new = (made ≡ []) × (new ≡ old)
 IsAnswer who old made (Some answer) new =
-    (move : Move) × (made ≡ move ∷ []) × IsMoveOf who move × Step old move new
+    (move : Move) × (made ≡ move ∷ []) × IsMoveOf who move × LeadsTo old move new
     × (answer ≡ record { kind = kind_of move; word = word_of_move old move; value = slice_index new.words (word_of_move old move) })
 
 -- The actors' answers are those of the moves, which lead from old to new.

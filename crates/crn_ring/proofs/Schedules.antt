@@ -10,7 +10,7 @@ use Rattle.atomic_table.specs.Table.{step, stepped}
 use Rattle.crn_proto.specs.declared.spec.RingSpec.{RingSpec}
 use Rattle.crn_proto.specs.declared.actor_parts.Part.{Part}
 use Rattle.crn_proto.specs.declared.actor_parts.Part.TheVariants.{OfProducer, OfReader}
-use Rattle.crn_proto.specs.Ring.{Ring, ProducerMove, LoadGate, StoreWord, Finish, ReaderMove, LoadCursor, LoadWord, Leave, ByProducer, ByReader, Step, Runs, ProducerMay, ReaderMay, producer_word, producer_leaves, producer_after, reader_word, reader_leaves, reader_after, open_ring, open_producer, open_reader}
+use Rattle.crn_proto.specs.Ring.{Ring, ProducerMove, LoadGate, StoreWord, Finish, ReaderMove, LoadCursor, LoadWord, Leave, ByProducer, ByReader, LeadsTo, Runs, ProducerMay, ReaderMay, producer_word, producer_leaves, producer_after, reader_word, reader_leaves, reader_after, open_ring, open_producer, open_reader}
 use Rattle.crn_proto.specs.declared.actor_parts.ReaderPart.{ReaderPart}
 use Rattle.crn_proto.specs.declared.actor_parts.ProducerPart.{ProducerPart}
 use Rattle.crn_proto.specs.Lawful.{own_cursor, Apart}
@@ -21,7 +21,7 @@ use Rattle.crn_ring.specs.declared.view.View.{View}
 use Rattle.crn_ring.specs.Holds.{Holds, HasProducer, HasReader, parts_of_view}
 use Rattle.crn_ring.specs.Plays.{Sat, by_producer, by_reader, publishing, taking, MadeByProducer, MadeByReader, cut_left, cut_right}
 use Rattle.crn_ring.specs.declared.view.Role.TheVariants.{Producer}
-use Rattle.crn_ring.specs.Schedules.{Words, opened_table, Kind, LoadsGate, StoresWord, Publishes, StoresEnd, LoadsCursor, LoadsWord, StoresTaken, StoresLeft, becomes, OnWord, TableStep, Made, Cut, Picks, Cuts, MakesAll, move_as, moves_of, Shows, IsPartOf, StepsAreARun, AllowedStepsAreMade}
+use Rattle.crn_ring.specs.Schedules.{TableState, opened_table, StepKind, LoadsGate, StoresWord, Publishes, StoresEnd, LoadsCursor, LoadsWord, StoresTaken, StoresLeft, becomes, OnWord, TableStep, Made, Cut, Picks, Cuts, MakesAll, move_as, moves_of, Shows, IsPartOf, StepsAreARun, AllowedStepsAreMade}
 use Rattle.crn_proto.proofs.Schedules.{shows_a_broadcast}
 use Rattle.crn_ring.proofs.Beginning.{begins}
 use Rattle.crn_ring.proofs.Allowed.{got, producer_alone, reader_alone}
@@ -52,9 +52,9 @@ parts_moved old new parts k before after apart at all here others j part h = eli
 
 -- ---- a step on the table, as the move of the ring that it is
 
-pub producer_moved : (spec : RingSpec) (s s' : Words) (ring : Ring) (id : ℕ) (v : View) (move : ProducerMove) (i n found : ℕ) → Holds spec s → Shows spec s ring → get_elem? s.views id ≡ some v → HasProducer v
+pub producer_moved : (spec : RingSpec) (s s' : TableState) (ring : Ring) (id : ℕ) (v : View) (move : ProducerMove) (i n found : ℕ) → Holds spec s → Shows spec s ring → get_elem? s.views id ≡ some v → HasProducer v
     → ProducerMay v.spec v.producer move → i ≡ producer_word v.spec v.producer move → found ≡ slice_index s.words i → n ≡ producer_leaves v.spec v.producer move found
-    → s'.words ≡ slice_set s.words i n → s'.views ≡ slice_set s.views id (by_producer move found v) → (after : Ring) × Step ring (ByProducer move) after × Shows spec s' after
+    → s'.words ≡ slice_set s.words i n → s'.views ≡ slice_set s.views id (by_producer move found v) → (after : Ring) × LeadsTo ring (ByProducer move) after × Shows spec s' after
 producer_moved spec s s' ring id v move i n found law shown at is may word finds leaves words views =
     let same : v.spec ≡ spec = law.same_ring id v at in
     let p = v.producer in
@@ -82,9 +82,9 @@ producer_moved spec s s' ring id v move i n found law shown at is may word finds
     others after e (OfProducer q) ne h = absurd (ne refl)
     others after e (OfReader r q) ne h = rw e h
 
-pub reader_moved : (spec : RingSpec) (s s' : Words) (ring : Ring) (id : ℕ) (v : View) (move : ReaderMove) (i n found : ℕ) → Holds spec s → Shows spec s ring → get_elem? s.views id ≡ some v → HasReader v
+pub reader_moved : (spec : RingSpec) (s s' : TableState) (ring : Ring) (id : ℕ) (v : View) (move : ReaderMove) (i n found : ℕ) → Holds spec s → Shows spec s ring → get_elem? s.views id ≡ some v → HasReader v
     → ReaderMay v.reader move → i ≡ reader_word v.spec v.number v.reader move → found ≡ slice_index s.words i → n ≡ reader_leaves v.reader move found
-    → s'.words ≡ slice_set s.words i n → s'.views ≡ slice_set s.views id (by_reader move found v) → (after : Ring) × Step ring (ByReader v.number move) after × Shows spec s' after
+    → s'.words ≡ slice_set s.words i n → s'.views ≡ slice_set s.views id (by_reader move found v) → (after : Ring) × LeadsTo ring (ByReader v.number move) after × Shows spec s' after
 reader_moved spec s s' ring id v move i n found law shown at is may word finds leaves words views =
     let same : v.spec ≡ spec = law.same_ring id v at in
     let r = v.number in
@@ -114,26 +114,26 @@ reader_moved spec s s' ring id v move i n found law shown at is may word finds l
     others after mine e f (OfReader r q) ne h = rw (f, get_set_other ring.readers v.number r mine (λ same. ne (ap (λ x. 1 + x) same))) h
 
 -- what a step has told its seat is all that its move asks
-by_the_producer : (spec : RingSpec) (s s' : Words) (ring : Ring) (o : OnWord) (move : ProducerMove) (n : ℕ) (m : Sat) → Holds spec s → Shows spec s ring → (p : Picks spec s o s')
+by_the_producer : (spec : RingSpec) (s s' : TableState) (ring : Ring) (o : OnWord) (move : ProducerMove) (n : ℕ) (m : Sat) → Holds spec s → Shows spec s ring → (p : Picks spec s o s')
     → MadeByProducer move (step 0 o.i o.x 0 none) (o.view, o.carried) n m → m.0 ≡ p.view → n ≡ becomes o.kind o.x (slice_index s.words o.i)
     → producer_leaves o.view.spec o.view.producer move n ≡ producer_leaves o.view.spec o.view.producer move (slice_index s.words o.i)
-    → by_producer move n o.view ≡ by_producer move (slice_index s.words o.i) o.view → (after : Ring) × Step ring (ByProducer move) after × Shows spec s' after
+    → by_producer move n o.view ≡ by_producer move (slice_index s.words o.i) o.view → (after : Ring) × LeadsTo ring (ByProducer move) after × Shows spec s' after
 by_the_producer spec s s' ring o move n m law shown p made is value leaves heeds =
     let view : p.view ≡ by_producer move (slice_index s.words o.i) o.view = sym is ∙ ap (λ (z : Sat). z.0) made.view ∙ heeds in
     producer_moved spec s s' ring o.id o.view move o.i n (slice_index s.words o.i) law shown p.at made.seat made.may made.word refl (made.leaves ∙ leaves)
-    (rw value (ap (λ (t : Words). t.words) p.after)) (rw (sym view) (ap (λ (t : Words). t.views) p.after))
+    (rw value (ap (λ (t : TableState). t.words) p.after)) (rw (sym view) (ap (λ (t : TableState). t.views) p.after))
 
-by_a_reader : (spec : RingSpec) (s s' : Words) (ring : Ring) (o : OnWord) (move : ReaderMove) (n : ℕ) (m : Sat) → Holds spec s → Shows spec s ring → (p : Picks spec s o s')
+by_a_reader : (spec : RingSpec) (s s' : TableState) (ring : Ring) (o : OnWord) (move : ReaderMove) (n : ℕ) (m : Sat) → Holds spec s → Shows spec s ring → (p : Picks spec s o s')
     → MadeByReader move (step 0 o.i o.x 0 none) (o.view, o.carried) n m → m.0 ≡ p.view → n ≡ becomes o.kind o.x (slice_index s.words o.i)
     → reader_leaves o.view.reader move n ≡ reader_leaves o.view.reader move (slice_index s.words o.i)
-    → by_reader move n o.view ≡ by_reader move (slice_index s.words o.i) o.view → (after : Ring) × Step ring (ByReader o.view.number move) after × Shows spec s' after
+    → by_reader move n o.view ≡ by_reader move (slice_index s.words o.i) o.view → (after : Ring) × LeadsTo ring (ByReader o.view.number move) after × Shows spec s' after
 by_a_reader spec s s' ring o move n m law shown p made is value leaves heeds =
     let view : p.view ≡ by_reader move (slice_index s.words o.i) o.view = sym is ∙ ap (λ (z : Sat). z.0) made.view ∙ heeds in
     reader_moved spec s s' ring o.id o.view move o.i n (slice_index s.words o.i) law shown p.at made.seat made.may made.word refl (made.leaves ∙ leaves)
-    (rw value (ap (λ (t : Words). t.words) p.after)) (rw (sym view) (ap (λ (t : Words). t.views) p.after))
+    (rw value (ap (λ (t : TableState). t.words) p.after)) (rw (sym view) (ap (λ (t : TableState). t.views) p.after))
 
-step_of_kind : (spec : RingSpec) (s s' : Words) (ring : Ring) (kind : Kind) (id i x : ℕ) (v : View) (carried : List (ℕ × Unit {0})) → Holds spec s → Shows spec s ring
-    → Picks spec s record { kind = kind; id = id; view = v; carried = carried; i = i; x = x } s' → (after : Ring) × Step ring (move_as kind v i) after × Shows spec s' after
+step_of_kind : (spec : RingSpec) (s s' : TableState) (ring : Ring) (kind : StepKind) (id i x : ℕ) (v : View) (carried : List (ℕ × Unit {0})) → Holds spec s → Shows spec s ring
+    → Picks spec s record { kind = kind; id = id; view = v; carried = carried; i = i; x = x } s' → (after : Ring) × LeadsTo ring (move_as kind v i) after × Shows spec s' after
 step_of_kind spec s s' ring LoadsGate id i x v carried law shown p = by_the_producer spec s s' ring _ (LoadGate (i - 1)) _ _ law shown p p.told.0 refl refl refl refl
 step_of_kind spec s s' ring StoresWord id i x v carried law shown p = by_the_producer spec s s' ring _ StoreWord _ _ law shown p p.told refl refl refl refl
 step_of_kind spec s s' ring Publishes id i x v carried law shown p = by_the_producer spec s s' ring _ (publishing v) _ _ law shown p p.told refl refl refl refl
@@ -151,22 +151,22 @@ parts_cut v role waits =
     let next : suc v.number ≡ v.number + 1 = omega arith in
     rw (role, more, next) refl
 
-cut_shows : (spec : RingSpec) (s s' : Words) (ring : Ring) (id : ℕ) (v : View) → Shows spec s ring → Cuts spec s id v s' → Shows spec s' ring
+cut_shows : (spec : RingSpec) (s s' : TableState) (ring : Ring) (id : ℕ) (v : View) → Shows spec s ring → Cuts spec s id v s' → Shows spec s' ring
 cut_shows spec s s' ring id v shown c =
     let left = cut_left v in
     let right = cut_right v in
     let (lefts, rights) = cut_each parts_of_view (IsPartOf ring) s.views id v left right (got s.views id v c.at) (parts_cut v c.role c.waits) shown.parts in
     let all : flat_map parts_of_view (slice_set s.views id left ++ right ∷ []) ≡ flat_map parts_of_view (slice_set s.views id left) ++ parts_of_view right =
     flat_map-append parts_of_view (slice_set s.views id left) (right ∷ []) ∙ ap (λ z. flat_map parts_of_view (slice_set s.views id left) ++ z) (append-nil (parts_of_view right)) in record {
-      words = ap (λ (t : Words). t.words) c.after ∙ shown.words;
+      words = ap (λ (t : TableState). t.words) c.after ∙ shown.words;
       spec_of = shown.spec_of;
-      parts = rw (ap (λ (t : Words). t.views) c.after, all) (each_append parts_of_view (IsPartOf ring) (flat_map parts_of_view (slice_set s.views id left)) (parts_of_view right) lefts rights);
+      parts = rw (ap (λ (t : TableState). t.views) c.after, all) (each_append parts_of_view (IsPartOf ring) (flat_map parts_of_view (slice_set s.views id left)) (parts_of_view right) lefts rights);
     }
 
 -- ---- all steps
 
-run_from : (spec : RingSpec) (steps : List TableStep) (s s' : Words) (ring : Ring) → Holds spec s → Shows spec s ring → MakesAll spec s steps s' → (last : Ring) × Runs ring (moves_of steps) last × Shows spec s' last
-run_from spec [] s s' ring law shown made = (ring, refl, subst (λ (t : Words). Shows spec t ring) (sym made) shown)
+run_from : (spec : RingSpec) (steps : List TableStep) (s s' : TableState) (ring : Ring) → Holds spec s → Shows spec s ring → MakesAll spec s steps s' → (last : Ring) × Runs ring (moves_of steps) last × Shows spec s' last
+run_from spec [] s s' ring law shown made = (ring, refl, subst (λ (t : TableState). Shows spec t ring) (sym made) shown)
 run_from spec (Made o ∷ steps) s s' ring law shown (mid, p, rest) =
     let (after, move, shown') = step_of_kind spec s mid ring o.kind o.id o.i o.x o.view o.carried law shown p in
     let (last, run, shows) = run_from spec steps mid s' after p.keeps shown' rest in

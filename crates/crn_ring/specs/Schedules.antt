@@ -15,11 +15,11 @@ use Rattle.crn_ring.specs.Holds.{Holds, opened, parts_of_view}
 use Rattle.crn_ring.specs.Plays.{Sat, publishing, taking, loaded_gate, stored_word, published_some, stored_end, loaded_cursor, loaded_word, stored_taken, stored_left, cut_left, cut_right}
 
 -- the state of a ring's table: its words and its seats' views
-abbrev pub Words : Type 0
-Words = State (Unit {0}) View
+abbrev pub TableState : Type 0
+TableState = State (Unit {0}) View
 
 -- the table as a ring is opened, with its first seat
-abbrev pub opened_table : RingSpec → Words
+abbrev pub opened_table : RingSpec → TableState
 opened_table spec = opening (open_words spec) [] (opened spec 0)
 
 -- A table with the first seat of a ring meets the rule with the words of the open ring alone, slots included.
@@ -27,18 +27,18 @@ abbrev pub OpensAsTheOpenRing : Type 0
 OpensAsTheOpenRing = (spec : RingSpec) (words : List ℕ) → Holds spec (opening words [] (opened spec 0)) → words ≡ open_words spec
 
 -- the eight kinds of step on a word
-pub data Kind : Type 0 where
-  LoadsGate : Kind
-  StoresWord : Kind
-  Publishes : Kind
-  StoresEnd : Kind
-  LoadsCursor : Kind
-  LoadsWord : Kind
-  StoresTaken : Kind
-  StoresLeft : Kind
+pub data StepKind : Type 0 where
+  LoadsGate : StepKind
+  StoresWord : StepKind
+  Publishes : StepKind
+  StoresEnd : StepKind
+  LoadsCursor : StepKind
+  LoadsWord : StepKind
+  StoresTaken : StepKind
+  StoresLeft : StepKind
 
 -- what a step of a kind tells its seat
-abbrev pub tells : Kind → Step (Unit {0}) → Sat → ℕ → Sat → Type 0
+abbrev pub tells : StepKind → Step (Unit {0}) → Sat → ℕ → Sat → Type 0
 tells LoadsGate = loaded_gate
 tells StoresWord = stored_word
 tells Publishes = published_some
@@ -49,7 +49,7 @@ tells StoresTaken = stored_taken
 tells StoresLeft = stored_left
 
 -- what a word becomes in which a step has `found` a value, where a store's value is x
-abbrev pub becomes : Kind → ℕ → ℕ → ℕ
+abbrev pub becomes : StepKind → ℕ → ℕ → ℕ
 becomes LoadsGate x found = found
 becomes StoresWord x found = x
 becomes Publishes x found = x
@@ -61,7 +61,7 @@ becomes StoresLeft x found = x
 
 -- A step on word i by the seat `id`, whose view is v and whose slots are `carried`; a store's value is x.
 pub record OnWord : Type 0 where
-  pub kind : Kind
+  pub kind : StepKind
   pub id : ℕ
   pub view : View
   pub carried : List (ℕ × Unit {0})
@@ -82,7 +82,7 @@ abbrev pub IsAllowed : RingSpec → OnWord → Type 0
 IsAllowed spec o = Allows (Holds spec) 0 o.id (o.view, o.carried) o.i (becomes o.kind o.x) (told o)
 
 -- The seat picks a view and an act that keep the rule, and the table is then as the step leaves it.
-pub record Picks (spec : RingSpec) (s : Words) (o : OnWord) (s' : Words) : Type 0 where
+pub record Picks (spec : RingSpec) (s : TableState) (o : OnWord) (s' : TableState) : Type 0 where
   pub at : get_elem? s.views o.id ≡ some o.view
   pub view : View
   pub act : Act (Unit {0})
@@ -92,7 +92,7 @@ pub record Picks (spec : RingSpec) (s : Words) (o : OnWord) (s' : Words) : Type 
   pub told : told o (slice_index s.words o.i) (view, carried_after o.carried act)
 
 -- A reader that waits in the producer's seat gets a seat of its own.
-pub record Cuts (spec : RingSpec) (s : Words) (id : ℕ) (v : View) (s' : Words) : Type 0 where
+pub record Cuts (spec : RingSpec) (s : TableState) (id : ℕ) (v : View) (s' : TableState) : Type 0 where
   pub at : get_elem? s.views id ≡ some v
   pub role : v.role ≡ Producer
   pub waits : v.number < v.spec.readers
@@ -100,17 +100,17 @@ pub record Cuts (spec : RingSpec) (s : Words) (id : ℕ) (v : View) (s' : Words)
   pub keeps : Holds spec s'
 
 -- The step leads from one state of the table to the other.
-abbrev pub Makes : RingSpec → Words → TableStep → Words → Type 0
+abbrev pub Makes : RingSpec → TableState → TableStep → TableState → Type 0
 Makes spec s (Made o) s' = Picks spec s o s'
 Makes spec s (Cut id v) s' = Cuts spec s id v s'
 
 -- The steps, one after another, lead from s to s'.
-abbrev pub MakesAll : RingSpec → Words → List TableStep → Words → Type 0
+abbrev pub MakesAll : RingSpec → TableState → List TableStep → TableState → Type 0
 MakesAll spec s [] s' = s' ≡ s
-MakesAll spec s (x ∷ xs) s' = (mid : Words) × Makes spec s x mid × MakesAll spec mid xs s'
+MakesAll spec s (x ∷ xs) s' = (mid : TableState) × Makes spec s x mid × MakesAll spec mid xs s'
 
 -- the move of the ring that a step is
-abbrev pub move_as : Kind → View → ℕ → Move
+abbrev pub move_as : StepKind → View → ℕ → Move
 move_as LoadsGate v i = ByProducer (LoadGate (i - 1))
 move_as StoresWord v i = ByProducer StoreWord
 move_as Publishes v i = ByProducer (publishing v)
@@ -132,13 +132,13 @@ IsPartOf ring (OfProducer p) = ring.producer ≡ p
 IsPartOf ring (OfReader r q) = slice_get ring.readers r ≡ Some q
 
 -- The table has the ring's words, and each part in a view of its is the ring's.
-pub record Shows (spec : RingSpec) (s : Words) (ring : Ring) : Type 0 where
+pub record Shows (spec : RingSpec) (s : TableState) (ring : Ring) : Type 0 where
   pub words : s.words ≡ ring.words
   pub spec_of : ring.spec ≡ spec
   pub parts : (k : ℕ) (part : Part) → slice_get (flat_map parts_of_view s.views) k ≡ Some part → IsPartOf ring part
 
 -- A run of the ring by these moves that leads to what the table is, and the broadcast list that it shows.
-pub record IsRunTo (spec : RingSpec) (moves : List Move) (s : Words) : Type 0 where
+pub record IsRunTo (spec : RingSpec) (moves : List Move) (s : TableState) : Type 0 where
   pub ring : Ring
   pub run : Runs (open_ring spec) moves ring
   pub shown : Shows spec s ring
@@ -146,13 +146,13 @@ pub record IsRunTo (spec : RingSpec) (moves : List Move) (s : Words) : Type 0 wh
 
 -- Whatever steps a table has made since the ring was opened, they are a run of the ring, each the move of its kind.
 abbrev pub StepsAreARun : Type 0
-StepsAreARun = (spec : RingSpec) (steps : List TableStep) (s : Words) → IsRing spec → MakesAll spec (opened_table spec) steps s → IsRunTo spec (moves_of steps) s
+StepsAreARun = (spec : RingSpec) (steps : List TableStep) (s : TableState) → IsRing spec → MakesAll spec (opened_table spec) steps s → IsRunTo spec (moves_of steps) s
 
 -- The rule holds as a ring is opened, and what a table asks of a step on a word, or of a cut, is that it can be made where
 -- the rule holds.
 abbrev pub AllowedStepsAreMade : Type 0
 AllowedStepsAreMade =
     ((spec : RingSpec) → IsRing spec → Holds spec (opened_table spec))
-    × ((spec : RingSpec) (s : Words) (o : OnWord) → Holds spec s → length s.homes ≡ 0 → get_elem? s.views o.id ≡ some o.view → slice_index s.words o.i < 2 ^ 64 → IsAllowed spec o → (s' : Words) × Picks spec s o s')
-    × ((spec : RingSpec) (s : Words) (id : ℕ) (v : View) → Holds spec s → get_elem? s.views id ≡ some v → v.role ≡ Producer → v.number < v.spec.readers
-    → Splits (Holds spec) id v (cut_left v) (cut_right v) → (s' : Words) × Cuts spec s id v s')
+    × ((spec : RingSpec) (s : TableState) (o : OnWord) → Holds spec s → length s.homes ≡ 0 → get_elem? s.views o.id ≡ some o.view → slice_index s.words o.i < 2 ^ 64 → IsAllowed spec o → (s' : TableState) × Picks spec s o s')
+    × ((spec : RingSpec) (s : TableState) (id : ℕ) (v : View) → Holds spec s → get_elem? s.views id ≡ some v → v.role ≡ Producer → v.number < v.spec.readers
+    → Splits (Holds spec) id v (cut_left v) (cut_right v) → (s' : TableState) × Cuts spec s id v s')

@@ -26,7 +26,7 @@ impl TableRule<(), View, RingSpec> for RingRule {
 }
 
 /// The table of a ring's words: the ring cursor, a cursor for each reader, and the slots.
-pub type Words = Table<(), View, RingSpec, RingRule, Global>;
+pub type WordTable = Table<(), View, RingSpec, RingRule, Global>;
 
 /// One actor's seat at the table.
 pub type Place = Seat<(), View>;
@@ -39,7 +39,7 @@ pub type Place = Seat<(), View>;
 /// Source: Thompson, Farley, Barker, Gee and Stewart, "Disruptor", LMAX, 2011.
 #[derive(Drop)]
 pub struct Ring {
-    pub(crate) table: Words,
+    pub(crate) table: WordTable,
     pub(crate) spec: RingSpec,
     pub ghost keyed: { table.shared.key ≡ spec },
     pub ghost counted: { table.shared.table_id.words ≡ word_count spec },
@@ -98,7 +98,7 @@ impl Ring {
     }
 
     // Returns the table with its first words, and the seat that all actors' seats are cut from.
-    fn table_at_open(alloc: Global, spec: &RingSpec) -> Result<(Words, Place), AllocError>
+    fn table_at_open(alloc: Global, spec: &RingSpec) -> Result<(WordTable, Place), AllocError>
         requires { CanOpen spec.now }
         ensures table { IfOk result (λ t. (t.0.shared.key ≡ spec.now) × (t.0.shared.table_id.words ≡ word_count spec.now) × (t.0.shared.table_id.slots ≡ 0)) }
         ensures seat { IfOk result (λ t. (t.1.table_id ≡ t.0.shared.table_id) × (view_of t.1 ≡ opened spec.now 0)) }

@@ -19,8 +19,8 @@ use Rattle.crn_scenario.specs.Tree.{integer_at, natural, table_at, count_items, 
 use Rattle.crn_scenario.specs.Fields.{Entry, entry, keys_of, number, numbers_within, keeps, keeps_at, keeps_at_all, is_within, are_within, greatest_level}
 use Rattle.crn_scenario.specs.Fields as fields
 use Rattle.crn_scenario.specs.declared.fields.TheConstants.{NEWEST_VERSION}
-use Rattle.crn_scenario.specs.declared.fields.Kind.{Kind}
-use Rattle.crn_scenario.specs.declared.fields.Kind.TheVariants as kind
+use Rattle.crn_scenario.specs.declared.fields.ValueKind.{ValueKind}
+use Rattle.crn_scenario.specs.declared.fields.ValueKind.TheVariants as kind
 use Rattle.crn_scenario.specs.declared.fields.Rule.{Rule}
 use Rattle.crn_scenario.specs.declared.fields.Rule.TheVariants as rule
 use Rattle.crn_scenario.specs.Reading.{HasNone, version_of, inner_keep, all_keep, keeps_in, policies_at, is_version, has_other_version, has_unknown_key, lacks_key, has_other_kind, breaks_range, have_other_lengths, have_other_order, have_other_total, has_other_lengths_in, has_other_order_in, has_other_total_in, rise_above, total_of, integers_in, naturals_in, drawn, has_other_lengths, has_values_out_of_order, has_weights_out_of_range, cost_rates_of, weighted_of, returns_of, model_of}
@@ -146,7 +146,7 @@ pub record Kept (es : List Entry) (ms : Members) : Type 0 where
   pub ranges : keeps_at_all rule.Ranges es ms ≡ true
 
 -- what stands at a key keeps them
-pub record KeptAt (k : Kind) (o : Option Data) : Type 0 where
+pub record KeptAt (k : ValueKind) (o : Option Data) : Type 0 where
   pub present : keeps_at rule.Present k o ≡ true
   pub kinds : keeps_at rule.Kinds k o ≡ true
   pub ranges : keeps_at rule.Ranges k o ≡ true

@@ -19,10 +19,10 @@ use Rattle.crn_stock.specs.declared.limits.TheConstants.{ITEM_LIMIT, LEAD_LIMIT,
 use Rattle.crn_scenario.specs.Tree.{integer_at, array_at, table_at, integers_of, texts_of, tables_of, count_items, text_at}
 use Rattle.crn_scenario.specs.Fields.{Entry, keys_of, number, greatest_level, keeps, are_within, keeps_at, keeps_at_all, is_within, is_list_within, are_four_words}
 use Rattle.crn_scenario.specs.Fields as fields
-use Rattle.crn_scenario.specs.declared.fields.Kind.TheVariants as kind
+use Rattle.crn_scenario.specs.declared.fields.ValueKind.TheVariants as kind
 use Rattle.crn_scenario.specs.declared.fields.Rule.TheVariants as rule
 use Rattle.crn_scenario.specs.declared.fields.TheConstants.{NEWEST_VERSION}
-use Rattle.crn_scenario.specs.declared.fields.Kind.{Kind}
+use Rattle.crn_scenario.specs.declared.fields.ValueKind.{ValueKind}
 use Rattle.crn_scenario.specs.declared.fields.Rule.{Rule}
 use Rattle.crn_scenario.specs.Reading.{HasNone, keeps_in, policies_in, are_in_order, names_in, names_at, all_differ, are_good_names, rise_above, total_of, has_other_lengths_in, has_other_order_in, has_other_total_in, is_ring_size, is_other_ring, is_other_count, faults, holds_at, version_of, inner_keep, all_keep, policies_at, is_version, has_other_version, has_unknown_key, lacks_key, has_other_kind, breaks_range, have_other_lengths, have_other_order, have_other_total, has_other_lengths, has_values_out_of_order, has_weights_out_of_range, has_levels_in_order, has_low_above_high, has_bad_name, has_other_ring, has_other_policy_count}
 use Rattle.crn_scenario.specs.Reading as reading
@@ -83,7 +83,7 @@ number_at low high o k =
     let n = number_kept low high o k in
     record { number = n.value; is = integer_is o (pos n.value) n.is; at_least = n.at_least; at_most = n.at_most }
 
-words_at : (o : Option Data) → KeptAt kind.Words o → AreWords o
+words_at : (o : Option Data) → KeptAt kind.HexWords o → AreWords o
 words_at None k = absurd (false≢true k.present)
 words_at (Some (string s)) k = absurd (false≢true k.kinds)
 words_at (Some (integer z)) k = absurd (false≢true k.kinds)
@@ -317,7 +317,7 @@ abbrev Stand : List Entry → Members → Type 0
 Stand [] ms = ⊤
 Stand (e ∷ es) ms = KeptAt e.kind (get_member e.name ms) × Stand es ms
 
-one_keeps : (r : Rule) (k : Kind) (o : Option Data) → KeptAt k o → keeps_at r k o ≡ true
+one_keeps : (r : Rule) (k : ValueKind) (o : Option Data) → KeptAt k o → keeps_at r k o ≡ true
 one_keeps rule.Known k o h = refl
 one_keeps rule.Present k o h = h.present
 one_keeps rule.Kinds k o h = h.kinds
@@ -358,12 +358,12 @@ equal a b e = grind (arith, nat_tests, e)
 not_empty : (n : ℕ) → 1 ≤ n → not (n == 0) ≡ true
 not_empty n h = grind (arith, nat_tests, h)
 
-words_stand : (o : Option Data) → AreWords o → KeptAt kind.Words o
+words_stand : (o : Option Data) → AreWords o → KeptAt kind.HexWords o
 words_stand o h =
     let ds = items_of (map (λ t. string t) h.words) in
     let long : count_items ds ≡ 4 = count-items_of (λ (t : List ℕ). string t) h.words ∙ h.four in
     let all : list_all is_hex_word h.words ≡ true = list_all-from_AllPass is_hex_word h.words (λ i d lt. (word _).1 (h.each i d lt)) in
-    subst (λ (x : Option Data). KeptAt kind.Words x) (sym h.are)
+    subst (λ (x : Option Data). KeptAt kind.HexWords x) (sym h.are)
     (record {
       present = refl;
       kinds = all_texts h.words;

@@ -8,23 +8,23 @@ use Rattle.crn_limits.specs.declared.TheConstants.{PERIOD_LIMIT, REPLICATION_LIM
 use Rattle.crn_spelling.specs.Hex.{is_hex_word}
 use Rattle.crn_stock.specs.declared.limits.TheConstants.{ITEM_LIMIT, LEAD_LIMIT, LEVEL_LIMIT, RATE_LIMIT, SETUP_LIMIT}
 use Rattle.crn_scenario.specs.Tree.{integers_of, texts_of, count_items, are_integers, are_texts, are_tables}
-use Rattle.crn_scenario.specs.declared.fields.Kind.{Kind}
-use Rattle.crn_scenario.specs.declared.fields.Kind.TheVariants as kind
+use Rattle.crn_scenario.specs.declared.fields.ValueKind.{ValueKind}
+use Rattle.crn_scenario.specs.declared.fields.ValueKind.TheVariants as kind
 use Rattle.crn_scenario.specs.declared.fields.Rule.{Rule}
 use Rattle.crn_scenario.specs.declared.fields.Rule.TheVariants as rule
 
 -- a key with what may stand there, and the first version of documents that has it
 pub record Entry : Type 0 where
   pub name : List ℕ
-  pub kind : Kind
+  pub kind : ValueKind
   pub since : ℕ
 
 -- a key that documents have from a version on
-abbrev pub entry_since : ℕ → List ℕ → Kind → Entry
+abbrev pub entry_since : ℕ → List ℕ → ValueKind → Entry
 entry_since version name k = record { name = name; kind = k; since = version }
 
 -- a key of all versions
-abbrev pub entry : List ℕ → Kind → Entry
+abbrev pub entry : List ℕ → ValueKind → Entry
 entry name k = entry_since 1 name k
 
 -- those of the keys that a version has
@@ -34,11 +34,11 @@ keys_of version es = filter (λ e. nat_le e.since version) es
 -- ---- the tables
 
 -- an integer from low to high
-abbrev pub number : ℕ → ℕ → Kind
+abbrev pub number : ℕ → ℕ → ValueKind
 number low high = kind.Number (pos low) (pos high)
 
 -- an array of integers from low to high, not empty
-abbrev pub numbers_within : ℕ → ℕ → Kind
+abbrev pub numbers_within : ℕ → ℕ → ValueKind
 numbers_within low high = kind.Numbers (pos low) (pos high)
 
 -- the greatest amount of stock
@@ -49,7 +49,7 @@ greatest_level = nat_abs LEVEL_LIMIT
 abbrev pub top_table : List Entry
 top_table =
     entry (codes "version") kind.Integer
-    ∷ entry (codes "key") kind.Words
+    ∷ entry (codes "key") kind.HexWords
     ∷ entry (codes "periods") (number 1 PERIOD_LIMIT)
     ∷ entry (codes "replications") (number 1 REPLICATION_LIMIT)
     ∷ entry (codes "initial") (number 0 greatest_level)
@@ -102,12 +102,12 @@ is_array_of test None = false
 is_array_of test (Some ds) = test ds
 
 -- whether a value is of a kind
-abbrev pub is_of_kind : Kind → Data → Bool
+abbrev pub is_of_kind : ValueKind → Data → Bool
 is_of_kind kind.Integer d = is_some (as_integer d)
 is_of_kind (kind.Number low high) d = is_some (as_integer d)
 is_of_kind (kind.Numbers low high) d = is_array_of are_integers (as_array d)
 is_of_kind kind.Text d = is_some (as_str d)
-is_of_kind kind.Words d = is_array_of are_texts (as_array d)
+is_of_kind kind.HexWords d = is_array_of are_texts (as_array d)
 is_of_kind kind.Table d = is_some (as_table d)
 is_of_kind kind.Tables d = is_array_of are_tables (as_array d)
 
@@ -132,19 +132,19 @@ are_four_words None = true
 are_four_words (Some ds) = (count_items ds == 4) && list_all is_hex_word (texts_of ds)
 
 -- whether a value is in the range of its kind; one of another kind is
-abbrev pub is_in_range : Kind → Data → Bool
+abbrev pub is_in_range : ValueKind → Data → Bool
 is_in_range kind.Integer d = true
 is_in_range (kind.Number low high) d = is_within low high (as_integer d)
 is_in_range (kind.Numbers low high) d = is_list_within low high (as_array d)
 is_in_range kind.Text d = true
-is_in_range kind.Words d = are_four_words (as_array d)
+is_in_range kind.HexWords d = are_four_words (as_array d)
 is_in_range kind.Table d = true
 is_in_range kind.Tables d = true
 
 -- ---- what a table must keep: that its keys are known, that none is missing, that kinds and that ranges are right
 
 -- whether what stands at one key keeps a rule
-abbrev pub keeps_at : Rule → Kind → Option Data → Bool
+abbrev pub keeps_at : Rule → ValueKind → Option Data → Bool
 keeps_at rule.Known k o = true
 keeps_at rule.Present k o = is_some o
 keeps_at rule.Kinds k None = true

@@ -18,7 +18,7 @@ use toml::{Table, Value};
 
 /// What may stand at a key.
 #[derive(Clone, Copy)]
-pub enum Kind {
+pub enum ValueKind {
     /// A whole number.
     Integer,
     /// A whole number from `low` to `high`.
@@ -28,7 +28,7 @@ pub enum Kind {
     /// A text.
     Text,
     /// A list of four hexadecimal words.
-    Words,
+    HexWords,
     /// A table.
     Table,
     /// A list of tables.
@@ -41,7 +41,7 @@ pub struct Field {
     /// The key.
     pub name: &'static str,
     /// What may stand there.
-    pub kind: Kind,
+    pub kind: ValueKind,
     /// The first version of documents that has the key. All later ones have it too.
     pub since: u32,
 }
@@ -63,13 +63,13 @@ pub enum Rule {
 pub const NEWEST_VERSION: u32 = 2;
 
 // An amount of stock: the initial stock, a reorder point and an order-up-to level.
-const LEVEL: Kind = Kind::Number {
+const LEVEL: ValueKind = ValueKind::Number {
     low: 0,
     high: LEVEL_LIMIT,
 };
 
 // A cost of one item.
-const RATE: Kind = Kind::Number {
+const RATE: ValueKind = ValueKind::Number {
     low: 0,
     high: RATE_LIMIT as i64,
 };
@@ -77,7 +77,7 @@ const RATE: Kind = Kind::Number {
 // Weights, whose sum is judged besides.
 const WEIGHTS: Field = Field {
     name: "weights",
-    kind: Kind::Numbers {
+    kind: ValueKind::Numbers {
         low: 0,
         high: TOTAL_LIMIT as i64,
     },
@@ -88,17 +88,17 @@ const WEIGHTS: Field = Field {
 pub const TOP: [Field; 11] = [
     Field {
         name: "version",
-        kind: Kind::Integer,
+        kind: ValueKind::Integer,
         since: 1,
     },
     Field {
         name: "key",
-        kind: Kind::Words,
+        kind: ValueKind::HexWords,
         since: 1,
     },
     Field {
         name: "periods",
-        kind: Kind::Number {
+        kind: ValueKind::Number {
             low: 1,
             high: PERIOD_LIMIT as i64,
         },
@@ -106,7 +106,7 @@ pub const TOP: [Field; 11] = [
     },
     Field {
         name: "replications",
-        kind: Kind::Number {
+        kind: ValueKind::Number {
             low: 1,
             high: REPLICATION_LIMIT as i64,
         },
@@ -119,32 +119,32 @@ pub const TOP: [Field; 11] = [
     },
     Field {
         name: "ring",
-        kind: Kind::Integer,
+        kind: ValueKind::Integer,
         since: 1,
     },
     Field {
         name: "costs",
-        kind: Kind::Table,
+        kind: ValueKind::Table,
         since: 1,
     },
     Field {
         name: "demand",
-        kind: Kind::Table,
+        kind: ValueKind::Table,
         since: 1,
     },
     Field {
         name: "lead",
-        kind: Kind::Table,
+        kind: ValueKind::Table,
         since: 1,
     },
     Field {
         name: "policy",
-        kind: Kind::Tables,
+        kind: ValueKind::Tables,
         since: 1,
     },
     Field {
         name: "returns",
-        kind: Kind::Table,
+        kind: ValueKind::Table,
         since: 2,
     },
 ];
@@ -153,7 +153,7 @@ pub const TOP: [Field; 11] = [
 pub const COSTS: [Field; 4] = [
     Field {
         name: "setup",
-        kind: Kind::Number {
+        kind: ValueKind::Number {
             low: 0,
             high: SETUP_LIMIT as i64,
         },
@@ -180,7 +180,7 @@ pub const COSTS: [Field; 4] = [
 pub const DEMAND: [Field; 2] = [
     Field {
         name: "values",
-        kind: Kind::Numbers {
+        kind: ValueKind::Numbers {
             low: 0,
             high: ITEM_LIMIT as i64,
         },
@@ -193,7 +193,7 @@ pub const DEMAND: [Field; 2] = [
 pub const LEAD: [Field; 2] = [
     Field {
         name: "values",
-        kind: Kind::Numbers {
+        kind: ValueKind::Numbers {
             low: 1,
             high: LEAD_LIMIT as i64,
         },
@@ -209,7 +209,7 @@ pub const RETURNS: [Field; 2] = DEMAND;
 pub const POLICY: [Field; 3] = [
     Field {
         name: "name",
-        kind: Kind::Text,
+        kind: ValueKind::Text,
         since: 1,
     },
     Field {
@@ -225,22 +225,22 @@ pub const POLICY: [Field; 3] = [
 ];
 
 // Whether a value is of a kind. An empty list is of every kind of list.
-fn is_of(kind: Kind, value: &Value) -> bool
+fn is_of(kind: ValueKind, value: &Value) -> bool
     ensures { result ≡ spec.is_of_kind kind (view value.now) }
 {
     match kind {
-        Kind::Integer | Kind::Number { .. } => value.is_integer(),
-        Kind::Numbers { .. } => match value.as_array() {
+        ValueKind::Integer | ValueKind::Number { .. } => value.is_integer(),
+        ValueKind::Numbers { .. } => match value.as_array() {
             Some(array) => are_integers(array),
             None => false,
         },
-        Kind::Text => value.is_str(),
-        Kind::Words => match value.as_array() {
+        ValueKind::Text => value.is_str(),
+        ValueKind::HexWords => match value.as_array() {
             Some(array) => are_texts(array),
             None => false,
         },
-        Kind::Table => value.is_table(),
-        Kind::Tables => match value.as_array() {
+        ValueKind::Table => value.is_table(),
+        ValueKind::Tables => match value.as_array() {
             Some(array) => are_tables(array),
             None => false,
         },
@@ -284,25 +284,25 @@ fn are_words(array: &Array) -> bool
 }
 
 // Whether a value is in the range of its kind. A value of another kind breaks no range.
-fn is_in_range(kind: Kind, value: &Value) -> bool
+fn is_in_range(kind: ValueKind, value: &Value) -> bool
     ensures { result ≡ spec.is_in_range kind (view value.now) }
 {
     match kind {
-        Kind::Number { low, high } => is_within(low, high, value.as_integer()),
-        Kind::Numbers { low, high } => match value.as_array() {
+        ValueKind::Number { low, high } => is_within(low, high, value.as_integer()),
+        ValueKind::Numbers { low, high } => match value.as_array() {
             Some(array) => count_items(array) != 0 && are_within(low, high, array),
             None => true,
         },
-        Kind::Words => match value.as_array() {
+        ValueKind::HexWords => match value.as_array() {
             Some(array) => count_items(array) == 4 && are_words(array),
             None => true,
         },
-        Kind::Integer | Kind::Text | Kind::Table | Kind::Tables => true,
+        ValueKind::Integer | ValueKind::Text | ValueKind::Table | ValueKind::Tables => true,
     }
 }
 
 // Whether what stands at a key keeps a rule.
-fn keeps_at(rule: Rule, kind: Kind, value: Option<&Value>) -> bool
+fn keeps_at(rule: Rule, kind: ValueKind, value: Option<&Value>) -> bool
     ensures { result ≡ spec.keeps_at rule kind (option_map (λ x. view x.now) value.entry) }
 {
     match (rule, value) {

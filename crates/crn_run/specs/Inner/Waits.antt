@@ -5,6 +5,7 @@ use Rattle.crn_proto.specs.declared.spec.RingSpec.{RingSpec}
 use Rattle.crn_proto.specs.declared.actor_parts.ProducerPart.{ProducerPart}
 use Rattle.crn_proto.specs.declared.actor_parts.ReaderPart.{ReaderPart}
 use Rattle.crn_ring.specs.Parts.{IsFull, SeesNothing}
+use Rattle.crn_run.specs.declared.waiting.TheConstants.{SPINS, YIELDS, LARGE_RING, READER_SLOTS, PRODUCER_SLOTS, LATENESS}
 use Rattle.crn_run.specs.declared.pausing.Pause.{Pause}
 use Rattle.crn_run.specs.declared.pausing.Pause.TheVariants.{Spin, Yield, Sleep}
 use Rattle.crn_run.specs.declared.waiting.Waiting.{Waiting}
@@ -21,20 +22,20 @@ pub record HasSeenNoSlot (spec : RingSpec) (p p' : ProducerPart) : Type 0 where
   pub taken : ℕ
   pub full : IsFull spec p p' reader taken
 
--- the nanoseconds for which a reader of a ring of so many slots sleeps: a microsecond for 8 slots, less 16, but at least one
+-- the nanoseconds for which a reader of a ring of so many slots sleeps: a microsecond for some slots, less a timer's lateness, but at least one
 abbrev pub reader_sleep : ℕ → ℕ
-reader_sleep size = max (size / 8 - 16) 1 * 1_000
+reader_sleep size = max (size / READER_SLOTS - LATENESS) 1 * 1_000
 
--- and its producer: a microsecond for 64 slots, but at least one
+-- and its producer: a microsecond for more slots, but at least one
 abbrev pub producer_sleep : ℕ → ℕ
-producer_sleep size = max (size / 64) 1 * 1_000
+producer_sleep size = max (size / PRODUCER_SLOTS) 1 * 1_000
 
--- A pause after `awake` waits for the same block that did not sleep, on a ring of so many slots: four waits spin, then 16
--- yield if there are fewer than 128 slots, and all others sleep for so many nanoseconds.
+-- A pause after `awake` waits for the same block that did not sleep, on a ring of so many slots: the first waits spin, then
+-- some yield unless the ring is large, and all others sleep for so many nanoseconds.
 abbrev pub Comes : ℕ → ℕ → ℕ → Pause → Type 0
-Comes size nanos awake Spin = awake < 4
-Comes size nanos awake Yield = (4 ≤ awake) × (awake < 20) × (size < 128)
-Comes size nanos awake (Sleep time) = (4 ≤ awake) × (size < 128 → 20 ≤ awake) × (as_nanos time ≡ nanos)
+Comes size nanos awake Spin = awake < SPINS
+Comes size nanos awake Yield = (SPINS ≤ awake) × (awake < SPINS + YIELDS) × (size < LARGE_RING)
+Comes size nanos awake (Sleep time) = (SPINS ≤ awake) × (size < LARGE_RING → SPINS + YIELDS ≤ awake) × (as_nanos time ≡ nanos)
 
 -- how many waits did not sleep, one more wait counted
 abbrev pub with_pause : ℕ → Pause → ℕ
