@@ -267,8 +267,9 @@ class Reader:
             self._reject("demand", row, self.names[item], wrong)
         if not totals:
             return set()
-        count = np.bincount(rows.codes("item"), minlength=len(self.names))
-        elsewhere = {code for kind, its in self.rows.items() if kind != "demand" for code in its.codes("item").tolist()}
+        count = np.bincount(rows.codes("item")[rows.good], minlength=len(self.names))
+        elsewhere = {code for kind, its in self.rows.items() if kind != "demand"
+                     for code in its.codes("item")[its.good].tolist()}
         return {item for item in totals if count[item] == totals[item] and item not in elsewhere}
 
     def _without_twins(self, good: Flags) -> Flags:
@@ -287,7 +288,8 @@ class Reader:
                                       self.column("demand", "item"), name, remark, len(lines) * leaves))
         self.counts["items"]["twice"] += len(again)
         self.counts["files"]["demand"]["rejected"] += len(again) * leaves
-        return good & ~np.isin(np.arange(len(good)), again) if leaves else good
+        good[again] = not leaves
+        return good
 
     def _leads(self) -> tuple[Numbers, Numbers, Numbers]:
         """Returns the lead times of orders by item, where those of each item end, and how many orders each item has."""
