@@ -5,7 +5,6 @@ import csv
 import dataclasses
 import json
 import re
-import subprocess
 import tomllib
 from collections.abc import Callable
 from decimal import Decimal
@@ -26,6 +25,7 @@ from crnplan.demand.fitting import fit_demand
 from crnplan.law import Law
 from crnplan.scenario import Costs, Policy, Scenario, policies_of, read_policies
 from planner.tests.conftest import Command
+from planner.tests.decide.answers import report_of
 
 TOP = Path(__file__).parents[2]
 EXAMPLES = [TOP / f"examples/{it}.toml" for it in ("two_policies", "mail_order", "spare_part")]
@@ -265,10 +265,6 @@ def test_policies_of_words(tmp_path: Path) -> None:
         read_policies(str(path))
 
 
-def ran(program: Path, text: str) -> str:
-    return subprocess.run([program], input=text, capture_output=True, text=True, check=True, timeout=60).stdout
-
-
 @pytest.mark.parametrize("path", EXAMPLES, ids=lambda path: path.stem)
 def test_report_is_the_programs_field_by_field(path: Path, program: Path) -> None:
     """Compares the table of a run with each field of the report that is kept beside the scenario."""
@@ -290,7 +286,7 @@ def test_many_policies(program: Path, scenario: Scenario) -> None:
     assert [it.policy for it in report.rows] == ["A", *(f"s{low}_S{high}" for low, high in pairs)]
     for row in report.rows[1:]:
         alone = scenario.changed(policies=[scenario.policies[0], Policy(row.policy, row.s, row.S)])
-        assert ran(program, alone.toml()) == dataclasses.replace(report, rows=(report.rows[0], row)).text
+        assert report_of(program, alone.toml()) == dataclasses.replace(report, rows=(report.rows[0], row)).text
     assert report.scenario.policies[0] == scenario.policies[0] and len(report.scenario.policies) == 41
     assert report.decide().frame.shape[0] == 41
 

@@ -1,6 +1,7 @@
 """Fixtures that run crnplan's commands in a folder with the examples, and changes of the examples."""
 from __future__ import annotations
 
+import subprocess
 from pathlib import Path
 
 import pytest
@@ -33,3 +34,8 @@ def changed(text: str, *pairs: str) -> str:
 def priced(path: Path, unit: int) -> str:
     """Returns an example, which leaves the price of an item out, with a price."""
     return changed(path.read_text("utf-8"), "\nunit = 0\n", f"\nunit = {unit}\n")
+
+
+def report_of(program: Path, text: str, *words: str) -> str:
+    """Returns what the program writes about a scenario."""
+    return subprocess.run([program, *words], input=text, capture_output=True, text=True, check=True).stdout

@@ -5,7 +5,6 @@ import csv
 import json
 import math
 import re
-import subprocess
 import tomllib
 from collections.abc import Callable
 from fractions import Fraction
@@ -16,7 +15,7 @@ import pytest
 import crnplan as crn
 from crnplan import formats
 from planner.tests.conftest import Command
-from planner.tests.decide.answers import changed, priced
+from planner.tests.decide.answers import changed, priced, report_of
 from planner.tests.decide.test_decide import pairs_sum
 
 KEYS = ["00000000000000a1", "00000000000000a2"]
@@ -69,16 +68,12 @@ def part(room: Path) -> Path:
     return path
 
 
-def run(program: Path, text: str) -> str:
-    return subprocess.run([program], input=text, capture_output=True, text=True, check=True).stdout
-
-
 def costs_of(program: Path, text: str, key: str, replications: int) -> dict[str, list[int]]:
     """Returns the costs of each policy in each replication: runs of 1, 2, .. replications begin with the same ones."""
     totals: list[dict[str, int]] = [{}]
     for count in range(1, replications + 1):
         asked = re.sub("replications = [0-9]+", f"replications = {count}", text.replace("5eed000000000001", key))
-        totals.append({row["policy"]: int(row["total"]) for row in csv.DictReader(run(program, asked).splitlines())})
+        totals.append({row["policy"]: int(row["total"]) for row in csv.DictReader(report_of(program, asked).splitlines())})
     pairs = list(zip(totals, totals[1:]))
     return {name: [after[name] - before.get(name, 0) for before, after in pairs] for name in totals[1]}
 
@@ -151,9 +146,9 @@ def test_runs_the_scenario_but_for_key_and_order(part: Path, room: Path, program
     text = (room / f"kept/key_{count}.toml").read_text("utf-8")
     assert tomllib.loads(text) == {**tree, "key": keys[-1], "replications": 256,
                                    "policy": [tree["policy"][it] for it in (3, 0, 1, 2)]}
-    assert run(program, text) == (room / f"kept/key_{count}.csv").read_text("utf-8")
+    assert report_of(program, text) == (room / f"kept/key_{count}.csv").read_text("utf-8")
     as_text = [", ".join(f'"{word}"' for word in key) for key in (keys[-1], tree["key"])]
-    assert run(program, changed(text, *as_text)) != run(program, text)
+    assert report_of(program, changed(text, *as_text)) != report_of(program, text)
     kept = f"kept/{'pooled' if count > 1 else 'key_1'}.csv"
     assert crnplan("decide", kept, "--replications", 256 * count).output in told.output
     assert crnplan("check", part, "both", *(word for key in keys for word in ["--key", *key])) == told

@@ -9,7 +9,6 @@ import dataclasses
 import json
 import math
 import statistics
-import subprocess
 import tomllib
 from collections.abc import Callable, Mapping, Sequence
 from fractions import Fraction
@@ -27,7 +26,7 @@ from crnplan.errors import Refused
 from crnplan.scenario import Scenario
 from crnplan.theory.run_effects import end_effects
 from planner.tests.conftest import Command
-from planner.tests.decide.answers import changed, priced
+from planner.tests.decide.answers import changed, priced, report_of
 
 HERE = Path(__file__).parent
 CASES = tomllib.loads((HERE / "decisions.toml").read_text("utf-8"))
@@ -53,10 +52,6 @@ SCENARIOS = {"below": ("initial = 12", "initial = -1"), "comma": ("initial = 12"
              "free": ("holding = 2", "holding = 0")}
 # The costs of each policy in each replication.
 Costs = Mapping[str, Sequence[int]]
-
-
-def report_of(program: Path, text: str, *words: str) -> str:
-    return subprocess.run([program, *words], input=text, capture_output=True, text=True, check=True).stdout
 
 
 @pytest.fixture

@@ -2,7 +2,6 @@
 from __future__ import annotations
 
 import csv
-import subprocess
 from fractions import Fraction
 from pathlib import Path
 
@@ -14,7 +13,7 @@ import crnplan as crn
 from crnplan.decide.sensitivity import changed_demand
 from crnplan.law import Law
 from planner.tests.conftest import Command
-from planner.tests.decide.answers import changed
+from planner.tests.decide.answers import changed, report_of
 
 # Demand of examples/two_policies.toml 10% up and down, by hand. For example 3 becomes 3.3: 3 with weight 2 * 7 and 4
 # with weight 2 * 3.
@@ -58,8 +57,8 @@ def costs_of(program: Path, owing: str, case: tuple[str, str, str, int]) -> list
     """Returns the cost per period of both policies, from a run of the scenario changed by hand."""
     _, old, new, times = case
     text = changed(owing, old, new) if old else owing
-    report = subprocess.run([program], input=text, capture_output=True, text=True, check=True).stdout
-    return [int(row["total"]) / times / (50 * 32) for row in csv.DictReader(report.splitlines())]
+    rows = csv.DictReader(report_of(program, text).splitlines())
+    return [int(row["total"]) / times / (50 * 32) for row in rows]
 
 
 @pytest.mark.parametrize("case", CASES, ids=[case[0] for case in CASES])
