@@ -3,8 +3,12 @@ from __future__ import annotations
 
 from collections.abc import Sequence
 
+from hypothesis import strategies as st
+
 from crnplan.law import Law
 from crnplan.scenario import Costs, Policy, Scenario
+from crnplan.theory.lattice import theories_of
+from crnplan.theory.long_run import LongRun
 
 # Values and their weights.
 Pair = tuple[Sequence[int], Sequence[int]]
@@ -27,3 +31,16 @@ def large(demands: Sequence[int], weights: Sequence[int], leads: Sequence[int], 
     """Returns a scenario with large costs and, as today's policy, the widest gap that there is."""
     lead = leads, [1] * len(leads)
     return scenario_of((demands, weights), lead, costs=Costs(setup, 1, 1, 10_000), levels=(0, 1_000_000))
+
+
+def laws(values: st.SearchStrategy[int], most: int) -> st.SearchStrategy[Pair]:
+    """Returns laws of up to so many values."""
+    return st.dictionaries(values, st.integers(1, 9), min_size=1, max_size=most).map(
+        lambda weights: (sorted(weights), [weights[it] for it in sorted(weights)]))
+
+
+def theory_of(scenario: Scenario) -> LongRun:
+    """Returns the theory of a scenario that is counted item by item, or pack by pack."""
+    theory, coarse = theories_of(scenario)
+    assert coarse is None
+    return theory

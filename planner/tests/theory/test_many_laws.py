@@ -15,8 +15,8 @@ from crnplan.theory import many_laws
 from crnplan.theory.lattice import NoTheory, shape_of, theory_on
 from crnplan.theory.many_laws import LawFigures, figures_of_laws, least_cost
 from planner.tests.theory.chain import by_chain
-from planner.tests.theory.scenarios import Pair, scenario_of, table
-from planner.tests.theory.test_figures import CHAINS, laws
+from planner.tests.theory.scenarios import Pair, laws, scenario_of, table
+from planner.tests.theory.test_figures import CHAINS
 
 LEVELS = [(0, 0), (0, 6), (2, 5), (3, 3), (1, 8), (6, 8)]
 POLICIES = [Policy.of_levels(*it) for it in LEVELS]

@@ -9,27 +9,14 @@ from hypothesis import example, given, settings
 from hypothesis import strategies as st
 
 from crnplan.scenario import Costs, Scenario
-from crnplan.theory.lattice import shape_of, theories_of, theory_on
-from crnplan.theory.long_run import Candidate, LongRun, search
+from crnplan.theory.lattice import shape_of, theory_on
+from crnplan.theory.long_run import Candidate, search
 
 from planner.tests.theory.chain import by_chain
 from planner.tests.theory.long_run_costs import costs_of, fills_of, shortfall_of
-from planner.tests.theory.scenarios import Pair, scenario_of, table
+from planner.tests.theory.scenarios import Pair, laws, scenario_of, table, theory_of
 
 SHARES = (0.5, 0.9, 0.95, 0.98, 0.995)
-
-
-def laws(most: int, count: int) -> st.SearchStrategy[Pair]:
-    """Returns laws of up to so many values."""
-    return st.dictionaries(st.integers(0, most), st.integers(1, 9), min_size=1, max_size=count).map(
-        lambda weights: (sorted(weights), [weights[it] for it in sorted(weights)]))
-
-
-def theory_of(scenario: Scenario) -> LongRun:
-    """Returns the theory of a scenario that is counted item by item, or pack by pack."""
-    theory, coarse = theories_of(scenario)
-    assert coarse is None
-    return theory
 
 
 def all_pairs(scenario: Scenario, most: int) -> np.ndarray:
@@ -55,7 +42,7 @@ def check(scenario: Scenario, found: Candidate, pairs: np.ndarray, share: float 
 
 
 @settings(max_examples=20)
-@given(demand=laws(7, 3).filter(lambda it: max(it[0]) > 0), back=st.none() | laws(1, 2),
+@given(demand=laws(st.integers(0, 7), 3).filter(lambda it: max(it[0]) > 0), back=st.none() | laws(st.integers(0, 1), 2),
        lead=st.sampled_from([[1], [2], [3], [1, 3], [1, 2, 4], [2, 4]]),
        costs=st.builds(Costs, st.integers(0, 60), st.just(0), st.integers(2, 9), st.integers(1, 40)))
 @example(([0, 6], [3, 1]), [2], None, Costs(20, 0, 2, 9))
