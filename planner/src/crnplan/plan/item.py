@@ -29,11 +29,10 @@ COMING = 64  # replications of the coming periods
 
 @dataclass(frozen=True)
 class Facts:
-    """What is read of an item: its facts, its history at a path and its lead times, with what is to be said of these
-    files, and the settings."""
+    """What is read of an item: its facts, its history and its lead times, with what is to be said of these files, and
+    the settings."""
 
     item: Item
-    path: Path
     history: History
     leads: LeadTimes | None
     settings: Tables
@@ -81,7 +80,7 @@ def read_item(history: str | Path, settings: str | Path) -> Facts:
                 leads.counts if leads else tuple(lead["times"]), (today["s"], today["S"]), costs["setup"],
                 costs["holding"], costs["backlog"], run["fill"], costs["unit"], returns if any(returns) else (),
                 stock=Fraction(today["stock"]), first=demand.first, rows=len(demand.counts))
-    return Facts(item, path, demand, leads, tables)
+    return Facts(item, demand, leads, tables)
 
 
 def settings_of(facts: Facts) -> Settings:
