@@ -26,7 +26,7 @@ from ..law import Law
 from ..scenario import Policy, Scenario
 from .lattice import NoTheory, Shape, finest, has_room, late_work, shape_of, theory_on, values_of
 from .lattice_law import room_for
-from .long_run import NO_POLICY, Candidate, LongRun
+from .long_run import NO_POLICY, Candidate, LongRun, place_of_least
 from .walk import Walk
 
 DEVIATIONS = 8  # of the net demand of the lead time, which have room
@@ -94,7 +94,7 @@ def least_cost(theory: LongRun, most: int) -> float:
         shares = np.linspace(0, 1, count)**(2 if high == most else 1)
         gaps = np.unique(np.rint(low + (high - low) * shares).astype(int)).tolist()
         _, costs = theory.costed(partial(theory.best_levels, share=0.0), gaps)
-        best = int(np.argmin(costs))
+        best = place_of_least(costs)
         least = min(least, float(costs[best]))
         low, high = gaps[max(best - 1, 0)], gaps[min(best + 1, len(gaps) - 1)]
     return least
