@@ -73,16 +73,19 @@ class Rows:
         width = len(self.source.heading)
         slots = [(column.place, self.columns[role], self._codes[role].append)
                  for role, column in self.source.columns.items()]
-        first_place = slots[0][0]
+        first_place, known, empty = slots[0][0], slots[0][1], set[Cell](("", None))
         add_line, add_hash = self._lines.append, self._hashes.append
         for line, cells in self.source.rows():
             if len(cells) != width:
                 if any(map(text_of, cells[width:])):
                     self.wide[len(self._lines)] = len(cells), ",".join(map(text_of, cells))
                 cells = [*cells[:width], *[""] * (width - len(cells))]
-            if not text_of(cells[first_place]) and len(self._lines) not in self.wide and not any(map(text_of, cells)):
-                self.blank.append(line)
-                continue
+            first = cells[first_place]
+            if first in empty or first not in known and not text_of(first):
+                empty.add(first)
+                if len(self._lines) not in self.wide and not any(map(text_of, cells)):
+                    self.blank.append(line)
+                    continue
             for place, codes, append in slots:
                 append(codes[cells[place]])
             add_line(line)
