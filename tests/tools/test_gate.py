@@ -12,6 +12,7 @@ from .machine import Machine, Ran, write_script
 PYTHON = r"""
 case "$*" in
 *mypy*) part=types ;;
+*planner.lines*) part=lines ;;
 *"-m not serial"*) part=suites ;;
 *"-m serial"*) part=serial ;;
 *" tests/sources") part=sources ;;
@@ -29,8 +30,9 @@ WELL = {"setup": "tools/setup: all is there", "types": "Success: no issues found
         "sources": "........\n8 passed in 1.20s", "proofs": "proved\n20 passed, 0 failed",
         "rounds": "4 passed, 0 failed (1 judged, 3 kept)",
         "suites": "....\ntests/program: 300 cases\n100 passed, 3 deselected, 1 warning in 61.20s (0:01:01)",
+        "lines": "0 lines of crnplan are not run by any test; 0 faults",
         "serial": "3 passed, 100 deselected in 2.10s"}
-PASSED = 1 + 1 + 8 + 20 + 4 + 100 + 3
+PASSED = 1 + 1 + 8 + 20 + 4 + 100 + 1 + 3
 PARTS = list(WELL)
 
 
@@ -75,15 +77,16 @@ def test_output_and_times_of_each_part_are_shown(machine: Machine) -> None:
 def test_suites_run_beside_the_rounds_and_the_rest_after_them(machine: Machine) -> None:
     write_script(machine.top / "tools" / "rounds.py", "sleep 0.5\n" + PART.format("rounds"))
     gate(machine)
-    assert [it.split(":")[0] for it in machine.logged()][-3:] == ["suites", "rounds", "serial"]
+    assert [it.split(":")[0] for it in machine.logged()][-4:] == ["suites", "lines", "rounds", "serial"]
 
 
 def test_tests_run_once_each(machine: Machine) -> None:
     gate(machine)
     words = dict(it.split(": ", 1) for it in machine.logged())
-    assert words["suites"].endswith(" -m not serial --ignore tests/sources")
+    suites, folder = words["suites"].split(" --lines ")
+    assert suites.endswith(" -m not serial --ignore tests/sources") and words["lines"] == f"-m planner.lines {folder}"
     assert words["serial"].endswith(" -m serial --ignore tests/sources")
-    assert " -n " in words["suites"] and " -n " not in words["serial"]
+    assert " -n " in suites and " -n " not in words["serial"]
 
 
 @pytest.mark.parametrize("part, status, text, counts", [
@@ -96,6 +99,8 @@ def test_tests_run_once_each(machine: Machine) -> None:
     pytest.param("suites", 0, "99 passed, 1 xfailed in 1.20s", (PASSED - 1, 1), id="a test is expected to fail"),
     pytest.param("suites", 0, "99 passed, 1 xpassed in 1.20s", (PASSED - 1, 1), id="a test passes against expectation"),
     pytest.param("rounds", 139, "4 passed, 0 failed", (PASSED, 1), id="counts are right and the status is not"),
+    pytest.param("lines", 1, "2 lines of crnplan are not run by any test; 2 faults", (PASSED - 1, 1),
+                 id="lines are not run"),
     pytest.param("serial", 137, "..", (PASSED - 3, 1), id="tests are killed"),
     pytest.param("serial", 5, "no tests ran in 0.01s", (PASSED - 3, 1), id="no test runs"),
     pytest.param("serial", 0, "0 passed in 0.01s", (PASSED - 3, 1), id="nothing is counted"),
