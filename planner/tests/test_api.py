@@ -123,6 +123,13 @@ def test_wrong_words(words: list[str], message: str, crnplan: Command) -> None:
     assert crnplan(*words) == (2, "", f"crnplan: {message}\n")
 
 
+def test_completion(crnplan: Command, monkeypatch: pytest.MonkeyPatch) -> None:
+    """Gives a shell the commands that begin like a word, as click's completion asks for them."""
+    for name, value in (("_CRNPLAN_COMPLETE", "bash_complete"), ("COMP_WORDS", "crnplan wh"), ("COMP_CWORD", "1")):
+        monkeypatch.setenv(name, value)
+    assert crnplan() == (0, "plain,why\nplain,where\n", "")
+
+
 def test_options_of_the_command_that_read() -> None:
     """A page that is written again names the options of the command that read the files."""
     assert group.get_command(click.Context(group), "report") and as_option("end", "") == "--to"

@@ -3,6 +3,7 @@ from __future__ import annotations
 
 import csv
 import os
+import pickle
 import re
 import sqlite3
 import subprocess
@@ -13,6 +14,8 @@ from pathlib import Path
 
 import pytest
 
+from crnplan.errors import CrnplanError, Failed, Fault, RefusedFaults
+from crnplan.files import faults_of
 from crnplan.scenario import Scenario
 from planner.tests.conftest import Command
 from planner.tests.test_folders import CATALOGUE, ITEM, SWEEP, room
@@ -56,6 +59,7 @@ def test_a_full_standard_output(room: Path, program: Path, words: Sequence[str])
 @pytest.mark.parametrize("fault, part", [(MemoryError(), "out of memory"), (KeyError("x"), "a fault of crnplan itself: "
                                                                             "KeyE"),
                                          (RecursionError("deep"), "a fault of crnplan itself: RecursionError: deep ("),
+                                         (sqlite3.DatabaseError("malformed"), "a store in it is damaged (malformed)"),
                                          (OSError(5, "Input/output error"), "Input/output error; what was done "
                                           "before")])
 def test_faults_that_no_input_is_to_blame_for(crnplan: Command, monkeypatch: pytest.MonkeyPatch, fault: Exception,
@@ -66,6 +70,29 @@ def test_faults_that_no_input_is_to_blame_for(crnplan: Command, monkeypatch: pyt
     monkeypatch.setattr(Scenario, "read", raised)
     status, output, errors = crnplan("run", "base.toml")
     assert (status, output, errors.count("\n")) == (3, "", 1) and f"crnplan: {part}" in errors or part in errors
+
+
+def test_a_pipe_of_the_caller(tmp_path: Path) -> None:
+    """Leaves a broken pipe to who has written on it: it is no fault of a folder."""
+    with pytest.raises(BrokenPipeError), faults_of(tmp_path):
+        raise BrokenPipeError
+
+
+@pytest.mark.parametrize("fault", [Failed("a disk", "make room"), RefusedFaults([Fault("no date", "a.csv", 3, 2)])])
+def test_an_error_of_another_process(fault: CrnplanError) -> None:
+    """An error that was sent by another process is as it was there, with what its kind has."""
+    sent = pickle.loads(pickle.dumps(fault))
+    assert type(sent) is type(fault) and (str(sent), vars(sent)) == (str(fault), vars(fault))
+
+
+def test_parts_on_a_terminal(room: Path, program: Path) -> None:
+    """Names the parts of an item's plan on a terminal, before each."""
+    terminal, end = os.openpty()
+    ran = run(ITEM, program, stderr=end)
+    os.close(end)
+    lines = os.read(terminal, 4_096).decode().splitlines()
+    os.close(terminal)
+    assert ran.returncode == 0 and lines[0] == "plan .." and "summary.html .." in lines
 
 
 def page_of_zeros(path: Path) -> None:
@@ -95,6 +122,22 @@ def test_a_damaged_store(room: Path, crnplan: Command, program: Path, name: str,
     (room / "plan" / name).unlink()
     assert crnplan(*CATALOGUE, "--program", program).status == 0
     assert (room / "plan/decisions.csv").read_bytes() == before
+
+
+def test_a_store_that_cannot_be_opened(room: Path, crnplan: Command, program: Path) -> None:
+    """Says that SQLite can't open a store, which is not damaged."""
+    assert crnplan(*CATALOGUE, "--program", program).status == 0
+    (room / "plan/answers.sqlite-wal").mkdir()
+    status, _, errors = crnplan(*CATALOGUE, "--program", program)
+    assert status == 3 and "plan: " in errors and "name a folder that can be written" in errors, errors
+
+
+def test_a_plan_that_was_refused(room: Path, crnplan: Command, program: Path) -> None:
+    """Finds no plan in a folder of which only the rows were read: one item is too few to learn from."""
+    told = crnplan(*CATALOGUE, "--borrow", "all", "--program", program)
+    assert told.status == 2 and (room / "plan/answers.sqlite").is_file()
+    told = crnplan(*REPORT)
+    assert told.status == 2 and "plan: no plan is in it" in told.errors
 
 
 def test_an_answer_that_was_changed(room: Path, crnplan: Command, program: Path) -> None:

@@ -81,6 +81,8 @@ def test_check_writes_nothing(room: Path, crnplan: Command, program: Path) -> No
     before = contents(room)
     assert crnplan(*CATALOGUE, "--check").status == 0 and contents(room) == before
     assert crnplan(*CATALOGUE[:-2], "--check").status == 0 and contents(room) == before
+    told = crnplan(*CATALOGUE[:-2])
+    assert told.status == 2 and "--out is missing" in told.errors and contents(room) == before
     assert crnplan(*CATALOGUE, "--program", program).status == 0
     before = contents(room)
     (room / "demand.csv").write_text(DEMAND + "A,2026-06-30,4\nA,2026-06-30,n/a\n", "utf-8")
@@ -161,6 +163,14 @@ def test_a_marker_that_was_cut(room: Path, crnplan: Command, program: Path) -> N
     (room / "plan/summary.txt").unlink()
     assert crnplan(*CATALOGUE, "--program", program).status == 0
     assert "summary.txt" in marker.read_text("utf-8").splitlines()
+
+
+def test_a_marker_that_is_no_file(room: Path, crnplan: Command) -> None:
+    """Refuses a folder whose marker is a pipe, and does not wait for it."""
+    (room / "plan").mkdir()
+    os.mkfifo(room / "plan/crnplan-folder.txt")
+    told = crnplan(*CATALOGUE)
+    assert told.status == 2 and "plan/crnplan-folder.txt: it is no file" in told.errors
 
 
 def test_what_a_killed_run_has_left(room: Path, crnplan: Command, program: Path) -> None:

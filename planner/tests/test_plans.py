@@ -7,6 +7,7 @@ import pandas as pd
 import pytest
 
 import crnplan as crn
+from crnplan.plan import catalogue
 from crnplan.table import Result
 
 SETTINGS = {"fit": "empirical", "borrow": "none", "periods": 64, "replications": 8, "jobs": 1}
@@ -97,6 +98,33 @@ def test_a_refusal_names_the_argument(words: dict[str, object], message: str, pa
     with pytest.raises(ValueError, match=message) as refused:
         crn.plan(**given)  # type: ignore[arg-type]
     assert "--" not in str(refused.value)
+
+
+def test_plain_data(plan: crn.Plan) -> None:
+    """The rows are plain data, unrounded, with None for no figure."""
+    rows = plan.tree["rows"]
+    assert isinstance(rows, list) and [it["saving"] for it in rows] == list(plan.decisions.saving)
+    assert [it["fill_wanted"] is None for it in rows] == list(plan.decisions.fill_wanted.isna())
+
+
+def test_rows_that_are_lost(paths: list[Path], program: Path, monkeypatch: pytest.MonkeyPatch) -> None:
+    """Raises Lost if counts do not add up."""
+    monkeypatch.setattr(catalogue, "missing_of", lambda *_: ["items: 1 of 40 is lost"])
+    with pytest.raises(catalogue.Lost, match="1 of 40 is lost"):
+        crn.plan(*paths, program=program, **SETTINGS)
+
+
+def test_rows_that_were_read_and_not_planned(tmp_path: Path, program: Path) -> None:
+    """Refuses an item whose rows are others since it was planned: the plan of the new ones was refused."""
+    sales = pd.DataFrame({"item": "A", "date": pd.date_range("2026-01-05", periods=20, freq="7D"), "quantity": 3})
+    masters = pd.DataFrame([{"item": "A", "setup": 20, "holding": 1, "backlog": 9, "lead": 1, "s": 5, "S": 20}])
+    words = {**SETTINGS, "every": "week", "out": tmp_path / "plan", "program": program}
+    planned = crn.plan(sales, masters, **words)
+    assert planned.item("A").table.rows
+    with pytest.raises(crn.Refused, match="30"):
+        crn.plan(sales.assign(quantity=4), masters, **{**words, "fit": "auto", "borrow": "all"})
+    with pytest.raises(crn.Refused, match="'A': it is not planned as its rows are now"):
+        planned.item("A")
 
 
 def test_an_item_that_is_left_out(plan: crn.Plan) -> None:

@@ -35,6 +35,7 @@ def test_from_a_history_to_a_decision(movements: Path, program: Path) -> None:
     assert law == crn.fit_demand(history, method="auto") and lead == crn.fit_lead([2, 3, 2, 4], method="auto")
     assert list(theory["policy"])[:2] == ["today", "best"]
     assert list(report.frame.index) == list(theory["policy"])
+    assert report._repr_html_().count("<tr>") == len(theory) + 1 and report._repr_html_().endswith("</table>\n")
     assert isinstance(report.frame.loc["best", "per_period"], Fraction)
     assert isinstance(int(report.frame.loc["best", "total"]), int)
     assert set(decision.index) == set(theory["policy"])

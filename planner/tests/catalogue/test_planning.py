@@ -262,6 +262,7 @@ def test_confidence_and_its_price(begun: Path, crnplan: Command, program: Path) 
     ("catalogue = 3\n", "[catalogue]: 3 is a whole number; a table should stand here"), ("[catalogue]\nlevel = 2\n",
                                                                                          "level"),
     ("[catalogue]\nconfidence = 80\n", "0.8 for 80% of the laws"),
+    ("[catalogue.units]\n'items.lead' = 7\n", "7 is a whole number; a text should stand here"),
     ("[catalogue\n", "crnplan.toml:1")])
 def test_refused_settings(folder: Path, crnplan: Command, text: str, said: str) -> None:
     """Says what is wrong with crnplan.toml, and where."""

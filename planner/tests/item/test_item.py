@@ -9,6 +9,7 @@ from pathlib import Path
 
 import pytest
 
+import crnplan as crn
 from crnplan import Scenario
 from crnplan.decide.doubt import doubt
 from crnplan.demand.checks import check_history
@@ -64,6 +65,13 @@ def test_again_the_same_bytes(room: Path, whole: Path, crnplan: Command, monkeyp
     for out in ("other/plan", "other/plan"):
         assert crnplan("item", "history.csv", "./settings.toml", "--out", out, "--program", "./program").status == 0
         assert bytes_of(whole) == bytes_of(room / out)
+
+
+def test_from_python(room: Path, whole: Path) -> None:
+    """`plan_item` gives the same plan without a folder, and writes nothing."""
+    before = bytes_of(room)
+    item = crn.plan_item(room / "history.csv", room / "settings.toml", program=room / "program")
+    assert item.table.csv == (whole / "policies.csv").read_text() and bytes_of(room) == before
 
 
 @pytest.mark.parametrize("writes", [0, 1, 5, 9])

@@ -155,6 +155,16 @@ def test_a_late_batch_goes_to_another_worker(late: Sequence[str], wanted: Sequen
     assert client.submit.call_args.kwargs["workers"] == wanted
 
 
+def test_a_program_that_only_workers_have(room: Path, monkeypatch: pytest.MonkeyPatch) -> None:
+    """Takes the digest of a program that is not on this machine from the workers."""
+    own = jobs.identity("")
+    client = Mock(ncores=lambda: {"a": 1}, scheduler_info=lambda: {"workers": {}},
+                  run=lambda *_, **__: {"a": {**own, "crnsim": "theirs"}})
+    monkeypatch.setitem(sys.modules, "distributed", Mock(Client=lambda *_, **__: client))
+    assert jobs.program_digest(str(room / "none"), LOOPBACK) == "theirs"
+    assert jobs.program_digest(str(room / "none"), None) == ""
+
+
 def test_a_stranger_that_comes_later(cluster: Cluster, room: Path) -> None:
     """Refuses a worker with another crnplan that joins in the middle, and keeps what the others did."""
     start(cluster, "sweep", "--program", "./holding", "--out", "kept")

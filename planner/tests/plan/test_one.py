@@ -9,9 +9,10 @@ from typing import Any
 import pytest
 
 from crnplan.plan import one, question as questions
-from crnplan.plan.answer import (CHEAPER, DISAGREES, NO_INTERVAL, NO_POLICY, RUN, SAME, SERVICE, THEORY, UNDECIDED,
-                                 Answer)
-from crnplan.plan.one import Disagreement, plan_item, plan_one
+from crnplan.plan.answer import (CHEAPER, DISAGREES, NO_INTERVAL, NO_POLICY, ROUNDED_COSTS, RUN, SAME, SERVICE, THEORY,
+                                 UNDECIDED, Answer)
+from crnplan.plan.depth import Depth
+from crnplan.plan.one import Disagreement, allowed_by, plan_item, plan_one
 from crnplan.plan.question import Question, Settings, question_of
 from crnplan.demand.learning import Prior
 from crnplan.records.item import Item
@@ -21,6 +22,7 @@ from planner.tests.plan.items import alone, item_of
 from planner.tests.theory.long_run_costs import cost_of, shortfall_of
 
 NONE = Prior("none")
+LEAST = 10  # laws that are drawn at least
 
 
 def answer_of(item: Item, settings: Settings, program: Path) -> Answer:
@@ -120,6 +122,23 @@ def test_why_there_is_no_interval(program: Path) -> None:
     remark, = (it for it in answer.remarks if it.code == NO_INTERVAL)
     assert answer.run.estimate.error is answer.run.estimate.low is None and answer.source == THEORY
     assert 0 < float(remark.facts["orders"] or 0) < 2 and answer.verdict == CHEAPER
+
+
+def test_costs_that_are_rounded(program: Path) -> None:
+    """Costs that no scale makes whole within their ranges are rounded: beside 9000 of at most 10,000, 2.55 is 3."""
+    answer = answer_of(item_of(unit=Fraction(9_000), holding=Fraction(1), backlog=Fraction("2.55")), alone(), program)
+    remark, = (it for it in answer.remarks if it.code == ROUNDED_COSTS)
+    assert remark.facts["error"] == pytest.approx(3 / 2.55 - 1)
+
+
+def test_no_law_with_a_long_run(program: Path) -> None:
+    """There is no doubt to state if as much comes back as is asked for under each law that the history allows."""
+    returns = (*[1] * 58, 0, 1)  # 60 are asked for at once, and 59 come back
+    questions_of_names = (question_of(item_of(name=str(name), counts=(*[0] * 59, 60), returns=returns, levels=(5, 30)),
+                                      alone(fit="empirical")) for name in range(200))
+    question = next(it for it in questions_of_names
+                    if all(60 * law.mean <= 59 for law in allowed_by(it, LEAST)[0]))
+    assert Depth(question, plan_one(question, str(program)), str(program), LEAST).doubt() is None
 
 
 def test_an_item_without_a_policy(program: Path, monkeypatch: pytest.MonkeyPatch) -> None:
