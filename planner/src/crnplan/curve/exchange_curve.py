@@ -182,7 +182,7 @@ def confirmed(gathered: Gathered, choices: Mapping[str, Choice], said: Mapping[s
     wide, far = max(map(len, said.values())), list[str]()
     for name, (theory, run, variance) in sums.items():
         share = run / theory - 1 if theory else 0.0
-        far += [said[name]] * (abs(share) > CLOSE)
+        far += [said[name]] if abs(share) > CLOSE else []
         lines.append(f"{said[name].ljust(wide)}  {run:,.2f} by runs (standard error {math.sqrt(variance):,.2f}), "
                      f"{theory:,.2f} by theory ({share:+.2%})")
     return [*lines, f"More than {CLOSE:.0%} apart, so look at these items: {', '.join(far)}."] if far else lines

@@ -82,12 +82,10 @@ def values_of(scenario: Scenario) -> list[int]:
     return [value for it in net_tables(scenario) for value, weight in zip(it.values, it.weights) if value * weight]
 
 
-def height_of(scenario: Scenario, high: int) -> float:
+def height_of(demand: Law, returns: Law, high: int) -> float:
     """Returns how far above S returns may lift the stock, in items: beyond, the chance is below any rounding."""
-    if scenario.returns is None:
-        return 0.0
     step = max(1, high // CELLS_OF_SHAPE)
-    net = sum_of(LatticeLaw.of(scenario.demand, step), LatticeLaw.of(scenario.returns, step).reflected)
+    net = sum_of(LatticeLaw.of(demand, step), LatticeLaw.of(returns, step).reflected)
     return 0.0 if net.low >= 0 else step * DIGITS / decay_of(net)
 
 
@@ -115,7 +113,7 @@ def shape_of(scenario: Scenario) -> Shape:
     rate = 2 * costs.setup * (costs.holding + costs.backlog) / (costs.holding * costs.backlog)
     order = math.sqrt(rate * mean) + (rate * variance)**(1 / 3)
     leads = [value for value, weight in zip(scenario.lead.values, scenario.lead.weights) if weight]
-    height = height_of(scenario, max(values)) if back else 0.0
+    height = height_of(scenario.demand, scenario.returns, max(values)) if scenario.returns and back else 0.0
     rise = max(0, max(scenario.returns.values) - min(scenario.demand.values)) if scenario.returns else 0
     return Shape(mean, math.sqrt(variance), max(values), max(leads), len(leads), order, height, rise)
 
