@@ -4,7 +4,7 @@ from __future__ import annotations
 import math
 import random
 import subprocess
-from collections.abc import Iterator
+from collections.abc import Callable, Iterator
 from dataclasses import replace
 from pathlib import Path
 
@@ -14,7 +14,8 @@ import pytest
 from crnplan.crnsim import long_run
 from crnplan.crnsim.long_run import (COUNT_ORDERS, OWN_PERIODS, OWN_STREAMS, START_STREAM, drawn, keys_of, long_run_of,
                                      places_of, settled, stream_words, words_of_keys)
-from crnplan.errors import Refused
+from crnplan.crnsim.report import report_of
+from crnplan.errors import ProgramError, Refused
 from crnplan.law import Law
 from crnplan.scenario import Costs, Policy, Scenario
 from planner.tests.crnsim.slow import History, draws_of, key_words, simulate, spread
@@ -139,6 +140,20 @@ def test_more_policies_than_a_run_takes(program: Path) -> None:
     found = long_run_of(whole, 2, program)
     alone = [long_run_of(PLAIN.with_policies([it]), 2, program).costs for it in whole.policies]
     assert found.costs == tuple(tuple(its[key][0] for its in alone) for key in range(2))
+
+
+@pytest.mark.parametrize("run", [report_of, lambda scenario, program: long_run_of(scenario, 2, program)],
+                         ids=["report", "long run"])
+def test_a_program_whose_base_differs(run: Callable[[Scenario, Path], object], program: Path, tmp_path: Path) -> None:
+    """A program is refused that has for the base's total how many lines it writes: 17 and 3."""
+    other = tmp_path / "other"
+    other.write_text(f"""#!/bin/sh
+lines=$("{program}" "$@")
+echo "$lines" | sed "2s/^\\([^,]*,[^,]*,[^,]*\\),[^,]*/\\1,$(echo "$lines" | wc -l)/"
+""")
+    other.chmod(0o755)
+    with pytest.raises(ProgramError, match="other: the base has not the same .* name crnsim with"):
+        run(PLAIN.with_policies([Policy.of_levels(6, 14 + place) for place in range(17)]), other)
 
 
 def test_reports_of_two_keys(program: Path) -> None:

@@ -30,8 +30,8 @@ def test_values(two_policies: str) -> None:
     assert report.text == TEXT and frame.index.name == "policy" and list(frame) == HEADER.split(",")[1:]
     assert list(frame.loc["B"]) == [60, 80, 200, Fraction(50), -22, Fraction(-11, 2), Fraction(7, 2), Fraction(-1, 9)]
     assert list(report.floats().loc["B"]) == [60, 80, 200, 50, -22, -5.5, 3.5, -1 / 9]
-    assert report.table.records[1] == dict(zip(HEADER.split(","), ["B", 60, 80, 200, "50/1", -22, "-11/2", "7/2",
-                                                                   "-1/9"]))
+    plain = ["A", 20, 40, 222, "111/2", 0, "0/1", "0/1", "5/3"], ["B", 60, 80, 200, "50/1", -22, "-11/2", "7/2", "-1/9"]
+    assert report.tree == {"policies": [dict(zip(HEADER.split(","), cells)) for cells in plain]}
 
 
 def test_no_figures(two_policies: str) -> None:

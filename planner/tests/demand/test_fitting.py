@@ -68,17 +68,12 @@ def test_bulks() -> None:
 @pytest.mark.parametrize("family", FAMILIES)
 def test_named_family(family: str, numbers: list[int]) -> None:
     """A named family's law is its predictive law, whose mean it has but for rounding."""
-    allowed = fits_of(Sample.of(numbers))
-    if family not in allowed:
-        with pytest.raises(Refused, match=f"the history does not allow the family {family}; it allows hurdle|poisson"):
-            fit_demand(numbers, method=family)
-        return
     law = fit_demand(numbers, method=family)
     base = predictive_of(family, Sample.of(numbers))
     assert law.family == family
     assert law.figures.mean == pytest.approx(float(law.mean))
     assert abs(law.figures.mean - base @ np.arange(len(base))) <= len(base) * 0.5001 / 65_536
-    assert {*law.diagnostics.bic} == {*allowed}
+    assert {*law.diagnostics.bic} == {*fits_of(Sample.of(numbers))}
 
 
 def test_the_guard_decides() -> None:
@@ -247,9 +242,10 @@ def test_refused_numbers(numbers: Sequence[Any], part: str) -> None:
 @pytest.mark.parametrize("fit, words, message", [
     (fit_demand, {"method": "normal"}, "there is no method 'normal' to fit demand; say auto, predictive, empirical, "),
     (fit_lead, {"method": "poisson"}, "there is no method 'poisson' to fit lead times; say auto or empirical"),
+    (fit_demand, {"method": "poisson"}, "the history does not allow the family poisson; it allows none"),
     (fit_demand, {"box": 0}, "0 is no number of items in a box; it is at least 1")])
 def test_refused_words(fit: Any, words: dict[str, Any], message: str) -> None:
-    """A method that isn't there and a box of nothing are refused."""
+    """A method that isn't there, a family for one demand and a box of nothing are refused."""
     with pytest.raises(Refused, match=message):
         fit([1], **words)
 

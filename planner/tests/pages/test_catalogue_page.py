@@ -23,7 +23,7 @@ from crnplan.files import own_folder
 from crnplan.pages import catalogue_page
 from crnplan.pages.catalogue_page import COLUMNS, LARGE, MEANING, NO_CURVE, OLD_CURVE, clipped, file_of
 from crnplan.pages.catalogue_tables import reasons_of
-from crnplan.plan.answer import CHEAPER, DEARER, SAME, SERVICE, UNDECIDED, Answer
+from crnplan.plan.answer import CHEAPER, DEARER, RUN, SAME, SERVICE, UNDECIDED, Answer
 from crnplan.plan.catalogue import ANSWERS, Totals
 from crnplan.records.catalogued import CATALOGUE, READ, Reject, Writer
 from crnplan.remarks import Remark
@@ -129,6 +129,17 @@ def test_totals(large: Path) -> None:
     assert more and f"of {len(more)} items. Keeping it costs {-math.fsum(more):,.2f} a week" in page.words
     verdicts = {row[0]: int(row[1].replace(",", "")) for row in page.tables["Verdicts"][1:]}
     assert verdicts == Counter(it.verdict for it in answers)
+
+
+@pytest.mark.parametrize("error, said", [(0.6, "the runs cannot tell the chosen policies from today's"),
+                                         (0.5, "The chosen policies save 1.00 a week, 10.0% of today's cost")])
+def test_headline_of_runs(tmp_path: Path, error: float, said: str) -> None:
+    """If all items go by runs, the chosen policies are better only if the 95% interval, 1 with 1.96 standard errors at
+    each side, is above 0."""
+    item, answer = made_pair(random.Random(1), "it")
+    run = replace(answer.run, estimate=replace(answer.run.estimate, saving=1.0, error=error))
+    answer = replace(answer, source=RUN, cost_today=10.0, cost_chosen=9.0, saving=1.0, run=run)
+    assert said in Page(crn.report(made_folder(tmp_path / "plan", 0, has_curve=False, change=(item, answer)))).words
 
 
 def test_service_is_weighted_by_value() -> None:

@@ -9,6 +9,8 @@ from pathlib import Path
 
 import pytest
 
+from crnplan.crnsim.trajectory import Period
+from crnplan.scenario import Policy
 from planner.tests.conftest import Command
 
 PNG = b"\x89PNG\r\n\x1a\n"
@@ -85,6 +87,17 @@ def test_no_folder(crnplan: Command, tmp_path: Path) -> None:
     """A picture that cannot be written is refused, and names the file."""
     status, output, errors = crnplan("decide", *SWEEP, "--plot", tmp_path / "no_folder/it.png")
     assert (status, output, errors.count("\n")) == (2, "", 1) and "no_folder/it.png: No such file" in errors
+
+
+@pytest.mark.parametrize("level", [11, 12, 20, 21, 30, 100])
+def test_names_of_levels_stand_apart(level: int) -> None:
+    """The names of s and S, of 9 points each, do not overlap, and are at their levels if these are far apart."""
+    from crnplan.pages.pictures import trajectories_picture
+    policy = Policy("it", 10, level)
+    figure = trajectories_picture([policy], [[Period(0, 50, 150, 150), Period(0, 150, 0, 0)]], 200)
+    low, high = (text.get_window_extent() for text in figure.axes[0].texts)
+    assert low.y1 <= high.y0 + 1
+    assert level < 100 or {text.xyann for text in figure.axes[0].texts} == {(5, 0)}
 
 
 @pytest.mark.parametrize("name", ["it.pdf", "it", "svg", "it.svg.gz"])
