@@ -5,6 +5,7 @@ import csv
 import os
 import pickle
 import re
+import resource
 import sqlite3
 import subprocess
 import sys
@@ -15,7 +16,7 @@ from pathlib import Path
 import pytest
 
 from crnplan.errors import CrnplanError, Failed, Fault, RefusedFaults
-from crnplan.files import faults_of
+from crnplan.files import faults_of, own_folder
 from crnplan.scenario import Scenario
 from planner.tests.conftest import Command
 from planner.tests.test_folders import CATALOGUE, ITEM, SWEEP, room
@@ -70,6 +71,18 @@ def test_faults_that_no_input_is_to_blame_for(crnplan: Command, monkeypatch: pyt
     monkeypatch.setattr(Scenario, "read", raised)
     status, output, errors = crnplan("run", "base.toml")
     assert (status, output, errors.count("\n")) == (3, "", 1) and f"crnplan: {part}" in errors or part in errors
+
+
+def test_a_disk_that_gets_full(tmp_path: Path) -> None:
+    """Says that there is no space if the marker of a folder could be written in part only."""
+    limits = resource.getrlimit(resource.RLIMIT_FSIZE)
+    resource.setrlimit(resource.RLIMIT_FSIZE, (50, limits[1]))
+    try:
+        with pytest.raises(Failed, match="plan: No space left on device"), own_folder(tmp_path / "plan", "x"):
+            pass
+    finally:
+        resource.setrlimit(resource.RLIMIT_FSIZE, limits)
+    assert (tmp_path / "plan/crnplan-folder.txt").stat().st_size == 50
 
 
 def test_a_pipe_of_the_caller(tmp_path: Path) -> None:

@@ -165,6 +165,18 @@ def test_a_program_that_only_workers_have(room: Path, monkeypatch: pytest.Monkey
     assert jobs.program_digest(str(room / "none"), None) == ""
 
 
+def test_a_worker_says_whether_it_is_as_here(monkeypatch: pytest.MonkeyPatch) -> None:
+    """A worker that is as this machine calls a function; a stranger does not, and is named."""
+    worker = Mock(address=f"tcp://{LOOPBACK}:1")
+    worker.name = "late"
+    monkeypatch.setitem(sys.modules, "distributed", Mock(get_worker=lambda: worker))
+    own, called = jobs.identity(""), Mock(return_value=2)
+    assert jobs.run_as_here(called, own, "", "word") == ("", 2)
+    strange, result = jobs.run_as_here(called, {**own, "crnplan": "other"}, "", "word")
+    assert f"late (tcp://{LOOPBACK}:1) has another crnplan" in strange and result is None
+    called.assert_called_once_with("word")
+
+
 def test_a_stranger_that_comes_later(cluster: Cluster, room: Path) -> None:
     """Refuses a worker with another crnplan that joins in the middle, and keeps what the others did."""
     start(cluster, "sweep", "--program", "./holding", "--out", "kept")
