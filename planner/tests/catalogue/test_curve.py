@@ -14,10 +14,13 @@ import pandas as pd
 import pytest
 
 import crnplan as crn
+from crnplan.curve import candidates
+from crnplan.curve.candidates import Candidates, candidates_of
 from crnplan.curve.exchange import Budget, chosen_by, with_more_orders
 from crnplan.curve.exchange_curve import CANDIDATES, CURVE, LEFT_OUT, POLICIES, Drawn, exchange_curve, points_of
 from crnplan.plan.catalogue import ANSWERS, planned_folder
 from crnplan.plan.one import figures_of
+from crnplan.plan.question import Question
 from crnplan.records.catalogued import READ
 from crnplan.words import advice, sentence
 from planner.tests.catalogue.conftest import FILES, SETTINGS, leave_few
@@ -94,6 +97,18 @@ def test_named_points_are_as_good_as_many_small_orders(plan: Path, times: float)
     assert service.fill >= today.fill - 1e-9 and service.value < today.value
 
 
+def test_named_points_of_a_today_that_no_choice_can_be(plan: Path) -> None:
+    """Has no point with more service than the curve ends with, and the curve's own if others have too many orders."""
+    its = drawn(plan).gathered
+    plain = chosen_by(its.items, Budget(fill=0.9)).point
+    today = plain._replace(fill=1 - 1e-11)
+    points, missing = points_of(replace(its, points={**its.points, "today": today}), Budget())
+    assert [*points] == ["same stock"] and "this service takes more orders" in missing["same service"]
+    today = plain._replace(value=plain.value / 2, orders=plain.orders / 2)
+    points, missing = points_of(replace(its, points={**its.points, "today": today}), Budget())
+    assert points["same service"].point == plain and points["same service"].point.value > today.value
+
+
 def test_curve_rises(plan: Path) -> None:
     """Has more service and more cost with each price, less for each further unit of cost, and no gap."""
     curve = crn.exchange_curve(plan, jobs=1).frame.query("point == 'curve'")
@@ -163,6 +178,19 @@ def test_items_that_are_left_out(twenty: Path, planned: Path, tmp_path: Path) ->
         drawn(plan)
 
 
+def test_an_item_without_candidates(plan: Path, monkeypatch: pytest.MonkeyPatch) -> None:
+    """Leaves out an item whose candidates cannot be computed, with the reason."""
+    def failing(question: Question) -> Candidates:
+        if question.item.name == "A-050":
+            raise MemoryError("no room for a table")
+        return candidates_of(question)
+    monkeypatch.setattr(candidates, "candidates_of", failing)
+    (plan / CANDIDATES).unlink()
+    its = drawn(plan).gathered
+    assert len(its.items.names) == ITEMS - len(NO_PRICE) - 1
+    assert "no room for a table" in sentence(dict(its.left_out)["A-050"])
+
+
 def test_command(plan: Path, crnplan: Command, program: Path) -> None:
     """Prints the points and what crnsim counts, which is within 2% of theory; the table with --csv; and draws."""
     words = ["curve", plan, "--jobs", "1", "--fill", "0.95"]
@@ -187,6 +215,7 @@ def test_command(plan: Path, crnplan: Command, program: Path) -> None:
 @pytest.mark.parametrize("words, said", [
     (["--stock-value", "1"], "--stock-value 1: the curve has stock worth "),
     (["--stock-value", "1e9"], "--stock-value 1,000,000,000: the most stock on the curve is worth "),
+    (["--fill", "0.9999999999"], "of demand by value; name less"),
     (["--fill", "0.01"], "--fill 0.01: the curve begins with 0."),
     (["--fill", "95"], "--fill 95 is not between 0 and 1; write 0.95"),
     (["--fill", "0.9", "--stock-value", "9"], "leave one out"),
