@@ -103,6 +103,7 @@ def test_frames(tmp_path: Path) -> None:
     """Frames are read as files are. A missing number is an empty cell, which is rejected with its row."""
     demand, items = pd.DataFrame(DEMAND[1:-1], columns=DEMAND[0]), pd.DataFrame(ITEMS[1:], columns=ITEMS[0])
     check_stored(read_catalogue(demand, items, today=TODAY))
+    check_stored(read_catalogue(demand.set_index("item"), items.set_index("item"), today=TODAY))
     demand.loc[2, "quantity"] = float("nan")
     rejects = read_catalogue(demand, items, today=TODAY).rejects
     assert (4, "quantity", "the cell is empty") in set(zip(rejects.line, rejects.column, rejects.reason))
@@ -110,6 +111,9 @@ def test_frames(tmp_path: Path) -> None:
     assert counted.counts == (3, 0, 2)
     with pytest.raises(RefusedFaults, match="the cell is empty"):
         read_history(pd.DataFrame({"n": [3, None, 2]}), demand="n")
+    for cell, text in ((True, "TRUE"), (MONDAY, "2026-03-02"), (float("inf"), "inf")):
+        with pytest.raises(RefusedFaults, match=f"history:3:1: .*'{text}' is not a number"):
+            read_history(pd.DataFrame({"n": [3, cell, 2]}, dtype=object), demand="n")
 
 
 @pytest.mark.parametrize("encoding, heading, unit", [
@@ -146,7 +150,7 @@ def test_gigabyte_without_a_line_end(tmp_path: Path) -> None:
 
 
 def test_a_file_that_changes_is_refused(tmp_path: Path) -> None:
-    """A file that another program changes while it is read is refused."""
+    """A file that another program changes or removes while it is read is refused."""
     path = tmp_path / "demand.csv"
     path.write_text("item,date,quantity\n" + weekly([2] * WEEKS), "utf-8")
     with opened(path, "demand", Rules()) as sheet:
@@ -155,6 +159,16 @@ def test_a_file_that_changes_is_refused(tmp_path: Path) -> None:
         path.write_text("item,date,quantity\n" + weekly([3] * (WEEKS - 1)), "utf-8")
         with pytest.raises(Refused, match="demand.csv: the file was changed while it was read; run again"):
             list(rows)
+        path.unlink()
+        with pytest.raises(Refused, match="demand.csv: No such file"):
+            list(open_source("demand", sheet, Stated(), "week").rows())
+
+
+def test_half_a_letter_of_utf_16_far_down(tmp_path: Path) -> None:
+    """Half of a pair of UTF-16 beyond what is looked at first is refused. Each row has 30 bytes."""
+    data = ("item,date,quantity\n" + "A,2026-03-02,1\n" * 40_000 + "\udc00").encode("utf-16", "surrogatepass")
+    with pytest.raises(RefusedFaults, match="demand.csv: a byte is not utf-16; say another encoding"):
+        read(tmp_path, data)
 
 
 @pytest.mark.serial

@@ -12,6 +12,7 @@ import datetime
 import functools
 import io
 import itertools
+import math
 import os
 import re
 import shutil
@@ -236,7 +237,7 @@ def stored(cell: Any) -> Cell:
     if isinstance(cell, bool):
         return str(cell).upper()
     if isinstance(cell, (float, Decimal)):
-        return None if cell != cell else int(cell) if cell == int(cell) else float(cell)
+        return None if cell != cell else int(cell) if math.isfinite(cell) and cell == int(cell) else float(cell)
     # pandas' NA stands for an empty cell.
     return cell if isinstance(cell, (int, datetime.date)) else None if repr(cell) == "<NA>" else str(cell)
 
@@ -312,15 +313,13 @@ class TextSheet(Sheet):
             yield line
 
     def _undecodable(self) -> Fault:
-        """Returns the fault of the first line that can't be decoded."""
+        """Returns the fault of the first line that can't be decoded; of UTF-16 no line is named."""
+        if self.encoding.startswith("utf-16"):
+            return Fault(f"a byte is not {self.encoding}; say another {argument('encoding')}, {EXPORT}", self.name)
         with self.path.open("rb") as file:
             lines = iter(lambda: file.readline(HEAD_BYTES), b"")
-            faults = (fault for number, line in enumerate(lines, 1)
-                      for fault in text_faults(self.name, line, self.encoding, number))
-            if not self.encoding.startswith("utf-16"):
-                return next(faults)
-            unknown = Fault(f"a byte is not {self.encoding}; say another {argument('encoding')}, {EXPORT}", self.name)
-            return next(text_faults(self.name, file.read(HEAD_BYTES), self.encoding), unknown)
+            return next(fault for number, line in enumerate(lines, 1)
+                        for fault in text_faults(self.name, line, self.encoding, number))
 
     def texts(self, lines: Iterable[int]) -> dict[int, str]:
         """Returns the text of each of the rows that begin in these lines, as it stands in the file."""
