@@ -22,9 +22,8 @@ def _other_sign(it: Facts) -> str:
 
 def _share(it: Facts) -> str:
     """Returns what to do about a number that may be in percent or a share."""
-    percent = argument("units", f"items.{it['role']}=percent")
-    return f"say {argument('units', 'items.fill=share')} or {percent}" if it["role"] == "fill" else (
-        f"say {percent}, or write a share below 1")
+    return (f"say {argument('units', 'items.fill=share')}, or write a % behind it" if it["role"] == "fill" else
+            f"say {argument('units', 'items.holding=percent')}, or write a share below 1")
 
 
 def _several(which: int) -> Say:

@@ -16,7 +16,7 @@ import pytest
 from crnplan.records.item import Item
 from crnplan.words import sentence
 from crnplan.records.catalogue_reading import Catalogue, read_catalogue
-from crnplan.records import rows
+from crnplan.records import items, rows
 from crnplan.records.rows import far_above
 from crnplan.records.items import Reader, Words
 from crnplan.records.catalogue_reading import read_alone
@@ -145,13 +145,18 @@ def test_what_was_found_is_stated(catalogue: Catalogue, files: Path) -> None:
 
 def test_limits_change_nothing(files: Path, catalogue: Catalogue, tmp_path: Path,
                                monkeypatch: pytest.MonkeyPatch) -> None:
-    """Reads the same if but a few cells are remembered, and leaves no file behind but its own."""
+    """Reads the same if but a few cells are remembered and a few items are written at once, and leaves no file behind
+    but its own. Without that there is no catalogue."""
     monkeypatch.setattr(rows, "MOST_KEPT", 3)
+    monkeypatch.setattr(items, "ITEMS_AT_ONCE", 7)
     paths = dict(zip(("demand", "items", "orders"), (files / it for it in FILES)))
     again = Catalogue(read_alone(tmp_path, paths, Words(today=TODAY)))
     assert again.counts == catalogue.counts and items_of(again) == items_of(catalogue)
     assert [*again.rejects.itertuples()] == [*catalogue.rejects.itertuples()]
     assert {it.name for it in again.path.parent.iterdir()} == {again.path.name, MARKER}
+    again.path.unlink()
+    with pytest.raises(Refused, match="no catalogue was read"):
+        again.opened()
 
 
 def test_order_of_rows_changes_nothing(planted: Made, catalogue: Catalogue, tmp_path: Path) -> None:
@@ -247,7 +252,9 @@ def test_unused_words_are_refused(tmp_path: Path) -> None:
     for words, said in (({"every": "year"}, "every=year is not one of"), ({"far": "drop"}, "far=drop is not keep"),
                         ({"columns": {"demand": {"amount": "x"}}}, "columns: there is no column demand.amount"),
                         ({"start": "2026-05-01", "end": "2026-01-01"}, "start=2026-05-01 is after end=2026-01-01"),
-                        ({"start": "soon"}, "start:")):
+                        ({"start": "soon"}, "start:"), ({"units": {"items": {"class": "day"}}}, "class has no unit"),
+                        ({"every": "day", "start": "1980-01-01", "end": "2199-12-31", "units": {"items": dict.fromkeys(
+                            ("lead", "holding", "backlog"), "day")}}, "days are more than 65,536; change start or")):
         with pytest.raises(Refused, match=said):
             read_text(tmp_path, "item,date,quantity\n" + ROWS, **words)
 
@@ -260,3 +267,46 @@ def test_record_from_and_to(tmp_path: Path) -> None:
     assert item.counts == (3,) * 8 and item.rows == 8
     assert list(its.rejects.reason) == ["2026-01-15 is before start", "2026-10-15 is after end"]
     assert json.loads(json.dumps(its.counts)) == its.counts and its.missing == []
+
+
+MASTER = {"setup": "10", "holding": "0.5", "backlog": "5", "lead": "2", "s": "3", "S": "9"}
+
+
+@pytest.mark.parametrize("changes, unit, said", [
+    ({"holding": "25", "price": "2"}, "share", "25% or 25 as a share"), ({"holding": "20%"}, "", "'20%' is a share"),
+    ({"holding": "0.2"}, "share", "no price"), ({"lead": ""}, "", "no lead time, and no received order"),
+    ({"lead": "14 pcs"}, "", "'14 pcs' is no lead time"), ({"setup": "0.123456789"}, "", "more than 8 decimals"),
+    ({"setup": "EUR 5 EUR"}, "", "'EUR 5 EUR' is not a number"), ({"S": "1000001"}, "", "S is above 1,000,000")])
+def test_cells_of_masters_that_are_not_taken(tmp_path: Path, changes: dict[str, str], unit: str, said: str) -> None:
+    """Leaves an item out for one cell of its master, and names the column and why."""
+    its = {**MASTER, **changes}
+    masters = f"item,{','.join(its)}\nA,{','.join(its.values())}\n"
+    rejects = read_text(tmp_path, "item,date,quantity\n" + ROWS, masters,
+                        units={"items": {"holding": unit}} if unit else {}).rejects
+    assert list(rejects.column) == [next(iter(changes))] and said in rejects.reason[0]
+
+
+def test_a_share_in_a_column_of_percent(tmp_path: Path) -> None:
+    """Leaves an item out whose share may be in percent, unless what is advised is done."""
+    masters = "item,setup,holding,fill rate %,lead,s,S\nA,10,0.5,{},2,3,9\n"
+    share = {"items": {"fill": "share"}}
+    rejects = read_text(tmp_path, "item,date,quantity\n" + ROWS, masters.format("0.95")).rejects
+    assert "0.95% or 0.95 as a share" in rejects.reason[0] and json.dumps(share) in rejects.advice[0]
+    for text, units, fill in (("0.95", share, "19/20"), ("0.95%", {}, "19/2000"), ("95", {}, "19/20")):
+        its = read_text(tmp_path, "item,date,quantity\n" + ROWS, masters.format(text), units=units)
+        assert str(items_of(its)["A"].fill) == fill
+
+
+@pytest.mark.parametrize("asked, back, said", [(0, 0, "nothing was asked for"), (3, 3, "comes back (30) as is asked")])
+def test_demand_that_has_no_law(tmp_path: Path, asked: int, back: int, said: str) -> None:
+    """Leaves an item out of which nothing was asked for, or all of it came back: 3 in each of 10 months."""
+    rejects = read_text(tmp_path, "item,date,quantity,returned\n" + ROWS.replace(",3", f",{asked},{back}")).rejects
+    assert list(rejects.item) == ["A"] and said in rejects.reason[0]
+
+
+def test_how_dates_are_read_is_stated(tmp_path: Path) -> None:
+    """Counts dates that are read by stated patterns, once, and those that can't be read without one."""
+    rows = "item,date,quantity\n" + ROWS
+    found = read_text(tmp_path, rows, date_formats=("%Y-%m-%d",)).found
+    assert "# dates by date_formats: 10\n" in found and found.count("# dates by") == 1
+    assert "day or the month first: 2; say" in read_text(tmp_path, rows + "A,03/04/2026,2\nA,03/04/2026,5\n").found

@@ -214,7 +214,7 @@ def _date_lines(rows: Rows, reader: DateReader) -> Iterator[str]:
         first, before = forms.get(form, (text_of(cell), 0))
         forms[form] = first, before + count
     formats = argument("date_formats")
-    if reader.patterns:
+    if reader.patterns and forms:
         yield f"# dates by {formats}: {sum(count for _, count in forms.values()):,}"
         return
     for form, (text, count) in sorted(forms.items()):

@@ -99,10 +99,8 @@ class Column:
     unit: str = ""
 
     def converted(self, role: str, every: str) -> str:
-        """Returns how the numbers of the column are converted; the empty text if they are not."""
+        """Returns how the numbers of the column are converted from its unit."""
         kind, unit = ROLE_UNITS.get(role), self.unit
-        if not unit or not kind:
-            return ""
         how = f"{'packs of' if kind == 'count' else 'a price for'} {unit} to items"
         if kind == "length":
             how = f"{unit}s to {every}s, for orders that are placed on any day"
