@@ -19,6 +19,7 @@ from hypothesis import given
 from hypothesis import strategies as st
 
 from crnplan import formats
+from crnplan.toml import writing
 from crnplan.toml.scenarios import faults_of
 from crnplan.errors import ProgramError, Refused, ScenarioError
 from crnplan.demand.fitting import fit_demand
@@ -212,6 +213,14 @@ def test_comments_with_other_policies_and_tables() -> None:
     for policies in ({"A": (3, 4)}, {"B": (3, 4), "C": (5, 6)}):
         changed = Scenario.parse(inline).changed(policies=policies)
         assert tomllib.loads(changed.toml()) == changed.tree and "# in cents\n" in changed.toml()
+
+
+def test_comments_that_cannot_be_kept(monkeypatch: pytest.MonkeyPatch) -> None:
+    """Keeps the comments at the top alone if a text with the others would not have the tree."""
+    monkeypatch.setattr(writing, "_merged_text", lambda source, tree: source)
+    changed = Scenario.parse(COMMENTED).changed(initial=61)
+    text = changed.toml()
+    assert tomllib.loads(text) == changed.tree and text.startswith("# A spare part.\n") and text.count("#") == 1
 
 
 @given(st.data())

@@ -80,19 +80,22 @@ def test_columns(two_policies: str) -> None:
             assert rest.startswith(f'"{entries[last - 1]}"' if path[0] == "key" else str(entries[last - 1]))
 
 
-WHOLE = {"empty": (b"", 1), "a picture": (b"\x89PNG\r\n\x1a\n\0\0", 1), "brackets": (b"[" * 5000, 1),
-         "quotes": (b'a = "' * 500, 1), "digits": (b"a = " + b"9" * 5000, 1), "a long file": (b"#" * 1_048_577, 2)}
+WHOLE = {"empty": (b"", 1, "missing"), "a picture": (b"\x89PNG\r\n\x1a\n\0\0", 1, "UTF-8"),
+         "UTF-16": ("version = 1\n".encode("utf-16-le"), 1, "UTF-16"), "brackets": (b"[" * 5000, 1, ""),
+         "quotes": (b'a = "' * 500, 1, ""), "digits": (b"a = " + b"9" * 5000, 1, "64 bits"),
+         "fewer digits": (b"a = " + b"9" * 400, 1, "hundreds of digits"),
+         "a long file": (b"#" * 1_048_577, 2, "1,048,576")}
 
 
 @pytest.mark.parametrize("name", WHOLE)
 def test_files_that_are_no_scenarios(name: str, tmp_path: Path, crnplan: Command) -> None:
-    """Checks status and length of what is said of a file that is no scenario at all."""
-    data, status = WHOLE[name]
+    """Checks status, length and a word of what is said of a file that is no scenario at all."""
+    data, status, part = WHOLE[name]
     (tmp_path / "edited.toml").write_bytes(data)
     for answer in (crnplan("why", tmp_path / "edited.toml"), crnplan("why", "-", data=data)):
         lines = (answer.output if status == 1 else answer.errors).splitlines()
         assert answer.status == status and (len(lines) == 1 or name == "empty" and lines)
-        assert "Traceback" not in answer.errors
+        assert part in lines[0] and "Traceback" not in answer.errors
 
 
 def test_a_missing_file(tmp_path: Path, crnplan: Command) -> None:
