@@ -8,9 +8,12 @@ import pytest
 from hypothesis import example, given, settings
 from hypothesis import strategies as st
 
+from crnplan.decide.sensitivity import Case, found_of
 from crnplan.scenario import Costs, Scenario
-from crnplan.theory.lattice import shape_of, theory_on
-from crnplan.theory.long_run import Candidate, search
+from crnplan.theory import long_run, one_lead
+from crnplan.theory.lattice import NoTheory, shape_of, theory_on
+from crnplan.theory.long_run import NO_POLICY, Candidate, search
+from crnplan.theory.many_laws import Promises
 
 from planner.tests.theory.chain import by_chain
 from planner.tests.theory.long_run_costs import costs_of, fills_of, shortfall_of
@@ -160,3 +163,15 @@ def test_the_greatest_level(share: float) -> None:
     below = min(theory.cheapest_of_gaps([gap], share) for gap in range(10**6 // 900))
     assert found.level == 10**6 and found.cost == pytest.approx(at_end.cost, rel=1e-9)
     assert found.cost < below.cost
+
+
+def test_no_policy_within_the_range(monkeypatch: pytest.MonkeyPatch) -> None:
+    """Finds no policy if each period asks for 5 items, orders take 2 periods, and S is at most 14."""
+    for module in (long_run, one_lead):
+        monkeypatch.setattr(module, "MOST_ITEMS", 14)
+    scenario = scenario_of(([5], [1]), ([2], [1]))
+    theory = theory_of(scenario)
+    assert theory.best_with_fill(0.98) == NO_POLICY
+    assert Promises(scenario, theory, 0, [scenario.demand], [], [0.98]).cheapest(NO_POLICY, 0.98) == NO_POLICY
+    with pytest.raises(NoTheory, match="no best policy within the ranges of s and S"):
+        found_of(Case("as it is", scenario, None), (0, 5))
