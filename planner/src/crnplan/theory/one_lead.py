@@ -71,8 +71,6 @@ class Lows:
         columns: list[Sums] = [*zip(*self.table.tolist())]
         for gap in [first, *(first + 1 + np.flatnonzero(self.chances[first + 1:most + 1])).tolist()]:
             low, floor = float(self.chances[gap]), floor_of(gap)
-            if floor > self.last:
-                break
             total += low if gap > first else 0.0
             if level < floor:
                 level, below, here = floor, self.at(gap, floor - 1), self.at(gap, floor)
