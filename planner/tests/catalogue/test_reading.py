@@ -276,6 +276,7 @@ MASTER = {"setup": "10", "holding": "0.5", "backlog": "5", "lead": "2", "s": "3"
     ({"holding": "25", "price": "2"}, "share", "25% or 25 as a share"), ({"holding": "20%"}, "", "'20%' is a share"),
     ({"holding": "0.2"}, "share", "no price"), ({"lead": ""}, "", "no lead time, and no received order"),
     ({"lead": "14 pcs"}, "", "'14 pcs' is no lead time"), ({"setup": "0.123456789"}, "", "more than 8 decimals"),
+    ({"s": "2.5"}, "", "'2.5' is not a whole number from 0"), ({"S": "-9"}, "", "'-9' is not a whole number from 0"),
     ({"setup": "EUR 5 EUR"}, "", "'EUR 5 EUR' is not a number"), ({"S": "1000001"}, "", "S is above 1,000,000")])
 def test_cells_of_masters_that_are_not_taken(tmp_path: Path, changes: dict[str, str], unit: str, said: str) -> None:
     """Leaves an item out for one cell of its master, and names the column and why."""

@@ -28,14 +28,15 @@ def test_scale_has_all_values_and_zero(values: list[float], is_whole: bool) -> N
 
 @given(st.lists(st.floats(1e-6, 1), min_size=1, max_size=5))
 def test_chances_stand_in_their_order(chances: list[float]) -> None:
-    """Each chance stands within the picture, ten times as large a one always as far above it, and 1 at the top."""
+    """Each chance stands within the picture, ten times as large a one always as far above it, and 1 at the top. The
+    least one stands in the lowest step."""
     scale = Chances.of(min(chances))
     places = [scale.at(it) for it in sorted(chances)]
     assert 0 <= places[0] and places[-1] <= UNITS == scale.at(1) and places == sorted(places) and scale.at(0) == 0
     heights = scale.heights
     assert [text for _, text, _ in heights[-2:]] == ["1 in 10", "1 in 1"] and heights[0][0] == 0
     steps = [after - before for (before, *_), (after, *_) in itertools.pairwise(heights)]
-    assert steps == pytest.approx([UNITS / len(steps)] * len(steps), abs=0.11)
+    assert steps == pytest.approx([UNITS / len(steps)] * len(steps), abs=0.11) and places[0] <= UNITS / len(steps)
 
 
 @pytest.mark.parametrize("values, inner", [
