@@ -170,10 +170,10 @@ def looked_at(prior: Prior, sample: Sample, item_class: str | None,
     known = replace(known, guard=guard, log10_bayes=posterior.log10_bayes)
     if guard and min(guard) <= LEVEL:
         return replace(known, alone=Remark("unlike histories")), []
-    alike, parts = 1.0, [(1.0, posterior)]
+    alike = 1.0 if known.few else posterior.alike
+    parts = [(alike, posterior)]
     if not known.few:
-        alike = posterior.alike
-        parts = [(alike, posterior), (1 - alike, replace(posterior, prior=FLAT, most=cap_of(packs)))]
+        parts.append((1 - alike, replace(posterior, prior=FLAT, most=cap_of(packs))))
     return replace(known, share=alike * posterior.share), parts
 
 

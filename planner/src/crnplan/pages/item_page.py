@@ -36,9 +36,9 @@ def item_page(words: ItemWords) -> str:
 def plot_of_laws(words: ItemWords) -> Plot:
     """Returns in how many periods demand is at least so large: by the law, and by that of the item alone."""
     law, single, box = words.question.demand, words.depth.single, words.item.box
-    laws: dict[str, tuple[str, Counts]] = {"the law": (CHOSEN, [*zip(law.values, law.weights)])}
-    if single is not None:
-        laws[OF_ITEM] = ALONE, [*zip(single.values, single.weights)]
+    named = {"the law": (CHOSEN, law)} | ({} if single is None else {OF_ITEM: (ALONE, single)})
+    laws: dict[str, tuple[str, Counts]] = {name: (css, [*zip(own.values, own.weights)])
+                                           for name, (css, own) in named.items()}
     seen = [-(-count // box) for count in words.item.counts]
     return law_plot(seen, laws, words.every, "boxes" if box > 1 else "items")
 
