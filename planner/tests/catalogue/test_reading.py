@@ -287,6 +287,14 @@ def test_cells_of_masters_that_are_not_taken(tmp_path: Path, changes: dict[str, 
     assert list(rejects.column) == [next(iter(changes))] and said in rejects.reason[0]
 
 
+@pytest.mark.parametrize("setup, holding, decimals", [("10", "1", 0), ("10", "0.5", 1), ("10.25", "0.5", 2)])
+def test_decimals_of_money(tmp_path: Path, setup: str, holding: str, decimals: int) -> None:
+    """Money has as many decimals as the finest amount of the masters."""
+    masters = f"item,setup,holding,backlog,lead,s,S\nA,{setup},{holding},5,2,3,9\n"
+    with read_text(tmp_path, "item,date,quantity\n" + ROWS, masters).opened() as read:
+        assert read.fact("decimals") == decimals
+
+
 def test_a_share_in_a_column_of_percent(tmp_path: Path) -> None:
     """Leaves an item out whose share may be in percent, unless what is advised is done."""
     masters = "item,setup,holding,fill rate %,lead,s,S\nA,10,0.5,{},2,3,9\n"

@@ -197,7 +197,26 @@ def test_today_is_the_best(room: Path, plan: Plan) -> None:
     best = re.match(r"Below (\d+), order up to (\d+)", plan().output)
     assert best is not None
     edit(room / "settings.toml", "s = 15\nS = 30", f"s = {best[1]}\nS = {best[2]}")
-    assert plan("kept").output.startswith(f"Below {best[1]}, order up to {best[2]}: keep today's policy\n")
+    output = plan("kept").output
+    assert output.startswith(f"Below {best[1]}, order up to {best[2]}: keep today's policy\n")
+    better = [row["policy"] for row in rows_of(room / "kept/coming.csv") if row["verdict"] == "better"]
+    said = f"{', '.join(better) or 'no policy is'} better than today."
+    assert f"summary.html): {said}" in output.replace("\n", " ")
+
+
+def test_table_of_the_summary(whole: Path) -> None:
+    """Each column on the screen has the figures of its column of policies.csv, rounded."""
+    lines = (whole / "summary.txt").read_text().split("\npolicy ")[1].split("\n\n")[0].splitlines()
+    names = ["policy", *({"theory": "theory_cost", "crnsim": "run_cost"}.get(it, it) for it in lines[0].split())]
+    rows = {row["policy"]: row for row in rows_of(whole / "policies.csv")}
+    assert {"fill", "short", "theory_cost", "run_cost", "verdict"} < {*names} and len(lines) > 4
+    for line in lines[1:]:
+        cells = dict(zip(names, line.split(maxsplit=len(names) - 1), strict=True))
+        row = rows[cells.pop("policy")]
+        assert cells.pop("verdict") == row["verdict"]
+        for name, cell in cells.items():
+            number = float(cell.strip("%").replace(",", "")) / (100 if cell.endswith("%") else 1)
+            assert number == pytest.approx(float(row[name]), rel=0.01, abs=0.0006), name
 
 
 def test_a_wanted_fill_rate(room: Path, plan: Plan) -> None:

@@ -3,6 +3,7 @@ from __future__ import annotations
 
 import re
 import shutil
+from collections import Counter
 from collections.abc import Callable, Mapping
 from decimal import Decimal
 from pathlib import Path
@@ -96,6 +97,12 @@ def test_pictures_say_their_figures(whole: Path) -> None:
     law = [row for row in list_of(whole / "laws.csv") if row["table"] == "demand"][-1]
     assert f"mean of the law: {float(law['mean']):.2f} a week; 99 of 100 weeks by the law: at most " in text
     assert text.endswith(f" at most {law['99.0%']}.")
+    words = page.pictures["In how many weeks demand is so large, as it was seen and by the law"].rstrip(".").split("; ")
+    table = Scenario.read(whole / "scenario.toml").demand
+    for its, said in zip((Counter(demand.values()), dict(zip(table.values, table.weights))), words, strict=True):
+        shares = re.findall(r"at least (\d+) in ([0-9.]+)%", said)
+        above = [100 * sum(its[it] for it in its if it >= int(least)) / sum(its.values()) for least, _ in shares]
+        assert len(shares) > 1 and [float(it) for _, it in shares] == pytest.approx(above, abs=0.006)
     stocks: dict[str, list[int]] = {}
     for row in list_of(whole / "trajectory.csv"):
         stocks.setdefault(row["policy"], []).append(int(row["stock"]))

@@ -7,6 +7,7 @@ import xml.etree.ElementTree
 from fractions import Fraction
 from pathlib import Path
 
+import numpy as np
 import pytest
 
 from crnplan.crnsim.trajectory import Period
@@ -98,6 +99,15 @@ def test_names_of_levels_stand_apart(level: int) -> None:
     low, high = (text.get_window_extent() for text in figure.axes[0].texts)
     assert low.y1 <= high.y0 + 1
     assert level < 100 or {text.xyann for text in figure.axes[0].texts} == {(5, 0)}
+
+
+def test_position_goes_over_the_periods() -> None:
+    """The position, of 20 items first, rises by 10 at the review of period 1, after 15 were asked for in period 0 and
+    before 5 are."""
+    from crnplan.pages.pictures import trajectories_picture
+    figure = trajectories_picture([Policy("it", 5, 15)], [[Period(0, 15, 5, 5), Period(10, 5, 0, 10)]], 20)
+    line, = (it for it in figure.axes[0].lines if it.get_label() == "inventory position")
+    assert np.asarray(line.get_xydata()).tolist() == [[0, 20], [0, 20], [1, 5], [1, 15], [2, 10]]
 
 
 @pytest.mark.parametrize("name", ["it.pdf", "it", "svg", "it.svg.gz"])

@@ -118,8 +118,9 @@ def error_of(net: LatticeLaw) -> float:
     return max(abs(told[:MOST_HEIGHT] - visits[:len(told)]).max(), abs(its_falls - falls).max(), rest)
 
 
-def test_the_walk_with_returns() -> None:
-    back = LatticeLaw.of(table(([0, 1, 2], [5, 2, 1])), 1).reflected
+@pytest.mark.parametrize("returns", [([0, 1, 2], [5, 2, 1]), ([0, 1], [65_535, 1])], ids=["many", "few"])
+def test_the_walk_with_returns(returns: tuple[list[int], list[int]]) -> None:
+    back = LatticeLaw.of(table(returns), 1).reflected
     assert error_of(sum_of(LatticeLaw.of(table(([0, 1, 4], [3, 2, 2])), 1), back)) < 1e-9
 
 

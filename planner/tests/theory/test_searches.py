@@ -172,6 +172,7 @@ def test_no_policy_within_the_range(monkeypatch: pytest.MonkeyPatch) -> None:
     scenario = scenario_of(([5], [1]), ([2], [1]))
     theory = theory_of(scenario)
     assert theory.best_with_fill(0.98) == NO_POLICY
+    assert isinstance(theory, one_lead.OneLead) and theory.best_with_level(14, 0.98) == NO_POLICY
     assert Promises(scenario, theory, 0, [scenario.demand], [], [0.98]).cheapest(NO_POLICY, 0.98) == NO_POLICY
     with pytest.raises(NoTheory, match="no best policy within the ranges of s and S"):
         found_of(Case("as it is", scenario, None), (0, 5))
