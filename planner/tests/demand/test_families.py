@@ -39,6 +39,12 @@ def test_adding_a_family(monkeypatch: pytest.MonkeyPatch) -> None:
     assert allowed_laws(numbers, times=50).families["geometric"] > 10
 
 
+@pytest.mark.parametrize("name", families.REGISTRY)
+def test_no_demand_above_the_range(name: str) -> None:
+    """The next demand by a family is at most 10,000, the greatest of a scenario, also after such demands."""
+    assert len(predictive_of(name, Sample.of([0, 1, 5_000, 10_000] * 5))) <= 10_001
+
+
 @HISTORIES
 def test_fits_are_the_most_likely(numbers: Sequence[int]) -> None:
     """Likelihoods are as great as those that a general search over the parameters of scipy's laws finds."""

@@ -216,6 +216,7 @@ def test_curve(large: Path) -> None:
     assert [row[1:3] for row in points] == figures and len(named) == 4
     said = page.pictures["Exchange curve: demand met at once against the value of the stock"]
     assert all(f"{fill} met at once with a stock of {value}" in said for value, fill in figures)
+    assert 'y="0.0%">100</text>' in page.source
     (path,) = re.findall(r'class="line of-chosen" d="M([^"]+)"', page.source)
     places = [tuple(map(float, it.split())) for it in path.split("L")]
     assert all(0 <= it <= 1000 for place in places for it in place) and len(places) > 5
