@@ -348,10 +348,8 @@ def test_items_in_packs(packed: dict[str, list[int]]) -> None:
 @pytest.mark.parametrize(("numbers", "few"), [([0] * 26, True), ([0] * 25 + [3], True), (RARE, False)])
 def test_items_with_few_demands(numbers: list[int], few: bool, known: Prior) -> None:
     """Items with no or one demand have a law too, without a part of the flat prior, and are marked."""
-    assert known.whole
-    law, sample = law_of(known, numbers), Sample.of(numbers)
-    share = share_of(sample, Posterior.of(sample, known.whole.chances).predictive)
-    assert borrowed(law).share == pytest.approx(share) or not few
+    law, whole = law_of(known, numbers), known.whole
+    assert whole and borrowed(law).share == Posterior.of(Sample.of(numbers), whole.chances).share or not few
     assert borrowed(law).few is few and law.family == "borrowed" and law.values[-1] > max(numbers)
     assert any("all but that of the catalogue" in it for it in notes_of(law, "demand")) is few
 
