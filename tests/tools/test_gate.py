@@ -83,8 +83,10 @@ def test_suites_run_beside_the_rounds_and_the_rest_after_them(machine: Machine) 
 def test_tests_run_once_each(machine: Machine) -> None:
     gate(machine)
     words = dict(it.split(": ", 1) for it in machine.logged())
-    suites, folder = words["suites"].split(" --lines ")
-    assert suites.endswith(" -m not serial --ignore tests/sources") and words["lines"] == f"-m planner.lines {folder}"
+    suites, measured = words["suites"].split(" --lines ")
+    folder, _, tested = measured.partition(" ")
+    assert suites.endswith(" -m not serial --ignore tests/sources") and tested == "tests planner/tests"
+    assert words["lines"] == f"-m planner.lines {folder}"
     assert words["serial"].endswith(" -m serial --ignore tests/sources")
     assert " -n " in suites and " -n " not in words["serial"]
 
