@@ -165,6 +165,8 @@ def test_no_matplotlib(crnplan: Command, program: Path, top: Path, tmp_path: Pat
                        monkeypatch: pytest.MonkeyPatch) -> None:
     """Without matplotlib a picture is refused in one line that says how to get it."""
     monkeypatch.setitem(sys.modules, "matplotlib", None)
+    # Another test may have loaded it.
+    monkeypatch.delitem(sys.modules, "crnplan.pages.pictures", raising=False)
     words = ["trajectory", top / "examples/two_policies.toml", "A", "--program", program, "--out",
              tmp_path / "none.svg"]
     status, output, errors = crnplan(*words)
