@@ -4,8 +4,9 @@
     .venv/bin/python -m planner.mutants FOLDER --seed 1 --count 100 --jobs 4
 
 The first command says which tests run each line. The second takes lines at random, changes a statement of each in a
-copy of the repository, and runs the tests that run the line there, the shortest first. It takes about half an hour with
-four processes. A mutant that survives is either the same program (an equivalent one) or a hole in the tests.
+copy of the repository, and runs the tests that run the line there, the shortest first, until one fails. It takes about
+half an hour with four processes. A mutant that survives is either the same program (an equivalent one) or a hole in the
+tests.
 """
 from __future__ import annotations
 
@@ -35,8 +36,8 @@ OTHER: dict[type[ast.AST], type[ast.AST]] = {
     ast.In: ast.NotIn, ast.NotIn: ast.In, ast.Is: ast.IsNot, ast.IsNot: ast.Is, ast.Add: ast.Sub, ast.Sub: ast.Add,
     ast.Mult: ast.Div, ast.Div: ast.Mult, ast.And: ast.Or, ast.Or: ast.And}
 DROPPED_CALLS = ("sorted", "abs", "max", "min")
-# A mutant meets so many tests at most, the shortest of those that run its line, for so many seconds.
-MOST_TESTS, SECONDS = 40, 300
+# A mutant meets the tests that run its line in groups of so many, the shortest first, each group for so many seconds.
+GROUP, SECONDS = 40, 300
 KILLED, SURVIVED, NO_TEST = "killed", "survives", "no test"
 
 
@@ -128,17 +129,23 @@ def outcome_of(mutant: Mutant, tests: Sequence[str], program: Path) -> str:
         path = Path(room) / "planner/src/crnplan" / mutant.file
         data = path.read_bytes()
         path.write_bytes(data[:mutant.start] + mutant.new.encode() + data[mutant.end:])
-        paths = {"PYTHONPATH": os.pathsep.join([f"{room}/planner/src", room]), "PYTHONDONTWRITEBYTECODE": "1"}
-        words = ["-m", "pytest", "-q", "-x", "-p", "no:cacheprovider", f"--program={program}", *tests]
-        process = subprocess.Popen([sys.executable, *words], cwd=room, env=os.environ | paths, start_new_session=True,
-                                   stdin=subprocess.DEVNULL, stdout=subprocess.DEVNULL, stderr=subprocess.DEVNULL)
-        try:
-            return KILLED if process.wait(SECONDS) else SURVIVED
-        except subprocess.TimeoutExpired:
-            return KILLED
-        finally:
-            process.kill()
-            process.wait()
+        groups = (tests[start:start + GROUP] for start in range(0, len(tests), GROUP))
+        return KILLED if any(is_seen(room, group, program) for group in groups) else SURVIVED
+
+
+def is_seen(room: str, tests: Sequence[str], program: Path) -> bool:
+    """Returns whether one of some tests fails in a copy of the repository, or takes too long there."""
+    paths = {"PYTHONPATH": os.pathsep.join([f"{room}/planner/src", room]), "PYTHONDONTWRITEBYTECODE": "1"}
+    words = ["-m", "pytest", "-q", "-x", "-p", "no:cacheprovider", f"--program={program}", *tests]
+    process = subprocess.Popen([sys.executable, *words], cwd=room, env=os.environ | paths, start_new_session=True,
+                               stdin=subprocess.DEVNULL, stdout=subprocess.DEVNULL, stderr=subprocess.DEVNULL)
+    try:
+        return bool(process.wait(SECONDS))
+    except subprocess.TimeoutExpired:
+        return True
+    finally:
+        process.kill()
+        process.wait()
 
 
 def line_of(mutant: Mutant, outcome: str) -> str:
@@ -151,13 +158,14 @@ def line_of(mutant: Mutant, outcome: str) -> str:
 @click.argument("folder", type=click.Path(exists=True, path_type=Path))
 @click.option("--seed", type=int, default=1, show_default=True)
 @click.option("--count", type=click.IntRange(1), default=100, show_default=True)
+@click.option("--within", multiple=True, help="Only in files whose path below crnplan begins so.")
 @click.option("--jobs", type=click.IntRange(1), default=2, show_default=True)
 @click.option("--program", type=click.Path(exists=True, path_type=Path), default=TOP / "crates/crnsim/out/crnsim")
-def main(folder: Path, seed: int, count: int, jobs: int, program: Path) -> None:
+def main(folder: Path, seed: int, count: int, within: tuple[str, ...], jobs: int, program: Path) -> None:
     """Plant COUNT bugs, and print what becomes of each. FOLDER is that of `pytest --lines --by-test`."""
     tests = tests_of(folder)
-    mutants = chosen(count, seed, sorted(tests))
-    asked = [tests[it.file, it.line][:MOST_TESTS] for it in mutants]
+    mutants = chosen(count, seed, [line for line in sorted(tests) if line[0].startswith(within or "")])
+    asked = [tests[it.file, it.line] for it in mutants]
     survived = 0
     with ThreadPoolExecutor(jobs) as pool:
         for mutant, outcome in zip(mutants, pool.map(partial(outcome_of, program=program.resolve()), mutants, asked)):
