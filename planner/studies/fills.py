@@ -69,9 +69,9 @@ def chosen(history: Sequence[int], mean: float) -> Iterator[list[Candidate]]:
     laws = allowed_laws(history).laws
     for by_history, own in zip(seen, fitted):
         theory = theory_of(own)
-        plain = theory.best_with_fill(SHARE)
+        plain = theory.best(SHARE)
         promises = Promises(own, theory, theory.gap_of(plain.point, plain.level), laws, (), [SHARE])
-        policies = [theory_of(by_history).best_with_fill(SHARE), plain]
+        policies = [theory_of(by_history).best(SHARE), plain]
         for confidence in CONFIDENCES:
             promises.confidence = confidence
             policies.append(promises.cheapest(plain, SHARE))
@@ -88,7 +88,7 @@ def cell(job: tuple[str, int, int]) -> list[dict[str, object]]:
     name, periods, histories = job
     truth = Truth(name)
     theories = [*map(theory_of, scenarios_of(table_of(truth.law), truth.mean))]
-    least = [it.best_with_fill(SHARE).cost for it in theories]
+    least = [it.best(SHARE).cost for it in theories]
     found = np.empty((len(FIGURES), histories, len(theories), len(METHODS)))
     for number in range(histories):
         for at, its in enumerate(chosen(truth.history(periods, number), truth.mean)):

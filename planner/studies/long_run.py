@@ -73,7 +73,7 @@ def scenario_of(item: Item, seed: int) -> Scenario | None:
         theory, _ = theories_of(asked)
     except Refused:
         return None
-    best = theory.best() if item.fill is None else theory.best_with_fill(item.fill)
+    best = theory.best(item.fill or 0.0)
     if best.cost == math.inf or (best.point, best.level) == item.today:
         return None
     initial = min(max(round(theory.mean_position(best.point, best.level)), 0), MOST_ITEMS)

@@ -259,7 +259,7 @@ def test_study_has_the_figures_of_theory() -> None:
         for row, weights in enumerate(STUDIED):
             scenario = Scenario.of(weights, {lead: 1}, setup=int(orders[at]), holding=1, backlog=backlog, today=(9, 20))
             theory, _ = theories_of(scenario)
-            figures, best, filled = theory.figures(9, 20), theory.best(), theory.best_with_fill(0.98)
+            figures, best, filled = theory.figures(9, 20), theory.best(), theory.best(0.98)
             assert runs.cost(at, orders[at], 11, 20)[row] == pytest.approx(figures.cost)
             assert runs.fill(at, 11, 20)[row] == pytest.approx(figures.fill)
             assert least[row, at] == pytest.approx(best.cost)

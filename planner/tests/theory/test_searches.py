@@ -60,7 +60,7 @@ def test_the_cheapest_of_all_pairs(demand: Pair, lead: list[int], back: Pair | N
         back = None
     scenario = scenario_of(demand, (lead, [1] * len(lead)), back, costs)
     theory = theory_of(scenario)
-    founds = [theory.best_with_fill(share) for share in SHARES]
+    founds = [theory.best(share) for share in SHARES]
     pairs = all_pairs(scenario, 1 + max([40, *(it.level for it in founds)]))
     gaps = [(cost, int(point), int(level)) for cost, _, point, level in pairs]
     assert all(theory.widest(cost, point) >= theory.gap_of(point, level) for cost, point, level in gaps)
@@ -115,7 +115,7 @@ def test_no_gap_of_a_lattice_is_cheaper(step: int, share: float) -> None:
     """On a coarse lattice too: each gap has one cheapest policy with a fill rate, which is computed by itself too."""
     scenario = scenario_of((range(41), [1 + it % 5 for it in range(41)]), ([3], [1]), costs=Costs(700, 0, 1, 5))
     theory = theory_on(scenario, shape_of(scenario), step, step == 1)
-    found = theory.best_with_fill(share)
+    found = theory.best(share)
     by_gap = [theory.cheapest_of_gaps([gap], share) for gap in range(600 // step)]
     assert found.cost == pytest.approx(min(by_gap).cost, rel=1e-9)
     gap = theory.gap_of(found.point, found.level)
@@ -128,7 +128,7 @@ def test_several_valleys() -> None:
     scenario = scenario_of(([3, 8], [6, 2]), ([3], [1]), costs=Costs(30, 0, 1, 9))
     theory = theory_of(scenario)
     by_gap = [theory.cheapest_of_gaps([gap], 0.98) for gap in range(200)]
-    found = theory.best_with_fill(0.98).cost
+    found = theory.best(0.98).cost
     assert found == pytest.approx(min(by_gap).cost, rel=1e-12)
     assert search(lambda gaps: map(by_gap.__getitem__, gaps), 40).cost > 1.02 * found
 
@@ -157,7 +157,7 @@ def test_the_greatest_level(share: float) -> None:
     """If S = 1,000,000 is too little for the best gap, a policy with that S may be the best, and is."""
     scenario = scenario_of(([9_000, 10_000], [1, 1]), ([32], [1]), costs=Costs(10**8, 0, 1, 10_000))
     theory = theory_on(scenario, shape_of(scenario), 900, False)
-    found = theory.best_with_fill(share) if share else theory.best()
+    found = theory.best(share) if share else theory.best()
     fills = [theory.figures_of_gap(gap, 10**6).fill for gap in range(10**6 // 900)]
     at_end = min(theory.policy(gap, 10**6) for gap, fill in enumerate(fills) if fill >= share)
     below = min(theory.cheapest_of_gaps([gap], share) for gap in range(10**6 // 900))
@@ -171,7 +171,7 @@ def test_no_policy_within_the_range(monkeypatch: pytest.MonkeyPatch) -> None:
         monkeypatch.setattr(module, "MOST_ITEMS", 14)
     scenario = scenario_of(([5], [1]), ([2], [1]))
     theory = theory_of(scenario)
-    assert theory.best_with_fill(0.98) == NO_POLICY
+    assert theory.best(0.98) == NO_POLICY
     assert isinstance(theory, one_lead.OneLead) and theory.best_with_level(14, 0.98) == NO_POLICY
     assert Promises(scenario, theory, 0, [scenario.demand], [], [0.98]).cheapest(NO_POLICY, 0.98) == NO_POLICY
     with pytest.raises(NoTheory, match="no best policy within the ranges of s and S"):

@@ -96,7 +96,7 @@ def choice_of(theory: LongRun, question: Question) -> Choice:
     laws that the history allows. Raises NoPolicy if there is none."""
     confidence = question.settings.confidence
     fill = None if question.item.fill is None else float(question.item.fill)
-    best = theory.best() if fill is None else theory.best_with_fill(fill)
+    best = theory.best(fill or 0.0)
     plain = best.point, best.level
     if best.cost == math.inf:
         raise NoPolicy(Remark(NO_POLICY, {"fill": fill}))

@@ -19,7 +19,7 @@ from ..scenario import Scenario
 from .lattice_law import LatticeLaw, sum_of
 from .long_run import LongRun, gap_grid
 from .one_lead import OneLead
-from .several_leads import SeveralLeads, work_of
+from .shortfalls import work_of
 from .walk import DIGITS, decay_of
 
 # Tables of this size are searched in at most half a second: gaps with one lead time, and work for late orders with
@@ -184,7 +184,7 @@ def lattice_of(scenario: Scenario, shape: Shape, widest: int, most_gaps: int = M
 
 def theory_on(scenario: Scenario, shape: Shape, step: int, exact: bool) -> LongRun:
     """Returns the theory of a scenario on a lattice."""
-    return (OneLead if shape.leads == 1 else SeveralLeads)(scenario, step, exact, -(-shape.gap // step))
+    return (OneLead if shape.leads == 1 else LongRun)(scenario, step, exact, -(-shape.gap // step))
 
 
 def theories_of(scenario: Scenario, widest: int | None = None) -> tuple[LongRun, LongRun | None]:

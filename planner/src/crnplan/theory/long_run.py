@@ -2,7 +2,7 @@
 
 Let m be the longest lead time. All orders of the reviews up to period t have arrived in period t + m. So the stock at
 the end of that period follows from the position after the review of period t (`Walk`) and from what happens in the m
-periods after it: see `one_lead.py` and `several_leads.py`.
+periods after it: see `shortfalls.py`, and for one lead time `one_lead.py`.
 
 A policy costs more than another one if its gap is wider than `LongRun.widest` says. Let m(j) be the chance that the
 place j cells below S is a low of a cycle, and M(g) their sum up to the gap g.
@@ -15,10 +15,9 @@ place j cells below S is a low of a cycle, and M(g) their sum up to the gap g.
 from __future__ import annotations
 
 import math
-from abc import ABC, abstractmethod
 from collections.abc import Callable, Iterable, Iterator, Sequence
 from functools import partial
-from typing import NamedTuple
+from typing import NamedTuple, TypeVar
 
 import numpy as np
 from numpy.lib.stride_tricks import sliding_window_view
@@ -27,13 +26,18 @@ from scipy import fft
 from ..chances import Floats, Whole
 from ..formats import MOST_ITEMS
 from ..scenario import Scenario
-from .lattice_law import LatticeLaw, Places, Surplus, room_for, sum_of
+from .lattice_law import LatticeLaw, Surplus, power_of, room_for, sum_of
+from .shortfalls import lateness, renewed, transforms_of, work_of
 from .walk import Walk
+
+Places = TypeVar("Places", int, Whole)
 
 GRID_GROWTH = 1.15
 SMALL_GAP = 8
 FEW = 4  # Of the gaps of a grid, one in so many is looked at for a first policy.
 MOST_CELLS = 50_000  # of tables with a row for each of many gaps
+MOST_WORK = 20_000_000  # for all gaps of a search, by `work_of`
+LEAST_CHANCE = 1e-16  # Transforms round chances by about as much.
 CLOSE = 1 + 1e-9  # Costs whose ratio is at most this are equal but for rounding.
 UNMET, STOCK_LEFT = 1, 3  # rows of `LongRun.figures_from`
 NEAR = 1e-12  # Shares, and costs by their ratio, that differ by less are equal but for rounding.
@@ -143,8 +147,9 @@ def search(policies_of: Callable[[Sequence[int]], Iterable[Candidate]], most: in
         known.update(zip(between, policies_of(between)))
 
 
-class LongRun(Walk, ABC):
-    """The figures of a scenario's policies on a lattice, and searches for the cheapest ones."""
+class LongRun(Walk):
+    """The figures of a scenario's policies on a lattice, and searches for the cheapest ones, which look at all gaps
+    that matter, unless these take too long. With one lead time `OneLead` is faster."""
 
     # Whether a search looked at a grid of gaps alone. Else its policy is the best of all pairs with s of at least 0.
     is_searched = False
@@ -152,25 +157,28 @@ class LongRun(Walk, ABC):
     def __init__(self, scenario: Scenario, step: int, exact: bool, most: int) -> None:
         """Makes the laws of a scenario. `most` is the largest gap that a search looks at."""
         super().__init__(scenario, step, exact)
-        costs = scenario.costs
+        costs, leads = scenario.costs, scenario.lead.chances
         self.setup, self.holding, self.backlog = costs.setup, costs.holding, costs.backlog
-        self.most = most
+        self.most, self.shorts = most, dict[int, Floats]()
         self.asked = self.demand.mean * step  # the mean demand of a period, in items
         # How far the mean stock less the mean backlog is below the mean low, in items.
         self.offset = step * (self.above_low.mean + self.net.mean * float(scenario.lead.mean + 1))
+        # What is independently lost of a stock before a period's net demand, and how many cells a gap's row in a table
+        # has beside those of the gap, about.
+        self.late, self.longest, under_way = lateness(leads), max(leads), power_of(self.net, min(leads))
+        self.above = len(self.late) * max(0, -self.net.low) - self.above_low.low
+        self.beside = self.above + max(self.net.high, power_of(self.net, len(self.late)).high)
+        if len(leads) == 1:
+            under_way = sum_of(under_way, self.above_low)
+            self.beside = under_way.high
+        self.after = sum_of(under_way, self.net)
+        self.one_period = Surplus(self.after, step)
+        self.one_before = Surplus(sum_of(under_way, self.back.reflected), step)
 
     @property
     def ratio(self) -> float:
         """Returns the share of periods without backlog that is best for a newsvendor, but for rounding."""
         return self.backlog / (self.backlog + self.holding) * (1 - NEAR)
-
-    def start_from(self, under_way: LatticeLaw, beside: int) -> None:
-        """Takes the law of what is independently lost of a stock before a period's net demand. A gap's row in a table
-        has about so many cells beside those of the gap."""
-        self.beside = beside
-        self.after = sum_of(under_way, self.net)
-        self.one_period = Surplus(self.after, self.step)
-        self.one_before = Surplus(sum_of(under_way, self.back.reflected), self.step)
 
     def figures_from(self, levels: Whole) -> Floats:
         """Returns rows with stock costs, unmet demand, the chance of no backlog and the stock at the end of a period
@@ -182,10 +190,30 @@ class LongRun(Walk, ABC):
         costs = self.holding * stock + self.backlog * owed
         return np.array([costs, owed - self.one_before.lacking(levels), held, stock])
 
-    @abstractmethod
     def rows_of(self, gaps: Whole) -> tuple[int, Floats]:
         """Returns the chances of how far a low of `figures_from` is below S, a row for each of some rising gaps, and
         their first cell."""
+        for some in self.parts(sorted({*gaps.tolist()} - self.shorts.keys())):
+            rows = self.shortfalls(some)
+            ends = rows.shape[1] - np.argmax(rows[:, ::-1] > 0, axis=1)
+            self.shorts.update((gap, row[:end]) for gap, row, end in zip(some.tolist(), rows, ends.tolist()))
+        shorts = [self.shorts[gap] for gap in gaps.tolist()]
+        chances = np.zeros((len(shorts), max(map(len, shorts))))
+        for row, short in zip(chances, shorts):
+            row[:len(short)] = short
+        return -self.above, chances
+
+    def shortfalls(self, gaps: Whole) -> Floats:
+        """Returns the chances of the shortfalls of rising gaps, a row each, from the cell -above on."""
+        most = int(gaps[-1])
+        room = room_for(most + self.beside + 1)
+        lows = fft.rfft(np.where(np.arange(most + 1) <= gaps[:, None], self.lows_of(most), 0.0), room)
+        begun = np.stack([np.ones_like(lows), lows * transforms_of([self.above_low], room)])
+        *_, last = renewed(begun, gaps, self.net, self.late, room, self.above)
+        rows = np.roll(fft.irfft(last[0], room), self.above, axis=1)
+        rows = np.where(rows > LEAST_CHANCE, rows, 0)
+        chances: Floats = rows / rows.sum(axis=1, keepdims=True)
+        return chances
 
     def below(self, gap: int) -> LatticeLaw:
         """Returns the law of how far the stock at the end of a period is below S, in cells."""
@@ -210,9 +238,9 @@ class LongRun(Walk, ABC):
 
     def figures(self, point: int, level: int) -> Figures:
         """Returns the figures of a policy; if the lattice is not exact, between those of the gaps beside its own."""
-        parts = [(share, self.figures_of_gap(gap, level)) for gap, share in self.gaps_of(point, level)]
-        return Figures(*(sum(share * figure for (share, _), figure in zip(parts, column))
-                         for column in zip(*(figures for _, figures in parts))))
+        gaps, shares = zip(*self.gaps_of(point, level))
+        figures = np.transpose([self.figures_of_gap(gap, level) for gap in gaps])
+        return Figures(*(figures * shares).sum(axis=1).tolist())
 
     def figures_of_gap(self, gap: int, level: int) -> Figures:
         """Returns the figures of a gap and an order-up-to level."""
@@ -222,9 +250,9 @@ class LongRun(Walk, ABC):
         orders = 1 / self.periods(gap)
         return Figures(self.setup * orders + stock_cost, 1 - unmet / self.asked, 1 - held, stock, orders)
 
-    def policy(self, gap: int, level: int) -> Candidate:
-        """Returns the policy of a gap with a level; none if s or S is out of its range."""
-        point = level - self.items(gap)
+    def policy(self, gap: int, level: int, point: int | None = None) -> Candidate:
+        """Returns the policy of a gap with a level, and perhaps a point; none if s or S is out of its range."""
+        point = level - self.items(gap) if point is None else point
         if not 0 <= point <= level <= MOST_ITEMS:
             return NO_POLICY
         return Candidate(self.figures_of_gap(gap, level).cost, point, level)
@@ -247,17 +275,6 @@ class LongRun(Walk, ABC):
         if place and unmet[place - 1] > unmet[place]:
             spare = self.step * (allowed - unmet[place]) / (unmet[place - 1] - unmet[place])
         return place * self.step - min(int(spare + NEAR), self.step - 1)
-
-    def rests(self, point: int) -> list[int]:
-        """Returns what levels of a point and a gap may have beyond their least one, in items, to cost least.
-
-        If demand comes in packs, all levels up to a pack higher have one gap. Their costs bend only at multiples of it.
-        """
-        return sorted({0, -point % self.step, self.step - 1}) if self.exact else [0]
-
-    def with_point(self, gap: int, level: int, point: int) -> Candidate:
-        """Returns the policy of a point and a level that has this gap; none if S is out of its range."""
-        return Candidate(self.figures_of_gap(gap, level).cost, point, level) if level <= MOST_ITEMS else NO_POLICY
 
     def first_gap(self, cost: float, most: int) -> int:
         """Returns the first gap up to the most whose orders alone cost no more."""
@@ -307,10 +324,12 @@ class LongRun(Walk, ABC):
         return np.where(places.below[2] >= self.ratio * places.totals, spare, 0)
 
     def costs_of(self, places: GapLevels, spare: Whole) -> Levels:
-        """Returns the levels that are so much below these places, with their costs; infinite if S is out of range."""
+        """Returns the levels that are so much below these places, with their costs; infinite if s or S is out of range.
+        """
         levels = places.levels * self.step - spare
         costs = self.setup / self.span + places.here[0] + spare / self.step * (places.below[0] - places.here[0])
-        return levels, np.where(levels <= MOST_ITEMS, costs / places.totals, math.inf)
+        is_allowed = (levels <= MOST_ITEMS) & (levels >= self.items(places.gaps))
+        return levels, np.where(is_allowed, costs / places.totals, math.inf)
 
     def cheapest_of_gaps(self, gaps: Sequence[int], share: float) -> Candidate:
         """Returns the cheapest policy of rising gaps that meets a share of demand at once."""
@@ -318,22 +337,42 @@ class LongRun(Walk, ABC):
         best = place_of_least(costs)
         return self.policy(gaps[best], int(levels[best]))
 
-    def best(self) -> Candidate:
-        """Returns the cheapest policy."""
-        return self.best_with_fill(0.0)
+    def cheapest(self, levels_of: LevelsOf, lowest: int) -> tuple[int, int]:
+        """Returns the gap and the level of the cheapest policy of all gaps that may cost least, if s is at least
+        `lowest`; or what a search finds if these take too long."""
+        def policies_of(gaps: Sequence[int]) -> Iterable[Candidate]:
+            levels, costs = self.costed(levels_of, gaps)
+            return map(Candidate, costs.tolist(), gaps, levels.tolist())  # gaps stand in place of reorder points
+        known = min(policies_of(gap_grid(self.most)[::FEW])).cost
+        most = self.widest(known, lowest)
+        if (most + 1) * work_of(power_of(self.net, self.longest).high + most, self.longest) > MOST_WORK:
+            self.is_searched = True
+            _, gap, level = search(policies_of, self.most)
+            return gap, level
+        first = self.first_gap(known, most)
+        levels, costs = self.costed(levels_of, range(first, most + 1))
+        place = int(np.argmax(costs <= CLOSE * costs.min()))
+        return first + place, int(levels[place])
+
+    def best(self, share: float = 0.0) -> Candidate:
+        """Returns the cheapest policy that meets at least this share of demand at once."""
+        return self.policy(*self.cheapest(partial(self.best_levels, share=share), 0))
 
     def best_with_point(self, point: int) -> Candidate:
-        """Returns the cheapest policy with a reorder point."""
-        return min(self.best_with_rest(point, rest) for rest in self.rests(point))
+        """Returns the cheapest policy with a reorder point.
 
-    @abstractmethod
+        If demand comes in packs, all S up to a pack higher have one gap. Their costs bend only at multiples of it. So
+        S may cost least with what these rests have beyond the least of a gap, in items.
+        """
+        rests = sorted({0, -point % self.step, self.step - 1}) if self.exact else [0]
+        return min(self.best_with_rest(point, rest) for rest in rests)
+
     def best_with_rest(self, point: int, rest: int) -> Candidate:
         """Returns the cheapest policy with a reorder point and a rest of S."""
+        return self.policy(*self.cheapest(
+            lambda means: self.fixed_levels(means, point + self.items(means.gaps) + rest), point), point)
 
-    @abstractmethod
     def best_with_level(self, level: int) -> Candidate:
         """Returns the cheapest policy with an order-up-to level."""
-
-    @abstractmethod
-    def best_with_fill(self, share: float) -> Candidate:
-        """Returns the cheapest policy that meets at least this share of demand at once."""
+        return self.policy(*self.cheapest(
+            lambda means: self.fixed_levels(means, np.full(len(means.gaps), level)), 0))

@@ -24,8 +24,7 @@ import numpy.typing as npt
 
 from ..chances import Floats, Whole
 from ..formats import MOST_ITEMS
-from ..scenario import Scenario
-from .lattice_law import convolved, power_of, sum_of
+from .lattice_law import convolved
 from .long_run import CLOSE, FEW, NO_POLICY, Candidate, GapLevels, LongRun, gap_grid, place_of_least
 
 EVEN = 1e-10  # Chances that differ by no more than this share are taken as the same by a search, not for figures.
@@ -111,12 +110,6 @@ class Lows:
 class OneLead(LongRun):
     """A scenario with one lead time. Each search finds the best of all policies on the lattice, not only of a grid."""
 
-    def __init__(self, scenario: Scenario, step: int, exact: bool, most: int) -> None:
-        """Makes the laws of the net demand while an order is under way."""
-        super().__init__(scenario, step, exact, most)
-        under_way = sum_of(power_of(self.net, max(scenario.lead.chances)), self.above_low)
-        self.start_from(under_way, under_way.high)
-
     def rows_of(self, gaps: Whole) -> tuple[int, Floats]:
         """Returns the chances of the lows, a row for each gap, and their first cell."""
         lows = self.lows_of(int(gaps[-1]))
@@ -141,7 +134,7 @@ class OneLead(LongRun):
         places = lows.spread(gaps, self.floor(gaps))
         return places if first >= lows.even else lows.walked(first, lows.even - 1, self.floor).joined(places)
 
-    def best_with_fill(self, share: float) -> Candidate:
+    def best(self, share: float = 0.0) -> Candidate:
         """Returns the cheapest of all policies that meet at least this share of demand at once."""
         known = self.cheapest_of_gaps(gap_grid(self.most)[::FEW], share)
         if known.cost == math.inf:
@@ -178,7 +171,7 @@ class OneLead(LongRun):
             cost, gap = self.least_of(sums, levels <= MOST_ITEMS)
             widest = self.widest(cost, point) if cost < math.inf else 0
             most = min(widest, 2 * most) if widest > most else 0
-        return self.with_point(gap, point + self.items(gap) + rest, point)
+        return self.policy(gap, point + self.items(gap) + rest, point)
 
     def best_with_level(self, level: int, share: float = 0.0) -> Candidate:
         """Returns the cheapest of all policies with an order-up-to level that meet a share of demand at once."""

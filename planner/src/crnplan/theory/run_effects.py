@@ -8,7 +8,7 @@ both. The bias has three parts:
 - It gives the expected costs of stock and backlog too. Let l be the shortest and L the longest lead time. In the first
   l periods no order of the run arrives, so their costs are the same for all policies. The stock in period t + l follows
   from the position after review t, from the orders of this and the reviews before that are late, and from the net
-  demand since then (`several_leads.py`). From review L - l on, its expected cost is linear in the law of the position
+  demand since then (`shortfalls.py`). From review L - l on, its expected cost is linear in the law of the position
   L - l reviews before, so the mean law of all these suffices.
 - With `unit`, what the position has risen by since the start is paid for.
 
@@ -34,7 +34,7 @@ from .lattice import MOST_GAPS, NoTheory, has_room, late_work, lattice_of, shape
 from .lattice_law import NOTHING, LatticeLaw, Surplus, power_of, room_for, sum_of
 from .long_run import LongRun
 from .reviews import Reviews, Start, falling, moving, review_sums
-from .several_leads import lateness, renewed, transforms_of
+from .shortfalls import lateness, renewed, transforms_of
 
 if TYPE_CHECKING:
     from ..crnsim.report import Row

@@ -112,7 +112,7 @@ class Chosen:
 def add_fills(chosen: Chosen, theory: LongRun, promises: Promises | None) -> None:
     """Adds the cheapest policies with fill rates, and beside each the cheapest that promises it."""
     for name, share in FILLS.items():
-        plain = theory.best_with_fill(share)
+        plain = theory.best(share)
         chosen.add(f"fill_{name}", plain, Remark("fill rate", {"fill": 100 * share}))
         if promises:
             sure = promises.cheapest(plain, share)
