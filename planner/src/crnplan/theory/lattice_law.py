@@ -6,14 +6,11 @@ from __future__ import annotations
 
 from dataclasses import dataclass
 from functools import cached_property
-from typing import TypeVar
 
 import numpy as np
 
 from ..chances import Floats, Whole
 from ..law import Law
-
-Places = TypeVar("Places", int, Whole)
 
 LEAST_CHANCE = 1e-17
 MOST_PRODUCTS = 50_000  # of a direct convolution; a transform is faster for more
@@ -63,6 +60,10 @@ class LatticeLaw:
     def variance(self) -> float:
         """Returns the variance, in squared cells."""
         return float(self.chances @ (self.cells - self.mean)**2)
+
+    def between(self, low: int, high: int) -> Floats:
+        """Returns the chances of the cells from low to high, among which all of the law are."""
+        return np.pad(self.chances, (self.low - low, high - self.high))
 
     @property
     def reflected(self) -> LatticeLaw:

@@ -22,12 +22,9 @@ from .lattice_law import LatticeLaw, convolved, room_for
 
 LEAST_CHANCE = 1e-16  # Transforms round chances by about as much.
 LEAST_MASS = 1e-14  # Laws are left out whose chance to be within the width is less.
-# A chain whose law is as close to that of the long run stays there.
-SETTLED = 1e-12
-LOOK_EVERY = 8
-# Reviews that a power of a matrix takes at once, and up to how many cells.
-AT_ONCE = 32
-MOST_DENSE = 100
+# A chain whose law is as close to that of the long run stays there. It is compared once in so many reviews.
+SETTLED, LOOK_EVERY = 1e-12, 8
+MOST_DENSE = 100  # cells, up to which a matrix of the moves takes all reviews at once
 
 
 class Start(NamedTuple):
@@ -68,9 +65,7 @@ def review_sums(net: LatticeLaw, width: int, count: int) -> Floats:
     """
     size = width + 1
     room, rows = room_for(2 * size - 1), np.eye(1, size)
-    once = np.zeros(max(net.high + 1, size))
-    once[net.low:net.high + 1] = net.chances
-    law = once[:size]  # of as many reviews as there are rows
+    law = net.between(0, max(net.high, width))[:size]  # of as many reviews as there are rows
     while len(rows) < count and law.sum() > LEAST_MASS:
         transforms = fft.rfft(np.vstack([rows, law]), room)
         sums = fft.irfft(transforms * transforms[-1], room)[:, :size]
@@ -86,9 +81,7 @@ def falling(sums: Floats, start: Start, gap: int, periods: int, counted: int) ->
     """
     def within(width: int) -> Floats:
         """Returns the chances that 0, 1, .. reviews take at most so many cells."""
-        chances = np.zeros(periods)
-        chances[:len(sums)] = sums[:, :max(width + 1, 0)].sum(axis=1)
-        return chances
+        return np.pad(sums[:, :max(width + 1, 0)].sum(axis=1), (0, periods - len(sums)))
     low, cells = min(start.law.low, 0), zip(start.law.cells.tolist(), start.law.chances.tolist())
     begun = [] if start.ordered else [(cell, chance) for cell, chance in cells if chance]
     first = np.zeros(periods)
@@ -111,75 +104,41 @@ def falling(sums: Floats, start: Start, gap: int, periods: int, counted: int) ->
     return Reviews(float(placing.sum()), mean, law_of(np.eye(1, periods, periods - 1)[0], placing[::-1]))
 
 
-class Moves:
-    """The moves of the position from a review to the next, on the cells from `low` to the gap below S. What would rise
-    above the first cell stays there.
-
-    For few cells, powers of the matrix of the moves take many reviews at once.
-    """
-
-    def __init__(self, net: LatticeLaw, low: int, count: int) -> None:
-        """Takes the net demand of a period, the first cell and the number of cells."""
-        self.net, self.low, self.places = net, low, np.arange(count)
-        ends = np.concatenate([[0], np.cumsum(net.chances)])
-        # The chance that a review places an order, by the place after the review before.
-        self.placing = 1 - ends[np.clip(count - self.places - net.low, 0, len(net.chances))]
-        self.powers = self._powers() if count <= MOST_DENSE else []
-
-    def _powers(self) -> list[Floats]:
-        """Returns the matrices of 1, 2, 4, .. reviews."""
-        count = len(self.places)
-        once = np.zeros((count, count))
-        once[:, -self.low] += self.placing
-        for cell, chance in zip(self.net.cells, self.net.chances):
-            within = self.places[self.places + cell < count]
-            once[within, np.maximum(within + cell, 0)] += chance
-        powers = [once]
-        while 2**len(powers) <= AT_ONCE:
-            powers.append(powers[-1] @ powers[-1])
-        return powers
-
-    def after(self, law: Floats) -> Floats:
-        """Returns a law after the next review."""
-        if self.powers:
-            once: Floats = law @ self.powers[0]
-            return once
-        sums, low, count = convolved(law, self.net.chances), self.net.low, len(law)
-        if low < 0:
-            sums[-low] += sums[:-low].sum()
-            sums = sums[-low:]
-        chances, first = np.zeros(count), min(max(low, 0), count)
-        chances[first:] = sums[:count - first]
-        chances[-self.low] += law @ self.placing
-        return chances
-
-    def summed(self, excess: Floats, reviews: int) -> tuple[Floats, Floats]:
-        """Returns the sum of an excess over a law that stays, over so many reviews from now, and what is left of it."""
-        total, passed = np.zeros(len(excess)), 0
-        if self.powers:
-            while passed + AT_ONCE <= reviews:
-                total += excess
-                excess, passed = excess @ self.powers[-1], passed + AT_ONCE
-            for power in self.powers[:-1]:
-                total = total + total @ power
-        for review in range(passed, reviews):
-            if review % LOOK_EVERY == 0 and abs(excess).sum() < SETTLED:
-                break
-            total += excess
-            excess = self.after(excess)
-        return total, excess
-
-
 def moving(net: LatticeLaw, start: Start, settled: LatticeLaw, orders: float, periods: int, counted: int) -> Reviews:
     """Returns the reviews of so many periods one by one, of which the first `counted` matter for the stock.
 
-    Takes the net demand of a period, and the law and the orders of a review in the long run.
+    Takes the net demand of a period, and the law and the orders of a review in the long run. What would rise above the
+    first cell stays there. For few cells a matrix takes all reviews at once.
     """
-    low, usual = start.law.low, np.zeros(len(start.law.chances))
-    usual[settled.low - low:settled.high - low + 1] = settled.chances
-    moves = Moves(net, low, len(usual))
-    summed, excess = moves.summed(start.law.chances - usual, counted)
-    others, last = moves.summed(excess, periods - 1 - counted)
-    placed = start.ordered + (periods - 1) * orders + float((summed + others) @ moves.placing)
-    return Reviews(placed, LatticeLaw(low, np.clip(usual + summed / max(counted, 1), 0, None)),
+    low, count = start.law.low, len(start.law.chances)
+    usual, ends = settled.between(low, low + count - 1), np.concatenate([[0], np.cumsum(net.chances)])
+    # The chance that a review places an order, by the place after the review before.
+    placing = 1 - ends[np.clip(count - np.arange(count) - net.low, 0, len(net.chances))]
+
+    def after(law: Floats) -> Floats:
+        """Returns a law after the next review."""
+        sums, rise = convolved(law, net.chances), max(0, -net.low)
+        sums[rise] += sums[:rise].sum()
+        chances, first = np.zeros(count), min(max(net.low, 0), count)
+        chances[first:] = sums[rise:rise + count - first]
+        chances[-low] += law @ placing
+        return chances
+    moves = np.array([after(law) for law in np.eye(count)]) if count <= MOST_DENSE else None
+
+    def summed(excess: Floats, reviews: int) -> tuple[Floats, Floats]:
+        """Returns the sum of an excess over the usual law, over so many reviews from now, and what is left of it."""
+        if moves is not None:
+            left = excess @ np.linalg.matrix_power(moves, reviews)
+            return np.linalg.solve(np.eye(count) - moves.T + usual[:, None], excess - left), left
+        total = np.zeros(count)
+        for review in range(reviews):
+            if review % LOOK_EVERY == 0 and abs(excess).sum() < SETTLED:
+                break
+            total += excess
+            excess = after(excess)
+        return total, excess
+    first, excess = summed(start.law.chances - usual, counted)
+    others, last = summed(excess, periods - 1 - counted)
+    placed = start.ordered + (periods - 1) * orders + float((first + others) @ placing)
+    return Reviews(placed, LatticeLaw(low, np.clip(usual + first / max(counted, 1), 0, None)),
                    LatticeLaw(low, usual + last))

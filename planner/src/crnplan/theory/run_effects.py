@@ -21,6 +21,7 @@ The figures are rounded and unproved.
 from __future__ import annotations
 
 import dataclasses
+import itertools
 import math
 from collections.abc import Sequence
 from typing import TYPE_CHECKING, NamedTuple
@@ -34,7 +35,7 @@ from .lattice import MOST_GAPS, NoTheory, has_room, late_work, lattice_of, shape
 from .lattice_law import NOTHING, LatticeLaw, Surplus, power_of, room_for, sum_of
 from .long_run import LongRun
 from .reviews import Reviews, Start, falling, moving, review_sums
-from .shortfalls import lateness, renewed, transforms_of
+from .shortfalls import renewed, transforms_of
 
 if TYPE_CHECKING:
     from ..crnsim.report import Row
@@ -65,23 +66,18 @@ def start_of(theory: LongRun, initial: int, policy: Policy, gap: int) -> Start:
     """Returns the start of a policy. The law has room for what may come back."""
     highs = min(theory.positions(gap).low, 0)
     if initial < policy.s:
-        return Start(LatticeLaw(highs, np.concatenate([np.zeros(-highs), [1.0], np.zeros(gap)])), True)
+        return Start(LatticeLaw(highs, NOTHING.between(highs, gap)), True)
     cell, rest = divmod(policy.S - initial, theory.step)
     low = min(cell, 0) + highs
-    chances = np.zeros(max(gap, cell + 1) - low + 1)
-    chances[cell - low] += (theory.step - rest) / theory.step
-    chances[cell + 1 - low] += rest / theory.step
-    chances[gap - low] += chances[gap - low + 1:].sum()
-    return Start(LatticeLaw(low, chances[:gap - low + 1]), False)
+    chances, shares = np.zeros(gap - low + 1), np.array([theory.step - rest, rest]) / theory.step
+    np.add.at(chances, np.minimum([cell, cell + 1], gap) - low, shares)
+    return Start(LatticeLaw(low, chances), False)
 
 
 def difference(left: LatticeLaw, right: LatticeLaw) -> LatticeLaw:
     """Returns the chances of a law less those of another one."""
-    low, high = min(left.low, right.low), max(left.high, right.high)
-    chances = np.zeros(high - low + 1)
-    chances[left.low - low:left.high - low + 1] = left.chances
-    chances[right.low - low:right.high - low + 1] -= right.chances
-    return LatticeLaw(low, chances)
+    ends = min(left.low, right.low), max(left.high, right.high)
+    return LatticeLaw(ends[0], left.between(*ends) - right.between(*ends))
 
 
 class Runs:
@@ -94,16 +90,13 @@ class Runs:
         """Computes what the policies share, as the costs of the periods before the shortest lead time has passed."""
         self.theory, self.scenario, self.periods = theory, scenario, scenario.periods
         leads = scenario.lead.chances
-        least, self.late = min(leads), lateness(leads)
+        least, self.late = min(leads), theory.late
         self.counted = max(self.periods - max(leads), 0)
-        amounts = [theory.net]
-        while len(amounts) <= least:
-            amounts.append(sum_of(amounts[-1], theory.net))
-        surpluses = [Surplus(amount, theory.step) for amount in amounts]
-        self.amount = surpluses[-1]
+        amounts = itertools.accumulate([theory.net] * (least + 1), sum_of)
+        *early, self.amount = (Surplus(amount, theory.step) for amount in amounts)
         # Periods before the shortest lead time has passed, and what they cost; then those before the longest one has.
         self.before = min(least, self.periods)
-        self.first = sum(float(self._costs(it, np.array(scenario.initial))) for it in surpluses[:self.before])
+        self.first = sum(float(self._costs(it, np.array(scenario.initial))) for it in early[:self.before])
         self.between = self.periods - self.counted - self.before
         self.starts = {(policy, gap): start_of(theory, scenario.initial, policy, gap)
                        for policy in scenario.policies for gap, _ in theory.gaps_of(policy.s, policy.S)}
