@@ -33,9 +33,9 @@ import pandas as pd
 from tqdm import tqdm
 
 from crnplan.chances import Floats, in_items
-from crnplan.demand.fitted import FittedLaw
+from crnplan.demand.fitted import Borrowed, FittedLaw
 from crnplan.demand.fitting import fit_demand
-from crnplan.demand.borrowing import Borrowed, law_of
+from crnplan.demand.borrowing import law_of
 from crnplan.demand.learning import Prior, learn
 from crnplan.demand.families import predictive_of
 from crnplan.demand.sample import Sample
@@ -114,7 +114,7 @@ def predictive_law(single: FittedLaw, history: list[int]) -> FittedLaw:
     if single.family == "empirical":
         return single
     sample = Sample.of(history)
-    law = in_items(predictive_of(single.family, sample.in_packs(sample.pack)), sample.pack)
+    law = in_items(predictive_of(single.family, sample.packs), sample.pack)
     return FittedLaw.made(Law.of_chances(law), single.family, single.diagnostics)
 
 
@@ -122,11 +122,11 @@ def judged(law: Floats, history: list[int], prior: Prior, by_class: Prior | None
     """Returns the regrets of all methods for an item."""
     truth, borrowed = Truth(law), law_of(prior, history)
     known: Borrowed = borrowed.diagnostics.borrowed
-    single = known.single or borrowed
+    single = fit_demand(history)
     laws = {"empirical": fit_demand(history, method="empirical"), "predictive": predictive_law(single, history),
             "auto": single, "borrowed": borrowed}
     if by_class:
-        laws["class"] = law_of(by_class, history, item_class, beside=False)
+        laws["class"] = law_of(by_class, history, item_class)
     return Judgement({name: truth.regret(it) for name, it in laws.items()}, known.demands,
                      1 / (1 - float(law[0])) > MOST_INTERVAL, truth.best[1].cost, known)
 

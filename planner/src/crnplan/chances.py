@@ -2,6 +2,7 @@
 from __future__ import annotations
 
 from collections.abc import Iterable
+from typing import Any
 
 import numpy as np
 import numpy.typing as npt
@@ -41,3 +42,10 @@ def mixture(parts: Iterable[tuple[float, Floats]]) -> Floats:
     for share, law in laws:
         chances[:len(law)] += share * law
     return chances
+
+
+def blurred(chances: Floats, part: Any, axis: int = 0) -> Floats:
+    """Returns chances of which a part of each goes to each neighbour along an axis. At an edge it stays."""
+    lines = np.moveaxis(chances, axis, 0)
+    below, above = np.concatenate([lines[:1], lines[:-1]]), np.concatenate([lines[1:], lines[-1:]])
+    return np.moveaxis((1 - 2 * part) * lines + part * (below + above), 0, axis)

@@ -35,6 +35,18 @@ from planner.tests.demand.made import (RARE, TRUE_MEAN, TRUE_SHARE, TRUE_SIZE, c
 ONE_STEP = partial(grid.estimated, steps=1, blur=0)
 
 
+def walked(prior: Floats, part: float) -> Floats:
+    """Returns a prior after a random walk by one cell on each axis, which stays where it would leave the grid."""
+    walks = []
+    for cells in grid.SHAPE:
+        walk = np.diag(np.full(cells, 1 - 2 * part)) + part * (np.eye(cells, k=1) + np.eye(cells, k=-1))
+        walk[0, 0] += part
+        walk[-1, -1] += part
+        walks.append(walk)
+    cells = np.einsum("abc,ai,bj,ck->ijk", prior.reshape(grid.SHAPE), *walks, optimize=True)
+    return np.asarray(cells.reshape(prior.shape))
+
+
 @pytest.fixture(scope="module")
 def known() -> Prior:
     """Returns what is learned from 400 items of one law."""
@@ -64,7 +76,7 @@ def test_learned_prior(mixed: dict[str, list[int]]) -> None:
     """The prior is that of a hundred steps from the flat one, each blurred by 5%, with the flat prior as one item."""
     chunks, prior = chunks_of(Sample.of(it) for it in mixed.values()), grid.FLAT
     for _ in range(100):
-        prior = grid.blurred(ONE_STEP(chunks, prior, grid.FLAT), 0.05)
+        prior = walked(ONE_STEP(chunks, prior, grid.FLAT), 0.05)
     whole = learn(mixed).whole
     assert whole and np.allclose(whole.chances, prior, rtol=1e-5, atol=1e-9)
     gains = np.log10(marginal(chunks, prior) / marginal(chunks, grid.FLAT))
@@ -133,9 +145,9 @@ def test_known_law_of_an_item(known: Prior) -> None:
     distances, rejected = [], 0
     for seed in range(900, 905):
         law = law_of(known, history(seed, 26))
-        single = borrowed(law).single
+        single = fit_demand(history(seed, 26))
         rejected += law.family != "borrowed"
-        laws = [chances_of(it, 201)[:201] for it in (law, single) if it]
+        laws = [chances_of(it, 201)[:201] for it in (law, single)]
         distances.append([np.abs(np.cumsum(it) - np.cumsum(true)).max() for it in laws])
     ours, alone = np.median(distances, axis=0)
     assert rejected <= 1 and ours < 0.03 and alone > 2 * ours
@@ -254,7 +266,7 @@ def test_law_of_the_item_alone(numbers: list[int], alone: str, known: Prior) -> 
     history."""
     law, expected = law_of(known, numbers), fit_demand(numbers, method="auto")
     found = borrowed(law)
-    assert law == expected and (reason(law), found.share, found.single) == (alone, 0, expected)
+    assert law == expected and (reason(law), found.share) == (alone, 0)
     assert replace(law.diagnostics, borrowed=None) == replace(expected.diagnostics, borrowed=None)
     assert borrowed_laws(known, numbers, times=3) == allowed_laws(numbers, times=3)
     assert f"demand: its law is learned from no others: {alone}" in notes_of(law, "demand")
@@ -303,9 +315,9 @@ def test_law_of_a_doubtful_item(numbers: list[int], least: float, most: float, k
     mixed with the history by the Dirichlet weight."""
     assert known.whole
     alike, share, expected = expected_law(numbers, known.whole.chances)
-    law = law_of(known, numbers, beside=False)
+    law = law_of(known, numbers)
     check_law(law)
-    assert least <= alike <= most and law.family == "borrowed" and borrowed(law).single is None
+    assert least <= alike <= most and law.family == "borrowed"
     assert borrowed(law).share == pytest.approx(share, rel=1e-6) and (share < alike or numbers is not MIXED)
     width = law.values[-1] + 1
     assert np.cumsum(chances_of(law)) == pytest.approx(np.cumsum(expected)[:width], abs=1 / 65_536)
@@ -331,7 +343,6 @@ def test_items_in_packs(packed: dict[str, list[int]]) -> None:
         law, found = law_of(prior, numbers), law_of(Prior("all", whole=prior.packs), [it // pack for it in numbers])
         assert (law.values, law.weights) == (tuple(pack * it for it in found.values), found.weights)
         assert borrowed(law).share == borrowed(found).share > 0.5 and borrowed(law).guard == borrowed(found).guard
-        assert borrowed(law).single == fit_demand(numbers, method="auto")
         drawn = borrowed_laws(prior, numbers, times=5).laws
         assert all(value % pack == 0 for it in drawn for value in it.values)
     pulled = [Sample.of(it // (90 if name == "packs 0" else 6) for it in numbers)
@@ -376,10 +387,10 @@ def test_classes(monkeypatch: pytest.MonkeyPatch, mixed: dict[str, list[int]]) -
     group = [Sample.of(mixed[name]) for name in mixed if classes[name] == "b"]
     pulled = grid.estimated(chunks_of(group), prior.whole.chances, 30 * prior.whole.chances)
     assert np.allclose(prior.classes["b"].chances, pulled, rtol=1e-5, atol=1e-9)
-    names = {it: borrowed(law_of(prior, RARE, it, beside=False)).prior for it in ("a", "b", "c", None)}
+    names = {it: borrowed(law_of(prior, RARE, it)).prior for it in ("a", "b", "c", None)}
     assert names == {"a": "a", "b": "b", "c": "all", None: "all"}
-    of_class = law_of(Prior("all", whole=prior.classes["b"]), RARE, beside=False)
-    assert law_of(prior, RARE, "b", beside=False) == of_class != law_of(prior, RARE, beside=False)
+    of_class = law_of(Prior("all", whole=prior.classes["b"]), RARE)
+    assert law_of(prior, RARE, "b") == of_class != law_of(prior, RARE)
     monkeypatch.setattr(learning, "MOST_PULLED", 64)
     again = learn(mixed, classes, "class").classes
     own = learn([mixed[it] for it in mixed if classes[it] == "a"], least=30).whole
@@ -390,7 +401,7 @@ def test_classes(monkeypatch: pytest.MonkeyPatch, mixed: dict[str, list[int]]) -
 def test_drawn_laws(known: Prior) -> None:
     """Their mean is the law of the item within the error of the draws, and the same seed gives the same laws."""
     for numbers in (history(3, 40), MIXED, IN_BETWEEN):
-        law, drawn = law_of(known, numbers, beside=False), borrowed_laws(known, numbers, times=1500)
+        law, drawn = law_of(known, numbers), borrowed_laws(known, numbers, times=1500)
         assert drawn.families == {"borrowed": 1500} and {sum(it.weights) for it in drawn.laws} == {65_536}
         width = max(max(it.values) for it in drawn.laws) + 1
         below = np.cumsum([chances_of(it, width) for it in drawn.laws], axis=1)
@@ -436,9 +447,9 @@ def test_units() -> None:
 @given(numbers=st.lists(st.integers(0, 150), min_size=1, max_size=40))
 def test_any_history(numbers: list[int], known: Prior) -> None:
     """Each history has a law within the range of a scenario, always the same."""
-    law = law_of(known, numbers, beside=False)
+    law = law_of(known, numbers)
     check_law(law, None)
-    assert law == law_of(known, iter(numbers), beside=False)
+    assert law == law_of(known, iter(numbers))
 
 
 @settings(max_examples=20)
@@ -488,13 +499,6 @@ def test_each_step_raises_the_likelihood(histories: list[list[int]], flat: float
 @settings(max_examples=20)
 @given(seed=st.integers(0, 1000), part=st.floats(0, 0.3))
 def test_blur(seed: int, part: float) -> None:
-    """The blur is a random walk by one cell on each axis, which stays where it would leave the grid."""
+    """The blur of a step is a random walk by one cell on each axis, which stays where it would leave the grid."""
     prior = np.random.default_rng(seed).dirichlet(np.full(grid.FLAT.size, 0.01)).reshape(grid.FLAT.shape)
-    walks = []
-    for cells in grid.SHAPE:
-        walk = np.diag(np.full(cells, 1 - 2 * part)) + part * (np.eye(cells, k=1) + np.eye(cells, k=-1))
-        walk[0, 0] += part
-        walk[-1, -1] += part
-        walks.append(walk)
-    expected = np.einsum("abc,ai,bj,ck->ijk", prior.reshape(grid.SHAPE), *walks, optimize=True)
-    assert np.allclose(grid.blurred(prior, part).reshape(grid.SHAPE), expected, rtol=0, atol=1e-14)
+    assert np.allclose(grid.estimated([], prior, prior, steps=1, blur=part), walked(prior, part), rtol=0, atol=1e-14)

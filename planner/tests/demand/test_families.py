@@ -93,11 +93,11 @@ def test_bic_is_in_order(numbers: Sequence[int]) -> None:
     counts = {"poisson": 1, "negative-binomial": 2, "hurdle-geometric": 1 + hurdle, "hurdle-poisson": 1 + hurdle,
               "hurdle-negative-binomial": 2 + hurdle, "hurdle-lognormal": 2 + hurdle}
     if parts := parts_of(Sample.of(numbers)):
-        ordinary = fits_of(parts[0])
+        ordinary = fits_of(parts.ordinary)
         counts["bulk"] = 3 + (1 if "negative-binomial" not in ordinary or [*ordinary].index("poisson")
                               < [*ordinary].index("negative-binomial") else 2)
     values = [counts[name] * math.log(len(numbers)) - 2 * fit.log_likelihood for name, fit in fits.items()]
-    assert values == sorted(values) == pytest.approx([fit.bic(len(numbers)) for fit in fits.values()])
+    assert values == sorted(values) == pytest.approx([fit.bic for fit in fits.values()])
 
 
 @HISTORIES
@@ -178,8 +178,9 @@ def test_bulk() -> None:
     share = count / len(BULKY)
     law = share * sizes + (1 - share) * stats.poisson.pmf(np.arange(41), np.mean(ordinary))
     fit = fits_of(Sample.of(BULKY))["bulk"]
-    assert fit.chances[:41] == pytest.approx(law) and fit.parameters == 4
+    assert fit.chances[:41] == pytest.approx(law)
     assert fit.log_likelihood == pytest.approx(np.log(law[BULKY]).sum())
+    assert fit.bic == pytest.approx(4 * math.log(len(BULKY)) - 2 * fit.log_likelihood)
     assert [*fits_of(Sample.of(BULKY))][0] == "bulk"
     for few in ([0, 0, 5, 5], [4] * 8, [0, 2, 9, 9, 9]):  # no ordinary demand, no bulk, too many bulks
         assert "bulk" not in fits_of(Sample.of(few))

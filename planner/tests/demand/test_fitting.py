@@ -15,9 +15,10 @@ from hypothesis import strategies as st
 from scipy import integrate, stats
 
 from crnplan.demand import FAMILIES, METHODS
+from crnplan.chances import blurred
 from crnplan.demand.families import fits_of, predictive_of
 from crnplan.demand.fitted import notes_of
-from crnplan.demand.fitting import blurred, cap_of, fit_demand, fit_lead, share_of
+from crnplan.demand.fitting import cap_of, fit_demand, fit_lead, share_of
 from crnplan.demand.sample import Sample
 from crnplan.errors import Refused, RefusedFaults
 from crnplan.law import Law
@@ -300,10 +301,9 @@ def test_many_lead_times_or_one(numbers: list[int]) -> None:
 def test_kernel() -> None:
     """A part goes to both neighbours, but not below 1 or above 32, in whatever order the lead times were seen."""
     assert fit_lead([2, 5, 3, 3], method="auto") == fit_lead([3, 2, 3, 5], method="auto")
-    assert blurred({5: 3, 9: 1}, 0.1) == pytest.approx({4: 0.075, 5: 0.6, 6: 0.075, 8: 0.025, 9: 0.2, 10: 0.025})
-    assert blurred({1: 1}, 0.1) == pytest.approx({1: 0.9, 2: 0.1})
-    assert blurred({32: 1}, 0.1) == pytest.approx({31: 0.1, 32: 0.9})
-    assert blurred({2: 1, 3: 1}, 0.2) == pytest.approx({1: 0.1, 2: 0.4, 3: 0.4, 4: 0.1})
+    for weights, expected in (([0, 3, 0, 0, 1, 0], [3, 6 * 4, 3, 1, 8, 1]), ([1, 0, 0], [9, 1, 0]), ([0, 1], [1, 9]),
+                              ([0, 1, 1, 0], [1, 9, 9, 1])):
+        assert 10 * blurred(np.array(weights), 0.1) == pytest.approx(expected)
 
 
 @pytest.mark.parametrize("numbers", [[4, 4, 4, 4, 4], [3, 4, 5, 6, 4], [2, 2, 9, 2, 9, 9, 10]], ids=str)

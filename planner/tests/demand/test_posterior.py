@@ -11,7 +11,7 @@ from scipy import stats
 
 from crnplan.chances import Floats, mixture
 from crnplan.demand import FAMILIES, posterior
-from crnplan.demand.families import REGISTRY, UNIFORMS, fits_of, greatest_mean, predictive_of
+from crnplan.demand.families import REGISTRY, UNIFORMS, columns_of, fits_of, greatest_mean, predictive_of
 from crnplan.demand.fitting import fit_lead
 from crnplan.demand.posterior import allowed_laws, allowed_leads, demand_laws, members_of, round_history, stratified
 from crnplan.demand.sample import Sample
@@ -39,7 +39,7 @@ def test_mean_of_drawn_laws(family: str, numbers: Sequence[int]) -> None:
     """It is the posterior predictive law, within the error of the draws."""
     sample = Sample.of(numbers)
     its, cells = REGISTRY[family], np.arange(100)
-    below = np.cumsum(its.chances(its.drawn(sample, uniform(3000), 1.0), cells), axis=1)
+    below = np.cumsum(its.chances(cells, *columns_of(its.drawn(sample, uniform(3000), 1.0))), axis=1)
     expected = np.zeros(10_001)
     law = predictive_of(family, sample)
     expected[:len(law)] = law
@@ -52,7 +52,7 @@ def test_laws_of_members(numbers: Sequence[int]) -> None:
     """They are scaled, and only the end of their tail is left out."""
     its = REGISTRY["hurdle-lognormal"]
     parameters = its.drawn(Sample.of(numbers), uniform(20), 1.0)
-    laws, more = its.laws(parameters, max(numbers)), its.chances(parameters, np.arange(10_001))
+    laws, more = its.laws(parameters, max(numbers)), its.chances(np.arange(10_001), *columns_of(parameters))
     assert laws.sum(axis=1) == pytest.approx(1) and np.allclose(laws, more[:, :laws.shape[1]], rtol=1e-3)
 
 
@@ -130,7 +130,7 @@ def test_concentrations(monkeypatch: pytest.MonkeyPatch) -> None:
     monkeypatch.setattr(posterior, "COUNTED", 1.0)
     monkeypatch.setattr(posterior, "MEMBERS", 4000)
     sample, means = Sample.of(ERRATIC), np.linspace(0.5, 12, 400)
-    found = members_of("poisson", fits_of(sample)["poisson"], sample, np.random.default_rng(1)).likely
+    found = members_of(fits_of(sample)["poisson"], sample, np.random.default_rng(1)).likely
     shares = np.exp(found - found.max())
     chances = stats.poisson.pmf(sample.values, means[:, None])
     expected = []
@@ -150,7 +150,7 @@ def test_families_without_a_doubt(monkeypatch: pytest.MonkeyPatch) -> None:
         monkeypatch.setattr(posterior, name, value)
     sample = Sample.of(RARE)
     families, laws = demand_laws(sample, 2000, np.random.default_rng(2))
-    bic = {name: fit.bic(sample.size) for name, fit in fits_of(sample).items()}
+    bic = {name: fit.bic for name, fit in fits_of(sample).items()}
     weights = {name: np.exp((min(bic.values()) - it) / 2) for name, it in bic.items() if it <= min(bic.values()) + 10}
     total = sum(weights.values())
     assert {name: it / 2000 for name, it in families.items()} == pytest.approx(

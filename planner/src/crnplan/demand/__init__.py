@@ -5,3 +5,4 @@ FAMILIES = ("poisson", "negative-binomial", "hurdle-geometric", "hurdle-poisson"
             "hurdle-lognormal", "bulk")
 METHODS = ("auto", "predictive", EMPIRICAL, *FAMILIES)
 LEAD_METHODS = ("auto", EMPIRICAL)
+LEAST_DEMANDS = 2  # periods with demand, for a fit

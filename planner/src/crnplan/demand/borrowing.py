@@ -18,50 +18,18 @@ from ..formats import MOST_DEMAND
 from ..law import Law
 from ..records.observed import Observed
 from ..remarks import Remark
-from .fitted import Diagnostics, FittedLaw
-from .fitting import LEAST_DEMANDS, boxes_of, cap_of, family_law, share_of
+from .fitted import Borrowed, Diagnostics, FittedLaw
+from .fitting import boxes_of, cap_of, family_law, share_of
 from .grid import FLAT, MOST_SIZE, SHARES, SIZE_CELLS, share_likelihoods, size_laws, size_likelihoods
 from .learning import NONE, Prior, is_outside
 from .posterior import AllowedLaws, allowed_laws, law_of_chances, random_of, round_history, stratified
-from .sample import Sample, Shares, shares_of
+from .sample import Sample, shares_of
 
 FAMILY = "borrowed"
 LEVEL = 0.05  # Each share of the guard is above it, else the law of the single item is taken.
 ROWS = 4  # of uniform numbers for a drawn law; the last one chooses its part
 LEAST_CHANCE = 1e-12  # of a cell that counts in a predictive law
 ALIKE = 0.5  # beforehand, the chance that an item is one of those that the prior was learned from
-
-
-@dataclass(frozen=True)
-class Borrowed:
-    """What is known of an item's law, in its diagnostics.
-
-    `demands` are the periods with demand, `prior` is the name of the class whose prior it has, or "all". `alone` says
-    why the law of the item's own history is taken; None if the borrowed law is. `share` is that of what was
-    learned in the law of the item; the rest is from its own history. `guard` has the shares of drawn histories, None
-    with no or one demand; `log10_bayes` is the log10 of the Bayes factor for the learned prior against the flat one.
-    Both are None if nothing was learned for such an item. `single` is the law of the item's own history by
-    `fit_demand(method="auto")`, None if not asked for.
-    """
-
-    demands: int
-    prior: str
-    alone: Remark | None = None
-    share: float = 0.0
-    guard: Shares | None = None
-    log10_bayes: float | None = None
-    single: FittedLaw | None = None
-
-    @property
-    def unlike(self) -> bool:
-        """Returns whether the history is less likely under the learned prior than under the flat one: the item is
-        unlike the catalogue. Then at most half of its law is from what was learned."""
-        return self.log10_bayes is not None and self.log10_bayes < 0
-
-    @property
-    def few(self) -> bool:
-        """Returns whether the history has no or one demand: the law is then all but that of the catalogue."""
-        return self.demands < LEAST_DEMANDS
 
 
 @dataclass(frozen=True, eq=False)
@@ -148,7 +116,7 @@ def why_alone(prior: Prior, sample: Sample, box: int) -> Remark | None:
         return Remark("demand in boxes", {"box": box})
     if sample.pack > 1 and not prior.packs:
         return Remark("packs of few others", {"pack": sample.pack})
-    if is_outside(sample.in_packs(sample.pack)):
+    if is_outside(sample.packs):
         return Remark("large sizes" + " in packs" * (sample.pack > 1), {"most": MOST_SIZE})
     return None
 
@@ -158,27 +126,27 @@ def looked_at(prior: Prior, sample: Sample, item_class: str | None,
     """Returns what is known of an item, and the parts of its law; none if the law of the item alone is to be taken.
 
     The parts, by the learned prior and by the flat one, have the weights that they are likely with after the history.
-    Under the flat prior, demands are at most as large as in `fit_demand`.
+    Under the flat prior, demands are at most as large as in `fit_demand`. An item with no or one demand has no such
+    part.
     """
     name, learned = prior.of_item(item_class, sample.pack)
-    known = Borrowed(sample.demands, name, why_alone(prior, sample, box))
+    known, packs = Borrowed(sample.demands, name, why_alone(prior, sample, box)), sample.packs
     if known.alone or not learned:
         return known, []
-    packs = sample.in_packs(sample.pack)
     posterior = Posterior.of(packs, learned.chances)
-    guard = None if known.few else shares_of(packs, posterior.predictive)
-    known = replace(known, guard=guard, log10_bayes=posterior.log10_bayes)
-    if guard and min(guard) <= LEVEL:
+    known = replace(known, log10_bayes=posterior.log10_bayes)
+    if known.few:
+        return replace(known, share=posterior.share), [(1.0, posterior)]
+    guard = shares_of(packs, posterior.predictive)
+    known = replace(known, guard=guard)
+    if min(guard) <= LEVEL:
         return replace(known, alone=Remark("unlike histories")), []
-    alike = 1.0 if known.few else posterior.alike
-    parts = [(alike, posterior)]
-    if not known.few:
-        parts.append((1 - alike, replace(posterior, prior=FLAT, most=cap_of(packs))))
-    return replace(known, share=alike * posterior.share), parts
+    alike, flat = posterior.alike, replace(posterior, prior=FLAT, most=cap_of(packs))
+    return replace(known, share=alike * posterior.share), [(alike, posterior), (1 - alike, flat)]
 
 
-def law_of(prior: Prior, observed: Observed | Iterable[Any], item_class: str | None = None, *, box: int = 1,
-           beside: bool = True) -> FittedLaw:
+def law_of(prior: Prior, observed: Observed | Iterable[Any], item_class: str | None = None, *,
+           box: int = 1) -> FittedLaw:
     """Fits the law of demand to a history with few orders, by what its catalogue has learned (`learn`).
 
     It is the posterior predictive law under what the item's class, the catalogue, or all items in packs have learned,
@@ -187,16 +155,15 @@ def law_of(prior: Prior, observed: Observed | Iterable[Any], item_class: str | N
     of the item alone: `fit_demand(method="auto")`. So it is for boxes, for packs if few others have some, and for sizes
     outside the grid. An item with no or one demand has the learned law in any case, since its history alone has none.
 
-    `diagnostics.borrowed` has what is known, with the law of the item alone if `beside`. `observed` and `box` are as in
-    `fit_demand`, and so is what is raised. Weights add up to 65,536.
+    `diagnostics.borrowed` has what is known. `observed` and `box` are as in `fit_demand`, and so is what is raised.
+    Weights add up to 65,536.
     """
     boxes = boxes_of(observed, box)
     sample = Sample.of(boxes)
     known, parts = looked_at(prior, sample, item_class, box)
-    if beside or not parts:
-        known = replace(known, single=family_law(boxes, "auto", box))
-    if known.single and not parts:
-        return replace(known.single, diagnostics=replace(known.single.diagnostics, borrowed=known))
+    if not parts:
+        single = family_law(boxes, "auto", box)
+        return replace(single, diagnostics=replace(single.diagnostics, borrowed=known))
     law = in_items(mixture((weight, part.law) for weight, part in parts), sample.pack)
     return FittedLaw.made(Law.of_chances(law), FAMILY, Diagnostics(Law.of_numbers(boxes), FAMILY, borrowed=known))
 

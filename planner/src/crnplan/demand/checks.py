@@ -280,7 +280,7 @@ def check_history(observed: Observed | Iterable[Number], *, season: int | None =
     The same history has the same checks. Raises RefusedFaults for numbers that are not whole, and Refused for a season
     of less than 2 periods.
     """
-    numbers, _ = numbers_of(observed, "demand")
+    numbers = numbers_of(observed, "demand")
     every, first = (observed.every, observed.first) if isinstance(observed, History) else (None, 1)
     return _checked(numbers, every, first, None if season is None else whole(season, "season"), True)
 

@@ -13,10 +13,9 @@ A new family is a class, its name in `demand.FAMILIES` and an entry in `REGISTRY
 """
 from __future__ import annotations
 
-import functools
 import math
 from abc import ABC, abstractmethod
-from collections.abc import Callable
+from collections.abc import Callable, Iterator, Mapping
 from dataclasses import dataclass
 from typing import Any, NamedTuple
 
@@ -25,10 +24,11 @@ from scipy import special
 
 from ..chances import DEMANDS, LEAST_TAIL, Floats, Whole, cut, scaled
 from ..formats import MOST_DEMAND
-from . import FAMILIES
+from . import FAMILIES, LEAST_DEMANDS
 from .sample import Sample
 
-Parameters = tuple[Floats, ...]  # of a family, each with one number for each member
+Parameters = tuple[Any, ...]  # of a family: numbers of a member, or arrays with one for each of several
+WORSE = 10.0  # in BIC: families further behind the best are not looked at
 UNIFORMS = 5  # rows of uniform numbers, at most, for a member
 LEAST_CHANCE = 1e-300
 FIRST_WIDTH = 128  # of drawn laws; ever more until all but a tail is there
@@ -43,7 +43,6 @@ LEAST_SHARE = 1e-6  # of a size in the posterior
 MOST_ERRORS, MOST_LOGARITHM = 4.0, 2.5
 
 # Lognormal sizes.
-BOUNDS = np.log(DEMANDS[1:] + 0.5)  # of the rounded sizes 1, 2 and so on: their upper ends
 LEAST_DEVIATION = 0.01
 DEVIATIONS = 50  # over which the posterior is summed
 MOST_DEVIATION = 2.0  # of the logarithm of a size: beyond, a size varies by more than a factor of 50 both ways
@@ -54,25 +53,28 @@ BULK_VARIATION, BULK_FREEDOM = 0.25, 2.0
 
 
 class Fit(NamedTuple):
-    """The member of a family with the greatest likelihood, and how many parameters it has."""
+    """The member of a family with the greatest likelihood, with the logarithm of that and the Bayesian information
+    criterion (Schwarz, Estimating the dimension of a model, 1978)."""
 
+    family: Family
+    member: Parameters
     log_likelihood: float
-    parameters: int
-    chances: Floats
+    bic: float
 
-    def bic(self, size: int) -> float:
-        """Returns the Bayesian information criterion (Schwarz, Estimating the dimension of a model, 1978)."""
-        return self.parameters * math.log(size) - 2 * self.log_likelihood
+    @property
+    def chances(self) -> Floats:
+        return self.family.chances(DEMANDS, *self.member)
 
 
 class Family(ABC):
     """A family of laws: how it is fitted, what it says of the next period, and how its members are drawn.
 
-    The priors of the predictive law and of the draws are the same, so the mean of many drawn members is that law.
+    It has `chances` or `logarithms`, each of which is made of the other. The priors of the predictive law and of the
+    draws are the same, so the mean of many drawn members is that law.
     """
 
     @abstractmethod
-    def fit(self, sample: Sample) -> Fit | None:
+    def likeliest(self, sample: Sample) -> Parameters | None:
         """Returns the member with the greatest likelihood; None if the sample does not allow the family."""
 
     @abstractmethod
@@ -87,48 +89,43 @@ class Family(ABC):
         `counted` numbers: 1 for the posterior, less for a coarsened one.
         """
 
-    @abstractmethod
-    def chances(self, parameters: Parameters, values: Whole) -> Floats:
-        """Returns the chances of values, a row for each member."""
+    def chances(self, values: Whole, *parameters: Any) -> Floats:
+        """Returns the chances of values: of a member, or a row for each if parameters are columns."""
+        return np.asarray(np.exp(self.logarithms(values, *parameters)))
+
+    def logarithms(self, values: Whole, *parameters: Any) -> Floats:
+        """Returns the logarithms of `chances`."""
+        return np.asarray(np.log(np.maximum(self.chances(values, *parameters), LEAST_CHANCE)))
+
+    def fit(self, sample: Sample) -> Fit | None:
+        """Returns the likeliest member. If the first parameter is a share of 0, it is none."""
+        member = self.likeliest(sample)
+        if member is None:
+            return None
+        likelihood = float(sample.counts @ self.logarithms(sample.values, *member))
+        return Fit(self, member, likelihood, (len(member) - (member[0] == 0)) * math.log(sample.size) - 2 * likelihood)
 
     def laws(self, parameters: Parameters, most: int) -> Floats:
         """Returns a row of chances of 0, 1, 2 and so on for each member, without the end of the tail. `most` is the
         largest number that was seen."""
         width = max(FIRST_WIDTH, 2 * most)
         while True:
-            chances = self.chances(parameters, DEMANDS[:width])
+            chances = self.chances(DEMANDS[:width], *columns_of(parameters))
             total = chances.sum(axis=1, keepdims=True)
             if width > MOST_DEMAND or total.min() > 1 - LEAST_TAIL:
                 return np.asarray(chances / total)
             width *= 2
 
 
-class Counts(Family):
-    """A family of whole numbers from 0 whose laws have a formula: that of the logarithms of chances."""
-
-    @abstractmethod
-    def estimate(self, sample: Sample) -> tuple[float, ...] | None:
-        """Returns the parameters with the greatest likelihood; None if the sample does not allow the family."""
-
-    @abstractmethod
-    def logarithms(self, values: Whole, *parameters: Any) -> Floats:
-        """Returns the logarithms of the chances of values."""
-
-    def fit(self, sample: Sample) -> Fit | None:
-        parameters = self.estimate(sample)
-        if parameters is None:
-            return None
-        return Fit(float(sample.counts @ self.logarithms(sample.values, *parameters)), len(parameters),
-                   np.exp(self.logarithms(DEMANDS, *parameters)))
-
-    def chances(self, parameters: Parameters, values: Whole) -> Floats:
-        return np.exp(self.logarithms(values, *(column[:, None] for column in parameters)))
+def columns_of(parameters: Parameters) -> Iterator[Floats]:
+    """Yields the parameters of several members as columns."""
+    return (parameter[:, None] for parameter in parameters)
 
 
-class Poisson(Counts):
+class Poisson(Family):
     """Poisson laws. The parameter is the mean."""
 
-    def estimate(self, sample: Sample) -> tuple[float, ...] | None:
+    def likeliest(self, sample: Sample) -> Parameters | None:
         return (sample.mean,) if sample.total else None
 
     def logarithms(self, values: Whole, *parameters: Any) -> Floats:
@@ -136,17 +133,17 @@ class Poisson(Counts):
 
     def predictive(self, sample: Sample) -> Floats:
         """Returns the law of a number whose mean has a gamma law: it is negative binomial."""
-        return np.exp(NegativeBinomial().logarithms(DEMANDS, sample.total + 0.5, 1 / (sample.size + 1)))
+        return NEGATIVE_BINOMIAL.chances(DEMANDS, sample.total + 0.5, 1 / (sample.size + 1))
 
     def drawn(self, sample: Sample, uniform: Floats, counted: float = 1.0) -> Parameters:
         """Draws means, whose posterior is a gamma law."""
         return (special.gammaincinv(counted * sample.total + 0.5, uniform[0]) / (counted * sample.size),)
 
 
-class Geometric(Counts):
+class Geometric(Family):
     """Geometric laws on 0, 1, 2 and so on. The parameter is p."""
 
-    def estimate(self, sample: Sample) -> tuple[float, ...] | None:
+    def likeliest(self, sample: Sample) -> Parameters | None:
         return (1 / (1 + sample.mean),) if sample.total else None
 
     def logarithms(self, values: Whole, *parameters: Any) -> Floats:
@@ -162,10 +159,10 @@ class Geometric(Counts):
         return (special.betaincinv(counted * sample.size + 1, counted * sample.total + 1, uniform[0]),)
 
 
-class NegativeBinomial(Counts):
+class NegativeBinomial(Family):
     """Negative binomial laws. The parameters are the size k and 1 - p; the mean is k (1 - p) / p."""
 
-    def estimate(self, sample: Sample) -> tuple[float, ...] | None:
+    def likeliest(self, sample: Sample) -> Parameters | None:
         """Returns the parameters; None if the numbers vary no more than under a Poisson law. The score has a single
         root if the variance with the divisor n is above the mean, else none (Levin and Reeds, Compound multinomial
         likelihood functions are unimodal, 1977)."""
@@ -252,14 +249,9 @@ class Hurdle(Family):
 
     sizes: Family
 
-    def fit(self, sample: Sample) -> Fit | None:
-        share = sample.zeros / sample.size
-        fit = self.sizes.fit(sample.excess)
-        if fit is None:
-            return None
-        likelihood = special.xlogy(sample.zeros, share) + special.xlog1py(sample.size - sample.zeros, -share)
-        return Fit(fit.log_likelihood + float(likelihood), fit.parameters + (sample.zeros > 0),
-                   np.concatenate([[share], (1 - share) * scaled(fit.chances[:-1])]))
+    def likeliest(self, sample: Sample) -> Parameters | None:
+        member = self.sizes.likeliest(sample.excess)
+        return None if member is None else (sample.zeros / sample.size, *member)
 
     def predictive(self, sample: Sample) -> Floats:
         """Returns the predictive law. If each period had demand, none is taken to have none."""
@@ -274,44 +266,35 @@ class Hurdle(Family):
                  else np.zeros(uniform.shape[1]))
         return share, *self.sizes.drawn(sample.excess, uniform[:-1], counted)
 
-    def chances(self, parameters: Parameters, values: Whole) -> Floats:
+    def logarithms(self, values: Whole, *parameters: Any) -> Floats:
         share, *rest = parameters
-        above = self.sizes.chances((*rest,), np.maximum(values - 1, 0))
-        return np.where(values == 0, share[:, None], (1 - share[:, None]) * above)
+        above = special.log1p(-share) + self.sizes.logarithms(np.maximum(values - 1, 0), *rest)
+        return np.where(values == 0, special.xlogy(1, share), above)
 
 
 class Lognormal(Family):
     """Rounded lognormal sizes, less 1, as samples are; what is below 1.5 counts as 1. The parameters are mean and
     deviation of a size's logarithm."""
 
-    def fit(self, sample: Sample) -> Fit | None:
-        """Fits the parameters by the moments of the logarithms. None if these hardly vary."""
+    def likeliest(self, sample: Sample) -> Parameters | None:
+        """Returns the member with the moments of the logarithms. None if these hardly vary."""
         mean, deviation = self._moments(sample)
-        if deviation < LEAST_DEVIATION:
-            return None
-        return fit_of(sample, 2, self._mixed(mean, np.array([deviation])))
+        return None if deviation < LEAST_DEVIATION else (mean, deviation)
 
     def predictive(self, sample: Sample) -> Floats:
-        """Returns the predictive law: the logarithm has Student's law. The deviation is at most 2, since the tails of
-        that law with few degrees of freedom have no mean."""
-        mean, deviation = self._moments(sample)
-        freedom = max(sample.size - 1, 1)
-        # Quantiles of a chi-square law.
-        quantiles = 2 * special.gammaincinv(freedom / 2, (np.arange(DEVIATIONS) + 0.5) / DEVIATIONS)
-        drawn = np.minimum(deviation * np.sqrt(freedom / quantiles), MOST_DEVIATION) * math.sqrt(1 + 1 / sample.size)
-        return self._mixed(mean, drawn)
+        """Returns the predictive law: the logarithm has Student's law, but for the bound of the deviation."""
+        mean, deviations = self._drawn_moments(sample, (np.arange(DEVIATIONS) + 0.5) / DEVIATIONS, 1.0)
+        deviations *= math.sqrt(1 + 1 / sample.size)
+        below = special.ndtr((np.log(DEMANDS[1:] + 0.5) - mean) / deviations[:, None]).mean(axis=0)
+        return np.asarray(np.diff(below, prepend=0.0))
 
     def drawn(self, sample: Sample, uniform: Floats, counted: float = 1.0) -> Parameters:
-        mean, deviation = self._moments(sample)
-        freedom = max(counted * sample.size - 1, 1.0)
-        squares = 2 * special.gammaincinv(freedom / 2, uniform[0])
-        deviations = np.minimum(deviation * np.sqrt(freedom / squares), MOST_DEVIATION)
+        mean, deviations = self._drawn_moments(sample, uniform[0], counted)
         return mean + deviations / math.sqrt(counted * sample.size) * special.ndtri(uniform[1]), deviations
 
-    def chances(self, parameters: Parameters, values: Whole) -> Floats:
-        mean, deviation = (column[:, None] for column in parameters)
-        above = special.ndtr((np.log(values + 1.5) - mean) / deviation)
-        return np.asarray(above - np.where(values > 0, special.ndtr((np.log(values + 0.5) - mean) / deviation), 0.0))
+    def chances(self, values: Whole, *parameters: Any) -> Floats:
+        mean, deviation = parameters
+        return rounded(values + 1, lambda sizes: special.ndtr((np.log(sizes) - mean) / deviation))
 
     @staticmethod
     def _moments(sample: Sample) -> tuple[float, float]:
@@ -320,25 +303,26 @@ class Lognormal(Family):
         mean = float(logarithms @ sample.counts) / sample.size
         return mean, math.sqrt(float(sample.counts @ (logarithms - mean)**2) / max(sample.size - 1, 1))
 
-    @staticmethod
-    def _mixed(mean: float, deviations: Floats) -> Floats:
-        """Returns the chances of all sizes, of which all these deviations are as likely."""
-        below = special.ndtr((BOUNDS - mean) / deviations[:, None]).mean(axis=0)
-        return np.diff(below, prepend=0.0)
+    def _drawn_moments(self, sample: Sample, uniform: Floats, counted: float) -> tuple[float, Floats]:
+        """Returns the mean of the logarithms, and deviations by uniform numbers: from a chi-square law, and at most 2,
+        since with few degrees of freedom the tails of Student's law have no mean."""
+        mean, deviation = self._moments(sample)
+        freedom = max(counted * sample.size - 1, 1.0)
+        squares = 2 * special.gammaincinv(freedom / 2, uniform)
+        return mean, np.minimum(deviation * np.sqrt(freedom / squares), MOST_DEVIATION)
 
 
-def fit_of(sample: Sample, parameters: int, chances: Floats) -> Fit:
-    """Returns the fit of a member with these chances."""
-    likelihood = float(sample.counts @ np.log(np.maximum(chances[sample.values], LEAST_CHANCE)))
-    return Fit(likelihood, parameters, chances)
+def rounded(sizes: Whole, below: Callable[[Floats], Any]) -> Floats:
+    """Returns the chances of rounded sizes from 1 on, whose distribution function is `below`. What is below 1.5 counts
+    as 1."""
+    return np.asarray(below(sizes + 0.5) - np.where(sizes > 1, below(sizes - 0.5), 0.0))
 
 
 class Parts(NamedTuple):
-    """A sample in two parts: ordinary numbers, with their family and its fit, and bulks, which are larger."""
+    """A sample in two parts: ordinary numbers, with their fit, and bulks, which are larger."""
 
     ordinary: Sample
     bulks: Sample
-    family: Family
     fit: Fit
 
     def squares(self, counted: float = 1.0) -> float:
@@ -351,16 +335,14 @@ class Bulk(Family):
     """Ordinary demand, which is Poisson or negative binomial, and in some periods a much larger normal bulk instead.
     The parameters are the share of bulks, their mean and deviation, and the parameters of ordinary demand."""
 
-    def fit(self, sample: Sample) -> Fit | None:
-        """Fits both parts, each for itself. The likelihood is that of their mixture. None if there are no two parts."""
+    def likeliest(self, sample: Sample) -> Parameters | None:
+        """Fits both parts, each for itself. None if there are no two parts."""
         parts = parts_of(sample)
         if parts is None:
             return None
         bulks = parts.bulks
-        share = bulks.size / sample.size
-        chances = share * sizes_of(bulks.mean, math.sqrt(parts.squares() / (bulks.size + BULK_FREEDOM)))
-        chances += (1 - share) * parts.fit.chances
-        return fit_of(sample, parts.fit.parameters + 3, chances)
+        deviation = math.sqrt(parts.squares() / (bulks.size + BULK_FREEDOM))
+        return bulks.size / sample.size, bulks.mean, deviation, *parts.fit.member
 
     def predictive(self, sample: Sample) -> Floats:
         """Returns the predictive law of ordinary demand and of bulks, whose size has Student's law."""
@@ -369,8 +351,9 @@ class Bulk(Family):
         bulks, freedom = parts.bulks, parts.bulks.size - 1 + BULK_FREEDOM
         deviation = math.sqrt(parts.squares() / freedom * (1 + 1 / bulks.size))
         share = bulks.size / (sample.size + 1)
-        sizes = sizes_of(bulks.mean, deviation, functools.partial(special.stdtr, freedom))
-        return np.asarray(share * sizes + (1 - share) * scaled(parts.family.predictive(parts.ordinary)))
+        below = special.stdtr(freedom, (DEMANDS[1:] + 0.5 - bulks.mean) / deviation)
+        sizes = np.append(0.0, np.diff(below, prepend=0.0))
+        return np.asarray(share * sizes + (1 - share) * scaled(parts.fit.family.predictive(parts.ordinary)))
 
     def drawn(self, sample: Sample, uniform: Floats, counted: float = 1.0) -> Parameters:
         parts = parts_of(sample)
@@ -380,13 +363,12 @@ class Bulk(Family):
         freedom = bulks - 1 + BULK_FREEDOM
         deviation = np.sqrt(parts.squares(counted) / (2 * special.gammaincinv(freedom / 2, uniform[-2])))
         mean = parts.bulks.mean + deviation / math.sqrt(bulks) * special.ndtri(uniform[-3])
-        return share, mean, deviation, *parts.family.drawn(parts.ordinary, uniform[:-3], counted)
+        return share, mean, deviation, *parts.fit.family.drawn(parts.ordinary, uniform[:-3], counted)
 
-    def chances(self, parameters: Parameters, values: Whole) -> Floats:
-        share, mean, deviation = (column[:, None] for column in parameters[:3])
-        above = special.ndtr((values + 0.5 - mean) / deviation)
-        sizes = above - np.where(values > 1, special.ndtr((values - 0.5 - mean) / deviation), 0.0)
-        ordinary = (POISSON if len(parameters) == 4 else NEGATIVE_BINOMIAL).chances(parameters[3:], values)
+    def chances(self, values: Whole, *parameters: Any) -> Floats:
+        share, mean, deviation, *rest = parameters
+        sizes = rounded(values, lambda sizes: special.ndtr((sizes - mean) / deviation))
+        ordinary = (POISSON if len(rest) == 1 else NEGATIVE_BINOMIAL).chances(values, *rest)
         return np.asarray(share * np.where(values > 0, sizes, 0.0) + (1 - share) * ordinary)
 
 
@@ -414,15 +396,8 @@ def parts_of(sample: Sample) -> Parts | None:
     likelihoods = up_to - 0.5 * (beyond * np.log(2 * math.pi * variances) + distances / variances) + shares
     place = int(np.argmax(np.where(allowed, likelihoods, -np.inf))) + 1
     ordinary = Sample(sample.values[:place], sample.counts[:place])
-    fits = ((family, family.fit(ordinary)) for family in (POISSON, NEGATIVE_BINOMIAL))
-    best = min(((family, fit) for family, fit in fits if fit), key=lambda pair: pair[1].bic(ordinary.size))
-    return Parts(ordinary, Sample(sample.values[place:], sample.counts[place:]), *best)
-
-
-def sizes_of(mean: float, deviation: float, below: Callable[[Floats], Floats] = special.ndtr) -> Floats:
-    """Returns the chances of 0, 1, 2 and so on for a rounded bulk; what is below 1.5 counts as 1. `below` is the
-    distribution function of a bulk less the mean, over the deviation."""
-    return np.append(0.0, np.diff(below((DEMANDS[1:] + 0.5 - mean) / deviation), prepend=0.0))
+    fits = filter(None, (family.fit(ordinary) for family in (POISSON, NEGATIVE_BINOMIAL)))
+    return Parts(ordinary, Sample(sample.values[place:], sample.counts[place:]), min(fits, key=lambda fit: fit.bic))
 
 
 POISSON, NEGATIVE_BINOMIAL = Poisson(), NegativeBinomial()
@@ -433,9 +408,15 @@ REGISTRY: dict[str, Family] = dict(zip(FAMILIES, (
 
 
 def fits_of(sample: Sample) -> dict[str, Fit]:
-    """Returns all families that a sample allows, the least BIC first. The sample has a number above 0."""
-    fits = {name: fit for name, family in REGISTRY.items() if (fit := family.fit(sample)) is not None}
-    return dict(sorted(fits.items(), key=lambda pair: pair[1].bic(sample.size)))
+    """Returns all families that a sample allows, the least BIC first; none for less than two numbers above 0."""
+    families = REGISTRY.items() if sample.demands >= LEAST_DEMANDS else ()
+    fits = {name: fit for name, family in families if (fit := family.fit(sample))}
+    return dict(sorted(fits.items(), key=lambda pair: pair[1].bic))
+
+
+def near_of(fits: Mapping[str, Fit]) -> dict[str, Fit]:
+    """Returns the families that are not far behind the best."""
+    return {name: fit for name, fit in fits.items() if fit.bic <= min(fit.bic for fit in fits.values()) + WORSE}
 
 
 def predictive_of(name: str, sample: Sample) -> Floats:

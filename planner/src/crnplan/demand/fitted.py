@@ -4,7 +4,7 @@ from __future__ import annotations
 from collections.abc import Callable, Iterable, Iterator, Mapping
 from dataclasses import dataclass, field, replace
 from functools import cached_property
-from typing import TYPE_CHECKING, Any, cast
+from typing import Any, cast
 
 import numpy as np
 
@@ -16,11 +16,8 @@ from ..records.faults import RefusedFiles
 from ..records.observed import Observed
 from ..remarks import Remark
 from ..words import advised
-from . import EMPIRICAL
+from . import EMPIRICAL, LEAST_DEMANDS
 from .sample import Shares
-
-if TYPE_CHECKING:
-    from .borrowing import Borrowed
 
 QUANTILES = (0.95, 0.99, 0.999)
 LEAST_WEIGHT = 0.005  # of a family that is named
@@ -53,6 +50,36 @@ class Figures:
 
 
 @dataclass(frozen=True)
+class Borrowed:
+    """What an item has learned from others.
+
+    `demands` are the periods with demand, `prior` is the name of the class whose prior it has, or "all". `alone` says
+    why the law of the item's own history is taken; None if the borrowed law is. `share` is that of what was learned in
+    the law; the rest is from its own history. `guard` has the shares of drawn histories, None with no or one demand;
+    `log10_bayes` is the log10 of the Bayes factor for the learned prior against the flat one. Both are None if nothing
+    was learned for such an item.
+    """
+
+    demands: int
+    prior: str
+    alone: Remark | None = None
+    share: float = 0.0
+    guard: Shares | None = None
+    log10_bayes: float | None = None
+
+    @property
+    def unlike(self) -> bool:
+        """Returns whether the history is less likely under the learned prior than under the flat one: the item is
+        unlike the catalogue. Then at most half of its law is from what was learned."""
+        return self.log10_bayes is not None and self.log10_bayes < 0
+
+    @property
+    def few(self) -> bool:
+        """Returns whether the history has no or one demand: the law is then all but that of the catalogue."""
+        return self.demands < LEAST_DEMANDS
+
+
+@dataclass(frozen=True)
 class Diagnostics:
     """What is known of a fit.
 
@@ -60,8 +87,7 @@ class Diagnostics:
     the size of the packs that were fitted, `bic` has the families, the least BIC first, and `guard` the shares of drawn
     histories of those not far behind. `families` has the chances of those in the law, `cap` is its largest demand,
     `share` its part beside what was seen, and `bulks` how many demands are bulks, and the least of them. `side` is the
-    part of lead times that counts a period earlier, and as much later. `borrowed` is what an item has learned from
-    others.
+    part of lead times that counts a period earlier, and as much later.
     """
 
     seen: Law
@@ -105,15 +131,33 @@ class FittedLaw(Law):
         return self.diagnostics.side is not None
 
 
-def dense(observed: Any, what: str) -> Iterable[Any]:
-    """Returns observed numbers; a Series of pandas by period with 0 in each period that it lacks.
+def numbers_of(observed: Observed | Iterable[Any], what: str,
+               wrong: Callable[[int, int], str] = lambda number, most: "") -> list[int]:
+    """Returns observed whole numbers of any kind, also floats that are whole. A Series of pandas by period has 0 in
+    each period that it lacks.
 
-    Raises Refused for a Series by dates whose periods are not known, are not in order, or stand twice.
+    `wrong` says by a number and the largest one why a scenario can't have it. Raises RefusedFiles with the places of
+    all such numbers, and Refused for a Series by dates whose periods are not known, are not in order, or stand twice.
     """
+    numbers = [*observed.counts] if isinstance(observed, Observed) else _whole_numbers(_dense(observed, what), what)
+    most = max(numbers, default=0)
+    reasons = [wrong(number, most) for number in numbers]
+    if any(reasons):
+        places = observed.places if isinstance(observed, Observed) else (
+            Fault(f"column {what!r}: entry {place}, {number},") for place, number in enumerate(numbers, 1))
+        faults = [replace(place, what=f"{place.what} {reason}") for place, reason in zip(places, reasons)
+                  if place and reason]
+        if faults:
+            raise RefusedFiles(faults)
+    return numbers
+
+
+def _dense(observed: Any, what: str) -> Iterable[Any]:
     index: Any = getattr(observed, "index", None)
     kind = type(index).__name__
     if kind not in ("PeriodIndex", "DatetimeIndex"):
-        return cast(Iterable[Any], observed)
+        is_whole = isinstance(observed, np.ndarray) and observed.dtype.kind in "iu"
+        return cast(Iterable[Any], observed.tolist() if is_whole else observed)  # Numbers of Python are read faster.
     if not index.is_unique or not index.is_monotonic_increasing:
         raise Refused(f"{what}: its dates stand twice or are not in order", "sum it by period, and sort it")
     if kind == "PeriodIndex":
@@ -126,28 +170,12 @@ def dense(observed: Any, what: str) -> Iterable[Any]:
     return cast(Iterable[Any], observed)
 
 
-def numbers_of(observed: Observed | Iterable[Any], what: str) -> tuple[list[int], Iterable[Fault | None]]:
-    """Returns numbers and their places. Whole numbers of any kind are taken, and floats that are whole."""
-    if isinstance(observed, Observed):
-        return list(observed.counts), observed.places
-    every = dense(observed, what)
-    if isinstance(every, np.ndarray) and every.dtype.kind in "iu":
-        every = every.tolist()  # Numbers of Python are read faster.
+def _whole_numbers(observed: Iterable[Any], what: str) -> list[int]:
     numbers = [number if type(number) is int else whole(number, f"{what}: entry {place}")
-               for place, number in enumerate(every, 1)]
+               for place, number in enumerate(observed, 1)]
     if not 1 <= len(numbers) <= MOST_WEIGHT:
         raise Refused(f"there are {len(numbers):,} numbers of {what}; give 1 to {MOST_WEIGHT:,}")
-    return numbers, (Fault(f"column {what!r}: entry {place}, {number},") for place, number in enumerate(numbers, 1))
-
-
-def check(numbers: Iterable[int], places: Iterable[Fault | None], reason_of: Callable[[int], str | None]) -> None:
-    """Raises RefusedFiles for all numbers that a scenario can't have."""
-    reasons = [*map(reason_of, numbers)]
-    if any(reasons):
-        faults = [replace(place, what=f"{place.what} {reason}") for place, reason in zip(places, reasons)
-                  if place and reason]
-        if faults:
-            raise RefusedFiles(faults)
+    return numbers
 
 
 def fit_remarks(law: FittedLaw) -> Iterator[Remark]:
@@ -209,8 +237,6 @@ def _figure_remarks(law: FittedLaw) -> Iterator[Remark]:
     if fit.method == EMPIRICAL:
         return
     rows = {"seen": fit.history} | ({} if law.family == EMPIRICAL else {"law": law.figures})
-    if fit.borrowed and fit.borrowed.single and not fit.borrowed.alone:
-        rows["law of the item alone"] = fit.borrowed.single.figures
     for title, figures in rows.items():
         quantiles = {f"{100 * share:g}%": value for share, value in figures.quantiles.items()}
         yield Remark("figures of a law", {"title": title, "mean": figures.mean, "variance": figures.variance,

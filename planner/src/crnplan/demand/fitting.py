@@ -6,23 +6,22 @@ demand may be the posterior predictive law of a family, if drawn histories of th
 from __future__ import annotations
 
 import math
-from collections import Counter
-from collections.abc import Iterable, Mapping, Sequence
+from collections.abc import Iterable, Sequence
 from dataclasses import replace
 from typing import TYPE_CHECKING
 
 import numpy as np
 from scipy import special
 
-from ..chances import Floats, cut, in_items, mixture, scaled
+from ..chances import Floats, blurred, cut, in_items, mixture, scaled
 from ..errors import Refused, argument
 from ..formats import MOST_DEMAND, MOST_LEAD
 from ..law import Law
 from ..money import Number
 from ..records.observed import Observed
 from . import EMPIRICAL, LEAD_METHODS, METHODS
-from .families import REGISTRY, fits_of, parts_of, predictive_of
-from .fitted import Diagnostics, FittedLaw, check, numbers_of
+from .families import REGISTRY, fits_of, near_of, parts_of, predictive_of
+from .fitted import Diagnostics, FittedLaw, numbers_of
 from .sample import Sample, shares_of
 
 if TYPE_CHECKING:
@@ -30,13 +29,16 @@ if TYPE_CHECKING:
 
 DEMANDS_OF_CAP = 300
 LEAST_TIMES, MOST_TIMES = 2.0, 3.0  # the cap of `auto`, in largest demands seen
-WORSE = 10.0  # in BIC: families further behind the best are not looked at
-LEAST_DEMANDS = 2  # periods with demand, for a fit
 LIKELIHOOD_RATIO = 0.5  # of logarithms, by which the history must speak against a law to be mixed with it
 FEW = 20  # lead times: with so many, what was seen stays as it is
 LEAST_LEADS = 2  # one lead time is what a supplier says, not a sample
-SIDES = [(cell + 0.5) / 100 for cell in range(30)]  # the shares that the kernel may move to each neighbour
+SIDES = (np.arange(30) + 0.5) / 100  # the shares that the kernel may move to each neighbour
 ELSEWHERE = 0.05  # the chance, in the fit of the kernel, that a lead time is like none that was seen
+
+
+def below_0(number: int, most: int) -> str:
+    """Returns what is wrong with a demand below 0."""
+    return "is below 0; correct it" if number < 0 else ""
 
 
 def boxes_of(observed: Observed | Iterable[Number], box: int) -> list[int]:
@@ -44,12 +46,13 @@ def boxes_of(observed: Observed | Iterable[Number], box: int) -> list[int]:
     too large for a scenario or below 0."""
     if box < 1:
         raise Refused(f"{box} is no number of items in a box; it is at least 1")
-    numbers, places = numbers_of(observed, "demand")
-    boxes = [-(-it // box) for it in numbers]
-    larger = f"count in larger boxes: {argument('box', str(-(-max(numbers) // MOST_DEMAND)))} or more"
-    reason = f"is above {MOST_DEMAND:,}{f' in boxes of {box}' if box > 1 else ''}; {larger}"
-    check(boxes, places, lambda it: reason if it > MOST_DEMAND else "is below 0; correct it" if it < 0 else None)
-    return boxes
+
+    def wrong(number: int, most: int) -> str:
+        if number <= box * MOST_DEMAND:
+            return below_0(number, most)
+        return (f"is above {MOST_DEMAND:,}{f' in boxes of {box}' if box > 1 else ''}; count in larger boxes: "
+                f"{argument('box', str(-(-most // MOST_DEMAND)))} or more")
+    return [-(-number // box) for number in numbers_of(observed, "demand", wrong)]
 
 
 def share_of(sample: Sample, base: Floats) -> float:
@@ -84,33 +87,29 @@ def cap_of(sample: Sample) -> int:
 def family_law(boxes: Sequence[int], method: str, box: int = 1) -> FittedLaw:
     """Returns a law of families: of a named one, or of those that the guard lets pass. Raises Refused if the history
     does not allow the named one."""
-    sample, seen = Sample.of(boxes), Law.of_numbers(boxes)
-    pack = sample.pack
-    packs = sample.in_packs(pack)
-    fits = fits_of(packs) if packs.demands >= LEAST_DEMANDS else {}
+    sample = Sample.of(boxes)
+    packs, pack = sample.packs, sample.pack
+    fits = fits_of(packs)
     if method in REGISTRY and method not in fits:
         raise Refused(f"the history does not allow the family {method}; it allows {', '.join(fits) or 'none'}")
-    bic = {name: fit.bic(packs.size) for name, fit in fits.items()}
-    guard = {name: shares_of(packs, cut(fits[name].chances)) for name, value in bic.items()
-             if value <= min(bic.values()) + WORSE}
-    diagnostics = Diagnostics(seen, method, pack, bic, guard)
+    guard = {name: shares_of(packs, cut(fit.chances)) for name, fit in near_of(fits).items()}
     names = [method] if method in REGISTRY else [name for name, shares in guard.items() if shares.passes]
+    known = Diagnostics(Law.of_numbers(boxes), method, pack, {name: fit.bic for name, fit in fits.items()}, guard)
     if not names:
-        return FittedLaw.made(seen, EMPIRICAL, diagnostics, box)
+        return FittedLaw.made(known.seen, EMPIRICAL, known, box)
+    laws = (in_items(predictive_of(name, packs), pack) for name in names)
     if method != "auto":
-        law = in_items(predictive_of(names[0], packs), pack)
-        return FittedLaw.made(Law.of_chances(law), names[0], diagnostics, box)
+        return FittedLaw.made(Law.of_chances(next(laws)), names[0], known, box)
     # Posterior chances of families that are as likely beforehand (Raftery, Bayesian model selection in social research,
     # 1995, section 4.1).
-    likely = {name: math.exp((bic[names[0]] - bic[name]) / 2) for name in names}
-    weights, cap = {name: value / sum(likely.values()) for name, value in likely.items()}, cap_of(sample)
-    law = mixture((weight, in_items(predictive_of(name, packs), pack)) for name, weight in weights.items())
-    law = scaled(law[:cap + 1])
+    likely = [math.exp((fits[names[0]].bic - fits[name].bic) / 2) for name in names]
+    weights, cap = [value / sum(likely) for value in likely], cap_of(sample)
+    law = scaled(mixture(zip(weights, laws))[:cap + 1])
     share, parts = share_of(sample, law), parts_of(packs) if "bulk" in names else None
-    diagnostics = replace(diagnostics, families=weights, cap=cap, share=share,
-                          bulks=parts and (parts.bulks.size, pack * int(parts.bulks.values[0])))
+    known = replace(known, families=dict(zip(names, weights)), cap=cap, share=share,
+                    bulks=parts and (parts.bulks.size, pack * int(parts.bulks.values[0])))
     law = mixture([(share, law), (1 - share, sample.law)])
-    return FittedLaw.made(Law.of_chances(law), names[0], diagnostics, box)
+    return FittedLaw.made(Law.of_chances(law), names[0], known, box)
 
 
 def fit_demand(observed: Observed | Iterable[Number], *, method: str = "auto", box: int = 1,
@@ -150,40 +149,23 @@ def fit_demand(observed: Observed | Iterable[Number], *, method: str = "auto", b
 
 def leads_of(observed: Observed | Iterable[Number]) -> list[int]:
     """Returns lead times in periods. Raises RefusedFaults with the place of each that is not from 1 to 32."""
-    numbers, places = numbers_of(observed, "lead time")
     above = f"is above {MOST_LEAD}; take longer periods (weeks for days, months for weeks), for demands too"
     below = "is below 1; write 1 if the order is there for the next period's demand"
-    check(numbers, places, lambda it: above if it > MOST_LEAD else below if it < 1 else None)
-    return numbers
+    return numbers_of(observed, "lead time", lambda lead, most: above if lead > MOST_LEAD else below if lead < 1 else "")
 
 
-def blurred(counts: Mapping[int, float], side: float) -> dict[int, float]:
-    """Returns the law that has the share `side` of each lead time one period earlier, and as much one later. What would
-    be earlier than 1 or later than 32 stays where it is."""
-    total = sum(counts.values())
-    law: dict[int, float] = {}
-    for lead, count in counts.items():
-        for value, share in ((lead - 1, side), (lead, 1 - 2 * side), (lead + 1, side)):
-            place = value if 1 <= value <= MOST_LEAD else lead
-            law[place] = law.get(place, 0.0) + share * count / total
-    return law
-
-
-def sides_of(numbers: Iterable[int]) -> dict[float, float]:
-    """Returns the chances of the shares that the kernel may move to each neighbour, by leave-one-out likelihoods.
+def sides_of(counts: Floats) -> Floats:
+    """Returns the chance of each of `SIDES` by leave-one-out likelihoods. `counts` are those of the lead times from 1.
 
     Source: Stone, Cross-validatory choice and assessment of statistical predictions, 1974. All shares from 0 to 0.3 are
     as likely beforehand. A lead time may be like none of the others with a small chance, so one outlier decides little.
     """
-    counts = Counter(numbers)
-    likelihoods = dict.fromkeys(SIDES, 1.0)
-    for lead, count in counts.items():
-        others = counts - Counter([lead])
-        for side in SIDES:
-            chance = blurred(others, side).get(lead, 0.0)
-            likelihoods[side] *= ((1 - ELSEWHERE) * chance + ELSEWHERE / MOST_LEAD)**count
-    total = sum(likelihoods.values())
-    return {side: likelihood / total for side, likelihood in likelihoods.items()}
+    likelihoods = np.ones(len(SIDES))
+    for place in np.flatnonzero(counts):
+        others = counts - np.eye(MOST_LEAD)[place]
+        chances = blurred(others[:, None] / others.sum(), SIDES)[place]
+        likelihoods *= ((1 - ELSEWHERE) * chances + ELSEWHERE / MOST_LEAD)**counts[place]
+    return scaled(likelihoods)
 
 
 def fit_lead(observed: Observed | Iterable[Number], *, method: str = "auto") -> FittedLaw:
@@ -198,13 +180,16 @@ def fit_lead(observed: Observed | Iterable[Number], *, method: str = "auto") -> 
     seen = Law.of_numbers(numbers)
     if method == EMPIRICAL or not LEAST_LEADS <= len(numbers) < FEW:
         return FittedLaw.made(seen, EMPIRICAL, Diagnostics(seen, method, side=0.0))
-    side = sum(side * chance for side, chance in sides_of(numbers).items())
-    return FittedLaw.made(lead_law(Counter(numbers), side), "blurred", Diagnostics(seen, method, side=side))
+    counts = counts_of(numbers)
+    side = float(SIDES @ sides_of(counts))
+    return FittedLaw.made(lead_law(counts, side), "blurred", Diagnostics(seen, method, side=side))
 
 
-def lead_law(weights: Mapping[int, float], side: float) -> Law:
-    """Returns the law of lead times with these weights, blurred."""
-    chances = np.zeros(MOST_LEAD + 1)
-    for lead, share in blurred(weights, side).items():
-        chances[lead] = share
-    return Law.of_chances(chances)
+def counts_of(leads: Sequence[int]) -> Floats:
+    """Returns how often each lead time from 1 to 32 was seen."""
+    return np.bincount(leads, minlength=MOST_LEAD + 1)[1:].astype(float)
+
+
+def lead_law(weights: Floats, side: float) -> Law:
+    """Returns the law of lead times from 1 on with these weights, of which the share `side` goes to each neighbour."""
+    return Law.of_chances(np.append(0.0, blurred(scaled(weights), side)))

@@ -24,7 +24,7 @@ from typing import NamedTuple
 import numpy as np
 from scipy import special
 
-from ..chances import DEMANDS, Floats, Whole
+from ..chances import DEMANDS, Floats, Whole, blurred
 from ..formats import MOST_DEMAND
 from .families import ways
 from .sample import Sample
@@ -152,16 +152,6 @@ def marginal(chunks: Iterable[Cells], prior: Floats) -> Floats:
     return np.concatenate([cells.marginal(prior) for cells in chunks])
 
 
-def blurred(prior: Floats, part: float) -> Floats:
-    """Returns a prior of which a part of each cell goes to each neighbour along each axis. At an edge it stays."""
-    cells = prior.reshape(SHAPE)
-    for axis in range(cells.ndim):
-        lines = np.moveaxis(cells, axis, 0)
-        below, above = np.concatenate([lines[:1], lines[:-1]]), np.concatenate([lines[1:], lines[-1:]])
-        cells = np.moveaxis((1 - 2 * part) * lines + part * (below + above), 0, axis)
-    return cells.reshape(prior.shape)
-
-
 def estimated(chunks: Sequence[Cells], start: Floats, pull: Floats, *, steps: int = STEPS,
               blur: float = BLUR) -> Floats:
     """Returns the prior after so many steps, each the mean of the posterior laws of all histories, blurred. `pull` is a
@@ -172,5 +162,8 @@ def estimated(chunks: Sequence[Cells], start: Floats, pull: Floats, *, steps: in
         for cells in chunks:
             likely = np.add.reduceat(cells.sizes / cells.marginal(prior)[:, None], cells.starts)
             expected += prior * np.einsum("ij,ik->jk", cells.shares, likely)
-        prior = blurred(expected / expected.sum(), blur)
+        shaped = (expected / expected.sum()).reshape(SHAPE)
+        for axis in range(len(SHAPE)):
+            shaped = blurred(shaped, blur, axis)
+        prior = shaped.reshape(start.shape)
     return prior

@@ -15,7 +15,8 @@ from ..errors import Fault, Refused, RefusedFaults
 from ..formats import MOST_DEMAND
 from ..records.item import BORROW
 from ..records.observed import Observed
-from .fitted import check, numbers_of
+from .fitted import numbers_of
+from .fitting import below_0
 from .grid import FLAT, MOST_SIZE, chunks_of, estimated, group_of, marginal
 from .sample import Sample
 
@@ -131,10 +132,7 @@ def samples_of(items: Iterable[tuple[str, Any]]) -> list[Sample]:
     faults: list[Fault] = []
     for name, observed in items:
         try:
-            numbers, places = numbers_of(observed, f"demand of {name}")
-            if min(numbers) < 0:
-                check(numbers, places, lambda number: "is below 0; correct it" if number < 0 else None)
-            samples.append(Sample.of(numbers))
+            samples.append(Sample.of(numbers_of(observed, f"demand of {name}", below_0)))
         except RefusedFaults as refused:
             faults.extend(refused.faults)
         except Refused as refused:
@@ -212,8 +210,7 @@ def learn(histories: Histories, classes: Classes | None = None, borrow: str = "a
         if name and not is_outside(sample):
             groups[name].append(sample)
     by_class = {name: learned(group, seed, whole.chances) for name, group in sorted(groups.items())}
-    packs = [sample.in_packs(pack) for sample in samples if (pack := sample.pack) > 1]
-    packs = [sample for sample in packs if not is_outside(sample)]
+    packs = [sample.packs for sample in samples if sample.pack > 1 and not is_outside(sample.packs)]
     of_packs = learned(packs, seed, whole.chances) if len(packs) >= LEAST_ON_REQUEST else None
     return Prior(borrow, seed, len(items), outside, whole, by_class, of_packs)
 

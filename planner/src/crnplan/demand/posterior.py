@@ -19,7 +19,6 @@ is said of the doubt holds about as often as it says: see planner/studies/README
 from __future__ import annotations
 
 import math
-from collections import Counter
 from collections.abc import Iterable, Mapping
 from dataclasses import dataclass
 from typing import Any, NamedTuple
@@ -32,8 +31,8 @@ from ..errors import Refused
 from ..formats import MOST_WEIGHT
 from ..law import Law
 from ..records.observed import Observed
-from .families import REGISTRY, UNIFORMS, Fit, Parameters, fits_of
-from .fitting import FEW, LEAST_DEMANDS, LEAST_LEADS, WORSE, boxes_of, lead_law, leads_of, sides_of
+from .families import UNIFORMS, Family, Fit, Parameters, columns_of, fits_of, near_of
+from .fitting import FEW, LEAST_LEADS, SIDES, boxes_of, counts_of, lead_law, leads_of, sides_of
 from .sample import Sample
 
 FROM_HISTORY = "history"  # the name of the Bayesian bootstrap among the families
@@ -81,16 +80,16 @@ def round_history(base: Floats, sample: Sample, share: float, random: np.random.
 
 
 class Members(NamedTuple):
-    """Members of a family that were drawn, with the shares by which they are picked, summed up, and the logarithm of
-    how likely each concentration is."""
+    """Members of a family that were drawn, as columns of parameters, with the shares by which they are picked, summed
+    up, and the logarithm of how likely each concentration is."""
 
-    name: str
+    family: Family
     parameters: Parameters
     below: Floats
     likely: Floats
 
 
-def members_of(name: str, fit: Fit, packs: Sample, random: np.random.Generator) -> Members:
+def members_of(fit: Fit, packs: Sample, random: np.random.Generator) -> Members:
     """Draws members of a family, as if each number counted `PROPOSED`, and weighs them by how likely they are.
 
     A concentration is as likely as Dirichlet processes round all members make the sample. Members are picked by their
@@ -98,17 +97,16 @@ def members_of(name: str, fit: Fit, packs: Sample, random: np.random.Generator) 
     What is common to a family is approximated as in the Bayesian information criterion. Source of the weights: Rubin,
     Using the SIR algorithm to simulate posterior distributions, 1988.
     """
-    family = REGISTRY[name]
-    parameters = family.drawn(packs, stratified(random, UNIFORMS, MEMBERS), PROPOSED)
-    seen = np.maximum(family.chances(parameters, packs.values), LEAST_SEEN)
+    parameters = fit.family.drawn(packs, stratified(random, UNIFORMS, MEMBERS), PROPOSED)
+    seen = np.maximum(fit.family.chances(packs.values, *columns_of(parameters)), LEAST_SEEN)
     own = np.log(seen) @ packs.counts
     periods = packs.size * CONCENTRATIONS[:, None, None]
     weights = periods * seen
     likely = (special.gammaln(weights + packs.counts) - special.gammaln(weights)).sum(axis=2)
     likely += special.gammaln(periods[:, :, 0]) - special.gammaln(periods[:, :, 0] + packs.size)
-    common = PROPOSED * fit.log_likelihood - fit.parameters / 2 * np.log(packs.size)
+    common = (PROPOSED - 1) * fit.log_likelihood - fit.bic / 2
     below = np.cumsum(np.exp((COUNTED - PROPOSED) * (own - own.max())))
-    return Members(name, parameters, below / below[-1],
+    return Members(fit.family, parameters, below / below[-1],
                    special.logsumexp(COUNTED * likely - PROPOSED * own, axis=1) + common)
 
 
@@ -120,30 +118,26 @@ def end_of(sample: Sample) -> float:
 
 def demand_laws(sample: Sample, times: int, random: np.random.Generator) -> tuple[dict[str, int], list[Floats]]:
     """Draws laws of demand: how many each family gave, and their chances."""
-    pack = sample.pack
-    packs = sample.in_packs(pack)
-    fits = fits_of(packs) if packs.demands >= LEAST_DEMANDS else {}
+    packs, pack = sample.packs, sample.pack
+    fits = near_of(fits_of(packs))
     if not fits:
         laws = (round_history(np.zeros(1), sample, 0.0, random, COUNTED) for _ in range(times))
         return {FROM_HISTORY: times}, [*laws]
-    bic = {name: fit.bic(packs.size) for name, fit in fits.items()}
-    members = [members_of(name, fits[name], packs, random) for name, value in bic.items()
-               if value <= min(bic.values()) + WORSE]
+    members = [members_of(fit, packs, random) for fit in fits.values()]
     ends = sample.most * end_of(sample)**stratified(random, 1, times)[0]
     likely = np.array([its.likely for its in members])
     below = np.cumsum(np.exp(likely - likely.max()))
     places = np.searchsorted(below[:-1] / below[-1], (np.arange(times) + random.random()) / times)
     families, concentrations = np.unravel_index(random.permutation(places), likely.shape)
-    counts: Counter[str] = Counter()
     drawn: list[Floats] = []
-    for end, family, periods, uniform in zip(ends, families, concentrations, stratified(random, 1, times)[0]):
-        name, columns, shares, _ = members[family]
+    for end, place, periods, uniform in zip(ends, families, concentrations, stratified(random, 1, times)[0]):
+        family, parameters, shares, _ = members[place]
         member = np.searchsorted(shares[:-1], uniform)
-        parameters = tuple(column[member:member + 1] for column in columns)
-        base = in_items(cut(REGISTRY[name].laws(parameters, packs.most)[0]), pack)
-        drawn.append(round_history(scaled(base[:int(end) + 1]), sample, SHARES[periods], random, COUNTED))
-        counts[name] += 1
-    return {its.name: counts[its.name] for its in members if counts[its.name]}, drawn
+        law, = family.laws(tuple(column[member:member + 1] for column in parameters), packs.most)
+        base = scaled(in_items(cut(law), pack)[:int(end) + 1])
+        drawn.append(round_history(base, sample, SHARES[periods], random, COUNTED))
+    counts = zip(fits, np.bincount(families, minlength=len(fits)).tolist())
+    return {name: count for name, count in counts if count}, drawn
 
 
 def random_of(times: int, seed: int, *stream: int) -> np.random.Generator:
@@ -183,11 +177,10 @@ def allowed_leads(observed: Observed | Iterable[Any], *, times: int = 100, seed:
     random, numbers = random_of(times, seed, 1), leads_of(observed)
     if len(numbers) < LEAST_LEADS:
         return AllowedLaws({FROM_HISTORY: times}, (Law(tuple(numbers), (MOST_WEIGHT,)),) * times)
-    sides, family, sample = np.zeros(times), FROM_HISTORY, Sample.of(numbers)
-    if sample.size < FEW:
-        chances = sides_of(sorted(numbers))
-        places = np.searchsorted(np.cumsum([*chances.values()])[:-1], stratified(random, 1, times)[0])
-        sides, family = np.array([*chances])[places], "blurred"
-    rows = random.standard_gamma(sample.counts, (times, len(sample.counts)))
-    laws = (lead_law(dict(zip(sample.values.tolist(), row)), float(side)) for row, side in zip(rows, sides))
-    return AllowedLaws({family: times}, tuple(laws))
+    counts, sides, family = counts_of(numbers), np.zeros(times), FROM_HISTORY
+    if len(numbers) < FEW:
+        below = np.cumsum(sides_of(counts))[:-1]
+        sides, family = SIDES[np.searchsorted(below, stratified(random, 1, times)[0])], "blurred"
+    weights = np.zeros((times, len(counts)))
+    weights[:, counts > 0] = random.standard_gamma(counts[counts > 0], (times, np.count_nonzero(counts)))
+    return AllowedLaws({family: times}, tuple(map(lead_law, weights, sides)))

@@ -78,20 +78,22 @@ class Sample:
         above = self.values > 0
         return Sample(self.values[above] - 1, self.counts[above])
 
-    @property
+    @cached_property
     def pack(self) -> int:
         """Returns the size of the pack of which all demands are multiples, if that is no luck; else 1."""
         divisor = int(np.gcd.reduce(self.values)) if self.demands >= PACKED else 1
         return divisor if self.demands * math.log2(divisor) >= PACK_BITS else 1
 
     @property
+    def packs(self) -> Sample:
+        """Returns the numbers, counted in packs."""
+        return Sample(self.values // self.pack, self.counts)
+
+    @property
     def law(self) -> Floats:
         """Returns the shares of 0, 1, 2 and so on."""
         shares: Floats = np.bincount(self.values, self.counts) / self.size
         return shares
-
-    def in_packs(self, pack: int) -> Sample:
-        return Sample(self.values // pack, self.counts)
 
 
 class Shares(NamedTuple):

@@ -9,9 +9,9 @@ from dataclasses import dataclass, field
 from fractions import Fraction
 
 from .. import __version__
-from ..demand.fitted import FittedLaw
+from ..demand.fitted import Borrowed, FittedLaw
 from ..demand.fitting import fit_demand, fit_lead
-from ..demand.borrowing import Borrowed, law_of
+from ..demand.borrowing import law_of
 from ..demand.learning import Prior
 from ..demand import LEAD_METHODS, METHODS
 from ..errors import Refused, argument
@@ -187,7 +187,7 @@ def question_of(item: Item, settings: Settings, prior: Prior | None = None) -> Q
     borrow = NONE if settings.fit != "auto" else item.borrow or settings.borrow or NONE
     group = item.group if borrow == CLASS else None
     demand = fit_demand(item.counts, method=settings.fit, box=box) if borrow == NONE else \
-        law_of(prior, item.counts, group, box=box, beside=False)
+        law_of(prior, item.counts, group, box=box)
     returns = fit_demand(item.returns, method=settings.fit, box=box) if item.returns else None
     lead = fit_lead(item.leads, method=settings.lead_fit)
     return Question(item, settings, prior, borrow, rates, scale, error, demand, lead, returns)
