@@ -31,7 +31,7 @@ from crnplan.errors import CrnplanError, Refused
 from crnplan.formats import MOST_ITEMS, MOST_PERIODS
 from crnplan.table import aligned
 from crnplan.scenario import Costs, Policy, Scenario
-from crnplan.theory.lattice import late_work, shape_of, theories_of, theory_on, values_of
+from crnplan.theory.lattice import shape_of, theories_of, theory_on
 from crnplan.theory.run_effects import start_bias
 from planner.studies.long_run_items import Item, items_of
 
@@ -85,11 +85,11 @@ def exact_costs(scenario: Scenario) -> list[tuple[float, float]] | None:
     """Returns the exact cost and orders of each policy in a period, on the lattice of single items; None if that is too
     large."""
     shape = shape_of(replace(scenario, costs=replace(scenario.costs, backlog=max(1, scenario.costs.backlog))))
-    widest, step = max(it.S - it.s for it in scenario.policies), math.gcd(*values_of(scenario))
+    widest, step = max(it.S - it.s for it in scenario.policies), shape.base
     theory = theory_on(scenario, replace(shape, order=widest / 3), step, True)
     if shape.leads == 1 and widest > MOST_GAP * step:
         return None
-    if shape.leads > 1 and late_work(shape, step, widest / step) > MOST_WORK:
+    if shape.leads > 1 and shape.late_work(step, widest / step) > MOST_WORK:
         return None
     figures = (theory.figures(it.s, it.S) for it in scenario.policies)
     return [(it.cost, it.orders) for it in figures]

@@ -12,6 +12,7 @@ from dataclasses import dataclass
 
 import numpy as np
 
+from ..chances import Whole
 from ..errors import Refused
 from ..formats import MOST_ITEMS
 from ..law import Law
@@ -20,7 +21,7 @@ from .lattice_law import LatticeLaw, sum_of
 from .long_run import LongRun, gap_grid
 from .one_lead import OneLead
 from .shortfalls import work_of
-from .walk import DIGITS, decay_of
+from .walk import DIGITS, decay_of, net_tables
 
 # Tables of this size are searched in at most half a second: gaps with one lead time, and work for late orders with
 # several, by `work_of`.
@@ -45,8 +46,9 @@ class NoTheory(Refused):
 
 @dataclass(frozen=True)
 class Shape:
-    """How large the numbers of a scenario are, in items and periods."""
+    """How large the numbers of a scenario are, in items and periods. `base` divides all of them."""
 
+    base: int
     mean: float
     deviation: float
     high: int
@@ -71,15 +73,22 @@ class Shape:
         """Returns the largest level that is looked at, about."""
         return min(MOST_ITEMS, (self.lead + 1) * self.mean + self.spread / 2 + self.gap)
 
+    def has_room(self, step: int) -> bool:
+        """Returns whether the laws of the scenario on this lattice have room."""
+        return self.height * 4 / step <= MOST_TRANSFORM and (self.spread + self.gap) / step <= MOST_CELLS
 
-def net_tables(scenario: Scenario) -> list[Law]:
-    """Returns the tables of demand and, if there are any, returns."""
-    return [scenario.demand, *([scenario.returns] if scenario.returns else [])]
+    def late_work(self, step: int, gap: float) -> float:
+        """Returns how much work a gap has, in cells, if orders may overtake one another: see `work_of`."""
+        under_way = self.lead * (self.mean + self.rise) + 9 * math.sqrt(self.lead) * self.deviation + 2 * self.high
+        return work_of(gap + (under_way + self.height) / step, self.lead)
 
-
-def values_of(scenario: Scenario) -> list[int]:
-    """Returns all demands and returns above 0 that have a weight."""
-    return [value for it in net_tables(scenario) for value, weight in zip(it.values, it.weights) if value * weight]
+    def is_small(self, step: int, widest: int, most_gaps: int) -> bool:
+        """Returns whether the tables of the scenario on this lattice can be made in time."""
+        gap = self.gap / step
+        if self.leads > 1:
+            works = (self.late_work(step, it) for it in [*gap_grid(int(gap)), widest / step])
+            return self.has_room(step) and sum(works) <= MOST_WORK
+        return self.has_room(step) and gap <= most_gaps and self.level / step <= MOST_CELLS
 
 
 def height_of(demand: Law, returns: Law, high: int) -> float:
@@ -89,63 +98,37 @@ def height_of(demand: Law, returns: Law, high: int) -> float:
     return 0.0 if net.low >= 0 else step * DIGITS / decay_of(net)
 
 
-def moments_of(table: Law | None) -> tuple[float, float]:
-    """Returns the mean and the mean square of a table; 0 if there is none."""
-    if table is None:
-        return 0.0, 0.0
-    values, weights = np.array(table.values, float), np.array(table.weights, float)
-    return values @ weights / weights.sum(), values**2 @ weights / weights.sum()
+def mean_of(table: Law, function: Callable[[Whole], Whole]) -> float:
+    """Returns the mean of a function of a table's values."""
+    values, weights = np.array(table.values), np.array(table.weights, float)
+    return float(weights @ function(values) / weights.sum())
 
 
 def shape_of(scenario: Scenario) -> Shape:
     """Returns the shape of a scenario. Raises NoTheory if it has no best policy."""
-    costs, values = scenario.costs, values_of(scenario)
+    costs, tables = scenario.costs, net_tables(scenario)
     for name, cost in (("holding", costs.holding), ("backlog", costs.backlog)):
         if cost == 0:
             raise NoTheory(f"the cost {name} is 0, so there is no best policy: stock, or being short, costs nothing; "
                            "give it a cost above 0", "costs", name)
-    (demand, demand_square), (back, back_square) = moments_of(scenario.demand), moments_of(scenario.returns)
-    mean, variance = demand - back, demand_square - demand**2 + back_square - back**2
+    demand, back = (mean_of(table, lambda values: values) for table in tables)
+    mean, squares = demand - back, sum(mean_of(table, lambda values: values**2) for table in tables)
+    variance = squares - demand**2 - back**2
     if mean <= 1e-9 * demand:
         raise NoTheory(f"on average {back:g} items come back and {demand:g} are asked for in a period, so there is "
                        "nothing to order in the long run; look at the tables demand and returns" if demand else
                        "no item is ever asked for; give a demand above 0 a weight", "demand")
     rate = 2 * costs.setup * (costs.holding + costs.backlog) / (costs.holding * costs.backlog)
     order = math.sqrt(rate * mean) + (rate * variance)**(1 / 3)
-    leads = [value for value, weight in zip(scenario.lead.values, scenario.lead.weights) if weight]
-    height = height_of(scenario.demand, scenario.returns, max(values)) if scenario.returns and back else 0.0
-    rise = max(0, max(scenario.returns.values) - min(scenario.demand.values)) if scenario.returns else 0
-    return Shape(mean, math.sqrt(variance), max(values), max(leads), len(leads), order, height, rise)
-
-
-def late_work(shape: Shape, step: int, gap: float) -> float:
-    """Returns how much work a gap has, in cells, if orders may overtake one another: see `work_of`."""
-    under_way = shape.lead * (shape.mean + shape.rise) + 9 * math.sqrt(shape.lead) * shape.deviation + 2 * shape.high
-    return work_of(gap + (under_way + shape.height) / step, shape.lead)
-
-
-def has_room(shape: Shape, step: int) -> bool:
-    """Returns whether the laws of a scenario on this lattice have room."""
-    return shape.height * 4 / step <= MOST_TRANSFORM and (shape.spread + shape.gap) / step <= MOST_CELLS
-
-
-def is_small(shape: Shape, step: int, widest: int, most_gaps: int) -> bool:
-    """Returns whether the tables of a scenario on this lattice can be made in time."""
-    gap = shape.gap / step
-    if not has_room(shape, step):
-        return False
-    if shape.leads == 1:
-        return gap <= most_gaps and shape.level / step <= MOST_CELLS
-    return sum(late_work(shape, step, it) for it in [*gap_grid(int(gap)), widest / step]) <= MOST_WORK
+    values, leads = [*tables[0].chances, *tables[1].chances], scenario.lead.chances
+    height = height_of(*tables, max(values)) if back else 0.0
+    rise = max(0, max(tables[1].values) - min(tables[0].values))
+    return Shape(math.gcd(*values), mean, math.sqrt(variance), max(values), max(leads), len(leads), order, height, rise)
 
 
 def blur(scenario: Scenario, step: int) -> float:
     """Returns the variance that a lattice adds to the demand and the returns of a period."""
-    total = 0.0
-    for table in net_tables(scenario):
-        values, weights = np.array(table.values, float), np.array(table.weights, float)
-        total += weights @ (values % step * (step - values % step)) / weights.sum()
-    return total
+    return sum(mean_of(table, lambda values: values % step * (step - values % step)) for table in net_tables(scenario))
 
 
 def finest(base: int, largest: float, excess: Callable[[int], float],
@@ -169,9 +152,9 @@ def lattice_of(scenario: Scenario, shape: Shape, widest: int, most_gaps: int = M
 
     If it is not exact, some coarser steps are looked at too: the one that adds the least variance is taken.
     """
-    base = math.gcd(*values_of(scenario))
+    base = shape.base
     least = finest(base, max(shape.high, shape.order),
-                   lambda step: 1 if is_small(shape, step, widest, most_gaps) else math.inf)
+                   lambda step: 1 if shape.is_small(step, widest, most_gaps) else math.inf)
     if least is None:
         raise NoTheory("the numbers of this scenario are too far apart for the theory's tables: what comes back is "
                        "nearly what is asked for, or one order lasts for far too long; compare policies of your own by "

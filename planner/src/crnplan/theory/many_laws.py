@@ -12,9 +12,10 @@ around that of the policy without a promise. For these, only laws near that plac
 """
 from __future__ import annotations
 
+import contextlib
 import dataclasses
 import math
-from collections.abc import Iterable, Sequence
+from collections.abc import Iterable, Iterator, Sequence
 from dataclasses import dataclass
 from functools import partial
 
@@ -24,7 +25,7 @@ from ..chances import Floats
 from ..errors import Refused
 from ..law import Law
 from ..scenario import Policy, Scenario
-from .lattice import NoTheory, Shape, finest, has_room, late_work, shape_of, theory_on, values_of
+from .lattice import NoTheory, Shape, finest, shape_of, theory_on
 from .lattice_law import room_for
 from .long_run import NO_POLICY, Candidate, LongRun, place_of_least
 from .walk import Walk
@@ -63,27 +64,31 @@ class LawFigures:
     error: float | None
 
 
-def room_of(walk: Walk, shape: Shape, widest: int) -> int:
-    """Returns how many cells the laws of a stock have, with gaps up to the widest, but for what is all but impossible.
-    """
-    periods, net = shape.lead + 1, walk.net
-    above = -walk.above_low.low + shape.lead * max(0, -net.low) + walk.back.high
-    likely = periods * net.mean + DEVIATIONS * math.sqrt(periods * net.variance) + net.high
-    return room_for(above + widest + int(min(periods * net.high, likely)) + 2)
+def under_laws(scenario: Scenario, laws: Iterable[tuple[Law, Law]]) -> Iterator[tuple[Scenario, Shape | None]]:
+    """Yields the scenario under each law of demand and of lead times, with its shape: None if there is nothing to order
+    in the long run."""
+    for demand, lead in laws:
+        own, shape = dataclasses.replace(scenario, demand=demand, lead=lead), None
+        with contextlib.suppress(NoTheory):
+            shape = shape_of(own)
+        yield own, shape
 
 
 def run_of(scenario: Scenario, shape: Shape, widest: int) -> LongRun | None:
     """Returns the long run of a scenario on the finest lattice that is computed in time for gaps up to so many items;
     None if its numbers are too far apart for that."""
-    base, last = math.gcd(*values_of(scenario)), shape.lead * (shape.leads > 1)
+    periods, last = shape.lead + 1, shape.lead * (shape.leads > 1)
     of_cell = OF_CELL + OF_PERIOD * last + OF_PAIR * last * (last + 1) / 2
     allowed = max(LEAST_ROOM, int(MOST_WORK / of_cell))
 
     def excess(step: int) -> float:
-        """Returns how many times too large the laws on a lattice are."""
-        return room_of(Walk(scenario, step, step == base), shape, -(-widest // step) + 1) / allowed
-    step = finest(base, max(shape.high, shape.order), excess, lambda size: 0.8 * size)
-    return None if step is None else theory_on(scenario, shape, step, step == base)
+        """Returns how many times too large the laws of the stock are, but for what is all but impossible."""
+        walk = Walk(scenario, step, step == shape.base)
+        above, net = -walk.above_low.low + shape.lead * max(0, -walk.net.low) + walk.back.high, walk.net
+        likely = periods * net.mean + DEVIATIONS * math.sqrt(periods * net.variance) + net.high
+        return room_for(above - (-widest // step) + int(min(periods * net.high, likely)) + 3) / allowed
+    step = finest(shape.base, max(shape.high, shape.order), excess, lambda size: 0.8 * size)
+    return None if step is None else theory_on(scenario, shape, step, step == shape.base)
 
 
 def least_cost(theory: LongRun, most: int) -> float:
@@ -110,12 +115,12 @@ def figures_of_laws(scenario: Scenario, laws: Sequence[tuple[Law, Law]],
     given = max(policy.S - policy.s for policy in policies)
     rows: list[tuple[int, Sequence[float], Sequence[float], float, int]] = []
     coarse: list[float] = []
-    for place, (demand, lead) in enumerate(laws):
-        own = dataclasses.replace(scenario, demand=demand, lead=lead)
-        shape = shape_or_none(own)
-        widest = max(given, math.ceil(2 * shape.order)) if shape else given
-        theory = run_of(own, shape, widest) if shape else None
-        if shape is None or theory is None:
+    for place, (own, shape) in enumerate(under_laws(scenario, laws)):
+        if shape is None:
+            continue
+        widest = max(given, math.ceil(2 * shape.order))
+        theory = run_of(own, shape, widest)
+        if theory is None:
             continue
         is_long = shape.leads > 1 and shape.lead > LONG_LEAD
         least = math.nan if is_long else least_cost(theory, -(-widest // theory.step) + 1)
@@ -132,21 +137,6 @@ def figures_of_laws(scenario: Scenario, laws: Sequence[tuple[Law, Law]],
     places, costs, fills, least_costs, steps = zip(*rows)
     return LawFigures(places, np.array(costs), np.array(fills), np.array(least_costs), max(steps),
                       max(coarse, default=None))
-
-
-def shape_or_none(scenario: Scenario) -> Shape | None:
-    """Returns the shape of a scenario; None if there is nothing to order in the long run."""
-    try:
-        return shape_of(scenario)
-    except NoTheory:
-        return None
-
-
-def excess_of(shapes: Sequence[Shape], gap: int, step: int) -> float:
-    """Returns by how many times it takes too long to find levels of laws on a lattice, for a gap in items."""
-    levels = [shape.level / step / MOST_LEVELS for shape in shapes if shape.leads == 1]
-    passes = [late_work(shape, step, gap / step) / MOST_LATE_WORK for shape in shapes if shape.leads > 1]
-    return sum(levels + passes) / max(len(shapes), 1)
 
 
 class Promises:
@@ -168,31 +158,34 @@ class Promises:
         if not 0 < confidence <= 1:
             raise Refused(f"the confidence is {confidence:g}; it is above 0, and at most 1")
         self.theory, self.shares, self.confidence = theory, shares, confidence
-        pairs = zip(laws, leads or [scenario.lead] * len(laws))
-        scenarios = [dataclasses.replace(scenario, demand=demand, lead=lead) for demand, lead in pairs]
-        shapes = [*map(shape_or_none, scenarios)]
-        known = [shape for shape in shapes if shape]
-        self.step = finest(theory.step, math.inf, lambda step: excess_of(known, gap * theory.step, step),
-                           lambda excess: 1) or theory.step
-        self.exact = theory.exact and self.step == theory.step
-        self.theories = [theory_on(own, shape, self.step, self.exact) if shape and has_room(shape, self.step) else None
-                         for own, shape in zip(scenarios, shapes)]
-        self.lacking = sum(own is None for own in self.theories)
-        self.levels: dict[tuple[int, int, float], float] = {}
+        scenarios = [*under_laws(scenario, zip(laws, leads or [scenario.lead] * len(laws)))]
+        shapes = [shape for _, shape in scenarios if shape]
 
-    def levels_of(self, laws: Sequence[int], gap: int, share: float) -> list[float]:
-        """Returns the least S of a gap under each of some laws, by their numbers; infinite if one has no long run."""
-        self.prepare(laws, [gap])
-        return [self.levels[law, gap, share] for law in laws]
+        def excess(step: int) -> float:
+            """Returns by how many times it takes too long to find levels, in the mean of the laws."""
+            times = [shape.level / step / MOST_LEVELS if shape.leads == 1 else
+                     shape.late_work(step, gap * theory.step / step) / MOST_LATE_WORK for shape in shapes]
+            return sum(times) / max(len(shapes), 1)
+        self.step = finest(theory.step, math.inf, excess, lambda excess: 1) or theory.step
+        self.exact = theory.exact and self.step == theory.step
+        self.theories = [theory_on(own, shape, self.step, self.exact) for own, shape in scenarios
+                         if shape and shape.has_room(self.step)]
+        self.lacking = len(laws) - len(self.theories)
+        self.levels: dict[tuple[int, int], dict[float, float]] = {}
 
     def prepare(self, laws: Iterable[int], gaps: Sequence[int]) -> None:
         """Computes the levels of rising gaps under some laws at once, which is faster than one by one."""
         for law in laws:
-            theory, new = self.theories[law], [gap for gap in gaps if (law, gap, self.shares[0]) not in self.levels]
-            none = [(gap, [math.inf] * len(self.shares)) for gap in new]
-            by_gap = theory.levels_with_fill(new, self.shares) if theory else none
-            self.levels.update(((law, gap, share), level) for gap, levels in by_gap
-                               for share, level in zip(self.shares, levels))
+            new = [gap for gap in gaps if (law, gap) not in self.levels]
+            self.levels.update(((law, gap), dict(zip(self.shares, levels)))
+                               for gap, levels in self.theories[law].levels_with_fill(new, self.shares))
+
+    def level_at(self, place: int, laws: Sequence[int], gap: int, share: float) -> float:
+        """Returns the level at a place in the order of the least S of a gap under some laws, by their numbers. It is
+        infinite beyond them: the others have no long run."""
+        self.prepare(laws, [gap])
+        levels = sorted(self.levels[law, gap][share] for law in laws)
+        return levels[place] if place < len(levels) else math.inf
 
     def policy(self, gap: int, level: float, share: float) -> Candidate:
         """Returns the cheapest policy of a gap with S of at least a level that meets a share by the own law."""
@@ -207,15 +200,12 @@ class Promises:
         if plain.cost == math.inf:
             return NO_POLICY
         laws = range(len(self.theories))
-        place = max(0, math.ceil(self.confidence * len(laws) - 1e-9) - 1)
-        first = (plain.level - plain.point) // self.step
-        levels = self.levels_of(laws, first, share)
-        low = max(0, place - BESIDE)
-        near = sorted(laws, key=levels.__getitem__)[low:place + BESIDE + 1]
-
-        def about(gap: int) -> Candidate:
-            return self.policy(gap, sorted(self.levels_of(near, gap, share))[place - low], share)
+        place = max(0, math.ceil(self.confidence * (len(laws) + self.lacking) - 1e-9) - 1)
+        first, low = (plain.level - plain.point) // self.step, max(0, place - BESIDE)
+        self.prepare(laws, [first])
+        near = sorted(laws, key=lambda law: self.levels[law, first][share])[low:place + BESIDE + 1]
         others = sorted({round(first * factor) for factor in FACTORS} - {first})
         self.prepare(near, others)
-        best = min(others, key=about, default=first)
-        return min(self.policy(gap, sorted(self.levels_of(laws, gap, share))[place], share) for gap in (first, best))
+        best = min(others, key=lambda gap: self.policy(gap, self.level_at(place - low, near, gap, share), share),
+                   default=first)
+        return min(self.policy(gap, self.level_at(place, laws, gap, share), share) for gap in (first, best))

@@ -31,7 +31,7 @@ from scipy import fft
 
 from ..chances import Floats, Whole
 from ..scenario import Policy, Scenario
-from .lattice import MOST_GAPS, NoTheory, has_room, late_work, lattice_of, shape_of, theory_on, values_of
+from .lattice import MOST_GAPS, NoTheory, lattice_of, shape_of, theory_on
 from .lattice_law import NOTHING, LatticeLaw, Surplus, power_of, room_for, sum_of
 from .long_run import LongRun
 from .reviews import Reviews, Start, falling, moving, review_sums
@@ -55,10 +55,9 @@ def theory_of(scenario: Scenario, most_gaps: int = MOST_GAPS) -> LongRun:
     positive = dataclasses.replace(costs, holding=max(1, costs.holding), backlog=max(1, costs.backlog))
     # A search needs wider tables, and more passes over late orders: here the gaps are known.
     shape = dataclasses.replace(shape_of(dataclasses.replace(scenario, costs=positive)), order=max(gaps) / 3)
-    base = math.gcd(*values_of(scenario))
-    work = sum(late_work(shape, base, gap / base) for gap in gaps)
-    if shape.leads > 1 and has_room(shape, base) and work <= MOST_WORK:
-        return theory_on(scenario, shape, base, True)
+    work = sum(shape.late_work(shape.base, gap / shape.base) for gap in gaps)
+    if shape.leads > 1 and shape.has_room(shape.base) and work <= MOST_WORK:
+        return theory_on(scenario, shape, shape.base, True)
     return theory_on(scenario, shape, *lattice_of(scenario, shape, max(gaps), most_gaps))
 
 

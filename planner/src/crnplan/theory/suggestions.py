@@ -257,7 +257,7 @@ def suggestions_of(scenario: Scenario, laws: Sequence[Law] = (), leads: Sequence
         remarks = [Remark("search of a grid", {"most": MOST_EXCESS})]
     if promises:
         remarks.append(Remark("promises", {
-            "percent": 100 * promises.confidence, "laws": len(promises.theories), "lacking": promises.lacking,
+            "percent": 100 * promises.confidence, "laws": len(laws), "lacking": promises.lacking,
             "step": None if promises.exact else promises.step}))
     if chosen.left_out:
         remarks.append(Remark("left out", {"most": POLICIES[1], "names": ", ".join(chosen.left_out)}))

@@ -13,13 +13,19 @@ import math
 import numpy as np
 
 from ..chances import Floats
+from ..law import Law
 from ..scenario import Scenario
-from .lattice_law import NOTHING, LatticeLaw, sum_of
+from .lattice_law import LatticeLaw, sum_of
 
 DIGITS = 36  # e^-36 is below the rounding of a number.
 # Chances that differ by no more than this share are equal but for rounding. They are compared once in so many places.
 EQUAL = 1e-13
 LOOK_EVERY = 64
+
+
+def net_tables(scenario: Scenario) -> tuple[Law, Law]:
+    """Returns the tables of demand and returns."""
+    return scenario.demand, scenario.returns or Law((0,), (1,))
 
 
 def decay_of(net: LatticeLaw) -> float:
@@ -95,8 +101,7 @@ class Walk:
     def __init__(self, scenario: Scenario, step: int, exact: bool) -> None:
         """Makes the laws of the position. `exact` says that all demands and returns lie on the lattice."""
         self.step, self.exact = step, exact
-        self.demand = LatticeLaw.of(scenario.demand, step)
-        self.back = LatticeLaw.of(scenario.returns, step) if scenario.returns else NOTHING
+        self.demand, self.back = (LatticeLaw.of(table, step) for table in net_tables(scenario))
         self.net = sum_of(self.demand, self.back.reflected)
         self.visits, self.falls = factors_of(self.net)
         self.span = float(self.visits.sum())
