@@ -24,7 +24,6 @@ from crnplan.pages.pictures import regrets_picture, save
 from crnplan.scenario import Policy, Scenario
 from crnplan.theory.lattice import theories_of
 from crnplan.theory.many_laws import LawFigures
-from crnplan.theory.suggestions import figures_of
 from planner.studies import doubt as study, laws
 from planner.tests.conftest import Command
 from planner.tests.demand.made import compare
@@ -99,9 +98,10 @@ def test_figures_are_those_of_each_law(part: Scenario) -> None:
     """Under each law they are those of the theory of one law."""
     found = doubt(part, HISTORY, LEADS, times=12, seed=3)
     demands, leads = allowed_laws(HISTORY, times=12, seed=3).laws, allowed_leads(LEADS, times=12, seed=3).laws
-    frames = [figures_of(dataclasses.replace(part, demand=demand, lead=lead), part.policies).frame
-              for demand, lead in zip(demands, leads)]
-    costs, fills = (np.array([frame[name] for frame in frames]) for name in ("cost", "fill"))
+    theories = [theories_of(dataclasses.replace(part, demand=demand, lead=lead), 100)[0]
+                for demand, lead in zip(demands, leads)]
+    costs, fills = np.transpose([[theory.figures(it.s, it.S)[:2] for it in part.policies] for theory in theories],
+                                (2, 0, 1))
     rows = {row["policy"]: row for row in found.table.records}
     for at, policy in enumerate(part.policies):
         assert rows[policy.name]["cost"] == pytest.approx(costs[:, at].mean(), rel=1e-6)

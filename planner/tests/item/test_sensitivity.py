@@ -8,7 +8,8 @@ import pytest
 
 from crnplan import Scenario
 from crnplan.decide.sensitivity import AS_IT_IS, Moves, cases_of, moves_of
-from crnplan.theory.suggestions import figures_of, suggestions_of
+from crnplan.theory.lattice import theories_of
+from crnplan.theory.suggestions import suggestions_of
 
 DEMAND = {0: 5, 2: 3, 4: 2, 9: 1}
 UP = {0: 50, 2: 24, 3: 6, 4: 12, 5: 8, 9: 1, 10: 9}  # Each demand but 0 times 1.1, shared between two whole numbers.
@@ -41,11 +42,11 @@ def test_moves_are_those_of_scenarios_made_anew(case: str, moves: Moves) -> None
     """
     changed, its = scenario_of(**CHANGES[case]), next(it for it in moves.moves if it.words == case)
     best = next(it for it in suggestions_of(changed).rows if it.policy.name == "best" or "the best" in it.reasons)
-    kept = figures_of(changed, [type(changed.policies[0])("kept", *KEPT)]).frame.loc[0]
+    kept = theories_of(changed)[0].figures(*KEPT)
     scale, own = float(changed.scale), float(scenario_of().scale)
     assert (its.s, its.S) == (best.policy.s, best.policy.S)
     assert [its.cost / own, its.fill] == pytest.approx([best.figures.cost / scale, best.figures.fill], rel=1e-9)
-    assert [its.kept_cost / own, its.kept_fill] == pytest.approx([kept["cost"] / scale, kept["fill"]], rel=1e-9)
+    assert [its.kept_cost / own, its.kept_fill] == pytest.approx([kept.cost / scale, kept.fill], rel=1e-9)
     assert its.kept_more == pytest.approx(its.kept_cost / its.cost - 1) and its.kept_more >= -1e-9
 
 

@@ -8,11 +8,10 @@ import pytest
 from hypothesis import given, settings
 from hypothesis import strategies as st
 
-from crnplan.scenario import Costs, Policy, Scenario
+from crnplan.scenario import Costs, Scenario
 from crnplan.theory.lattice import shape_of, theory_on
 from crnplan.theory.long_run import FEW, LongRun, Means, gap_grid
 from crnplan.theory.one_lead import OneLead
-from crnplan.theory.suggestions import figures_of
 
 from planner.tests.theory.chain import by_chain
 from planner.tests.theory.long_run_costs import cost_of, shortfall_of
@@ -54,15 +53,6 @@ def test_figures_of_any_small_scenario(demand: Pair, lead: Pair, back: Pair | No
         back = None
     scenario = scenario_of(demand, lead, back, costs, (point, point + gap))
     assert max(errors_of(scenario)) < 1e-7
-
-
-def test_a_frame_of_figures() -> None:
-    scenario, policies = scenario_of(([0, 1, 3], [3, 2, 1])), [Policy("low", 2, 5), Policy("high", 3, 9)]
-    frame = figures_of(scenario, policies).frame
-    assert list(frame) == ["policy", "s", "S", "cost", "fill", "short", "stock", "orders"]
-    assert frame.iloc[:, :3].values.tolist() == [["low", 2, 5], ["high", 3, 9]]
-    for policy, row in zip(policies, frame.iloc[:, 3:].values.tolist()):
-        assert row == pytest.approx(by_chain(scenario.with_policies([policy]))[:-1], abs=1e-7)
 
 
 @pytest.mark.parametrize("mean, point, level, cost", PUBLISHED)

@@ -120,9 +120,9 @@ class Depth:
         names, reasons = dict[Levels, str](), dict[Levels, tuple[str, ...]]()
         for name, levels in self.levels.items():
             names.setdefault(levels, name)
-        for behaviour, policy in self.suggested.policies.items():
+        for policy, remarks in self.suggested.policies.values():
             names.setdefault((policy.s, policy.S), policy.name)
-            reasons[policy.s, policy.S] = tuple(map(sentence, self.suggested.reasons[behaviour]))
+            reasons[policy.s, policy.S] = tuple(map(sentence, remarks))
         shown = [*names.items()][:POLICIES[1]]
         return {Policy(name, *levels): reasons.get(levels, ()) for levels, name in shown}
 

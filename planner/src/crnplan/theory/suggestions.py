@@ -11,8 +11,9 @@ depth. What counts of s is the greatest depth, up to S - s, that can occur.
 """
 from __future__ import annotations
 
+import itertools
 import math
-from collections.abc import Iterable, Sequence
+from collections.abc import Sequence
 from dataclasses import dataclass
 
 from ..formats import MOST_ITEMS, POLICIES
@@ -26,6 +27,7 @@ from ..words import sentence
 from .lattice import theories_of
 from .long_run import Candidate, Figures, LongRun
 from .many_laws import CONFIDENCE, Promises
+from .walk import net_tables
 
 FILLS = {"95": 0.95, "98": 0.98, "99": 0.99, "995": 0.995}
 ORDERS = {"fewer_orders": 1.5, "more_orders": 0.65, "fewest_orders": 2.2, "most_orders": 0.4}  # times the best gap
@@ -42,7 +44,6 @@ COLUMNS = (
     number("stock", "items", "mean stock at the end of a period", ".10g", ".1f"),
     number("orders", "orders a period", "mean number of orders", ".10g", ".4f"))
 REASONS = text("reasons", "why it is suggested")
-NOTHING = Law((0,), (1,))
 
 
 class Depths:
@@ -50,9 +51,7 @@ class Depths:
 
     def __init__(self, scenario: Scenario) -> None:
         """Takes the net demands that occur."""
-        demands, backs = ({value for value, weight in zip(table.values, table.weights) if weight}
-                          for table in (scenario.demand, scenario.returns or NOTHING))
-        nets = {demand - back for demand in demands for back in backs}
+        nets = {demand - back for demand, back in itertools.product(*(it.chances for it in net_tables(scenario)))}
         self.divisor = math.gcd(*nets)
         self.falls = sorted(net for net in nets if net > 0)
         self.rises = min(nets) < 0
@@ -67,9 +66,7 @@ class Depths:
             return gap - gap % self.divisor
         depths, all_up_to = 1, (1 << gap + 1) - 1  # a bit for each depth
         for fall in self.falls:
-            if fall > gap:
-                break
-            shift = fall if not depths >> fall & 1 else gap + 1
+            shift = gap + 1 if depths >> fall & 1 else fall
             while shift <= gap:
                 depths |= depths << shift & all_up_to
                 shift *= 2
@@ -84,14 +81,12 @@ class Depths:
 
 
 class Chosen:
-    """Policies in order, each behaviour once, with the reasons for each. `left_out` are names without a place."""
+    """Policies in order with the reasons for each, by behaviour. `left_out` are names without a place."""
 
     def __init__(self, scenario: Scenario) -> None:
         """Starts with today's policy."""
         self.depths, today = Depths(scenario), scenario.policies[0]
-        first = self.depths.behaviour(today.s, today.S)
-        self.policies = {first: today}
-        self.reasons = {first: [Remark("today's policy")]}
+        self.policies = {self.depths.behaviour(today.s, today.S): (today, [Remark("today's policy")])}
         self.left_out: list[str] = []
 
     def add(self, name: str, policy: Candidate, reason: Remark) -> None:
@@ -100,13 +95,13 @@ class Chosen:
             return
         behaviour = self.depths.behaviour(policy.point, policy.level)
         if behaviour in self.policies:
-            self.reasons[behaviour].append(reason)
+            self.policies[behaviour][1].append(reason)
         elif len(self.policies) == POLICIES[1]:
             self.left_out.append(name)
         else:
-            while name in {other.name for other in self.policies.values()}:
+            while name in {other.name for other, _ in self.policies.values()}:
                 name = f"{name[:15]}_"
-            self.policies[behaviour], self.reasons[behaviour] = Policy(name, policy.point, policy.level), [reason]
+            self.policies[behaviour] = Policy(name, policy.point, policy.level), [reason]
 
 
 def add_fills(chosen: Chosen, theory: LongRun, promises: Promises | None) -> None:
@@ -195,7 +190,7 @@ class Suggestions(Result):
     @property
     def text(self) -> str:
         """Returns the table without the reasons, and the notes."""
-        return figures_table((row.policy, row.figures) for row in self.rows).text + self.notes
+        return DataTable(COLUMNS, [row[:-1] for row in self.table.rows]).text + self.notes
 
     @property
     def tree(self) -> dict[str, Json]:
@@ -230,11 +225,6 @@ class Suggestions(Result):
         return "".join([head_of(source), plain_text(tree), *(row.text for row in self.rows)])
 
 
-def figures_table(rows: Iterable[tuple[Policy, Figures]]) -> DataTable:
-    """Returns the figures of policies as a table."""
-    return DataTable(COLUMNS, [(policy.name, policy.s, policy.S, *figures) for policy, figures in rows])
-
-
 def suggestions_of(scenario: Scenario, laws: Sequence[Law] = (), leads: Sequence[Law] = (),
                    confidence: float = CONFIDENCE) -> Suggestions:
     """Returns the suggested policies of a scenario, at most 16 with today's.
@@ -248,8 +238,8 @@ def suggestions_of(scenario: Scenario, laws: Sequence[Law] = (), leads: Sequence
     promises = Promises(scenario, theory, theory.gap_of(best.point, best.level), laws, leads, [*FILLS.values()],
                         confidence) if laws or leads else None
     chosen = chosen_policies(scenario, theory, best, promises)
-    rows = tuple(Suggestion(policy, tuple(chosen.reasons[behaviour]), theory.figures(policy.s, policy.S))
-                 for behaviour, policy in chosen.policies.items())
+    rows = tuple(Suggestion(policy, tuple(reasons), theory.figures(policy.s, policy.S))
+                 for policy, reasons in chosen.policies.values())
     error = None if coarse is None else max(
         abs(coarse.figures(row.policy.s, row.policy.S).cost - row.figures.cost) / row.figures.cost for row in rows)
     remarks = [Remark("search of all pairs")]
@@ -263,9 +253,3 @@ def suggestions_of(scenario: Scenario, laws: Sequence[Law] = (), leads: Sequence
         remarks.append(Remark("left out", {"most": POLICIES[1], "names": ", ".join(chosen.left_out)}))
     return Suggestions(scenario, rows, theory.step, error, theory.mean_position(best.point, best.level),
                        theory.net.mean * theory.step, tuple(remarks))
-
-
-def figures_of(scenario: Scenario, policies: Sequence[Policy]) -> DataTable:
-    """Returns the long-run figures of these policies, with the columns of `COLUMNS`. Raises NoTheory."""
-    theory, _ = theories_of(scenario, max((policy.S - policy.s for policy in policies), default=0))
-    return figures_table((policy, theory.figures(policy.s, policy.S)) for policy in policies)
