@@ -79,7 +79,7 @@ def test_a_turn_fewer(fewer: tuple[int, int]) -> None:
 
 @pytest.mark.parametrize("ring", [(2, 2, 2, 1), (2, 1, 4, 1), (4, 1, 5, 1), (1, 1, 3, 1)], ids=str)
 def test_batches(ring: tuple[int, int, int, int]) -> None:
-    """With batches of two blocks and remembered counts, which the law leaves out, these rings end in its rounds too."""
+    """With batches of two blocks and remembered counts these rings end in the same rounds."""
     size, _, blocks, _ = ring
     needed = Batches(*ring, 2).rounds_needed()
     assert needed is not None and needed <= blocks + 2 + (blocks - 1 if size == 1 else 0)
@@ -119,7 +119,7 @@ def has_ended(lines: list[list[str]]) -> bool:
 
 @pytest.mark.parametrize("ring, needed", [((2, 2, 3), 5), ((8, 3, 20), 22), ((1, 1, 1), 3), ((1, 2, 4), 9)], ids=str)
 def test_program(program: Path, ring: tuple[int, int, int], needed: int) -> None:
-    """The program's ring needs these rounds too, and ends in them, under the schedule that takes longest."""
+    """The ring of `replay` needs these rounds too, and ends in them, under the schedule that takes longest."""
     rounds = (slowest(Protocol(*ring, WORDS)) * 2)[:needed]
     whole, short = list(chain(*rounds)), list(chain(*rounds[:-1]))
     assert [has_ended(trace(program, Protocol(*ring, WORDS), it)) for it in (short, whole)] == [False, True]
