@@ -11,8 +11,8 @@ import numpy as np
 import pytest
 from hypothesis import given, settings, strategies as st
 
-from crnplan.curve.candidates import (DEARER_ORDERS, DEARER_STOCK, PRICES, VARIANTS, Candidates, candidates_of,
-                                      lower_hull, slopes, variants_of)
+from crnplan.curve.candidates import (DEARER, PRICES, VARIANTS, Candidates, candidates_of, lower_hull, slopes,
+                                      variants_of)
 from crnplan.curve.exchange import Budget, Dearer, Items, Ladder, Point, chosen_by, gap_of
 from crnplan.plan.catalogue import planned_folder
 from crnplan.errors import Refused
@@ -146,7 +146,7 @@ def test_the_curve_is_the_best(seed: int) -> None:
         assert gap_of(items, point) < 1e-9
         assert cost[unmet <= (1 - point.fill) * items.asked * (1 + 1e-9)].min() >= point.cost * (1 - 1e-9)
         assert gap_of(items, point._replace(cost=1.2 * point.cost)) == pytest.approx(0.2)
-    for variants, extras in ((DEARER_ORDERS, items.orders_extra), (DEARER_STOCK, items.stock_extra)):
-        assert {*items.variant[extras > 0].tolist()} == {*variants[1:]}
-    assert len(VARIANTS) == len({*DEARER_ORDERS, *DEARER_STOCK})
+    for variants, extra in zip(DEARER, np.moveaxis(items.extra, 2, 0)):
+        assert {*np.nonzero(extra > 0)[1].tolist()} == {*variants[1:]}
+    assert {*itertools.chain(*DEARER)} == {*range(len(VARIANTS))}
     assert items.least_cost(point, Dearer(orders=0.0)) == items.least_cost(point)

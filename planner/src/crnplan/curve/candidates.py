@@ -15,6 +15,7 @@ from typing import NamedTuple
 import numpy as np
 import numpy.typing as npt
 
+from ..chances import Floats, Whole
 from ..demand.learning import Prior
 from ..formats import MOST_ITEMS
 from ..plan.one import or_fault
@@ -23,8 +24,6 @@ from ..records.item import Item
 from ..remarks import Remark
 from ..theory.long_run import STOCK_LEFT, UNMET, LongRun, Means, gap_grid
 
-Floats = npt.NDArray[np.float64]
-Whole = npt.NDArray[np.int64]
 # Answers of other versions are not used again.
 VERSION = 2
 # Prices of a unit of value that is not met at once, in units of value: eight a decade.
@@ -33,7 +32,7 @@ DIGITS = 10  # of a figure that is kept
 # How many times the setup an order costs, and how many times the holding stock costs. With the dearest orders, gaps are
 # 8^(1/2) times as wide (the economic order quantity), which is within those that theory looks at.
 VARIANTS = ((1.0, 1), (1.5, 1), (3.0, 1), (8.0, 1), (1.0, 4), (1.0, 16))
-DEARER_ORDERS, DEARER_STOCK = (0, 1, 2, 3), (0, 4, 5)
+DEARER = (0, 1, 2, 3), (0, 4, 5)  # the variants by rising cost of orders, and of stock
 STOCK = (1, 4, 16)
 
 

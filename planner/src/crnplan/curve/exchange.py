@@ -16,9 +16,9 @@ from typing import NamedTuple
 
 import numpy as np
 
+from ..chances import Floats, Whole
 from ..errors import Refused, argument
-from .candidates import (DEARER_ORDERS, DEARER_STOCK, PRICES, VARIANTS, Candidates, Floats, Whole, lower_hull, slopes,
-                         variants_of)
+from .candidates import DEARER, PRICES, Candidates, lower_hull, slopes, variants_of
 
 # A budget that is not used up is filled with steps whose price is at most so many times that of the step too many.
 FILL = 2.0
@@ -52,21 +52,20 @@ AS_IS = Dearer()
 class Items:
     """The candidates of all items: arrays with a row for each, by item, variant of costs, and price.
 
-    `owner` is the item's place; `orders_extra` and `stock_extra` are what its variant adds to the costs of an order and
-    of a unit of value of stock; `first` and `end` are the prices for which it is best. `cost` is setup and holding;
-    `value` and `unmet` are values of stock and of demand that is not met at once. `demand` is by item, in value.
+    `owner` is the item's place; `first` and `end` are the prices for which it is best. `cost` is setup and holding;
+    `value` and `unmet` are values of stock and of demand that is not met at once. By item are `demand`, in value, and
+    `extra`: what each variant adds to the costs of an order and of a unit of value of stock.
     """
 
     names: tuple[str, ...]
     demand: Floats
+    extra: Floats
     owner: Whole
     variant: Whole
     first: Whole
     end: Whole
     point: Whole
     level: Whole
-    orders_extra: Floats
-    stock_extra: Floats
     value: Floats
     unmet: Floats
     orders: Floats
@@ -75,19 +74,19 @@ class Items:
     @classmethod
     def of(cls, answers: Iterable[tuple[str, float, Candidates]]) -> Items:
         """Takes the candidates of items, each with its name and price. They are not kept as they come."""
-        names, demand, parts = list[str](), list[float](), []
+        names, demand, extra, parts = list[str](), list[float](), [], []
         for place, (name, price, candidates) in enumerate(answers):
             setup, holding, rows = candidates.setup, candidates.holding, np.array(candidates.rows, float)
             variant, first, point, level = rows[:, :4].astype(int).T
             stock, unmet, orders = rows[:, 4:].T
-            extra = np.array(variants_of(setup, holding, candidates.demand)) - (setup, holding)
             end = np.where(np.append(variant[1:] != variant[:-1], True), len(PRICES), np.append(first[1:], 0))
-            parts.append((np.full(len(rows), place), variant, first, end, point, level, extra[variant, 0],
-                          extra[variant, 1] / price, price * stock, price * unmet, orders,
-                          setup * orders + holding * stock))
+            parts.append((np.full(len(rows), place), variant, first, end, point, level, price * stock, price * unmet,
+                          orders, setup * orders + holding * stock))
             names.append(name)
             demand.append(price * candidates.demand)
-        return cls(tuple(names), np.array(demand), *(np.concatenate(columns) for columns in zip(*parts)))
+            extra.append((np.array(variants_of(setup, holding, candidates.demand)) - (setup, holding)) / (1, price))
+        columns = (np.concatenate(column) for column in zip(*parts))
+        return cls(tuple(names), np.array(demand), np.array(extra), *columns)
 
     @property
     def asked(self) -> float:
@@ -105,9 +104,9 @@ class Items:
         at the best of the grid's prices. At these each item's best policy is known. For costs between two variants, the
         least is no less than what lies between theirs, since it is a concave function.
         """
-        shares = self._shares(dearer)
-        fixed, slope = np.zeros(len(PRICES) + 1), np.zeros(len(PRICES) + 1)
-        costs = self.cost + self.orders_extra * self.orders + self.stock_extra * self.value
+        shares, extra = self._shares(dearer), self.extra[self.owner, self.variant]
+        fixed, slope = np.zeros((2, len(PRICES) + 1))
+        costs = self.cost + extra[:, 0] * self.orders + extra[:, 1] * self.value
         for total, each in ((fixed, costs), (slope, self.unmet)):
             np.add.at(total, self.first, shares * each)
             np.add.at(total, self.end, -shares * each)
@@ -117,17 +116,13 @@ class Items:
 
     def _shares(self, dearer: Dearer) -> Floats:
         """Returns how much each row counts for costs between those of two variants."""
-        variants, extras, amount = (DEARER_STOCK, self.stock_extra, dearer.stock) if dearer.stock else \
-            (DEARER_ORDERS, self.orders_extra, dearer.orders)
-        places, beside = np.arange(len(self.names)), np.zeros((len(self.names), len(VARIANTS)))
-        beside[self.owner, self.variant] = extras
-        beside = beside[:, list(variants)]
-        above = np.minimum((beside <= amount).sum(axis=1), len(variants) - 1)
-        low, high = beside[places, above - 1], beside[places, above]
-        share = np.clip((amount - low) / (high - low), 0, 1)
-        known = np.array(variants)
-        shares = np.zeros((len(self.names), len(VARIANTS)))
-        shares[places, known[above - 1]], shares[places, known[above]] = 1 - share, share
+        which = 1 if dearer.stock else 0
+        amount, variants, places = dearer[which], np.array(DEARER[which]), np.arange(len(self.names))
+        extra = self.extra[:, variants, which]
+        above = np.minimum((extra <= amount).sum(axis=1), len(variants) - 1)
+        low, high = extra[places, above - 1], extra[places, above]
+        share, shares = np.clip((amount - low) / (high - low), 0, 1), np.zeros(self.extra.shape[:2])
+        shares[places, variants[above - 1]], shares[places, variants[above]] = 1 - share, share
         counted: Floats = shares[self.owner, self.variant]
         return counted
 
@@ -289,7 +284,7 @@ def chosen_by(items: Items, budget: Budget) -> Choice:
 def with_more_orders(items: Items, budget: Budget) -> Choice:
     """Returns the choice with the greatest extra cost of stock with which there are few enough orders, so that all
     orders that are allowed are used. Raises OffCurve if no choice keeps the budget."""
-    choice = _border(items.stock_extra, lambda amount: budget.kept(budget.choice(items, Dearer(stock=amount))),
+    choice = _border(items.extra[:, :, 1], lambda amount: budget.kept(budget.choice(items, Dearer(stock=amount))),
                      budget.kept(budget.choice(items)), is_least=False)
     if choice is None:
         least = "stock of so little value" if budget.value is not None else "this service"
@@ -308,7 +303,7 @@ def with_fewer_orders(items: Items, budget: Budget, first: Choice) -> Choice:
         choice = budget.choice(items, Dearer(orders=amount))
         fewest = min(fewest, choice.point.orders) if choice else fewest
         return budget.kept(choice)
-    choice = _border(items.orders_extra, choice_of, None, is_least=True)
+    choice = _border(items.extra[:, :, 0], choice_of, None, is_least=True)
     if choice is None:
         raise OffCurve(argument("orders", f"{budget.orders:g}"), f"with this stock or service there are {fewest:.4g} "
                        "orders a period or more", "name more")

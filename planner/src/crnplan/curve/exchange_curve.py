@@ -17,6 +17,7 @@ from typing import TYPE_CHECKING
 
 import numpy as np
 
+from ..chances import Floats, Whole
 from ..crnsim.long_run import long_run_of
 from ..crnsim.report import counting
 from ..errors import Refused
@@ -31,7 +32,7 @@ from ..scenario import Policy
 from ..stored import Store, digest_of
 from ..table import Cell, DataTable, MONEY, Result, aligned, number, text, whole
 from ..words import advice, sentence
-from .candidates import PRICES, VERSION, Candidates, Floats, Whole, candidates_batch
+from .candidates import PRICES, VERSION, Candidates, candidates_batch
 from .exchange import NEAR, Budget, Choice, Items, Ladder, OffCurve, Point, chosen_by, gap_of, with_more_orders
 
 if TYPE_CHECKING:

@@ -17,7 +17,7 @@ from __future__ import annotations
 import math
 from collections.abc import Callable, Iterable, Iterator, Sequence
 from functools import partial
-from typing import NamedTuple, TypeVar
+from typing import Any, NamedTuple, TypeVar
 
 import numpy as np
 from numpy.lib.stride_tricks import sliding_window_view
@@ -68,10 +68,8 @@ Levels = tuple[Whole, Floats]
 
 
 class GapLevels(NamedTuple):
-    """A level for each of some gaps, in cells, with the number of lows and the sums over them, here and a cell below.
-
-    Sums are of stock costs, unmet demand and chances of no backlog, in this order.
-    """
+    """A level for each of some gaps, in cells, with the number of lows and the sums over them, here and a cell below:
+    of stock costs, unmet demand and chances of no backlog, in this order."""
 
     gaps: Whole
     levels: Whole
@@ -113,6 +111,15 @@ class Means:
 
 
 LevelsOf = Callable[[Means], Levels]
+
+
+def least_levels(low: Whole, high: Whole, is_enough: Callable[[Whole], Any]) -> Whole:
+    """Returns the least levels from low to high that are enough, each by itself; high if none below it is."""
+    while (low < high).any():
+        middle = (low + high) // 2
+        enough = is_enough(middle)
+        low, high = np.where(enough, low, np.minimum(middle + 1, high)), np.where(enough, middle, high)
+    return low
 
 
 def place_of_least(costs: Floats) -> int:
@@ -296,13 +303,12 @@ class LongRun(Walk):
 
     def best_levels(self, means: Means, share: float) -> Levels:
         """Returns the cheapest levels that meet a share of demand at once: those, or the newsvendor's if higher."""
-        allowed, low, high = self.allowed(share), self.floor(means.gaps), np.full(len(means.gaps), means.top)
-        while (low < high).any():
-            middle = (low + high) // 2
-            unmet, held = means.at(middle, slice(1, 3))
-            is_enough = (unmet <= allowed) & (held >= self.ratio)
-            low, high = np.where(is_enough, low, np.minimum(middle + 1, high)), np.where(is_enough, middle, high)
-        places = self.places(means, low)
+        allowed, highest = self.allowed(share), np.full(len(means.gaps), means.top)
+
+        def is_enough(levels: Whole) -> Any:
+            unmet, held = means.at(levels, slice(1, 3))
+            return (unmet <= allowed) & (held >= self.ratio)
+        places = self.places(means, least_levels(self.floor(means.gaps), highest, is_enough))
         return self.costs_of(places, self.spare_of(places, allowed))
 
     def fixed_levels(self, means: Means, levels: Whole) -> Levels:

@@ -18,6 +18,7 @@ from __future__ import annotations
 import math
 from bisect import bisect_left
 from collections.abc import Callable
+from typing import Any
 
 import numpy as np
 import numpy.typing as npt
@@ -25,11 +26,9 @@ import numpy.typing as npt
 from ..chances import Floats, Whole
 from ..formats import MOST_ITEMS
 from .lattice_law import convolved
-from .long_run import CLOSE, FEW, NO_POLICY, Candidate, GapLevels, LongRun, gap_grid, place_of_least
+from .long_run import CLOSE, FEW, NO_POLICY, Candidate, GapLevels, LongRun, gap_grid, least_levels, place_of_least
 
 EVEN = 1e-10  # Chances that differ by no more than this share are taken as the same by a search, not for figures.
-
-Sums = tuple[float, float, float]
 
 
 class Lows:
@@ -49,14 +48,13 @@ class Lows:
         self.last = table.shape[1] - 3
         self.even = int(np.flatnonzero(np.append(1.0, abs(lows - lows[-1]) > EVEN * lows[-1]))[-1])
 
-    def is_enough(self, sums: Sums, total: float) -> bool:
-        """Returns whether a level with these sums is enough."""
-        return sums[1] <= self.allowed * total and sums[2] >= self.ratio * total
+    def is_enough(self, sums: Any, totals: Any) -> Any:
+        """Returns whether levels with these sums are enough."""
+        return (sums[1] <= self.allowed * totals) & (sums[2] >= self.ratio * totals)
 
-    def at(self, gap: int, level: int) -> Sums:
+    def at(self, gap: int, level: int) -> tuple[float, ...]:
         """Returns the sums of a gap and a level."""
-        cost, unmet, held = (self.table[:, level - gap + 2:level + 3] @ self.turned[-gap - 1:]).tolist()
-        return cost, unmet, held
+        return tuple((self.table[:, level - gap + 2:level + 3] @ self.turned[-gap - 1:]).tolist())
 
     def walked(self, first: int, most: int, floor_of: Callable[[int], int]) -> GapLevels:
         """Returns for each gap up to the most the least level from a floor on that is enough, if the table has it.
@@ -65,9 +63,9 @@ class Lows:
         """
         total, floor, rows = float(self.counts[first]), min(floor_of(first), self.last), []
         level = floor + bisect_left(range(floor, self.last), True,
-                                    key=lambda level: self.is_enough(self.at(first, level), total))
+                                    key=lambda level: bool(self.is_enough(self.at(first, level), total)))
         below, here = self.at(first, level - 1), self.at(first, level)
-        columns: list[Sums] = [*zip(*self.table.tolist())]
+        columns = [*zip(*self.table.tolist())]
         for gap in [first, *(first + 1 + np.flatnonzero(self.chances[first + 1:most + 1])).tolist()]:
             low, floor = float(self.chances[gap]), floor_of(gap)
             total += low if gap > first else 0.0
@@ -95,16 +93,11 @@ class Lows:
         def at(levels: Whole) -> Floats:
             sums: Floats = first[:, levels + 2] + low * (summed[:, levels + 2] - summed[:, levels + 1 - gaps])
             return sums
-        below, above = floors, np.full(len(gaps), self.last)  # no floor is beyond the table
-        while (below < above).any():
-            middle = (below + above) // 2
-            sums = at(middle)
-            is_enough = (sums[1] <= self.allowed * totals) & (sums[2] >= self.ratio * totals)
-            below = np.where(is_enough | (below == above), below, middle + 1)
-            above = np.where(is_enough, middle, above)
-        here, under = at(below), at(below - 1)
-        kept = (here[1] <= self.allowed * totals) & (here[2] >= self.ratio * totals)
-        return GapLevels(gaps[kept], below[kept], totals[kept], here[:, kept], under[:, kept])
+        highest = np.full(len(gaps), self.last)  # no floor is beyond the table
+        levels = least_levels(floors, highest, lambda levels: self.is_enough(at(levels), totals))
+        here, below = at(levels), at(levels - 1)
+        kept = self.is_enough(here, totals)
+        return GapLevels(gaps[kept], levels[kept], totals[kept], here[:, kept], below[:, kept])
 
 
 class OneLead(LongRun):
