@@ -5,7 +5,6 @@ import contextlib
 import datetime
 from collections.abc import Mapping, Sequence
 from dataclasses import replace
-from itertools import compress
 from typing import Any
 
 import numpy as np
@@ -49,7 +48,7 @@ def read_history(table: Table, *, demand: str, returns: str | None = None, date:
         movements = Movements(sheet, names, date, every, net)
         movements.cut(first, last)
         periods = movements.spanned(first, last, whole)
-        movements.suspect_all()
+        movements.suspect()
         return movements.summed(periods)
 
 
@@ -91,67 +90,56 @@ def _check_undated(given: Mapping[tuple[str, ...], object]) -> None:
 def _history(reading: Reading, counts: Mapping[str, Sequence[int]], cells: Mapping[str, Sequence[Said | None]],
              every: str | None = None, first: int = 1) -> History:
     """Returns the history of demand, with that of returns in it if there is one: counts and cells by role."""
-    notes, faults = reading.finish()
-    returned, quantity = (role in counts and History(tuple(counts[role]), reading.places(cells[role]), notes, faults,
-                                                     every, first) for role in ("returned", "quantity"))
-    assert quantity
-    return replace(quantity, returns=returned or None)
+    made = {role: History(tuple(counts[role]), reading.places(cells[role]), *reading.finish(), every, first)
+            for role in counts}
+    return replace(made["quantity"], returns=made.get("returned"))
 
 
 def _undated(reading: Reading, roles: Sequence[str]) -> History:
-    """Returns the history of a file in which each row is a period. A blank row is one whose amount is missing."""
-    reading.check_count(roles[0], "rows")
-    columns = {role: reading.amounts(role, "negative period", 0) for role in roles}
-    reading.miss_blank(roles)
-    rows, numbers = reading.kept(columns)
-    reading.note_twins(rows)
-    for role in roles:
-        reading.suspect(role, rows, numbers[role])
-    return _history(reading, numbers, {role: [reading.cell(row, role, reading.text(role, row)) for row in rows]
-                                       for role in roles})
+    """Returns the history of a file in which each row is a period."""
+    reading.check_count("quantity", "rows")
+    reading.keep({role: reading.amounts(role, "negative period", 0) for role in roles})
+    reading.suspect()
+    return _history(reading, reading.values, {role: [reading.said(reading.text(role, row), row, role)
+                                                     for row in reading.used] for role in roles})
 
 
 class Movements(Reading):
-    """The dated movements of an item: for each row of use a day, and an amount in each column."""
+    """The dated movements of an item: for each row of use a day with its form, and an amount in each column."""
 
     def __init__(self, sheet: Sheet, names: Mapping[str, str], date: str, every: str, net: bool) -> None:
         """Reads the movements. Raises RefusedFaults."""
         super().__init__(sheet, {**names, "date": date})
-        self.every, self.reader = every, self.rows.date_reader()
+        self.every, self.reader, self.roles = every, self.rows.date_reader(), [*names]
         columns: dict[str, list[Any]] = {"date": self.read("date", self.reader.read)}
         columns |= {role: self.amounts(role, "negative movement", None if net else 0) for role in names}
         if columns["date"] and columns["date"][-1] is None:
             self._name_total(columns["quantity"])
-        self.used, kept = self.kept(columns)
-        self.dates: list[tuple[Day, str]] = kept.pop("date")
-        self.taken: dict[str, list[int]] = kept
+        self.keep(columns)
 
     def _name_total(self, amounts: Sequence[int | None]) -> None:
         """Says of a last row without a date that it looks like a total, if it does, in place of its other faults."""
-        row = self.chosen[-1]
+        row = self.used[-1]
         reason = self.total_reason(row, amounts[-1], [it for it in amounts[:-1] if it is not None])
         if reason:
             self._faults = [it for it in self._faults if it[0] != self.lines[row]]
-            self.reject(row, "date", f"the row looks like a total of the rows above ({reason}); leave it out")
+            self.reject(f"the row looks like a total of the rows above ({reason}); leave it out", row, "date")
 
     def cut(self, start: Day | None, end: Day | None) -> None:
         """Takes movements before the start or after the end out, with notes."""
         for where, name, bound, sign in (("before", "start", start, 1), ("after", "end", end, -1)):
-            if bound is None:
-                continue
-            inside = [sign * (day - bound).days >= 0 for day, _ in self.dates]
+            inside = [bound is None or sign * (day - bound).days >= 0 for day, _ in self.values["date"]]
             lines = [self.lines[row] for row, is_in in zip(self.used, inside) if not is_in]
             if lines:
                 self.note(f"rows {where} {argument(name, str(bound))} left out: {len(lines):,} ({named_lines(lines)})")
-            self.used, self.dates = list(compress(self.used, inside)), list(compress(self.dates, inside))
-            self.taken = {role: list(compress(its, inside)) for role, its in self.taken.items()}
+            self.take(inside)
         if not self.used:
             raise RefusedFaults([Fault(f"no row is from {start or 'the beginning'} to {end or 'the end'}; {CHANGE}",
                                        self.sheet.name)])
 
     def _ends(self) -> tuple[Day, Day]:
         """Returns the first and the last day of the record: of all items, if the rows are those of one."""
-        days = {day for day, _ in self.dates}
+        days = {day for day, _ in self.values["date"]}
         for cell in self.rows.columns["date"].distinct if self.rules.item else ():
             with contextlib.suppress(Unreadable):
                 days.add(self.reader.read(cell)[0])
@@ -166,36 +154,29 @@ class Movements(Reading):
                    end is None or first_day(last + 1, every) - datetime.timedelta(days=1) != end]
         periods = range(first + (whole and partial[0]), last + 1 - (whole and partial[1]))
         if not periods:
-            raise self.refused(self.used[0], "date", f"there is no {every} between the first and the last one; leave "
-                               f"{argument('whole')} out")
-        row = next((row for row, (day, _) in zip(self.used, self.dates) if day == ends[1]), None)
+            raise self.refused(f"there is no {every} between the first and the last one; leave {argument('whole')} out",
+                               self.used[0], "date")
+        row = next((row for row, (day, _) in zip(self.used, self.values["date"]) if day == ends[1]), None)
         is_stated = start is not None or end is not None
         wrong = too_long(len(periods), every, CHANGE if is_stated else "correct the first or the last date")
         if wrong:
             raise (RefusedFaults([Fault(wrong, self.sheet.name)]) if is_stated or row is None else
-                   self.refused(row, "date", wrong))
-        filled = len({*periods} - {period_of(day, every) for day in {day for day, _ in self.dates}})
+                   self.refused(wrong, row, "date"))
+        filled = len({*periods} - {period_of(day, every) for day in {day for day, _ in self.values["date"]}})
         self.note(f"{every}s from {period_name(periods[0], every)} to {period_name(periods[-1], every)}: "
                   f"{len(periods)}, filled with 0: {filled}; {_ends_text(partial, whole)}")
         return periods
 
-    def suspect_all(self) -> None:
-        """Notes what is suspicious in the movements."""
-        self.note_forms("date", self.used, self.dates)
-        self.note_twins(self.used)
-        for role, numbers in self.taken.items():
-            self.suspect(role, self.used, numbers)
-
     def summed(self, periods: range) -> History:
         """Returns the history of the movements: their sums by period, none of which may be negative."""
         every, first = self.every, periods[0]
-        number_of = {day: period_of(day, every) - first for day in {day for day, _ in self.dates}}
-        numbers = np.array([number_of[day] for day, _ in self.dates])
+        number_of = {day: period_of(day, every) - first for day in {day for day, _ in self.values["date"]}}
+        numbers = np.array([number_of[day] for day, _ in self.values["date"]])
         inside = (numbers >= 0) & (numbers < len(periods))
         counts: dict[str, list[int]] = {}
         unmet: list[Said] = []
-        for role, amounts in reversed(self.taken.items()):
-            moves = np.array(amounts, np.int64)
+        for role in reversed(self.roles):
+            moves = np.array(self.values[role], np.int64)
             counts[role], moved, place = summed(numbers[inside], moves[inside], len(periods))
             if moved:
                 self.note(f"column {self.columns[role].name!r}: amounts below 0 that were taken off earlier {every}s: "
@@ -203,8 +184,8 @@ class Movements(Reading):
             if place is not None:
                 row = int(np.flatnonzero(inside)[place])
                 name = period_name(periods[numbers[row]], every)
-                unmet.append(self.cell(self.used[row], role, f"{amounts[row]} is more than was asked for up to {every} "
-                                       f"{name}; correct the row, or leave it out"))
+                unmet.append(self.said(f"{moves[row]} is more than was asked for up to {every} {name}; correct the "
+                                       "row, or leave it out", self.used[row], role))
         if unmet:
             raise RefusedFiles(self.placed(unmet), self.finish()[0])
         rows_of: dict[int, list[int]] = {}
@@ -215,7 +196,7 @@ class Movements(Reading):
             """Returns the first cell of a period, and how a message names its sum."""
             rows = rows_of.get(number, ())
             what = f"{every} {period_name(first + number, every)}, which comes to {count} in"
-            return self.cell(rows[0], role, f"{what} {len(rows)} row{'s' * (len(rows) > 1)},") if rows else None
+            return self.said(f"{what} {len(rows)} row{'s' * (len(rows) > 1)},", rows[0], role) if rows else None
         return _history(self, counts, {role: [cell(role, *it) for it in enumerate(counts[role])] for role in counts},
                         every, first)
 
@@ -233,46 +214,42 @@ def _ends_text(partial: Sequence[bool], whole: bool) -> str:
 def _lead_times(reading: Reading, every: str | None) -> LeadTimes:
     """Returns the lead times of a column, converted from the unit in its heading if the period is known."""
     reading.check_count("lead", "rows")
-    rows, columns = reading.kept({"lead": reading.amounts("lead", "below 1", 1, if_empty="no lead")})
-    numbers, column = columns["lead"], reading.columns["lead"]
-    reading.note_twins(rows)
-    reading.suspect("lead", rows, numbers)
+    reading.keep({"lead": reading.amounts("lead", "below 1", 1, if_empty="no lead")})
+    reading.suspect()
+    numbers, column = reading.values["lead"], reading.columns["lead"]
     leads: list[tuple[int, ...]] = [(number,) for number in numbers]
     if column.unit and every is None:
         reading.note(f"column {column.name!r}: its numbers are taken as periods")
     elif column.unit and column.unit != every:
         reading.note(column.converted("lead", str(every)))
         leads = [periods_of(number * factor_of("lead", column.unit, str(every))) for number in numbers]
-    places = reading.places([reading.cell(row, "lead", reading.text("lead", row)) for row, its in zip(rows, leads)
-                             for _ in its])
+    places = reading.places([reading.said(reading.text("lead", row), row, "lead")
+                             for row, its in zip(reading.used, leads) for _ in its])
     return LeadTimes(tuple(lead for its in leads for lead in its), places, *reading.finish(), None)
 
 
 def _orders(reading: Reading, every: str) -> LeadTimes:
     """Returns the lead times between the dates of orders and of their receipts."""
-    orders = len(reading.chosen)
-    received = [row for row in reading.chosen if reading.text("received", row)]
-    if reading.chosen and not received:
-        raise reading.refused(reading.chosen[0], "received", "no order has a date of receipt; take orders of longer "
-                              "ago")
-    reading.chosen, reading.count = received, reading.count - orders + len(received)
+    orders, received = reading.used, [row for row in reading.used if reading.text("received", row)]
+    if orders and not received:
+        raise reading.refused("no order has a date of receipt; take orders of longer ago", orders[0], "received")
+    reading.used, reading.count = received, reading.count - len(orders) + len(received)
     reading.check_count("ordered", "orders")
     reader = reading.rows.date_reader()
     dates = {role: reading.read(role, reader.read) for role in ("ordered", "received")}
-    numbers: list[int | None] = []
-    for row, placed, there in zip(reading.chosen, dates["ordered"], dates["received"]):
-        is_late = placed is not None and there is not None and there[0] < placed[0]
-        if is_late:
-            reading.reject(row, "received", f"{reading.text('received', row)!r} is before the order of "
-                           f"{reading.text('ordered', row)!r}; correct one of the dates, or leave the row out")
-        numbers.append(None if is_late or placed is None or there is None else
-                       max(1, period_of(there[0], every) - period_of(placed[0], every)))
-    rows, kept = reading.kept({**dates, "number": numbers})
-    reading.note(f"lead times in {every}s: {len(rows)}, orders not yet received and left out: {orders - len(received)}")
-    for role in dates:
-        reading.note_forms(role, rows, kept[role])
-    reading.note_twins(rows)
-    places = reading.places([reading.cell(row, "received", f"the lead time of {number} {every}s since the order of "
-                                          f"{reading.text('ordered', row)}")
-                             for row, number in zip(rows, kept["number"])])
-    return LeadTimes(tuple(kept["number"]), places, *reading.finish(), every)
+    for place, (row, placed, there) in enumerate(zip(received, *dates.values())):
+        if placed and there and there[0] < placed[0]:
+            dates["received"][place] = None
+            reading.reject(f"{reading.text('received', row)!r} is before the order of "
+                           f"{reading.text('ordered', row)!r}; correct one of the dates, or leave the row out", row,
+                           "received")
+    reading.keep(dates)
+    leads = [max(1, period_of(there, every) - period_of(placed, every))
+             for (placed, _), (there, _) in zip(*reading.values.values())]
+    reading.note(f"lead times in {every}s: {len(leads)}, orders not yet received and left out: "
+                 f"{len(orders) - len(received)}")
+    reading.suspect()
+    places = reading.places([reading.said(f"the lead time of {lead} {every}s since the order of "
+                                          f"{reading.text('ordered', row)}", row, "received")
+                             for row, lead in zip(reading.used, leads)])
+    return LeadTimes(tuple(leads), places, *reading.finish(), every)

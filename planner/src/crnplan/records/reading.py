@@ -29,13 +29,14 @@ LEAST_SUMMED = 6
 
 
 class Reading:
-    """A table of one item while it is read: the rows that are of use, and what is wrong with them or to be said of
-    them."""
+    """A table of one item while it is read: the rows of use with their values by role, what is wrong with the others,
+    and what is to be said of them."""
 
     def __init__(self, sheet: Sheet, names: Mapping[str, str], *, own_item: bool = False,
                  counts_blank: bool = False) -> None:
         """Reads the cells of the columns that are named for roles. Only the history must have the columns of the item;
-        other tables may be of one item alone. Blank rows are passed over unless they count. Raises RefusedFaults."""
+        other tables may be of one item alone. Blank rows are passed over, or count as amounts that are missing. Raises
+        RefusedFaults."""
         self.sheet, self.rules = sheet, sheet.rules
         source = headed("history", sheet, [*names.values(), *(() if own_item else self.rules.item)])
         items = {f"item {name}": name for name in self.rules.item if not own_item or name in source.heading}
@@ -56,9 +57,10 @@ class Reading:
         if source.titles:
             texts = ", ".join(repr(shown(" ".join(filter(None, cells)))) for _, cells in source.titles)
             self.note(f"{named_lines([line for line, _ in source.titles])} above the heading passed over: {texts}")
-        self.blank = [] if items else [line for line in self.rows.blank if line < self.lines[-1]]
-        if self.blank and not counts_blank:
-            self.note(f"blank rows passed over: {len(self.blank):,} ({named_lines(self.blank)})")
+        blank = [] if items else [line for line in self.rows.blank if line < self.lines[-1]]
+        self.missing = blank if counts_blank else []
+        if blank and not counts_blank:
+            self.note(f"blank rows passed over: {len(blank):,} ({named_lines(blank)})")
         self._choose(items)
 
     def _choose(self, items: Mapping[str, str]) -> None:
@@ -71,7 +73,7 @@ class Reading:
                 others = [repr(shown(it)) for it in values if it]
                 raise Refused(f"{self.sheet.name}: no row has {text!r} in column {name!r}, which has {len(others):,} "
                               f"others: {', '.join(others[:MOST_NAMED])}" + ", .." * (len(others) > MOST_NAMED))
-            is_chosen &= self.rows.having(role, {code: value for code, value in enumerate(values) if value == text})
+            is_chosen &= self.rows.having(role, [code for code, value in enumerate(values) if value == text])
         if items:
             asked = " and ".join(f"{name} = {self.rules.item[name]}" for name in items.values())
             self.note(f"rows with {asked}: {is_chosen.sum():,} of {len(self.rows):,}")
@@ -79,48 +81,39 @@ class Reading:
         for row in (row for row in self.rows.wide if is_chosen[row]):
             why = Unreadable("long", cells=self.rows.wide[row][0], columns=width, sign=self.sheet.sign)
             self._faults.append((self.lines[row], width, str(why)))
-        self.count = int(is_chosen.sum())
-        self.chosen: list[int] = np.flatnonzero(is_chosen & self.rows.good).tolist()
+        self.count = int(is_chosen.sum()) + len(self.missing)
+        self.used: list[int] = np.flatnonzero(is_chosen & self.rows.good).tolist()
+        self.values: dict[str, list[Any]] = {}
 
     def text(self, role: str, row: int) -> str:
         """Returns the text of a cell."""
         return text_of(self.rows.cell(role, row))
 
-    def note(self, what: str, line: int = 0, place: int = -1) -> None:
-        """Adds a note on the file, on a row or on a cell."""
-        self._notes.append((line, place, what))
+    def said(self, what: str, row: int | None = None, role: str = "") -> Said:
+        """Returns what is said of the file, of a row, or of a cell."""
+        line, column = 0 if row is None else self.lines[row], self.columns.get(role)
+        return (line, column.place, f"column {column.name!r}: {what}") if column else (line, -1, what)
 
-    def cell(self, row: int, role: str, what: str) -> Said:
-        """Returns what is said of a cell."""
-        column = self.columns[role]
-        return self.lines[row], column.place, f"column {column.name!r}: {what}"
+    def note(self, what: str, row: int | None = None, role: str = "") -> None:
+        """Adds a note on the file, on a row, or on a cell."""
+        self._notes.append(self.said(what, row, role))
 
-    def note_cell(self, row: int, role: str, what: str) -> None:
-        """Adds a note on a cell."""
-        self._notes.append(self.cell(row, role, what))
-
-    def reject(self, row: int, role: str, what: str) -> None:
+    def reject(self, what: str, row: int, role: str) -> None:
         """Adds the fault of a cell."""
-        self._faults.append(self.cell(row, role, what))
+        self._faults.append(self.said(what, row, role))
 
-    def refused(self, row: int, role: str, what: str) -> RefusedFaults:
+    def refused(self, what: str, row: int, role: str) -> RefusedFaults:
         """Returns the error of a cell for which the whole file is refused."""
-        return RefusedFaults(self.placed([self.cell(row, role, what)]))
-
-    def miss_blank(self, roles: Sequence[str]) -> None:
-        """Rejects blank rows, each of which is a period whose amounts are missing."""
-        for line, role in ((line, role) for line in self.blank for role in roles):
-            column = self.columns[role]
-            self._faults.append((line, column.place, f"column {column.name!r}: {Unreadable('no quantity')}"))
-        self.count += len(self.blank)
+        return RefusedFaults(self.placed([self.said(what, row, role)]))
 
     def read(self, role: str, read: Callable[[Cell], Value]) -> list[Value | None]:
-        """Returns the values of a column in the chosen rows, None for each cell that can't be read; that is a fault."""
+        """Returns the values of a column in the rows of use, None for each cell that can't be read; that is a
+        fault."""
         values, faults = self.rows.values(role, read, None)
-        codes = self.rows.codes(role)[self.chosen].tolist()
-        for row, code in zip(self.chosen, codes) if faults else ():
+        codes = self.rows.codes(role)[self.used].tolist()
+        for row, code in zip(self.used, codes) if faults else ():
             if code in faults:
-                self.reject(row, role, said(faults[code]))
+                self.reject(said(faults[code]), row, role)
         return [values[code] for code in codes]
 
     def amounts(self, role: str, code: str, least: int | None, if_empty: str = "no quantity") -> list[int | None]:
@@ -131,6 +124,8 @@ class Reading:
         packs = column.unit if column.unit.isdecimal() else ""
         if packs:
             self.note(column.converted(role, ""))
+        self._faults += [(line, column.place, f"column {column.name!r}: {Unreadable(if_empty)}")
+                         for line in self.missing]
 
         def amount(cell: Cell) -> int:
             number = reader.whole(cell, if_empty)
@@ -139,13 +134,19 @@ class Reading:
             return number * int(factor_of(role, packs, ""))
         return self.read(role, amount)
 
-    def kept(self, columns: Mapping[str, Sequence[Any]]) -> tuple[list[int], dict[str, list[Any]]]:
-        """Returns the rows in which each of these columns was read, and their values.
+    def take(self, good: Sequence[bool]) -> None:
+        """Goes on with those of the rows of use that are good."""
+        self.used = list(compress(self.used, good))
+        self.values = {role: list(compress(its, good)) for role, its in self.values.items()}
+
+    def keep(self, columns: Mapping[str, list[Any]]) -> None:
+        """Keeps the rows in which each of these columns was read, with their values.
 
         Raises RefusedFaults for faults. If rows with faults are to be left out, this is noted, and one at least must be
         left.
         """
-        good = [None not in values for values in zip(*columns.values())]
+        self.values = {**columns}
+        self.take([None not in values for values in zip(*columns.values())])
         of_file = [self.sheet.fault] if self.sheet.fault else []
         if of_file or self._faults and not self.rules.leave_out:
             notes, faults = self.finish()
@@ -153,14 +154,13 @@ class Reading:
         if self._faults:
             lines = sorted({line for line, _, _ in self._faults})
             self.note(f"rows left out: {len(lines):,} of {self.count:,} ({named_lines(lines)})")
-        if not any(good):
+        if not self.used:
             raise RefusedFiles([*self.finish()[1], Fault("no row is left; correct the file", self.sheet.name)])
-        return list(compress(self.chosen, good)), {role: list(compress(its, good)) for role, its in columns.items()}
 
     def placed(self, said: Sequence[Said]) -> list[Reject]:
         """Returns what is said with its places, and with the texts of rows."""
         texts = self.sheet.texts({line for line, place, _ in said if place >= 0})
-        return [Reject(what, self.sheet.name, *self.sheet.place(texts.get(line, ""), line, place), texts.get(line, ""))
+        return [Reject(what, self.sheet.name, *self.sheet.place(texts[line], line, place), texts[line])
                 if place >= 0 else Reject(what, self.sheet.name, line) for line, place, what in said]
 
     def finish(self) -> tuple[tuple[Fault, ...], tuple[Fault, ...]]:
@@ -185,56 +185,61 @@ class Reading:
         is_sum = len(others) >= LEAST_SUMMED and number == sum(others) and sum(map(bool, others)) > 1
         return f"{number} is the sum of all others" if is_sum else None
 
-    def suspect(self, role: str, rows: Sequence[int], numbers: Sequence[int]) -> None:
-        """Notes what is suspicious in a column of amounts: a last row that looks like a total, amounts far above all
-        others, and amounts that few rows write so, which another decimal sign would change."""
-        if rows and rows[-1] == len(self.lines) - 1:
-            reason = self.total_reason(rows[-1], numbers[-1], numbers[:-1])
-            if reason:
-                self.note_cell(rows[-1], role, f"the last row looks like a total of the rows above ({reason}); if it "
-                               "is, remove it")
-                rows, numbers = rows[:-1], numbers[:-1]
-        far = far_above(np.array(numbers, np.int64), TIMES_NEXT)
-        ranked = sorted(range(len(numbers)), key=lambda place: -numbers[place]) if far else []
+    def suspect(self) -> None:
+        """Notes what is suspicious in the rows of use: several forms of dates, rows that stand twice, and amounts."""
+        for role in (it for it in self.values if it in DATES):
+            self._note_forms(role)
+        self._note_twins()
+        for role in (it for it in self.values if it not in DATES):
+            self._note_amounts(role)
+
+    def _note_amounts(self, role: str) -> None:
+        """Notes a last row that looks like a total, amounts far above all others, and amounts that few rows write so,
+        which another decimal sign would change."""
+        rows, numbers, decimal = self.used, self.values[role], self.rules.decimal
+        reason = self.total_reason(rows[-1], numbers[-1], numbers[:-1]) if rows[-1] == len(self.lines) - 1 else None
+        if reason:
+            self.note(f"the last row looks like a total of the rows above ({reason}); if it is, remove it", rows[-1],
+                      role)
+            rows, numbers = rows[:-1], numbers[:-1]
+        amounts = np.array(numbers, np.int64)
+        far, ranked = far_above(amounts, TIMES_NEXT), np.argsort(-amounts, kind="stable").tolist()
         for place in sorted(ranked[:far]):
             number, below = numbers[place], numbers[ranked[far]]
-            self.note_cell(rows[place], role, f"{number} is {number // below} times {below}, the next largest (line "
-                           f"{self.lines[rows[ranked[far]]]}); if it is wrong, correct it")
-        decimal = self.rules.decimal
+            self.note(f"{number} is {number // below} times {below}, the next largest (line "
+                      f"{self.lines[rows[ranked[far]]]}); if it is wrong, correct it", rows[place], role)
         for place, how_many in rare_signs([self.text(role, row) for row in rows], decimal) if decimal else ():
             text = self.text(role, rows[place])
-            self.note_cell(rows[place], role, f"{shown(text)!r} is read as {numbers[place]} ({how_many} of {len(rows)} "
-                           "rows are written so; with another decimal sign it would be "
-                           f"{other_reading(text, decimal)})")
+            self.note(f"{shown(text)!r} is read as {numbers[place]} ({how_many} of {len(rows)} rows are written so; "
+                      f"with another decimal sign it would be {other_reading(text, decimal)})", rows[place], role)
 
-    def note_twins(self, rows: Sequence[int]) -> None:
+    def _note_twins(self) -> None:
         """Notes rows that are the same as others. Rows of nothing but amounts can't be told apart, so they are not
         named."""
-        used, first = np.array(rows), self.rows.twins()[rows]
-        again = used[(first != used) & np.isin(first, used)].tolist() if self.has_rest else []
+        used, first = np.array(self.used), self.rows.twins()[self.used]
+        again = np.flatnonzero(self.has_rest & (first != used) & np.isin(first, used)).tolist()
         if again:
-            more = [self.lines[row] for row in again[1:]]
+            more = [self.lines[self.used[place]] for place in again[1:]]
             others = f", and {len(more)} more as others above them ({named_lines(more)})" * bool(more)
-            line = self.lines[first[rows.index(again[0])]]
-            self.note(f"the row is the same as that of line {line}{others}; if they were exported twice, remove them",
-                      self.lines[again[0]])
+            self.note(f"the row is the same as that of line {self.lines[first[again[0]]]}{others}; if they were "
+                      "exported twice, remove them", self.used[again[0]])
 
-    def note_forms(self, role: str, rows: Sequence[int], dates: Sequence[tuple[Day, str]]) -> None:
+    def _note_forms(self, role: str) -> None:
         """Notes if the dates of a column have several forms."""
         firsts: dict[str, tuple[int, Day]] = {}
-        for row, (day, form) in zip(rows, dates):
+        for row, (day, form) in zip(self.used, self.values[role]):
             firsts.setdefault(form, (row, day))
         if len(firsts) > 1:
             named = ", ".join(f"{shown(self.text(role, row))!r} (line {self.lines[row]}) is {day}"
                               for row, day in firsts.values())
-            self.note_cell(max(row for row, _ in firsts.values()), role, f"the dates have {len(firsts)} forms: "
-                           f"{named}; if one is wrong, say {argument('date_formats')}")
+            self.note(f"the dates have {len(firsts)} forms: {named}; if one is wrong, say {argument('date_formats')}",
+                      max(row for row, _ in firsts.values()), role)
 
     def check_count(self, role: str, what: str) -> None:
         """Rejects more rows than a table can count, each of which would count 1."""
-        if len(self.chosen) > MOST_WEIGHT:
-            raise self.refused(self.chosen[MOST_WEIGHT], role, f"{len(self.chosen):,} {what} are more than "
-                               f"{MOST_WEIGHT:,}; leave the oldest out")
+        if len(self.used) > MOST_WEIGHT:
+            raise self.refused(f"{len(self.used):,} {what} are more than {MOST_WEIGHT:,}; leave the oldest out",
+                               self.used[MOST_WEIGHT], role)
 
 
 def rare_signs(texts: Sequence[str], decimal: str) -> Iterator[tuple[int, int]]:

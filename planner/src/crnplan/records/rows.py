@@ -7,7 +7,7 @@ from __future__ import annotations
 
 import sys
 from array import array
-from collections.abc import Callable, Iterator, Mapping
+from collections.abc import Callable, Collection, Iterator, Mapping
 from typing import TypeVar
 
 import numpy as np
@@ -156,7 +156,7 @@ class Rows:
                 faults[code] = why.remark
         return values, faults
 
-    def having(self, role: str, codes: Mapping[int, object]) -> Flags:
+    def having(self, role: str, codes: Collection[int]) -> Flags:
         """Returns which rows have one of these values in a column."""
         has = np.zeros(len(self.columns[role].distinct), bool)
         has[[*codes]] = True
