@@ -59,7 +59,7 @@ def read(tmp_path: Path, request: pytest.FixtureRequest) -> Iterator[Catalogued]
     count, said = request.param
     with own_folder(tmp_path / "read", FOLDER) as folder:
         writer = Writer(folder)
-        writer.add_items(replace(item, borrow=said.get(name, "")) for name, item in [*CATALOGUE.items()][:count])
+        writer.add(*(replace(item, borrow=said.get(name, "")) for name, item in [*CATALOGUE.items()][:count]))
         found = Catalogued(writer.finish({}))
     yield found
     found.close()

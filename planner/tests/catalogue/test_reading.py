@@ -16,7 +16,7 @@ import pytest
 from crnplan.records.item import Item
 from crnplan.words import sentence
 from crnplan.records.catalogue_reading import Catalogue, read_catalogue
-from crnplan.records import items, rows
+from crnplan.records import rows
 from crnplan.records.rows import far_above
 from crnplan.records.items import Reader, Words
 from crnplan.records.catalogue_reading import read_alone
@@ -145,10 +145,9 @@ def test_what_was_found_is_stated(catalogue: Catalogue, files: Path) -> None:
 
 def test_limits_change_nothing(files: Path, catalogue: Catalogue, tmp_path: Path,
                                monkeypatch: pytest.MonkeyPatch) -> None:
-    """Reads the same if but a few cells are remembered and a few items are written at once, and leaves no file behind
-    but its own. Without that there is no catalogue."""
+    """Reads the same if but a few cells are remembered, and leaves no file behind but its own. Without that there is no
+    catalogue."""
     monkeypatch.setattr(rows, "MOST_KEPT", 3)
-    monkeypatch.setattr(items, "ITEMS_AT_ONCE", 7)
     paths = dict(zip(("demand", "items", "orders"), (files / it for it in FILES)))
     again = Catalogue(read_alone(tmp_path, paths, Words(today=TODAY)))
     assert again.counts == catalogue.counts and items_of(again) == items_of(catalogue)

@@ -46,10 +46,8 @@ def made_folder(path: Path, items: int, names: Sequence[str] = (), has_curve: bo
     pairs = [made_pair(source, name) for name in called[:items]] + ([change] if change else [])
     with own_folder(path, CATALOGUE, CATALOGUE_FILES) as folder:
         writer = Writer(folder)
-        writer.add_items(item for item, _ in pairs)
         rejects = made_rejects(source, items)
-        for reject in rejects:
-            writer.reject(reject)
+        writer.add(*(item for item, _ in pairs), *rejects)
         writer.finish({"counts": made_counts(len(pairs), rejects), "every": "week", "decimals": DECIMALS})
         planned = Planned(Settings(), Prior("none"), "made")
         with (contextlib.closing(Catalogued(path / READ)) as read,

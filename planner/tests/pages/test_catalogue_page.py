@@ -292,7 +292,7 @@ def test_plan_of_other_rows_is_refused(folder: Path) -> None:
     """If the rows were read again and have changed, the answers are those of an earlier plan."""
     with own_folder(folder, CATALOGUE) as own:
         writer = Writer(own)
-        writer.add_items([replace(made_pair(random.Random(1), "P00020")[0], counts=(1,))])
+        writer.add(replace(made_pair(random.Random(1), "P00020")[0], counts=(1,)))
         writer.finish({"counts": {}, "every": "week", "decimals": 2})
     with pytest.raises(crn.Refused, match="its plan is not as the rows that were read last; run crnplan catalogue"):
         crn.report(folder)

@@ -15,10 +15,11 @@ import pytest
 from crnplan.errors import Refused, RefusedFaults
 from crnplan.records import read_history, read_lead_times
 from crnplan.records.catalogue_reading import Catalogue, read_catalogue
-from crnplan.records.columns import Stated, open_source
-from crnplan.records.faults import Unreadable
+from crnplan.records.columns import find_columns
+from crnplan.records.cells import Unreadable
 from crnplan.records.item import Item, leads_of
-from crnplan.records.sources import Rules, opened
+from crnplan.records.items import Words
+from crnplan.records.sources import opened
 
 Day = datetime.date
 MONDAY = Day(2026, 3, 2)
@@ -153,15 +154,15 @@ def test_a_file_that_changes_is_refused(tmp_path: Path) -> None:
     """A file that another program changes or removes while it is read is refused."""
     path = tmp_path / "demand.csv"
     path.write_text("item,date,quantity\n" + weekly([2] * WEEKS), "utf-8")
-    with opened(path, "demand", Rules()) as sheet:
-        rows = open_source("demand", sheet, Stated(), "week").rows()
+    with opened(path, "demand", Words()) as sheet:
+        rows = find_columns("demand", sheet, Words()).data()
         next(rows)
         path.write_text("item,date,quantity\n" + weekly([3] * (WEEKS - 1)), "utf-8")
         with pytest.raises(Refused, match="demand.csv: the file was changed while it was read; run again"):
             list(rows)
         path.unlink()
         with pytest.raises(Refused, match="demand.csv: No such file"):
-            list(open_source("demand", sheet, Stated(), "week").rows())
+            list(find_columns("demand", sheet, Words()).data())
 
 
 def test_half_a_letter_of_utf_16_far_down(tmp_path: Path) -> None:

@@ -17,7 +17,7 @@ from ..errors import Fault, Refused, RefusedFaults
 from ..law import Law
 from ..records import History, read_history, read_lead_times
 from ..records.cells import DECIMALS, EVERY
-from ..records.faults import RefusedFiles, printed, write_rejects
+from ..records.reading import RefusedFiles, printed, write_rejects
 from ..records.histories import column_names
 from ..records.observed import LeadTimes, Observed
 from ..records.sources import Rules

@@ -14,14 +14,13 @@ from ..errors import Fault, RefusedFaults, argument, worded
 from ..files import Folder, faults_of, own_folder
 from ..table import Json
 from .catalogued import CATALOGUE, Catalogued, Writer
-from .cells import NAMES, DateReader, text_of
-from .columns import ROLES, Source, Stated, open_source
-from .faults import Unreadable, on_one_line
+from .cells import NAMES, DateReader, Unreadable, on_one_line, text_of
+from .columns import ROLES, converted, find_columns
 from .item import AMOUNTS
 from .items import KEEP, LEAVE_OUT, Counts, Reader, Words
 from .observed import Day
 from .rows import DATES, Rows, read_rows
-from .sources import Table, opened
+from .sources import Sheet, Table, opened
 
 if TYPE_CHECKING:
     import pandas as pd
@@ -130,35 +129,35 @@ def read_alone(path: Path, tables: Mapping[str, Table | None], words: Words) -> 
 
 @contextlib.contextmanager
 def open_sources(tables: Mapping[str, Table | None], words: Words,
-                 room: Path | None = None) -> Iterator[dict[str, Source]]:
+                 room: Path | None = None) -> Iterator[dict[str, Sheet]]:
     """Gives tables after a look at their heads. Raises RefusedFaults with all that is wrong with these."""
-    sources: dict[str, Source] = {}
+    sheets: dict[str, Sheet] = {}
     faults: list[Fault] = []
     with contextlib.ExitStack() as stack:
         for kind, table in tables.items():
             if table is None:
                 continue
             try:
-                sheet = stack.enter_context(opened(table, kind, words, room))
-                stated = Stated(words.columns.get(kind, {}), words.units.get(kind, {}), words.names.get(kind, {}))
-                sources[kind] = open_source(kind, sheet, stated, words.every)
+                sheets[kind] = find_columns(kind, stack.enter_context(opened(table, kind, words, room)), words)
             except RefusedFaults as refused:
                 faults += refused.faults
         if faults:
             raise RefusedFaults(faults)
-        yield sources
+        yield sheets
 
 
 def read_into(folder: Folder, tables: Mapping[str, Table | None], words: Words) -> Path:
     """Reads a catalogue into a folder, and returns the file of what was read. Raises as `read_catalogue` does."""
-    with faults_of(folder.path), open_sources(tables, words, folder.room()) as sources, Writer(folder) as writer:
-        rows = read_rows(sources)
-        reader = Reader(rows, words, writer)
+    with (faults_of(folder.path), open_sources(tables, words, folder.room()) as sheets,
+          contextlib.closing(Writer(folder)) as writer):
+        reader = Reader(read_rows(sheets), words, writer.add)
         reader.read()
         periods = reader.record.periods
         return writer.finish({"counts": reader.counts, "every": words.every, "decimals": reader.decimals,
                               "periods": [periods.start, periods.stop], "found": found_text(reader),
-                              "said": [line for source in sources.values() for line in source.said(words.every)]})
+                              "said": [f"{sheet.file_name}: {converted(column, role, words.every)}"
+                                       for sheet in sheets.values() for role, column in sheet.columns.items()
+                                       if column.unit]})
 
 
 def found_text(reader: Reader) -> str:
@@ -167,7 +166,7 @@ def found_text(reader: Reader) -> str:
     lines = ["[catalogue]", f"every = {json.dumps(record.every)}",
              f"# the record: {record.first} to {record.last}, {len(record.periods):,} {record.every}s"]
     for kind, rows in reader.rows.items():
-        lines += ["", f"[catalogue.{kind}]", *_file_lines(rows), *_date_lines(rows, reader.dates[kind])]
+        lines += ["", f"[catalogue.{kind}]", *_file_lines(kind, rows), *_date_lines(rows, reader.dates[kind])]
         for place, role in enumerate(AMOUNTS[kind]):
             amounts = reader.amounts[role]
             if amounts.stated and not place:
@@ -178,26 +177,26 @@ def found_text(reader: Reader) -> str:
     return worded("\n".join(lines)) + "\n"
 
 
-def _file_lines(rows: Rows) -> Iterator[str]:
+def _file_lines(kind: str, rows: Rows) -> Iterator[str]:
     """Yields lines on a table: how it is written, its columns and its first rows."""
-    source, blank = rows.source, len(rows.blank)
-    yield (f"# {source.name}: {source.sheet.written}, heading in line {source.line}, {len(rows):,} rows"
+    sheet, blank = rows.sheet, len(rows.blank)
+    yield (f"# {sheet.file_name}: {sheet.written}, heading in line {sheet.line}, {len(rows):,} rows"
            + f" and {blank:,} blank ones" * (blank > 0))
-    if source.titles:
-        titles = [on_one_line(" ".join(filter(None, cells))) for _, cells in source.titles]
+    if sheet.titles:
+        titles = [on_one_line(" ".join(filter(None, cells))) for _, cells in sheet.titles]
         yield f"# lines above the heading, passed over: {json.dumps(titles, ensure_ascii=False)}"
-    for role in ROLES[source.kind]:
-        column = source.columns.get(role)
+    for role in ROLES[kind]:
+        column = sheet.columns.get(role)
         if column:
             said = "  # found by its name" * column.is_guess + f"  # in {column.unit}" * bool(column.unit)
             yield f"{role} = {json.dumps(column.name, ensure_ascii=False)}{said}"
         else:
             yield f"# no column is the {role}"
-    places = {column.place for column in source.columns.values()}
-    unused = [on_one_line(name) for place, name in enumerate(source.heading) if name and place not in places]
+    places = {column.place for column in sheet.columns.values()}
+    unused = [on_one_line(name) for place, name in enumerate(sheet.heading) if name and place not in places]
     if unused:
         yield f"# not used: {', '.join(unused)}"
-    for row in source.first_rows:
+    for _, row in sheet.first_rows:
         yield f"# row: {' | '.join(map(on_one_line, row))}"
 
 

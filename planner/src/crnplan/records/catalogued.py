@@ -41,6 +41,7 @@ class Reject:
 
 
 ITEM, REJECT = Columns(Item), Columns(Reject)
+ADD_ITEM, ADD_REJECT = ITEM.insert("items"), REJECT.insert("rejects")
 
 
 class Catalogued:
@@ -66,7 +67,7 @@ class Catalogued:
         with contextlib.closing(base):
             base.execute(f"CREATE TABLE rejects ({quoted(REJECT.names)})")
             for cells in (self.base.execute("SELECT * FROM rejects"), map(REJECT.cells, more)):
-                base.executemany(REJECT.insert("rejects"), cells)
+                base.executemany(ADD_REJECT, cells)
             yield from map(REJECT.value, base.execute(
                 'SELECT * FROM rejects ORDER BY file, line, item, kind, "column", text, remark'))
 
@@ -111,20 +112,18 @@ class Writer:
                                 "CREATE TABLE facts (name TEXT PRIMARY KEY, value TEXT);"
                                 f"CREATE TABLE rejects ({quoted(REJECT.names)});")
 
-    def __enter__(self) -> Writer:
-        return self
+    def add(self, *values: Item | Reject) -> None:
+        """Adds items, and what is left out or named."""
+        for value in values:
+            if isinstance(value, Item):
+                self.base.execute(ADD_ITEM, ITEM.cells(value))
+            else:
+                self.base.execute(ADD_REJECT, REJECT.cells(value))
 
-    def __exit__(self, *fault: object) -> None:
+    def close(self) -> None:
+        """Removes what is not finished."""
         self.base.close()
         self.part.unlink(missing_ok=True)
-
-    def reject(self, reject: Reject) -> None:
-        """Adds what is left out or named."""
-        self.base.execute(REJECT.insert("rejects"), REJECT.cells(reject))
-
-    def add_items(self, items: Iterable[Item]) -> None:
-        """Adds items."""
-        self.base.executemany(ITEM.insert("items"), map(ITEM.cells, items))
 
     def finish(self, facts: Mapping[str, Any]) -> Path:
         """Adds the facts, and gives the file its name."""

@@ -1,5 +1,5 @@
-"""Reads the cells of a table as numbers and dates, as people write them. All cells of a column together decide its
-decimal sign, and all dates of a table whether the day or the month comes first.
+"""Reads the cells of a table as numbers and dates, as people write them, or says what is wrong with a cell. All cells
+of a column together decide its decimal sign, and all dates of a table whether the day or the month comes first.
 
 A cell that could mean two things is rejected, never guessed: 1,234 is read only if its column has a number such as 0.05
 or 1,234,567, which has one reading alone, or if the sign is stated. The time of day and its zone are read over.
@@ -15,10 +15,17 @@ from typing import Union
 
 from ..errors import Refused, argument
 from ..money import MOST_DECIMALS, exact
-from .faults import Unreadable, shown
+from ..remarks import Remark, Value
+from ..words import advice, sentence
 
 # A cell of a file is a text; one of a sheet or a frame is what these store.
 Cell = Union[str, int, float, datetime.date, None]
+CellFault = tuple[str, Cell, Remark]  # a role, its cell, and what is wrong
+MOST_NAMED = 8  # lines of a note
+UNPRINTABLE = re.compile(r"[\x00-\x1f\x7f-\x9f\u2028\u2029]+")
+# Words of a row that has the sum of those above.
+TOTAL = re.compile(r"\W*(?:grand |sub)?(?:totals?|totale|totaal|sum|summe|gesamt\w*|insgesamt|zwischensumme|somme|suma)"
+                   r"\b", re.IGNORECASE)
 DECIMALS = (".", ",")
 # Between groups of three digits: blanks (also no-break, thin and narrow no-break), apostrophes, and the other sign.
 GROUPS = " \u00a0\u2009\u202f'\u2019"
@@ -34,6 +41,44 @@ SIGNS = {"€": "EUR", "£": "GBP", "₹": "INR", "zł": "PLN", "Kč": "CZK", "U
          "₽": "RUB", "₺": "TRY", "₩": "KRW", "₪": "ILS", "Ft": "HUF"}
 CURRENCY = "|".join(map(re.escape, [*SIGNS, *CODES, "$", "¥", "kr", "Fr."]))
 MONEY = re.compile(rf"(?P<sign>[{MINUS}+]?) ?(?P<before>{CURRENCY})? ?(?P<number>.*?) ?(?P<behind>{CURRENCY})?")
+
+
+def fault(role: str, cell: Cell, code: str, **facts: Value) -> CellFault:
+    """Returns what is wrong with a cell."""
+    return role, cell, Remark(code, facts)
+
+
+class Unreadable(ValueError):
+    """A cell that is no number or no date. Its remark says why."""
+
+    def __init__(self, code: str, cell: object = None, **facts: Value) -> None:
+        super().__init__(code)
+        self.remark = Remark(code, facts if cell is None else {"text": shown(str(cell)), **facts})
+
+    def __str__(self) -> str:
+        """Returns why, and what to do."""
+        return said(self.remark)
+
+
+def said(remark: Remark) -> str:
+    """Returns what is wrong, and what to do, as a text."""
+    return "; ".join(filter(None, (sentence(remark), advice(remark))))
+
+
+def shown(text: str) -> str:
+    """Returns a text, cut if it is long."""
+    return text if len(text) <= 30 else f"{text[:30]}..."
+
+
+def on_one_line(text: str) -> str:
+    """Returns a text, cut if it is long, with escapes for its control characters."""
+    return UNPRINTABLE.sub(lambda it: it[0].encode("unicode_escape").decode(), shown(text))
+
+
+def named_lines(lines: Sequence[int]) -> str:
+    """Returns `line 3` or `lines 3, 5, 8`. Only the first lines are named."""
+    text = ", ".join(map(str, lines[:MOST_NAMED])) + (", .." if len(lines) > MOST_NAMED else "")
+    return f"line{'s' * (len(lines) > 1)} {text}"
 
 
 def _form(decimal: str) -> re.Pattern[str]:

@@ -6,18 +6,20 @@ weeks, months and years are of 1, 7, 30.4375 and 365.25 days, so a year has 52.1
 """
 from __future__ import annotations
 
-import itertools
 import re
 import tomllib
 import unicodedata
-from collections.abc import Iterator, Mapping, Sequence
-from dataclasses import dataclass, field, replace
+from collections.abc import Mapping, Sequence
+from dataclasses import replace
 from fractions import Fraction
 from pathlib import Path
+from typing import TYPE_CHECKING
 
 from ..errors import Fault, RefusedFaults, argument
-from .faults import shown
-from .sources import Row, RoleOf, Sheet, heading_of, no_role, texts_of
+from .sources import Column, Sheet
+
+if TYPE_CHECKING:
+    from .items import Words
 
 NAMES = tomllib.loads(Path(__file__).with_name("headings.toml").read_text("utf-8"))
 # The roles of each table in order, and those that each must have. s and S differ by their case.
@@ -40,7 +42,7 @@ ALLOWED = {"count": ("item",), "length": ("period", *DAYS), "rate": ("period", *
 COUNTED = {"count": "items", "length": "times", "rate": "money for one item and period", "order": "money for an order",
            "price": "money for one item", "share": "shares"}
 NUMBERED = ("count", "price")
-SHOWN_ROWS, MOST_NAME = 3, 100
+MOST_NAME = 100
 NO_ROW = "there is no row below the heading; export the file again, with its rows"
 
 
@@ -79,36 +81,17 @@ def periods_of(lead: Fraction) -> tuple[int, ...]:
     return leads if len({*leads}) > 1 else leads[:1]
 
 
-@dataclass(frozen=True)
-class Stated:
-    """What a planner states of a table's columns: names and units of some roles, and more usual names of roles."""
-
-    columns: Mapping[str, str] = field(default_factory=dict)
-    units: Mapping[str, str] = field(default_factory=dict)
-    names: Mapping[str, Sequence[str]] = field(default_factory=dict)
-
-
-@dataclass(frozen=True)
-class Column:
-    """A column of a table: its name in the heading, its place from 0, whether it was found by its name alone, and its
-    unit, empty if that is the one of its role."""
-
-    name: str
-    place: int
-    is_guess: bool = False
-    unit: str = ""
-
-    def converted(self, role: str, every: str) -> str:
-        """Returns how the numbers of the column are converted from its unit."""
-        kind, unit = ROLE_UNITS.get(role), self.unit
-        how = f"{'packs of' if kind == 'count' else 'a price for'} {unit} to items"
-        if kind == "length":
-            how = f"{unit}s to {every}s, for orders that are placed on any day"
-        elif unit in ("share", "percent"):
-            how = unit + (f" of the price and year to money an item and {every}" if kind == "rate" else " to shares")
-        elif kind == "rate":
-            how = f"money a {unit} to money a {every}"
-        return f"column {self.name!r}: {role}: converted from {how}"
+def converted(column: Column, role: str, every: str) -> str:
+    """Returns how the numbers of a column are converted from its unit."""
+    kind, unit = ROLE_UNITS.get(role), column.unit
+    how = f"{'packs of' if kind == 'count' else 'a price for'} {unit} to items"
+    if kind == "length":
+        how = f"{unit}s to {every}s, for orders that are placed on any day"
+    elif unit in ("share", "percent"):
+        how = unit + (f" of the price and year to money an item and {every}" if kind == "rate" else " to shares")
+    elif kind == "rate":
+        how = f"money a {unit} to money a {every}"
+    return f"column {column.name!r}: {role}: converted from {how}"
 
 
 def plain_name(name: str) -> str:
@@ -117,12 +100,6 @@ def plain_name(name: str) -> str:
     letters = unicodedata.normalize("NFKD", " ".join(words).casefold().translate(LETTERS))
     plain = "".join(it for it in letters if not unicodedata.combining(it))
     return words[0] + plain[1:] if words[:1] in (["s"], ["S"]) else plain
-
-
-def names_of(kind: str, stated: Stated) -> dict[str, set[str]]:
-    """Returns the usual names of each role of a table."""
-    return {role: {*NAMES["all" if role == "item" else kind][role], *map(plain_name, stated.names.get(role, ()))}
-            for role in ROLES[kind]}
 
 
 def is_number(words: Sequence[str], place: int) -> bool:
@@ -149,34 +126,43 @@ def bare_name(name: str) -> tuple[str, str]:
 
 
 class Finder:
-    """Finds the columns of a table in its heading."""
+    """Finds the columns of a table in its heading, by the words of a planner and by usual names."""
 
-    def __init__(self, kind: str, heading: Sequence[str], stated: Stated, every: str) -> None:
-        self.kind, self.heading, self.stated, self.every = kind, heading, stated, every
-        self.names = names_of(kind, stated)
-        self.plain = [plain_name(cell) for cell in heading]
+    def __init__(self, kind: str, words: Words) -> None:
+        self.kind, self.every = kind, words.every
+        self.stated, self.units = words.columns.get(kind, {}), words.units.get(kind, {})
+        more = words.names.get(kind, {})
+        self.names = {role: {*NAMES["all" if role == "item" else kind][role], *map(plain_name, more.get(role, ()))}
+                      for role in ROLES[kind]}
+        self.role_of = {name: role for role, names in self.names.items() for name in names}
         self.columns: dict[str, Column] = {}
         self.wrong: list[str] = []
 
-    def find(self) -> tuple[dict[str, Column], list[str]]:
+    def usual_role(self, cell: str) -> str | None:
+        """Returns the role of which a cell has a usual name."""
+        plain = plain_name(cell)
+        return self.role_of.get(plain) or self.role_of.get(bare_name(plain)[0])
+
+    def find(self, heading: Sequence[str]) -> tuple[dict[str, Column], list[str]]:
         """Returns the column of each role that the heading has, and what is wrong.
 
         Names are compared whole first, for all roles, so that no column with the very name of one role goes to another
         one.
         """
-        stated, self.wrong = stated_columns(self.heading, self.stated.columns)
+        self.plain = [plain_name(cell) for cell in heading]
+        stated, self.wrong = stated_columns(heading, self.stated)
         for role, column in stated.items():
             self._add(role, column)
-        for role in (it for it in ROLES[self.kind] if it not in self.stated.columns):
+        for role in (it for it in ROLES[self.kind] if it not in self.stated):
             places = self._places(role)
             if len(places) > 1:
-                both = " and ".join(repr(self.heading[it]) for it in places)
+                both = " and ".join(repr(heading[it]) for it in places)
                 self.wrong.append(f"the columns {both} may both be the {role}; say {self._argument('columns', role)}")
             elif places:
-                self._add(role, Column(self.heading[places[0]], places[0], True))
+                self._add(role, Column(heading[places[0]], places[0], True))
             elif role in NEEDED:
                 self.wrong.append(f"no column looks like the {role}; say {self._argument('columns', role)}; the "
-                                  f"columns are: {listed(self.heading)}")
+                                  f"columns are: {listed(heading)}")
         return self.columns, self.wrong
 
     def _argument(self, name: str, role: str, value: str = "NAME") -> str:
@@ -196,7 +182,7 @@ class Finder:
 
     def _add(self, role: str, column: Column) -> None:
         """Adds the column of a role with its unit: the stated one, else that of its heading."""
-        plain, stated = self.plain[column.place], self.stated.units.get(role)
+        plain, stated = self.plain[column.place], self.units.get(role)
         is_plain = role not in ROLE_UNITS or plain in self.names.get(role, ()) and plain not in IMPLIED
         unit = stated or ("" if is_plain else bare_name(plain)[1])
         reason = unit_fault(role, unit) if unit else None
@@ -231,59 +217,18 @@ def stated_columns(heading: Sequence[str], names: Mapping[str, str]) -> tuple[di
     return columns, wrong
 
 
-@dataclass(frozen=True)
-class Source:
-    """A table whose heading is known: its sheet, and which column has which role. `line` is that of the heading."""
+def find_columns(kind: str, sheet: Sheet, words: Words) -> Sheet:
+    """Returns a table of a catalogue after a look at its head: with its heading and columns, and its first rows.
 
-    kind: str
-    sheet: Sheet
-    line: int
-    heading: tuple[str, ...]
-    columns: dict[str, Column] = field(default_factory=dict)
-    titles: tuple[tuple[int, tuple[str, ...]], ...] = ()
-    first_rows: tuple[tuple[str, ...], ...] = ()
-
-    @property
-    def name(self) -> str:
-        """Returns the name of the table in tables: that of the file without its folder."""
-        return Path(self.sheet.name).name
-
-    def rows(self) -> Iterator[Row]:
-        """Yields the line in which each row below the heading begins, and its cells."""
-        yield from itertools.dropwhile(lambda row: row[0] <= self.line, self.sheet.rows())
-
-    def said(self, every: str) -> Iterator[str]:
-        """Yields how the columns are converted whose unit is not that of their role."""
-        for role, column in self.columns.items():
-            if column.unit:
-                yield f"{self.name}: {column.converted(role, every)}"
-
-
-def headed(kind: str, sheet: Sheet, names: Sequence[str] = (), role_of: RoleOf = no_role) -> Source:
-    """Returns a table with its heading, which is empty if it has no row. `names` are wanted there."""
-    rows = sheet.head(names, role_of)
-    if not rows:
-        return Source(kind, sheet, 1, ())
-    texts = [texts_of(cells) for _, cells in rows]
-    place = heading_of(texts, names, role_of)
-    titles = tuple((line, tuple(cells)) for (line, _), cells in zip(rows[:place], texts))
-    return Source(kind, sheet, rows[place][0], tuple(texts[place]), {}, titles,
-                  tuple(tuple(map(shown, cells)) for cells in texts[place + 1:place + 1 + SHOWN_ROWS]))
-
-
-def open_source(kind: str, sheet: Sheet, stated: Stated, every: str) -> Source:
-    """Looks at the head of a table of a catalogue: its heading and columns, and its first rows.
-
-    `stated` is what is known of its columns. Raises RefusedFaults with all that is wrong with them.
+    Raises RefusedFaults with all that is wrong with them.
     """
-    known = {name: role for role, names in names_of(kind, stated).items() for name in names}
-    source = headed(kind, sheet, [*stated.columns.values()],
-                    lambda cell: known.get(plain_name(cell)) or known.get(bare_name(plain_name(cell))[0]))
+    finder = Finder(kind, words)
+    sheet.find_heading([*finder.stated.values()], finder.usual_role)
     if sheet.fault:
         raise RefusedFaults([sheet.fault])
-    if not source.heading:
+    if not sheet.heading:
         raise RefusedFaults([Fault(NO_ROW, sheet.name, 1)])
-    columns, wrong = Finder(kind, source.heading, stated, every).find()
+    sheet.columns, wrong = finder.find(sheet.heading)
     if wrong:
-        raise RefusedFaults([Fault(what, sheet.name, source.line) for what in wrong])
-    return replace(source, columns=columns)
+        raise RefusedFaults([Fault(what, sheet.name, sheet.line) for what in wrong])
+    return sheet

@@ -10,11 +10,10 @@ from typing import Any
 import numpy as np
 
 from ..errors import Fault, Refused, RefusedFaults, argument
-from .cells import EVERY, NEED_PERIOD, first_day, period_name, period_of
-from .columns import factor_of, headed, periods_of
-from .faults import RefusedFiles, Unreadable, named_lines
+from .cells import EVERY, NEED_PERIOD, Unreadable, first_day, named_lines, period_name, period_of
+from .columns import converted, factor_of, periods_of
 from .observed import CHANGE, Day, History, LeadTimes, ends_of, summed, too_long
-from .reading import Reading, Said
+from .reading import Reading, RefusedFiles, Said
 from .sources import Rules, Sheet, Table, opened
 
 
@@ -76,7 +75,8 @@ def read_lead_times(table: Table, *, lead: str | None = None, every: str | None 
 def column_names(table: Table, rules: Rules) -> list[str]:
     """Returns the names in the heading of a table, for a user who doesn't know them."""
     with opened(table, "history", rules) as sheet:
-        return [*filter(None, headed("history", sheet).heading)][:100]
+        sheet.find_heading()
+        return [*filter(None, sheet.heading)][:100]
 
 
 def _check_undated(given: Mapping[tuple[str, ...], object]) -> None:
@@ -221,7 +221,7 @@ def _lead_times(reading: Reading, every: str | None) -> LeadTimes:
     if column.unit and every is None:
         reading.note(f"column {column.name!r}: its numbers are taken as periods")
     elif column.unit and column.unit != every:
-        reading.note(column.converted("lead", str(every)))
+        reading.note(converted(column, "lead", str(every)))
         leads = [periods_of(number * factor_of("lead", column.unit, str(every))) for number in numbers]
     places = reading.places([reading.said(reading.text("lead", row), row, "lead")
                              for row, its in zip(reading.used, leads) for _ in its])

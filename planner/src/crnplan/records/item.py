@@ -11,9 +11,9 @@ from typing import Any
 from ..formats import MOST_DEMAND, MOST_LEAD
 from ..money import MOST_DECIMALS
 from ..remarks import Remark
-from .cells import AmountReader, Cell
-from .columns import DAYS, UNITS, Column, factor_of, periods_of
-from .faults import UNPRINTABLE, Unreadable
+from .cells import UNPRINTABLE, AmountReader, Cell, CellFault, Unreadable, fault
+from .columns import DAYS, UNITS, factor_of, periods_of
+from .sources import Column
 
 # The roles with amounts by table, and those with money, whose decimals say what the smallest unit is.
 AMOUNTS = {"items": ("setup", "holding", "backlog", "fill", "s", "S", "stock", "price", "price_for"),
@@ -22,7 +22,6 @@ MONEY = ("setup", "holding", "backlog", "price")
 # From whom an item may learn its law of demand: from no other, from those of its class, or from all.
 BORROW = ("none", "class", "all")
 NEEDED = ("setup", "holding", "s", "S")
-CellFault = tuple[str, Cell, Remark]  # a role, its cell, and what is wrong
 LEAD = re.compile(r"([0-9]{1,4}(?:[.,][0-9]{1,2})?) *([^\W\d_]*)[ ;|/]*")
 
 
@@ -143,13 +142,13 @@ class Masters:
             except Unreadable as why:
                 faults.append((role, cell, why.remark))
         if "backlog" in read and "fill" in read and read["backlog"] is None and read["fill"] is None:
-            faults.append(("backlog", "", Remark("no goal")))
+            faults.append(fault("backlog", "", "no goal"))
         if "lead" in read and read["lead"] is None and not observed:
-            faults.append(("lead", "", Remark("nothing of leads")))
+            faults.append(fault("lead", "", "nothing of leads"))
         if "s" in read and "S" in read and read["s"] > read["S"]:
-            faults.append(("s", cells["s"], Remark("s above S", {"s": read["s"], "S": read["S"]})))
+            faults.append(fault("s", cells["s"], "s above S", s=read["s"], S=read["S"]))
         if self.share and "price" in read and not read["price"]:
-            faults.append(("holding", cells["holding"], Remark("no price for share")))
+            faults.append(fault("holding", cells["holding"], "no price for share"))
         return read, faults
 
     def item(self, name: str, line: int, read: dict[str, Any], observed: Sequence[int]) -> tuple[Item, int]:

@@ -6,7 +6,7 @@ import datetime
 from collections import Counter
 from collections.abc import Callable, Mapping, Sequence
 from dataclasses import dataclass, field, replace
-from typing import Literal, TypedDict
+from typing import Literal, NamedTuple, TypedDict
 
 import numpy as np
 import numpy.typing as npt
@@ -14,17 +14,16 @@ import numpy.typing as npt
 from ..errors import Refused, argument
 from ..formats import MOST_ITEMS, MOST_LEAD
 from ..remarks import Remark
-from .catalogued import Reject, Writer
-from .cells import EVERY, Cell, period_name, period_of, text_of
+from .catalogued import Reject
+from .cells import (EVERY, TOTAL, UNPRINTABLE, Cell, CellFault, Unreadable, fault, named_lines, on_one_line, period_name,
+                    period_of, text_of)
 from .columns import ROLES, factor_of, unit_fault
-from .faults import TOTAL, UNPRINTABLE, Unreadable, named_lines, on_one_line
-from .item import AMOUNTS, MONEY, CellFault, Item, Masters
+from .item import AMOUNTS, MONEY, Item, Masters
 from .observed import Day, Numbers, ends_of, record_of, summed
 from .rows import Flags, Rows, far_above
 from .sources import Rules
 
 KEEP, LEAVE_OUT = "keep", "leave-out"
-ITEMS_AT_ONCE = 1_000
 
 
 @dataclass(frozen=True)
@@ -88,25 +87,20 @@ class Counts(TypedDict):
 
 
 class Left(Exception):
-    """An item that is left out: the file and line that say why, column, text, and why."""
+    """An item that is left out: the table and the line that say why, and what is wrong there."""
 
-    def __init__(self, kind: str, line: int, column: str, text: str, why: Remark) -> None:
+    def __init__(self, kind: str, line: int, *faults: CellFault) -> None:
         super().__init__()
-        self.kind, self.line, self.column, self.text, self.why = kind, line, column, text, why
+        self.kind, self.line, self.faults = kind, line, faults
 
 
-@dataclass(frozen=True)
-class Moves:
-    """Movements in the order of their rows: lines, periods, amounts asked for and back."""
+class Moves(NamedTuple):
+    """The movements of an item in the order of their rows: lines, periods, amounts asked for and back."""
 
     lines: npt.NDArray[np.int32]
     periods: Numbers
     asked: Numbers
     back: Numbers
-
-    def of(self, span: slice) -> Moves:
-        """Returns the movements of an item."""
-        return Moves(self.lines[span], self.periods[span], self.asked[span], self.back[span])
 
 
 def joined(remarks: Sequence[Remark]) -> Remark:
@@ -117,14 +111,14 @@ def joined(remarks: Sequence[Remark]) -> Remark:
 
 
 class Reader:
-    """Makes the items of a catalogue, and writes them, and what is left out."""
+    """Makes the items of a catalogue, and hands them on with what is left out."""
 
-    def __init__(self, rows: Mapping[str, Rows], words: Words, writer: Writer) -> None:
+    def __init__(self, rows: Mapping[str, Rows], words: Words, add: Callable[[Item | Reject], None]) -> None:
         """Looks at all dates and amounts, which decide how they are read, and at the ends of the record. Raises
         Refused."""
-        self.rows, self.words, self.writer, self.decimals = rows, words, writer, 0
+        self.rows, self.words, self.add, self.decimals = rows, words, add, 0
         self.counts: Counts = {
-            "files": {kind: {"name": its.source.name, "read": len(its), "blank": len(its.blank), "used": 0,
+            "files": {kind: {"name": its.sheet.file_name, "read": len(its), "blank": len(its.blank), "used": 0,
                              "rejected": 0, "with_item": 0} for kind, its in rows.items()},
             "items": dict.fromkeys(("open_orders", "twice", "named", "ready", "left_out", "late"), 0)}
         self.names = [str(name) for name in rows["items"].columns["item"].distinct]
@@ -140,71 +134,54 @@ class Reader:
                 days[self.dates["demand"].read(cell)[0]] += count
         start, end = ends_of(words.start, words.end)
         self.record = record_of(days, words.every, start, end, words.today)
-        self.masters = Masters(self.amounts, rows["items"].source.columns, words.every)
+        self.masters = Masters(self.amounts, rows["items"].sheet.columns, words.every)
         self.twice, self.master_twins = Counter[int](), rows["items"].twins()
-        self.measures = (rows["demand"].by_item(np.flatnonzero(rows["demand"].good))
-                         if "measure" in rows["demand"].columns else None)
+        self.named = rows["demand"].by_item(rows["demand"].good)
 
-    def column(self, kind: str, role: str) -> str:
-        """Returns the name of a column; that of its role if the file has none."""
-        columns = self.rows[kind].source.columns if kind in self.rows else {}
-        return columns[role].name if role in columns else role
+    def _reject(self, what: str, kind: str, line: int, name: str, faults: Sequence[CellFault], rows: int) -> None:
+        """Names what is left out or suspicious, with columns (by their roles if the table has none) and texts."""
+        sheet, cells = self.rows[kind].sheet, [on_one_line(text_of(cell)) for _, cell, _ in faults]
+        columns = [sheet.columns[role].name if role in sheet.columns else role for role, _, _ in faults]
+        self.add(Reject(what, sheet.file_name, line, name, ", ".join(columns), ", ".join(cells),
+                        joined([remark for _, _, remark in faults]), rows))
+
+    def _reject_row(self, kind: str, row: int, faults: Sequence[CellFault], is_named: bool = True) -> None:
+        rows = self.rows[kind]
+        self.counts["files"][kind]["rejected"] += 1
+        self._reject("row", kind, int(rows.lines[row]), str(rows.cell("item", row)) * is_named, faults,
+                     int(kind == "demand"))
 
     def _reject_nameless(self, kind: str) -> None:
         """Rejects the rows of a table that name no item, and those with too many cells."""
         rows = self.rows[kind]
-        wrong = {code: name for code, name in enumerate(self.names) if not name or UNPRINTABLE.search(name)}
-        rows.good &= ~rows.having("item", wrong)
+        rows.good &= ~rows.having("item", [code for code, name in enumerate(self.names)
+                                           if not name or UNPRINTABLE.search(name)])
         for row in np.flatnonzero(~rows.good).tolist():
-            role, text, remark = "item", text_of(rows.cell("item", row)), Remark("no item")
+            name = rows.cell("item", row)
+            wrong = fault("item", name, "unprintable name" if name else "no item")
             if row in rows.wide:
-                role, (cells, text) = "", rows.wide[row]
-                remark = Remark("long", {"cells": cells, "columns": len(rows.source.heading),
-                                         "sign": rows.source.sheet.sign})
-            elif text:
-                remark = Remark("unprintable name")
-            self._reject(kind, row, "", [(role, text, remark)])
-
-    def _reject(self, kind: str, row: int, name: str, faults: Sequence[CellFault]) -> None:
-        self.counts["files"][kind]["rejected"] += 1
-        self.writer.reject(Reject("row", self.rows[kind].source.name, int(self.rows[kind].lines[row]), name,
-                                  *self._said(kind, faults), int(kind == "demand")))
-
-    def _said(self, kind: str, faults: Sequence[CellFault]) -> tuple[str, str, Remark]:
-        """Returns columns and texts of faults, each joined, and what is said of them."""
-        return (", ".join(self.column(kind, role) if role else "" for role, _, _ in faults),
-                ", ".join(on_one_line(text_of(cell)) for _, cell, _ in faults),
-                joined([remark for _, _, remark in faults]))
+                cells, text = rows.wide[row]
+                wrong = fault("", text, "long", cells=cells, columns=len(rows.sheet.heading), sign=rows.sheet.sign)
+            self._reject_row(kind, row, [wrong], is_named=False)
 
     def read(self) -> None:
         """Reads all items. Those of totals alone are none."""
-        moves, move_ends, no_items = self._moves()
-        leads, lead_ends, orders = self._leads()
-        masters, master_ends = self.rows["items"].by_item(np.flatnonzero(self.rows["items"].good))
-        known = {code for kind, table in self.rows.items()
-                 for code in np.unique(table.codes("item")[table.good]).tolist()}
-        waiting: list[Item] = []
-        for item in sorted(known - no_items, key=self.names.__getitem__):
-            mine, rows = moves.of(_span(move_ends, item)), masters[_span(master_ends, item)].tolist()
-            counts = {"demand": len(mine.lines), "items": len(rows), "orders": int(orders[item])}
+        moves_of, totals = self._moves()
+        leads_of, masters_of = self._leads(), self.rows["items"].by_item(self.rows["items"].good)
+        known = {code for table in self.rows.values() for code in np.unique(table.codes("item")[table.good]).tolist()}
+        for item in sorted(known - totals, key=self.names.__getitem__):
+            moves, masters, (leads, orders) = moves_of(item), masters_of(item).tolist(), leads_of(item)
+            counts = {"demand": len(moves.lines), "items": len(masters), "orders": orders}
             state: Literal["used", "with_item"] = "used"
             try:
-                waiting.append(self._item(item, mine, rows, leads[_span(lead_ends, item)].tolist()))
+                self.add(self._item(item, moves, masters, leads))
             except Left as left:
                 state = "with_item"
-                self.writer.reject(Reject("item", self.rows[left.kind].source.name, left.line, self.names[item],
-                                          left.column, on_one_line(left.text), left.why, len(mine.lines)))
+                self._reject("item", left.kind, left.line, self.names[item], left.faults, len(moves.lines))
             self.counts["items"]["named"] += 1
             self.counts["items"]["ready" if state == "used" else "left_out"] += 1
             for kind, file in self.counts["files"].items():
                 file[state] += counts[kind]
-            if len(waiting) >= ITEMS_AT_ONCE:
-                self.writer.add_items(waiting)
-                waiting = []
-        self.writer.add_items(waiting)
-
-    def _left(self, kind: str, line: int, role: str, cell: object, code: str, **facts: int | str) -> Left:
-        return Left(kind, line, self.column(kind, role), str(cell), Remark(code, facts))
 
     def _dates(self, kind: str, role: str) -> tuple[Numbers, Numbers, dict[int, Remark]]:
         """Returns the day, as an ordinal number, and the period of each row's date, and what is wrong with values."""
@@ -220,7 +197,7 @@ class Reader:
 
     def _amount(self, role: str) -> Callable[[Cell], int]:
         """Returns what reads the amounts of movements in items."""
-        factor = int(factor_of(role, self.rows["demand"].source.columns[role].unit, self.words.every))
+        factor = int(factor_of(role, self.rows["demand"].sheet.columns[role].unit, self.words.every))
 
         def read(cell: Cell) -> int:
             if role == "returned" and cell == "":
@@ -231,92 +208,76 @@ class Reader:
             return number
         return read
 
-    def _moves(self) -> tuple[Moves, Numbers, set[int]]:
-        """Returns the movements of all items, by item, where those of each item end, and the items of totals alone.
-        Rows with faults, and twins if they are to be left out, are rejected."""
+    def _moves(self) -> tuple[Callable[[int], Moves], set[int]]:
+        """Returns the function that gives the movements of an item, and the items of totals alone. Rows with faults,
+        and twins if they are to be left out, are rejected."""
         rows = self.rows["demand"]
-        bad = np.zeros(len(rows), bool)
         _, periods, dated = self._dates("demand", "date")
-        faults, amounts = {"date": dated}, dict[str, Numbers]()
+        faults, amounts = {"date": dated}, {"returned": np.broadcast_to(np.int64(0), len(rows))}
         for role in (it for it in ("quantity", "returned") if it in rows.columns):
             values, faults[role] = rows.values(role, self._amount(role), 0)
             amounts[role] = np.array(values, np.int64)[rows.codes(role)]
-        for role, its in faults.items():
-            bad |= rows.having(role, its)
-        no_items = self._reject_moves(np.flatnonzero(rows.good & bad), faults)
-        good = self._without_twins(rows.good & ~bad)
         if "measure" in rows.columns and self.words.factors:
             units = rows.columns["measure"].distinct
             factors = np.array([self.words.factors.get(text_of(unit), 1) for unit in units], np.int64)
             amounts = {role: its * factors[rows.codes("measure")] for role, its in amounts.items()}
-        order, ends = rows.by_item(np.flatnonzero(good))
-        back = amounts["returned"][order] if "returned" in amounts else np.broadcast_to(np.int64(0), len(order))
-        return Moves(rows.lines[order], periods[order], amounts["quantity"][order], back), ends, no_items
+        bad = rows.faulty(faults)
+        totals = self._reject_moves(np.flatnonzero(rows.good & bad), faults)
+        rows_of = rows.by_item(self._without_twins(rows.good & ~bad))
+
+        def moves_of(item: int) -> Moves:
+            mine = rows_of(item)
+            return Moves(rows.lines[mine], periods[mine], amounts["quantity"][mine], amounts["returned"][mine])
+        return moves_of, totals
 
     def _reject_moves(self, bad: Numbers, faults: Mapping[str, Mapping[int, Remark]]) -> set[int]:
         """Rejects rows of demand with what is wrong with their cells, and returns the items that are no items: those of
         totals alone. A row is one if it looks so, and has no date."""
         rows, totals = self.rows["demand"], Counter[int]()
-        codes = {role: rows.codes(role)[bad].tolist() for role in faults}
-        for place, (row, item) in enumerate(zip(bad.tolist(), rows.codes("item")[bad].tolist())):
-            wrong = [(role, rows.cell(role, row), faults[role][its[place]]) for role, its in codes.items()
-                     if its[place] in faults[role]]
-            if rows.cell("date", row) == "" and TOTAL.match(self.names[item]):
-                wrong = [("item", self.names[item], Remark("total"))]
-                totals[item] += 1
-            self._reject("demand", row, self.names[item], wrong)
-        if not totals:
-            return set()
-        count = np.bincount(rows.codes("item")[rows.good], minlength=len(self.names))
-        elsewhere = {code for kind, its in self.rows.items() if kind != "demand"
-                     for code in its.codes("item")[its.good].tolist()}
-        return {item for item in totals if count[item] == totals[item] and item not in elsewhere}
+        for row, item in zip(bad.tolist(), rows.codes("item")[bad].tolist()):
+            is_total = rows.cell("date", row) == "" and TOTAL.match(self.names[item])
+            self._reject_row("demand", row, [fault("item", self.names[item], "total")] if is_total else
+                             rows.faults(row, faults))
+            totals[item] += bool(is_total)
+        return {item for item, count in (+totals).items() if count == len(self.named(item)) and not any(
+            item in its.codes("item")[its.good] for kind, its in self.rows.items() if kind != "demand")}
 
     def _without_twins(self, good: Flags) -> Flags:
         """Names the rows that are the same as others, once for each item, and takes them out if that is wanted."""
         rows, leaves = self.rows["demand"], self.words.twice == LEAVE_OUT
         first = rows.twins()
-        again = np.flatnonzero(good & (first != np.arange(len(first))))
-        order, ends = rows.by_item(again)
-        for item in np.flatnonzero(np.diff(np.r_[0, ends])).tolist():
-            mine = order[_span(ends, item)]
-            lines, name = rows.lines[mine].tolist(), self.names[item]
-            self.twice[item] = len(lines)
-            remark = Remark("twin", {"count": len(lines), "lines": named_lines(lines),
-                                     "first": int(rows.lines[first[mine[0]]])})
-            self.writer.reject(Reject("row" if leaves else "suspicious", rows.source.name, lines[0], name,
-                                      self.column("demand", "item"), name, remark, len(lines) * leaves))
-        self.counts["items"]["twice"] += len(again)
-        self.counts["files"]["demand"]["rejected"] += len(again) * leaves
-        good[again] = not leaves
-        return good
+        again: Flags = good & (first != np.arange(len(first)))
+        twins_of = rows.by_item(again)
+        for item in np.unique(rows.codes("item")[again]).tolist():
+            mine, name = twins_of(item), self.names[item]
+            lines, self.twice[item] = rows.lines[mine].tolist(), len(mine)
+            twin = fault("item", name, "twin", count=len(lines), lines=named_lines(lines),
+                         first=int(rows.lines[first[mine[0]]]))
+            self._reject("row" if leaves else "suspicious", "demand", lines[0], name, [twin], len(lines) * leaves)
+        self.counts["items"]["twice"] += self.twice.total()
+        self.counts["files"]["demand"]["rejected"] += self.twice.total() * leaves
+        return good & ~again if leaves else good
 
-    def _leads(self) -> tuple[Numbers, Numbers, Numbers]:
-        """Returns the lead times of orders by item, where those of each item end, and how many orders each item has."""
+    def _leads(self) -> Callable[[int], tuple[list[int], int]]:
+        """Returns the function that gives the lead times of an item's orders, and how many orders it has. Orders with
+        faults are rejected."""
         if "orders" not in self.rows:
-            nothing = np.zeros(len(self.names), np.int64)
-            return nothing[:0], nothing, nothing
-        rows, good = self.rows["orders"], self.rows["orders"].good
+            return lambda item: ([], 0)
+        rows = self.rows["orders"]
         placed, first, placed_faults = self._dates("orders", "ordered")
         there, last, there_faults = self._dates("orders", "received")
-        is_open = rows.having("received", {code: cell for code, cell in enumerate(rows.columns["received"].distinct)
-                                           if cell == ""})
-        leads = np.maximum(1, last - first)
-        bad = good & ~is_open & (rows.having("ordered", placed_faults) | rows.having("received", there_faults)
-                                 | (there < placed) | (leads > MOST_LEAD))
+        faults, leads = {"ordered": placed_faults, "received": there_faults}, np.maximum(1, last - first)
+        is_open = rows.having("received", [code for code, cell in enumerate(rows.columns["received"].distinct)
+                                           if cell == ""])
+        bad = rows.good & ~is_open & (rows.faulty(faults) | (there < placed) | (leads > MOST_LEAD))
         for row in np.flatnonzero(bad).tolist():
-            cells = {role: rows.cell(role, row) for role in ("ordered", "received")}
-            codes = ((role, int(rows.codes(role)[row]), its) for role, its in (("ordered", placed_faults),
-                                                                              ("received", there_faults)))
-            wrong = [(role, cells[role], its[code]) for role, code, its in codes if code in its]
-            late = Remark("before order", {"ordered": text_of(cells["ordered"])})
-            far = Remark("lead range", {"lead": int(leads[row]), "most": MOST_LEAD})
-            self._reject("orders", row, self.names[rows.codes("item")[row]],
-                         wrong or [("received", cells["received"], late if there[row] < placed[row] else far)])
-        self.counts["items"]["open_orders"] += int((good & is_open).sum())
-        _, ends = rows.by_item(np.flatnonzero(good & ~bad))
-        received, received_ends = rows.by_item(np.flatnonzero(good & ~bad & ~is_open))
-        return leads[received], received_ends, np.diff(np.r_[0, ends])
+            ordered, received = rows.cell("ordered", row), rows.cell("received", row)
+            late = fault("received", received, "before order", ordered=text_of(ordered))
+            far = fault("received", received, "lead range", lead=int(leads[row]), most=MOST_LEAD)
+            self._reject_row("orders", row, rows.faults(row, faults) or [late if there[row] < placed[row] else far])
+        self.counts["items"]["open_orders"] += int((rows.good & is_open).sum())
+        orders_of, received_of = rows.by_item(rows.good & ~bad), rows.by_item(rows.good & ~bad & ~is_open)
+        return lambda item: (leads[received_of(item)].tolist(), len(orders_of(item)))
 
     def _item(self, item: int, moves: Moves, masters: Sequence[int], leads: Sequence[int]) -> Item:
         self._check_measures(item)
@@ -328,55 +289,52 @@ class Reader:
         asked, netted, unmet = summed(moves.periods - first, moves.asked, periods)
         if unmet is not None:
             amount, period = -int(moves.asked[unmet]), period_name(int(moves.periods[unmet]), self.words.every)
-            raise self._left("demand", int(moves.lines[unmet]), "quantity", -amount, "unmet return", amount=amount,
-                             period=period)
+            raise Left("demand", int(moves.lines[unmet]), fault("quantity", -amount, "unmet return", amount=amount,
+                                                                period=period))
         back = np.bincount(moves.periods - first, moves.back, periods).astype(np.int64).tolist()
         self._check_counts(asked, back)
-        self.counts["items"]["late"] += first > start
-        self.decimals = max(self.decimals, decimals)
         its = replace(master, counts=tuple(asked), returns=tuple(back) if any(back) else (), first=first,
                       rows=len(moves.lines))
         if round(its.levels[1] / its.box) > MOST_ITEMS:
-            raise self._left("items", its.line, "S", its.levels[1], "S too large", most=MOST_ITEMS)
+            raise Left("items", its.line, fault("S", its.levels[1], "S too large", most=MOST_ITEMS))
+        self.counts["items"]["late"] += first > start
+        self.decimals = max(self.decimals, decimals)
         remarks: list[tuple[str, bool, Mapping[str, int | str]]] = [
             ("equal masters", len(masters) > 1, {"masters": len(masters)}),
-                   ("late", first > start, {"period": period_name(first, self.words.every)}),
-                   ("boxes", its.box > 1, {"items": its.box}), ("taken off earlier", netted > 0, {"amounts": netted}),
-                   ("stock below 0", its.stock is not None and its.stock < 0, {}),
-                   ("rows twice", self.twice[item] > 0, {"rows": self.twice[item]})]
+            ("late", first > start, {"period": period_name(first, self.words.every)}),
+            ("boxes", its.box > 1, {"items": its.box}), ("taken off earlier", netted > 0, {"amounts": netted}),
+            ("stock below 0", its.stock is not None and its.stock < 0, {}),
+            ("rows twice", self.twice[item] > 0, {"rows": self.twice[item]})]
         return replace(its, remarks=tuple(Remark(code, facts) for code, holds, facts in remarks if holds))
 
     def _check_measures(self, item: int) -> None:
         """Raises Left if the rows of an item are in several units of measure."""
-        if self.measures is None:
+        rows, mine = self.rows["demand"], self.named(item)
+        if "measure" not in rows.columns:
             return
-        rows, (order, ends) = self.rows["demand"], self.measures
-        mine = order[_span(ends, item)]
-        units = [text_of(cell) for cell in rows.columns["measure"].distinct]
-        codes, places = np.unique(rows.codes("measure")[mine], return_index=True)
-        rest = sorted((int(rows.lines[mine[place]]), units[code]) for code, place in zip(codes, places)
-                      if units[code] not in self.words.factors)
-        if len(rest) > 1:
-            line, unit = rest[-1]
-            both = " and ".join(repr(text) for _, text in rest)
-            raise self._left("demand", line, "measure", unit, "measures", measures=both, text=unit)
+        _, places = np.unique(rows.codes("measure")[mine], return_index=True)
+        units = [text_of(rows.cell("measure", row)) for row in mine[np.sort(places)].tolist()]
+        unknown = [(place, unit) for place, unit in zip(np.sort(places), units) if unit not in self.words.factors]
+        if len(unknown) > 1:
+            place, unit = unknown[-1]
+            raise Left("demand", int(rows.lines[mine[place]]), fault(
+                "measure", unit, "measures", measures=" and ".join(repr(it) for _, it in unknown), text=unit))
 
     def _master(self, name: str, rows: Sequence[int], leads: Sequence[int], moves: Moves) -> tuple[Item, int]:
         """Returns an item that has demand, by its master, and the decimals of its money. Raises Left."""
         table = self.rows["items"]
         if not rows:
             kind = "orders" if leads and not len(moves.lines) else "demand"
-            line = int(moves.lines[0]) if len(moves.lines) else 0
-            raise self._left(kind, line, "item", name, "no master")
+            raise Left(kind, int(moves.lines[0]) if len(moves.lines) else 0, fault("item", name, "no master"))
         lines = table.lines[rows].tolist()
         if len({*self.master_twins[rows].tolist()}) > 1:
-            raise self._left("items", lines[1], "item", name, "several masters", masters=len(rows),
-                             lines=named_lines(lines))
+            raise Left("items", lines[1], fault("item", name, "several masters", masters=len(rows),
+                                                lines=named_lines(lines)))
         read, faults = self.masters.read(table.cells(rows[0]), leads)
         if faults:
-            raise Left("items", lines[0], *self._said("items", faults))
+            raise Left("items", lines[0], *faults)
         if not len(moves.lines):
-            raise self._left("items", lines[0], "item", name, "no rows")
+            raise Left("items", lines[0], fault("item", name, "no rows"))
         return self.masters.item(name, lines[0], read, leads)
 
     def _check_far(self, moves: Moves) -> None:
@@ -384,22 +342,17 @@ class Reader:
         for role, amounts in (("quantity", moves.asked), ("returned", moves.back)):
             far = far_above(amounts) if self.words.far == LEAVE_OUT else 0
             if far:
-                ranked = np.lexsort((moves.lines.astype(np.int64), -amounts))
+                ranked = np.argsort(-amounts, kind="stable")
                 lines, (least, below) = moves.lines[ranked[:far]].tolist(), amounts[ranked[far - 1:far + 1]].tolist()
-                raise self._left("demand", lines[0], role, amounts[ranked[0]], "far", lines=named_lines(lines),
-                                 times=least // below, next=below)
+                raise Left("demand", lines[0], fault(role, int(amounts[ranked[0]]), "far", lines=named_lines(lines),
+                                                     times=least // below, next=below))
 
     def _check_counts(self, asked: Sequence[int], back: Sequence[int]) -> None:
         """Raises Left if demand by period is none that a law can be made of."""
-        total, returned = sum(asked), sum(back)
+        total, returned, every = sum(asked), sum(back), self.words.every
         if len(asked) < self.words.least:
-            raise self._left("demand", 0, "quantity", len(asked), "short", periods=len(asked), every=self.words.every)
+            raise Left("demand", 0, fault("quantity", len(asked), "short", periods=len(asked), every=every))
         if not total:
-            raise self._left("demand", 0, "quantity", 0, "nothing asked")
+            raise Left("demand", 0, fault("quantity", 0, "nothing asked"))
         if returned >= total:
-            raise self._left("demand", 0, "quantity", returned, "all comes back", back=returned, asked=total)
-
-
-def _span(ends: Numbers, item: int) -> slice:
-    """Returns where what belongs to an item stands, in the order of items."""
-    return slice(int(ends[item - 1]) if item else 0, int(ends[item]))
+            raise Left("demand", 0, fault("quantity", returned, "all comes back", back=returned, asked=total))

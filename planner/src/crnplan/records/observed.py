@@ -12,8 +12,7 @@ import numpy.typing as npt
 
 from ..errors import Fault, Refused, argument
 from ..formats import MOST_WEIGHT
-from .cells import DateReader, first_day, period_name, period_of
-from .faults import Unreadable
+from .cells import DateReader, Unreadable, first_day, period_name, period_of
 
 if TYPE_CHECKING:
     import pandas as pd

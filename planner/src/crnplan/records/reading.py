@@ -4,20 +4,22 @@ from __future__ import annotations
 import csv
 import io
 from collections.abc import Callable, Iterator, Mapping, Sequence
-from dataclasses import replace
+from dataclasses import dataclass, replace
 from itertools import compress
+from pathlib import Path
 from typing import Any, TypeVar
 
 import numpy as np
 
-from ..errors import Fault, Refused, RefusedFaults, argument
+from ..errors import Fault, Refused, RefusedFaults, argument, worded
+from ..files import faults_of, new_file
 from ..formats import MOST_WEIGHT
-from .cells import Cell, other_reading, text_of
-from .columns import DAYS, NO_ROW, Column, bare_name, factor_of, headed, plain_name, stated_columns
-from .faults import MOST_NAMED, TOTAL, RefusedFiles, Reject, Unreadable, named_lines, said, shown
+from ..table import DataTable, text, whole
+from .cells import MOST_NAMED, TOTAL, Cell, Unreadable, named_lines, other_reading, said, shown, text_of
+from .columns import DAYS, NO_ROW, bare_name, converted, factor_of, plain_name, stated_columns
 from .observed import Day
 from .rows import DATES, TIMES_NEXT, Rows, far_above
-from .sources import Sheet
+from .sources import Column, Sheet
 
 Value = TypeVar("Value")
 # What is said: the line of a row, 0 for the file, the place of a cell in the row, -1 for the row, and a text.
@@ -26,6 +28,49 @@ Said = tuple[int, int, str]
 RARE = 10
 # A sum of fewer rows may well come again below them.
 LEAST_SUMMED = 6
+# So many faults are printed. The rejects have all.
+MOST_PRINTED = 20
+
+
+@dataclass(frozen=True)
+class Reject(Fault):
+    """A fault of a row, with the text of that row."""
+
+    row: str = ""
+
+
+def printed(faults: Sequence[Fault]) -> Iterator[str]:
+    """Yields the first faults as lines, and one line that says how many more there are."""
+    yield from (it.message for it in faults[:MOST_PRINTED])
+    if len(faults) > MOST_PRINTED:
+        yield f"and {len(faults) - MOST_PRINTED:,} more faults; {argument('faults')} has all"
+
+
+class RefusedFiles(RefusedFaults):
+    """Files with faults, and the notes that were due before: so one pass says all."""
+
+    def __init__(self, faults: Sequence[Fault], notes: Sequence[Fault] = ()) -> None:
+        lines = list(printed(faults))
+        if len(faults) > 1:
+            rows = len({(it.file, it.line) for it in faults})
+            has_rows = any(isinstance(it, Reject) for it in faults)
+            advice = f"; correct them, or say {argument('leave_out')} to go on without bad rows" if has_rows else ""
+            lines.append(f"{len(faults):,} faults in {rows:,} rows{advice}")
+        self.notes = tuple(notes)
+        super().__init__(faults, "\n".join([*lines, *(it.message for it in notes)]))
+
+
+REJECTS = (text("file", "name of the file"), whole("line", "", "line of the fault, 0 if there is none"),
+           whole("column", "", "column, 0 if there is none"), text("what", "what is wrong"),
+           text("row", "text of the row"))
+
+
+def write_rejects(path: Path, faults: Sequence[Fault]) -> None:
+    """Writes all faults as CSV: file, line and column (0 if there is none), what is wrong, and the text of the row."""
+    with faults_of(path), new_file(path) as file:
+        file.writelines(DataTable(REJECTS, (
+            [fault.file, fault.line, fault.column, worded(fault.what),
+             fault.row.replace("\r", "\\r") if isinstance(fault, Reject) else ""] for fault in faults)).lines)
 
 
 class Reading:
@@ -38,25 +83,26 @@ class Reading:
         other tables may be of one item alone. Blank rows are passed over, or count as amounts that are missing. Raises
         RefusedFaults."""
         self.sheet, self.rules = sheet, sheet.rules
-        source = headed("history", sheet, [*names.values(), *(() if own_item else self.rules.item)])
-        items = {f"item {name}": name for name in self.rules.item if not own_item or name in source.heading}
-        columns, wrong = stated_columns(source.heading, {**names, **items})
+        sheet.find_heading([*names.values(), *(() if own_item else self.rules.item)])
+        items = {f"item {name}": name for name in self.rules.item if not own_item or name in sheet.heading}
+        columns, wrong = stated_columns(sheet.heading, {**names, **items})
         self.columns = {role: replace(column, unit=_unit_of(role, column)) for role, column in columns.items()}
+        sheet.columns = self.columns
         try:
             if wrong:
-                raise RefusedFaults([Fault(what, sheet.name, source.line) for what in wrong])
-            self.rows = Rows(replace(source, columns=self.columns))
+                raise RefusedFaults([Fault(what, sheet.name, sheet.line) for what in wrong])
+            self.rows = Rows(sheet)
             if not len(self.rows):
-                raise RefusedFaults([Fault(NO_ROW, sheet.name, source.line + 1)])
+                raise RefusedFaults([Fault(NO_ROW, sheet.name, sheet.line + 1)])
         except RefusedFaults as refused:
             # What else is wrong may come from the encoding.
             raise RefusedFaults([sheet.fault] if sheet.fault else refused.faults) from refused
         self.lines = self.rows.lines.tolist()
-        self.has_rest = sum(map(bool, source.heading)) > sum(role not in DATES for role in names)
+        self.has_rest = sum(map(bool, sheet.heading)) > sum(role not in DATES for role in names)
         self._faults, self._notes = list[Said](), list[Said]()
-        if source.titles:
-            texts = ", ".join(repr(shown(" ".join(filter(None, cells)))) for _, cells in source.titles)
-            self.note(f"{named_lines([line for line, _ in source.titles])} above the heading passed over: {texts}")
+        if sheet.titles:
+            texts = ", ".join(repr(shown(" ".join(filter(None, cells)))) for _, cells in sheet.titles)
+            self.note(f"{named_lines([line for line, _ in sheet.titles])} above the heading passed over: {texts}")
         blank = [] if items else [line for line in self.rows.blank if line < self.lines[-1]]
         self.missing = blank if counts_blank else []
         if blank and not counts_blank:
@@ -77,7 +123,7 @@ class Reading:
         if items:
             asked = " and ".join(f"{name} = {self.rules.item[name]}" for name in items.values())
             self.note(f"rows with {asked}: {is_chosen.sum():,} of {len(self.rows):,}")
-        width = len(self.rows.source.heading)
+        width = len(self.sheet.heading)
         for row in (row for row in self.rows.wide if is_chosen[row]):
             why = Unreadable("long", cells=self.rows.wide[row][0], columns=width, sign=self.sheet.sign)
             self._faults.append((self.lines[row], width, str(why)))
@@ -123,7 +169,7 @@ class Reading:
             self.note(f"column {column.name!r}: the decimal sign is {reader.decided}")
         packs = column.unit if column.unit.isdecimal() else ""
         if packs:
-            self.note(column.converted(role, ""))
+            self.note(converted(column, role, ""))
         self._faults += [(line, column.place, f"column {column.name!r}: {Unreadable(if_empty)}")
                          for line in self.missing]
 

@@ -14,10 +14,9 @@ import numpy as np
 import numpy.typing as npt
 
 from ..remarks import Remark
-from .cells import AmountReader, Cell, DateReader, bare_cell, dated_cell, text_of
-from .columns import Source
-from .faults import Unreadable
+from .cells import AmountReader, Cell, CellFault, DateReader, Unreadable, bare_cell, dated_cell, text_of
 from .observed import Numbers
+from .sources import Sheet
 
 Flags = npt.NDArray[np.bool_]
 Value = TypeVar("Value")
@@ -54,13 +53,13 @@ class Rows:
     """The rows of a table, but for blank ones, whose lines are in `blank`. `wide` has how many cells those rows have
     that have more than the heading, and their texts. `good` says which rows are of use: the others decide nothing."""
 
-    def __init__(self, source: Source, names: Codes | None = None) -> None:
+    def __init__(self, sheet: Sheet, names: Codes | None = None) -> None:
         """Reads all rows, in the columns of the table. Tables of one catalogue share the names of items. With patterns
         of dates, times of day are kept."""
-        self.source, self.patterns = source, source.sheet.rules.date_formats
+        self.sheet, self.patterns = sheet, sheet.rules.date_formats
         dated = bare_cell if self.patterns else dated_cell
         self.columns = {role: names if role == "item" and names is not None else
-                        Codes(dated if role in DATES else bare_cell) for role in source.columns}
+                        Codes(dated if role in DATES else bare_cell) for role in sheet.columns}
         self._codes = {role: array("i") for role in self.columns}
         self._lines, self._hashes = array("i"), array("q")
         self.blank = array("i")
@@ -70,12 +69,12 @@ class Rows:
         self.good[[*self.wide]] = False
 
     def _fill(self) -> None:
-        width = len(self.source.heading)
+        width = len(self.sheet.heading)
         slots = [(column.place, self.columns[role], self._codes[role].append)
-                 for role, column in self.source.columns.items()]
+                 for role, column in self.sheet.columns.items()]
         first_place, known, empty = slots[0][0], slots[0][1], set[Cell](("", None))
         add_line, add_hash = self._lines.append, self._hashes.append
-        for line, cells in self.source.rows():
+        for line, cells in self.sheet.data():
             if len(cells) != width:
                 if any(map(text_of, cells[width:])):
                     self.wide[len(self._lines)] = len(cells), ",".join(map(text_of, cells))
@@ -115,6 +114,16 @@ class Rows:
         self._hashes = array("q")
         return first
 
+    def faulty(self, faults: Mapping[str, Mapping[int, Remark]]) -> Flags:
+        """Returns which rows have a cell that can't be read, by role and the code of the value."""
+        has: Flags = np.any([self.having(role, its) for role, its in faults.items()], axis=0)
+        return has
+
+    def faults(self, row: int, faults: Mapping[str, Mapping[int, Remark]]) -> list[CellFault]:
+        """Returns what is wrong with the cells of a row, by role and the code of the value."""
+        return [(role, self.cell(role, row), its[self._codes[role][row]]) for role, its in faults.items()
+                if self._codes[role][row] in its]
+
     def cell(self, role: str, row: int) -> Cell:
         """Returns the value of a row's cell; the empty text if the table has no such column."""
         return self.columns[role].distinct[self._codes[role][row]] if role in self.columns else ""
@@ -129,12 +138,13 @@ class Rows:
             counts = np.bincount(self.codes(role)[self.good]).tolist()
             yield from ((cell, count) for cell, count in zip(self.columns[role].distinct, counts) if count)
 
-    def by_item(self, rows: Numbers) -> tuple[Numbers, Numbers]:
-        """Returns rows in the order of their items' codes, and where those of each item end. Rows of one item stay in
-        their order."""
+    def by_item(self, good: Flags) -> Callable[[int], Numbers]:
+        """Returns the function that gives the good rows of an item, in their order, by its code."""
+        rows = np.flatnonzero(good)
         codes = self.codes("item")[rows]
-        order = np.argsort(codes, kind="stable")
-        return rows[order], np.cumsum(np.bincount(codes, minlength=len(self.columns["item"].distinct)))
+        order = rows[np.argsort(codes, kind="stable")]
+        ends = np.cumsum(np.bincount(codes, minlength=len(self.columns["item"].distinct)))
+        return lambda item: order[ends[item - 1] if item else 0:ends[item]]
 
     def date_reader(self) -> DateReader:
         """Returns what reads the dates of the table, after a look at all of them."""
@@ -142,7 +152,7 @@ class Rows:
 
     def amount_reader(self, role: str, currencies: dict[str, str] | None = None) -> AmountReader:
         """Returns what reads the amounts of a column, after a look at all of them."""
-        return AmountReader(self.source.sheet.rules.decimal, currencies).look(cell for cell, _ in self.counts(role))
+        return AmountReader(self.sheet.rules.decimal, currencies).look(cell for cell, _ in self.counts(role))
 
     def values(self, role: str, read: Callable[[Cell], Value], default: Value) -> tuple[list[Value], dict[int, Remark]]:
         """Returns what a function reads in each distinct value of a column, the default in one that can't be read, and
@@ -163,10 +173,10 @@ class Rows:
         return has[self.codes(role)]
 
 
-def read_rows(sources: Mapping[str, Source]) -> dict[str, Rows]:
+def read_rows(sheets: Mapping[str, Sheet]) -> dict[str, Rows]:
     """Returns the rows of all tables, which share the names of items."""
     names = Codes(text_of, sys.maxsize)
-    return {kind: Rows(source, names) for kind, source in sources.items()}
+    return {kind: Rows(sheet, names) for kind, sheet in sheets.items()}
 
 
 def far_above(amounts: Numbers, times_of_few: int = TIMES_OF_FEW) -> int:

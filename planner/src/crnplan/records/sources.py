@@ -36,7 +36,7 @@ Row = tuple[int, Sequence[Cell]]
 Table = Union[str, Path, "pd.DataFrame"]
 RoleOf = Callable[[str], str | None]
 HEAD_BYTES, MOST_LETTERS = 1_000_000, 2_000_000
-SAMPLE_ROWS, TITLE_ROWS, MOST_LISTED = 1_000, 50, 30
+SAMPLE_ROWS, TITLE_ROWS, SHOWN_ROWS, MOST_LISTED = 1_000, 50, 3, 30
 DELIMITERS = {",": ",", ";": ";", "tab": "\t", "\t": "\t"}
 BOOKS = (".xlsx", ".xlsm")
 MARKS = ((codecs.BOM_UTF8, "utf-8-sig"), (codecs.BOM_UTF16_LE, "utf-16"), (codecs.BOM_UTF16_BE, "utf-16"))
@@ -44,6 +44,17 @@ EXPORT = "or export the file as CSV in UTF-8"
 # Bytes beside letters that are letters in cp1250, and signs or rare letters in cp1252; and the reverse.
 CENTRAL = b"\x8c\x8d\x8f\x9c\x9d\x9f\xa3\xa5\xaf\xb3\xb9\xbe\xbf\xe6\xec"
 WESTERN = b"\xe0\xe2\xe5\xe8\xea\xf1\xf2\xf8\xfb"
+
+
+@dataclass(frozen=True)
+class Column:
+    """A column of a table: its name in the heading, its place from 0, whether it was found by its name alone, and its
+    unit, empty if that is the one of its role."""
+
+    name: str
+    place: int
+    is_guess: bool = False
+    unit: str = ""
 
 
 @dataclass(frozen=True)
@@ -243,8 +254,12 @@ def stored(cell: Any) -> Cell:
 
 
 class Sheet:
-    """A table before its columns are known: its name in messages, how it is written, the rules by which it is read, and
-    what is wrong with its bytes. One that has no text of its own has cells with commas between them in messages."""
+    """A table: its name in messages, how it is written, the rules by which it is read, what is wrong with its bytes,
+    and which column has which role. One that has no text of its own has cells with commas between them in messages.
+
+    `find_heading` sets the heading, which is empty if there is no row, with its line, the titles above it, and the
+    first rows below it.
+    """
 
     delimiter = sign = ","
     fault: Fault | None = None
@@ -252,9 +267,26 @@ class Sheet:
     def __init__(self, name: str, written: str, rules: Rules, rows: Callable[[], Iterator[Row]]) -> None:
         """Takes what yields the line in which each row begins, and its cells."""
         self.name, self.written, self.rules, self.rows = name, written, rules, rows
+        self.columns: dict[str, Column] = {}
 
-    def head(self, wanted: Sequence[str], role_of: RoleOf) -> list[Row]:
-        """Returns the first rows, with the lines in which they begin."""
+    def find_heading(self, wanted: Sequence[str] = (), role_of: RoleOf = no_role) -> None:
+        """Finds the heading among the first rows, by wanted names or usual ones."""
+        rows = self.head(wanted, role_of)
+        place = heading_of([cells for _, cells in rows], wanted, role_of)
+        self.line, self.heading = rows[place] if rows else (1, [])
+        self.titles, self.first_rows = rows[:place], rows[place + 1:place + 1 + SHOWN_ROWS]
+
+    @property
+    def file_name(self) -> str:
+        """Returns the name of the table in tables: that of the file without its folder."""
+        return Path(self.name).name
+
+    def data(self) -> Iterator[Row]:
+        """Yields the line in which each row below the heading begins, and its cells."""
+        yield from itertools.dropwhile(lambda row: row[0] <= self.line, self.rows())
+
+    def head(self, wanted: Sequence[str], role_of: RoleOf) -> list[tuple[int, list[str]]]:
+        """Returns the first rows as texts, with the lines in which they begin."""
         return [(line, texts_of(cells)) for line, cells in itertools.islice(self.rows(), SAMPLE_ROWS)]
 
     def texts(self, lines: Iterable[int]) -> dict[int, str]:
@@ -277,13 +309,13 @@ class TextSheet(Sheet):
         self.fault = fault
         self.delimiter = DELIMITERS[rules.delimiter or ","]
 
-    def head(self, wanted: Sequence[str], role_of: RoleOf) -> list[Row]:
+    def head(self, wanted: Sequence[str], role_of: RoleOf) -> list[tuple[int, list[str]]]:
         """Returns the first rows, by the delimiter that fits best."""
         if not self.rules.delimiter:
             self.delimiter = delimiter_of(self.name, self.text, wanted, role_of)
         self.sign = "tab" if self.delimiter == "\t" else self.delimiter
         self.written = f"{self.encoding}, delimiter {self.sign}"
-        return list(sample(self.text, self.delimiter))
+        return sample(self.text, self.delimiter)
 
     def _rows(self) -> Iterator[Row]:
         """Yields the rows. Raises RefusedFaults for bytes or quotes that can't be read."""

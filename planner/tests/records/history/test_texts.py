@@ -17,7 +17,7 @@ from hypothesis import strategies as st
 from crnplan.records import read_history
 from crnplan.records.cells import AmountReader, other_reading, readings
 from crnplan.records.cells import DateReader, first_day, period_name, period_of
-from crnplan.records.faults import Unreadable
+from crnplan.records.cells import Unreadable
 
 DAYS = st.dates(datetime.date(1980, 1, 1), datetime.date(2199, 12, 31))
 GROUPS = [" ", "\u00a0", "\u2009", "\u202f", "'", "\u2019"]
