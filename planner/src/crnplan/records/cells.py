@@ -9,7 +9,7 @@ from __future__ import annotations
 import contextlib
 import datetime
 import re
-from collections.abc import Iterable, Sequence
+from collections.abc import Callable, Iterable, Sequence
 from fractions import Fraction
 from typing import Union
 
@@ -33,6 +33,14 @@ MINUS = "-\u2212"
 # A number is below 10 to this power, and a text of more letters is none.
 MOST_DIGITS, MOST_LETTERS = 15, 60
 NAMES = {".": "the point", ",": "the comma"}
+# What a number of a kind must be, each with the code of one that is not.
+NUMBER = [("digits", lambda number: abs(number) < 10**MOST_DIGITS)]
+AMOUNT = [*NUMBER, ("below 0", lambda number: number >= 0),
+          ("decimals", lambda number: (number * 10**MOST_DECIMALS).denominator == 1)]
+CHECKS: dict[str, list[tuple[str, Callable[[Fraction], bool]]]] = {
+    "number": NUMBER, "whole": [*NUMBER, ("not whole", lambda number: number.denominator == 1)], "money": AMOUNT,
+    "cost": [*AMOUNT, ("zero", bool)],
+    "items": [*NUMBER, ("no whole items", lambda number: number >= 0 and number.denominator == 1)]}
 # Signs and codes of money, before or behind an amount, and the code that a sign stands for.
 CODES = ("AED AUD BGN BRL CAD CHF CNY CZK DKK EUR GBP HKD HUF IDR ILS INR JPY KRW MXN MYR NOK NZD PHP PLN RON RUB SAR "
          "SEK SGD THB TRY TWD UAH USD VND ZAR").split()
@@ -167,16 +175,22 @@ class AmountReader:
             return None
         return f"{NAMES[self.sign]} in {shown(self.sides[self.sign])}"
 
-    def number(self, cell: Cell, if_empty: str = "no amount") -> Fraction:
-        """Returns the number of a cell. `if_empty` is the code for an empty one. Raises Unreadable."""
+    def number(self, cell: Cell, kind: str = "number", if_empty: str = "no amount") -> Fraction:
+        """Returns the number of a cell, which is of a kind of CHECKS. `if_empty` is the code for an empty cell. Raises
+        Unreadable."""
         if cell == "" or cell is None:
             raise Unreadable(if_empty)
         number = self._read(cell) if isinstance(cell, str) else exact(cell)
         if number is None:
             raise Unreadable("no number", cell)
-        if abs(number) >= 10**MOST_DIGITS:
-            raise Unreadable("digits", cell, digits=MOST_DIGITS)
+        for code, holds in CHECKS[kind]:
+            if not holds(number):
+                raise Unreadable(code, cell, digits=MOST_DIGITS, decimals=MOST_DECIMALS)
         return number
+
+    def whole(self, cell: Cell, if_empty: str = "no quantity") -> int:
+        """Returns the whole number of a cell, which may be negative. Raises Unreadable."""
+        return int(self.number(cell, "whole", if_empty))
 
     def _read(self, text: str) -> Fraction:
         """Returns the number of a text. Raises Unreadable."""
@@ -197,29 +211,6 @@ class AmountReader:
             raise Unreadable("no number", text, other=other if is_other else None)
         return next(iter(numbers.values()))
 
-    def whole(self, cell: Cell, if_empty: str = "no quantity") -> int:
-        """Returns the whole number of a cell, which may be negative. Raises Unreadable."""
-        number = self.number(cell, if_empty)
-        if number.denominator != 1:
-            raise Unreadable("not whole", cell)
-        return int(number)
-
-    def amount(self, cell: Cell) -> Fraction:
-        """Returns an amount of money that is not below 0. Raises Unreadable."""
-        number = self.number(cell)
-        if number < 0:
-            raise Unreadable("below 0", cell)
-        if (number * 10**MOST_DECIMALS).denominator != 1:
-            raise Unreadable("decimals", cell, decimals=MOST_DECIMALS)
-        return number
-
-    def positive(self, cell: Cell) -> Fraction:
-        """Returns an amount of money above 0. Raises Unreadable."""
-        number = self.amount(cell)
-        if number == 0:
-            raise Unreadable("zero")
-        return number
-
     def share(self, cell: Cell, in_percent: bool = False) -> Fraction:
         """Returns a share between 0 and 1, which may be written in percent, or be in percent. Raises Unreadable."""
         has_sign = isinstance(cell, str) and cell.endswith("%")
@@ -231,13 +222,6 @@ class AmountReader:
         if not 0 < number < 1:
             raise Unreadable("no share", cell)
         return number
-
-    def items(self, cell: Cell) -> int:
-        """Returns a whole number of items. Raises Unreadable."""
-        number = self.number(cell)
-        if number < 0 or number.denominator != 1:
-            raise Unreadable("no whole items", cell)
-        return int(number)
 
 
 def other_reading(text: str, decimal: str | None) -> str | None:

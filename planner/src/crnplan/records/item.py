@@ -6,6 +6,7 @@ import re
 from collections.abc import Callable, Mapping, Sequence
 from dataclasses import dataclass, fields
 from fractions import Fraction
+from functools import partial
 from typing import Any
 
 from ..formats import MOST_DEMAND, MOST_LEAD
@@ -111,12 +112,15 @@ class Masters:
         self.factors = {role: factor_of(role, unit, every) for role, unit in units.items()
                         if role not in ("lead", "fill")}
         self.share = units["holding"] if units.get("holding") in ("share", "percent") else ""
+        number = {role: reader.number for role, reader in amounts.items()}
         self.readers: dict[str, Callable[[Cell], Any]] = {
-            "setup": amounts["setup"].amount, "holding": lambda cell: self._holding(amounts["holding"], cell),
-            "lead": lambda cell: leads_of(cell, units.get("lead", ""), every), "backlog": amounts["backlog"].positive,
-            "fill": lambda cell: amounts["fill"].share(cell, "fill" in units), "s": amounts["s"].items,
-            "S": amounts["S"].items, "stock": amounts["stock"].number, "price": amounts["price"].amount,
-            "price_for": amounts["price_for"].positive, "borrow": borrowed_from,
+            "setup": partial(number["setup"], kind="money"), "holding": partial(self._holding, amounts["holding"]),
+            "lead": partial(leads_of, unit=units.get("lead", ""), every=every),
+            "backlog": partial(number["backlog"], kind="cost"),
+            "fill": partial(amounts["fill"].share, in_percent="fill" in units), "s": partial(number["s"], kind="items"),
+            "S": partial(number["S"], kind="items"), "stock": number["stock"],
+            "price": partial(number["price"], kind="money"), "price_for": partial(number["price_for"], kind="cost"),
+            "borrow": borrowed_from,
             **dict.fromkeys(("description", "class"), lambda cell: UNPRINTABLE.sub(" ", str(cell)))}
 
     def _holding(self, reader: AmountReader, cell: Cell) -> Fraction:
@@ -125,7 +129,7 @@ class Masters:
         is_percent = text.endswith("%")
         if is_percent and not self.share:
             raise Unreadable("is share", cell)
-        number = reader.positive(text.rstrip("% ") if is_percent else cell)
+        number = reader.number(text.rstrip("% ") if is_percent else cell, "cost")
         if self.share == "share" and number >= 1 and not is_percent:
             raise Unreadable("small percent", cell, role="holding")
         return number / 100 if is_percent and self.share == "share" else number
@@ -146,7 +150,7 @@ class Masters:
         if "lead" in read and read["lead"] is None and not observed:
             faults.append(fault("lead", "", "nothing of leads"))
         if "s" in read and "S" in read and read["s"] > read["S"]:
-            faults.append(fault("s", cells["s"], "s above S", s=read["s"], S=read["S"]))
+            faults.append(fault("s", cells["s"], "s above S", s=int(read["s"]), S=int(read["S"])))
         if self.share and "price" in read and not read["price"]:
             faults.append(fault("holding", cells["holding"], "no price for share"))
         return read, faults

@@ -13,14 +13,13 @@ import functools
 import io
 import itertools
 import math
-import os
 import re
 import shutil
 import sys
 import tempfile
 import zipfile
 from collections import Counter
-from collections.abc import Callable, Iterable, Iterator, Mapping, Sequence
+from collections.abc import Callable, Iterable, Iterator, Mapping, Sequence, Set
 from dataclasses import dataclass, field
 from decimal import Decimal
 from pathlib import Path
@@ -33,6 +32,7 @@ if TYPE_CHECKING:
     import pandas as pd
 
 Row = tuple[int, Sequence[Cell]]
+TextRow = tuple[int, list[str]]
 Table = Union[str, Path, "pd.DataFrame"]
 RoleOf = Callable[[str], str | None]
 HEAD_BYTES, MOST_LETTERS = 1_000_000, 2_000_000
@@ -99,23 +99,23 @@ def likely_encoding(data: bytes) -> str:
     return "cp1252" if re.search(b"[\x80-\x9f]", data) else "latin-1"
 
 
-def text_faults(name: str, data: bytes, encoding: str, line: int = 1) -> Iterator[Fault]:
-    """Yields what is wrong with bytes that begin in a line: the first that is not of an encoding, else a NUL character,
-    as UTF-16 without a byte order mark has."""
+def decoded(name: str, data: bytes, encoding: str, is_all: bool = True, line: int = 1) -> tuple[str, Fault | None]:
+    """Returns the text of bytes that begin in a line, and what is wrong with it: the first byte that is not of the
+    encoding (then the text is empty), else a NUL character, as UTF-16 without a byte order mark has."""
     try:
-        text = data.decode(encoding)
-        before = text.partition("\0")[0]
-        if before == text:
-            return
+        text = codecs.getincrementaldecoder(encoding)().decode(data, is_all)
+        before, zero, _ = text.partition("\0")
+        if not zero:
+            return text, None
         zeros = [data[place::2].count(0) for place in (0, 1)]
         wide = argument("encoding", "utf-16-be" if zeros[0] > zeros[1] else "utf-16-le")
         what = f"there is a NUL character, as in UTF-16; say {wide}"
     except UnicodeError as fault:
         start, is_utf_8 = getattr(fault, "start", 0), encoding[:5] == "utf-8"
-        before = data[:start].decode(encoding, "replace")
+        text, before = "", data[:start].decode(encoding, "replace")
         other = argument("encoding", likely_encoding(data)) if is_utf_8 else f"another {argument('encoding')}"
         what = f"the byte 0x{data[start:start + 1].hex()} is not {'UTF-8' if is_utf_8 else encoding}; say {other}"
-    yield Fault(f"{what}, {EXPORT}", name, line + before.count("\n"), len(before) - before.rfind("\n"))
+    return text, Fault(f"{what}, {EXPORT}", name, line + before.count("\n"), len(before) - before.rfind("\n"))
 
 
 def head_of(path: Path, name: str, rules: Rules) -> tuple[str, str, Fault | None]:
@@ -131,32 +131,30 @@ def head_of(path: Path, name: str, rules: Rules) -> tuple[str, str, Fault | None
     except OSError as fault:
         raise Refused(f"{name}: {fault.strerror}; check the name of the file") from fault
     encoding = next((its for mark, its in MARKS if data.startswith(mark)), rules.encoding or "utf-8")
-    if len(data) == HEAD_BYTES and not re.search(b"[\r\n]", data):
+    is_all = len(data) < HEAD_BYTES
+    if not is_all and not re.search(b"[\r\n]", data):
         raise RefusedFaults([Fault(f"the first line has more than {HEAD_BYTES:,} bytes; end each row with a line feed",
                                    name, 1)])
-    if len(data) == HEAD_BYTES and not encoding.startswith("utf-16"):
+    if not is_all and not encoding.startswith("utf-16"):
         data = data[:data.rfind(b"\n") + 1] or data
-    faults: list[Fault] = []
-    try:
-        text = codecs.getincrementaldecoder(encoding)().decode(data, len(data) < HEAD_BYTES)
-    except UnicodeError as wrong:
-        faults = [*text_faults(name, data, encoding)]
-        if rules.encoding or encoding != "utf-8":
-            raise RefusedFaults(faults) from wrong
-        encoding = likely_encoding(data)
-        text = data.decode(encoding, "replace")
-    if "\0" in text:
-        raise RefusedFaults([*text_faults(name, data, encoding)])
-    return encoding, text, faults[0] if faults else None
+    text, wrong = decoded(name, data, encoding, is_all)
+    if wrong and not text and encoding == "utf-8" and not rules.encoding:
+        likely = likely_encoding(data)
+        text = data.decode(likely, "replace")
+        if "\0" not in text:
+            return likely, text, wrong
+        wrong = decoded(name, data, likely)[1]
+    if wrong:
+        raise RefusedFaults([wrong])
+    return encoding, text, None
 
 
 def state_of(path: Path) -> tuple[int, int]:
     """Returns the size of a file and the time of its last change; zeros if there is none."""
-    try:
-        state = os.stat(path)
-    except OSError:
-        return 0, 0
-    return state.st_size, state.st_mtime_ns
+    with contextlib.suppress(OSError):
+        state = path.stat()
+        return state.st_size, state.st_mtime_ns
+    return 0, 0
 
 
 @contextlib.contextmanager
@@ -181,49 +179,45 @@ def rows_of_lines(name: str, lines: Iterable[str], delimiter: str) -> Iterator[t
         raise RefusedFaults([Fault(f"{fault}; {advice}", name, line)]) from fault
 
 
-def sample(text: str, delimiter: str) -> list[tuple[int, list[str]]]:
+def sample(text: str, delimiter: str) -> list[TextRow]:
     """Returns the first rows with their lines, without blanks around the cells, up to one that can't be read."""
-    rows: list[tuple[int, list[str]]] = []
+    rows: list[TextRow] = []
     with contextlib.suppress(RefusedFaults):
         for line, texts in itertools.islice(rows_of_lines("", io.StringIO(text, newline=""), delimiter), SAMPLE_ROWS):
             rows.append((line, [cell.strip() for cell in texts]))
     return rows
 
 
-def no_role(cell: str) -> None:
-    """Says of any cell that it is no usual name of a column."""
-
-
-def heading_of(rows: Sequence[Sequence[str]], wanted: Iterable[str], role_of: RoleOf) -> int:
+def heading_of(rows: Sequence[TextRow], wanted: Set[str], role_of: RoleOf) -> int:
     """Returns the place of the heading among the first rows: the row with most of the wanted names, else with usual
     names of most roles, else with most texts.
 
     A cell that other rows have in the same column is data and no name, unless the whole row comes again.
     """
-    cells = Counter(cell for row in rows for cell in enumerate(row))
-    again = Counter(tuple(row) for row in rows)
-    fits = []
-    for row in rows[:TITLE_ROWS]:
-        names = {cell for place, cell in enumerate(row) if cells[place, cell] == again[tuple(row)]}
-        roles = {role_of(cell) for cell in names} - {None}
-        fits.append((sum(name in row for name in wanted), len(roles), sum(map(bool, row))))
-    return fits.index(max(fits)) if fits else 0
+    cells = Counter(cell for _, row in rows for cell in enumerate(row))
+    again = Counter(tuple(row) for _, row in rows)
+    fits = [(0, 0, 0)]
+    for _, row in rows[:TITLE_ROWS]:
+        names = [cell for place, cell in enumerate(row) if cells[place, cell] == again[tuple(row)]]
+        fits.append((len(wanted & {*row}), roles_in(names, role_of), sum(map(bool, row))))
+    return max(0, fits.index(max(fits)) - 1)
 
 
-def fit_of(rows: Sequence[Sequence[str]], wanted: Iterable[str], role_of: RoleOf) -> tuple[int, int, bool, float]:
-    """Returns how well a delimiter fits, to compare: the wanted columns that the heading has, those with usual names,
-    whether it has several columns, and the share of rows with as many cells as the heading."""
-    place = heading_of(rows, wanted, role_of)
-    heading, rows = (rows[place], rows[place + 1:]) if rows else ([], [])
-    alike = sum(len(row) == len(heading) for row in rows)
-    roles = {role_of(cell) for cell in heading} - {None}
-    return sum(name in heading for name in wanted), len(roles), len(heading) > 1, alike / max(1, len(rows))
+def roles_in(names: Iterable[str], role_of: RoleOf) -> int:
+    """Returns of how many roles names are usual ones."""
+    return len({role_of(name) for name in names} - {None})
 
 
-def delimiter_of(name: str, text: str, wanted: Iterable[str], role_of: RoleOf) -> str:
-    """Returns the delimiter that fits the heading and the rows best. Raises RefusedFaults if two do."""
-    fits = {delimiter: fit_of([row for _, row in sample(text, delimiter)], wanted, role_of)
-            for delimiter in (",", ";", "\t")}
+def delimiter_of(name: str, text: str, wanted: Set[str], role_of: RoleOf) -> str:
+    """Returns the delimiter that fits the heading and the rows best: with most wanted columns, then usual ones, then
+    with several columns, then with most rows of as many cells as the heading. Raises RefusedFaults if two do."""
+    fits = {}
+    for delimiter in (",", ";", "\t"):
+        rows = sample(text, delimiter)
+        place = heading_of(rows, wanted, role_of)
+        heading, below = (rows[place][1], rows[place + 1:]) if rows else ([], [])
+        alike = sum(len(row) == len(heading) for _, row in below) / max(1, len(below))
+        fits[delimiter] = len(wanted & {*heading}), roles_in(heading, role_of), len(heading) > 1, alike
     best = max(fits.values())
     fitting = [delimiter for delimiter, fit in fits.items() if fit == best]
     if len(fitting) > 1 and best[2]:
@@ -231,11 +225,6 @@ def delimiter_of(name: str, text: str, wanted: Iterable[str], role_of: RoleOf) -
         raise RefusedFaults([Fault(f"{' and '.join(named)} may both be the delimiter; say "
                                    + " or ".join(argument("delimiter", sign) for sign in named[:2]), name, 1)])
     return fitting[0]
-
-
-def texts_of(cells: Iterable[Cell]) -> list[str]:
-    """Returns cells as texts."""
-    return [text_of(cell) for cell in cells]
 
 
 def stored(cell: Any) -> Cell:
@@ -264,15 +253,20 @@ class Sheet:
     delimiter = sign = ","
     fault: Fault | None = None
 
-    def __init__(self, name: str, written: str, rules: Rules, rows: Callable[[], Iterator[Row]]) -> None:
-        """Takes what yields the line in which each row begins, and its cells."""
-        self.name, self.written, self.rules, self.rows = name, written, rules, rows
+    def __init__(self, name: str, written: str, rules: Rules, stored: Callable[[], Iterable[Sequence[Any]]]) -> None:
+        """Takes what gives the cells of each row, as a sheet or a frame stores them."""
+        self.name, self.written, self.rules, self.stored = name, written, rules, stored
         self.columns: dict[str, Column] = {}
 
-    def find_heading(self, wanted: Sequence[str] = (), role_of: RoleOf = no_role) -> None:
+    def rows(self) -> Iterator[Row]:
+        """Yields the line in which each row begins, and its cells."""
+        for line, cells in enumerate(self.stored(), 1):
+            yield line, [stored(cell) for cell in cells]
+
+    def find_heading(self, wanted: Iterable[str] = (), role_of: RoleOf = lambda cell: None) -> None:
         """Finds the heading among the first rows, by wanted names or usual ones."""
-        rows = self.head(wanted, role_of)
-        place = heading_of([cells for _, cells in rows], wanted, role_of)
+        rows = self.head({*wanted}, role_of)
+        place = heading_of(rows, {*wanted}, role_of)
         self.line, self.heading = rows[place] if rows else (1, [])
         self.titles, self.first_rows = rows[:place], rows[place + 1:place + 1 + SHOWN_ROWS]
 
@@ -285,14 +279,14 @@ class Sheet:
         """Yields the line in which each row below the heading begins, and its cells."""
         yield from itertools.dropwhile(lambda row: row[0] <= self.line, self.rows())
 
-    def head(self, wanted: Sequence[str], role_of: RoleOf) -> list[tuple[int, list[str]]]:
+    def head(self, wanted: Set[str], role_of: RoleOf) -> list[TextRow]:
         """Returns the first rows as texts, with the lines in which they begin."""
-        return [(line, texts_of(cells)) for line, cells in itertools.islice(self.rows(), SAMPLE_ROWS)]
+        return [(line, [*map(text_of, cells)]) for line, cells in itertools.islice(self.rows(), SAMPLE_ROWS)]
 
     def texts(self, lines: Iterable[int]) -> dict[int, str]:
         """Returns the text of each of the rows that begin in these lines."""
         wanted = {*lines}
-        return {line: ",".join(texts_of(cells)) for line, cells in self.rows() if line in wanted} if wanted else {}
+        return {line: ",".join(map(text_of, cells)) for line, cells in self.rows() if line in wanted} if wanted else {}
 
     def place(self, text: str, line: int, place: int) -> tuple[int, int]:
         """Returns the line and the column in which a cell of a row begins, by the text of the row."""
@@ -305,11 +299,11 @@ class TextSheet(Sheet):
     def __init__(self, path: Path, name: str, rules: Rules) -> None:
         self.path, self.state = path, state_of(path)
         self.encoding, self.text, fault = head_of(path, name, rules)
-        super().__init__(name, self.encoding, rules, self._rows)
+        super().__init__(name, self.encoding, rules, list)
         self.fault = fault
         self.delimiter = DELIMITERS[rules.delimiter or ","]
 
-    def head(self, wanted: Sequence[str], role_of: RoleOf) -> list[tuple[int, list[str]]]:
+    def head(self, wanted: Set[str], role_of: RoleOf) -> list[TextRow]:
         """Returns the first rows, by the delimiter that fits best."""
         if not self.rules.delimiter:
             self.delimiter = delimiter_of(self.name, self.text, wanted, role_of)
@@ -317,8 +311,8 @@ class TextSheet(Sheet):
         self.written = f"{self.encoding}, delimiter {self.sign}"
         return sample(self.text, self.delimiter)
 
-    def _rows(self) -> Iterator[Row]:
-        """Yields the rows. Raises RefusedFaults for bytes or quotes that can't be read."""
+    def rows(self) -> Iterator[Row]:
+        """Yields the rows with their lines. Raises RefusedFaults for bytes or quotes that can't be read."""
         with self._lines() as lines:
             yield from rows_of_lines(self.name, lines, self.delimiter)
 
@@ -349,9 +343,9 @@ class TextSheet(Sheet):
         if self.encoding.startswith("utf-16"):
             return Fault(f"a byte is not {self.encoding}; say another {argument('encoding')}, {EXPORT}", self.name)
         with self.path.open("rb") as file:
-            lines = iter(lambda: file.readline(HEAD_BYTES), b"")
-            return next(fault for number, line in enumerate(lines, 1)
-                        for fault in text_faults(self.name, line, self.encoding, number))
+            lines = enumerate(iter(lambda: file.readline(HEAD_BYTES), b""), 1)
+            faults = (decoded(self.name, line, self.encoding, True, number)[1] for number, line in lines)
+            return next(filter(None, faults))
 
     def texts(self, lines: Iterable[int]) -> dict[int, str]:
         """Returns the text of each of the rows that begin in these lines, as it stands in the file."""
@@ -395,24 +389,18 @@ def sheet_of_book(path: Path, sheet: str | None, rules: Rules) -> Sheet:
         raise Refused(f"{path}: which sheet is meant is not clear; say {path}!SHEET; the sheets are: {known}")
     name, state, table = f"{path}{f'!{sheet}' if sheet else ''}", state_of(path), book[sheet or names[0]]
 
-    def rows() -> Iterator[Row]:
+    def rows() -> Iterator[Sequence[Any]]:
         with unchanged(path, name, state):
             table.reset_dimensions()
-            for number, cells in enumerate(table.iter_rows(values_only=True), 1):
-                yield number, [stored(cell) for cell in cells]
+            yield from table.iter_rows(values_only=True)
     return Sheet(name, f"sheet {sheet or names[0]}", rules, rows)
 
 
 def sheet_of_frame(frame: pd.DataFrame, name: str, rules: Rules) -> Sheet:
     """Returns a DataFrame as a sheet, with its index as columns if that has names. Its heading is line 1."""
-    if any(it is not None for it in frame.index.names):
-        frame = frame.reset_index()
-
-    def rows() -> Iterator[Row]:
-        yield 1, [str(name) for name in frame.columns]
-        for number, cells in enumerate(frame.itertuples(index=False, name=None), 2):
-            yield number, [stored(cell) for cell in cells]
-    return Sheet(name, "DataFrame", rules, rows)
+    table = frame.reset_index() if any(it is not None for it in frame.index.names) else frame
+    return Sheet(name, "DataFrame", rules, lambda: itertools.chain(
+        [[*map(str, table.columns)]], table.itertuples(index=False, name=None)))
 
 
 @contextlib.contextmanager
