@@ -5,6 +5,7 @@ import contextlib
 import datetime
 import json
 import tempfile
+from collections import Counter
 from collections.abc import Iterator, Mapping, Sequence
 from dataclasses import dataclass, field
 from pathlib import Path
@@ -40,9 +41,8 @@ class Catalogue:
 
     def fact(self, name: str) -> Json:
         """Returns a fact: `counts`, `found`, `said`, `every`, `decimals` or `periods`."""
-        with self.opened() as its:
-            fact: Json = its.fact(name)
-        return fact
+        with self.opened() as read:
+            return cast(Json, read.fact(name))
 
     @property
     def counts(self) -> Counts:
@@ -62,16 +62,15 @@ class Catalogue:
     @property
     def missing(self) -> list[str]:
         """Returns what is lost: one line for each file, and for the items, whose counts do not add up."""
-        counts = self.counts
-        return missing_of(counts, counts["items"]["ready"])
+        return missing_of(self.counts, self.counts["items"]["ready"])
 
     @property
     def rejects(self) -> pd.DataFrame:
         """Returns what was left out or is suspicious: kind (row, item, suspicious), file, line, item, column, text,
         reason, advice, and rows (of demand that are left out)."""
         from ..pages.catalogue_tables import rejects_of
-        with self.opened() as its:
-            return rejects_of(its.rejects()).frame
+        with self.opened() as read:
+            return rejects_of(read.rejects()).frame
 
 
 def missing_of(counts: Counts, answered: int) -> list[str]:
@@ -166,13 +165,12 @@ def found_text(reader: Reader) -> str:
     lines = ["[catalogue]", f"every = {json.dumps(record.every)}",
              f"# the record: {record.first} to {record.last}, {len(record.periods):,} {record.every}s"]
     for kind, rows in reader.rows.items():
+        amounts = {role: reader.amounts[role] for role in AMOUNTS[kind]}
         lines += ["", f"[catalogue.{kind}]", *_file_lines(kind, rows), *_date_lines(rows, reader.dates[kind])]
-        for place, role in enumerate(AMOUNTS[kind]):
-            amounts = reader.amounts[role]
-            if amounts.stated and not place:
-                lines.append(f"# the decimal sign is {NAMES[amounts.stated]}, as stated")
-            signs = " and ".join(f"{NAMES[sign]} in {on_one_line(text)}"
-                                 for sign, text in sorted(amounts.sides.items()))
+        lines += [f"# the decimal sign is {NAMES[stated]}, as stated"
+                  for stated in {its.stated for its in amounts.values() if its.stated}]
+        for role, its in amounts.items():
+            signs = " and ".join(f"{NAMES[sign]} in {on_one_line(text)}" for sign, text in sorted(its.sides.items()))
             lines += [f"# the decimal sign of {role} is {signs}"] * bool(signs)
     return worded("\n".join(lines)) + "\n"
 
@@ -196,28 +194,25 @@ def _file_lines(kind: str, rows: Rows) -> Iterator[str]:
     unused = [on_one_line(name) for place, name in enumerate(sheet.heading) if name and place not in places]
     if unused:
         yield f"# not used: {', '.join(unused)}"
-    for _, row in sheet.first_rows:
-        yield f"# row: {' | '.join(map(on_one_line, row))}"
+    yield from (f"# row: {' | '.join(map(on_one_line, cells))}" for _, cells in sheet.first_rows)
 
 
 def _date_lines(rows: Rows, reader: DateReader) -> Iterator[str]:
     """Yields a line for each form of the dates of a table, and says what decides a form that could be two."""
-    forms: dict[str, tuple[str, int]] = {}
-    unclear = 0
+    firsts, counts, formats = dict[str, str](), Counter[str](), argument("date_formats")
     for cell, count in (pair for role in DATES for pair in rows.counts(role)):
         try:
             form = reader.read(cell)[1]
         except Unreadable as why:
-            unclear += count * (why.remark.code == "day or month")
-            continue
-        first, before = forms.get(form, (text_of(cell), 0))
-        forms[form] = first, before + count
-    formats = argument("date_formats")
-    if reader.patterns and forms:
-        yield f"# dates by {formats}: {sum(count for _, count in forms.values()):,}"
+            form = "" if why.remark.code == "day or month" else "none"
+        firsts.setdefault(form, text_of(cell))
+        counts[form] += count
+    unclear, _ = counts.pop("", 0), counts.pop("none", 0)
+    if reader.patterns and counts:
+        yield f"# dates by {formats}: {counts.total():,}"
         return
-    for form, (text, count) in sorted(forms.items()):
-        yield f"# dates as {form}: {count:,}, such as {text}"
+    for form, count in sorted(counts.items()):
+        yield f"# dates as {form}: {count:,}, such as {firsts[form]}"
     if reader.sides:
         first = " and ".join(f"the {'day' if side else 'month'} comes first in {text}"
                              for side, text in sorted(reader.sides.items()))

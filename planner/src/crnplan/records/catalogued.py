@@ -63,38 +63,37 @@ class Catalogued:
 
     def rejects(self, more: Iterable[Reject] = ()) -> Iterator[Reject]:
         """Yields what was left out or named, with more of it: by file, line, item and column."""
-        base = sqlite3.connect("")
-        with contextlib.closing(base):
+        with contextlib.closing(sqlite3.connect("")) as base:
             base.execute(f"CREATE TABLE rejects ({quoted(REJECT.names)})")
             for cells in (self.base.execute("SELECT * FROM rejects"), map(REJECT.cells, more)):
-                base.executemany(ADD_REJECT, cells)
+                base.executemany(REJECT.insert("rejects"), cells)
             yield from map(REJECT.value, base.execute(
                 'SELECT * FROM rejects ORDER BY file, line, item, kind, "column", text, remark'))
+
+    def _rows(self, columns: str, *name: str) -> sqlite3.Cursor:
+        """Returns the rows of all items in order, or of the item of a name."""
+        return self.base.execute(f"SELECT {columns} FROM items {'WHERE name = ?' * len(name)} ORDER BY name", name)
 
     def digests(self, common: str) -> Iterator[tuple[str, str]]:
         """Yields the name of each item with the digest of what its plan depends on: its facts, and what is common to
         all."""
-        for row in self.base.execute(f"SELECT {quoted(PLANNED)} FROM items ORDER BY name"):
-            yield row[0], digest_of(common, row)
+        yield from ((row[0], digest_of(common, row)) for row in self._rows(quoted(PLANNED)))
 
     def digest(self, name: str, common: str) -> str:
         """Returns the digest of what the plan of an item depends on."""
-        return digest_of(common, self.base.execute(f"SELECT {quoted(PLANNED)} FROM items WHERE name = ?",
-                                                   [name]).fetchone())
+        return digest_of(common, self._rows(quoted(PLANNED), name).fetchone())
 
     def names(self) -> Iterator[str]:
         """Yields the names of the items."""
-        for (name,) in self.base.execute("SELECT name FROM items ORDER BY name"):
-            yield name
+        yield from (name for (name,) in self._rows("name"))
 
     def items(self) -> Iterator[Item]:
         """Yields the items."""
-        yield from map(ITEM.value, self.base.execute("SELECT * FROM items ORDER BY name"))
+        yield from map(ITEM.value, self._rows("*"))
 
     def item(self, name: str) -> Item | None:
         """Returns the item of a name; None if there is none."""
-        row = self.base.execute("SELECT * FROM items WHERE name = ?", [name]).fetchone()
-        return None if row is None else ITEM.value(row)
+        return next(map(ITEM.value, self._rows("*", name)), None)
 
     def close(self) -> None:
         """Closes the file."""

@@ -37,11 +37,12 @@ DAYS = {"day": Fraction(1), "week": Fraction(7), "month": Fraction(487, 16), "ye
 # What the numbers of a role may count. A length is a time, a rate is money for one item and period.
 ROLE_UNITS = {"quantity": "count", "returned": "count", "s": "count", "S": "count", "stock": "count", "lead": "length",
               "holding": "rate", "backlog": "rate", "setup": "order", "price": "price", "fill": "share"}
-ALLOWED = {"count": ("item",), "length": ("period", *DAYS), "rate": ("period", *DAYS, "share", "percent"),
-           "order": ("order",), "price": ("item",), "share": ("share", "percent")}
-COUNTED = {"count": "items", "length": "times", "rate": "money for one item and period", "order": "money for an order",
-           "price": "money for one item", "share": "shares"}
-NUMBERED = ("count", "price")
+# The words of each, and the units that it is converted from.
+SHARES, NUMBERED = ("share", "percent"), ("count", "price")
+COUNTED = {"count": ("items", ("item",)), "length": ("times", ("period", *DAYS)),
+           "rate": ("money for one item and period", ("period", *DAYS, *SHARES)),
+           "order": ("money for an order", ("order",)), "price": ("money for one item", ("item",)),
+           "share": ("shares", SHARES)}
 MOST_NAME = 100
 NO_ROW = "there is no row below the heading; export the file again, with its rows"
 
@@ -51,24 +52,34 @@ def unit_fault(role: str, unit: str) -> str | None:
     kind = ROLE_UNITS.get(role)
     if kind is None:
         return f"the {role} has no unit"
-    is_number = unit.isdecimal() and int(unit) > 0
-    if unit in ALLOWED[kind] or kind in NUMBERED and is_number:
+    what, units = COUNTED[kind]
+    if unit in units or kind in NUMBERED and unit.isdecimal() and int(unit):
         return None
-    known = ", ".join([*ALLOWED[kind], *["or a number, as 12 for packs of 12"] * (kind in NUMBERED)])
-    return f"the {role} counts {COUNTED[kind]}, and {unit!r} is none of its units: {known}"
+    known = ", ".join([*units, *["or a number, as 12 for packs of 12"] * (kind in NUMBERED)])
+    return f"the {role} counts {what}, and {unit!r} is none of its units: {known}"
 
 
-def factor_of(role: str, unit: str, every: str) -> Fraction:
-    """Returns by what the numbers of a role are multiplied. A share of the price is one of a year."""
+def conversion(role: str, unit: str, every: str) -> tuple[Fraction, str]:
+    """Returns by what the numbers of a role are multiplied, and the words for it. A share of the price is one of a
+    year."""
     kind = ROLE_UNITS.get(role)
     if not unit:
-        return Fraction(1)
+        return Fraction(1), ""
     if unit.isdecimal():
-        return Fraction(int(unit)) if kind == "count" else 1 / Fraction(int(unit))
+        return ((Fraction(unit), f"packs of {unit} to items") if kind == "count" else
+                (1 / Fraction(unit), f"a price for {unit} to items"))
     if unit in DAYS:
-        return DAYS[unit] / DAYS[every] if kind == "length" else DAYS[every] / DAYS[unit]
-    hundredth = Fraction(1, 100) if unit == "percent" else Fraction(1)
-    return hundredth * DAYS[every] / DAYS["year"] if kind == "rate" and unit in ("share", "percent") else hundredth
+        periods = DAYS[unit] / DAYS[every]
+        return ((periods, f"{unit}s to {every}s, for orders that are placed on any day") if kind == "length" else
+                (1 / periods, f"money a {unit} to money a {every}"))
+    share = Fraction(1, 100) if unit == "percent" else Fraction(1)
+    return ((share * DAYS[every] / DAYS["year"], f"{unit} of the price and year to money an item and {every}")
+            if kind == "rate" else (share, f"{unit} to shares"))
+
+
+def converted(column: Column, role: str, every: str) -> str:
+    """Returns how the numbers of a column are converted from its unit."""
+    return f"column {column.name!r}: {role}: converted from {conversion(role, column.unit, every)[1]}"
 
 
 def periods_of(lead: Fraction) -> tuple[int, ...]:
@@ -79,19 +90,6 @@ def periods_of(lead: Fraction) -> tuple[int, ...]:
     lows = (max(1, low),) * (rest.denominator - rest.numerator)
     leads = lows + (max(1, low + 1),) * rest.numerator
     return leads if len({*leads}) > 1 else leads[:1]
-
-
-def converted(column: Column, role: str, every: str) -> str:
-    """Returns how the numbers of a column are converted from its unit."""
-    kind, unit = ROLE_UNITS.get(role), column.unit
-    how = f"{'packs of' if kind == 'count' else 'a price for'} {unit} to items"
-    if kind == "length":
-        how = f"{unit}s to {every}s, for orders that are placed on any day"
-    elif unit in ("share", "percent"):
-        how = unit + (f" of the price and year to money an item and {every}" if kind == "rate" else " to shares")
-    elif kind == "rate":
-        how = f"money a {unit} to money a {every}"
-    return f"column {column.name!r}: {role}: converted from {how}"
 
 
 def plain_name(name: str) -> str:
@@ -122,7 +120,7 @@ def bare_name(name: str) -> tuple[str, str]:
     bare = " ".join(word for word, unit in zip(words, units) if not unit and word not in BESIDE)
     # A number says more than a share, that more than a time, and that more than items.
     return bare, min(filter(None, units),
-                     key=lambda unit: (not unit.isdecimal(), unit not in ("share", "percent"), unit == "item"))
+                     key=lambda unit: (not unit.isdecimal(), unit not in SHARES, unit == "item"))
 
 
 class Finder:
@@ -150,41 +148,40 @@ class Finder:
         one.
         """
         self.plain = [plain_name(cell) for cell in heading]
+        self.bare = [bare_name(plain) for plain in self.plain]
         stated, self.wrong = stated_columns(heading, self.stated)
         for role, column in stated.items():
             self._add(role, column)
         for role in (it for it in ROLES[self.kind] if it not in self.stated):
-            places = self._places(role)
-            if len(places) > 1:
-                both = " and ".join(repr(heading[it]) for it in places)
-                self.wrong.append(f"the columns {both} may both be the {role}; say {self._argument('columns', role)}")
-            elif places:
-                self._add(role, Column(heading[places[0]], places[0], True))
+            names = [heading[place] for place in self._places(role)]
+            say = f"say {self._argument('columns', role)}"
+            if len(names) > 1:
+                self.wrong.append(f"the columns {' and '.join(map(repr, names))} may both be the {role}; {say}")
+            elif names:
+                self._add(role, Column(names[0], self._places(role)[0], True))
             elif role in NEEDED:
-                self.wrong.append(f"no column looks like the {role}; say {self._argument('columns', role)}; the "
-                                  f"columns are: {listed(heading)}")
+                self.wrong.append(f"no column looks like the {role}; {say}; the columns are: {listed(heading)}")
         return self.columns, self.wrong
 
     def _argument(self, name: str, role: str, value: str = "NAME") -> str:
-        """Returns the argument that says something of a role."""
         return argument(name, f"{self.kind}.{role}={value}")
 
     def _places(self, role: str) -> list[int]:
         """Returns the places of the columns that may have a role: those with its very name, else those with its name
         and a unit, else those that begin so."""
-        taken = {it.place for it in self.columns.values()}
-        known = {name for other, names in self.names.items() if other != role for name in names} - self.names[role]
-        free = [place for place, name in enumerate(self.plain) if place not in taken and name not in known]
-        exact = [place for place in free if self.plain[place] in self.names[role]]
-        bare = [place for place in free if role in ROLE_UNITS and bare_name(self.plain[place])[0] in self.names[role]]
-        return exact or bare or [place for place in free if bare_name(self.plain[place])[0] not in known and any(
-            len(name) > 1 and self.plain[place].startswith(f"{name} ") for name in self.names[role])]
+        mine, taken = self.names[role], {column.place for column in self.columns.values()}
+        others = self.role_of.keys() - mine
+        free = [place for place, name in enumerate(self.plain) if place not in taken and name not in others]
+        exact = [place for place in free if self.plain[place] in mine]
+        bare = [place for place in free if role in ROLE_UNITS and self.bare[place][0] in mine]
+        return exact or bare or [place for place in free if self.bare[place][0] not in others and any(
+            len(name) > 1 and self.plain[place].startswith(f"{name} ") for name in mine)]
 
     def _add(self, role: str, column: Column) -> None:
         """Adds the column of a role with its unit: the stated one, else that of its heading."""
         plain, stated = self.plain[column.place], self.units.get(role)
-        is_plain = role not in ROLE_UNITS or plain in self.names.get(role, ()) and plain not in IMPLIED
-        unit = stated or ("" if is_plain else bare_name(plain)[1])
+        is_plain = role not in ROLE_UNITS or plain in self.names[role] and plain not in IMPLIED
+        unit = stated or ("" if is_plain else self.bare[column.place][1])
         reason = unit_fault(role, unit) if unit else None
         if reason:
             origin = "is stated" if stated else f"is the unit in the heading {column.name!r}"
@@ -205,15 +202,11 @@ def listed(heading: Sequence[str]) -> str:
 
 def stated_columns(heading: Sequence[str], names: Mapping[str, str]) -> tuple[dict[str, Column], list[str]]:
     """Returns the columns that are stated for roles, and what is wrong with those that a heading doesn't have once."""
-    columns: dict[str, Column] = {}
-    wrong: list[str] = []
-    for role, name in names.items():
-        if heading.count(name) == 1:
-            columns[role] = Column(name, heading.index(name))
-            continue
+    columns = {role: Column(name, heading.index(name)) for role, name in names.items() if heading.count(name) == 1}
+    wrong = []
+    for role, name in ((role, name) for role, name in names.items() if role not in columns):
         how_many, advice = ("more than one", "; rename all but one") if name in heading else ("no", "")
-        wrong.append(f"{how_many} column {name!r} (stated as {role}); the columns are: {listed(heading)}"
-                     f"{advice}")
+        wrong.append(f"{how_many} column {name!r} (stated as {role}); the columns are: {listed(heading)}{advice}")
     return columns, wrong
 
 

@@ -11,7 +11,7 @@ import numpy as np
 
 from ..errors import Fault, Refused, RefusedFaults, argument
 from .cells import EVERY, NEED_PERIOD, Unreadable, first_day, named_lines, period_name, period_of
-from .columns import converted, factor_of, periods_of
+from .columns import conversion, converted, periods_of
 from .observed import CHANGE, Day, History, LeadTimes, ends_of, summed, too_long
 from .reading import Reading, RefusedFiles, Said
 from .sources import Rules, Sheet, Table, opened
@@ -222,7 +222,7 @@ def _lead_times(reading: Reading, every: str | None) -> LeadTimes:
         reading.note(f"column {column.name!r}: its numbers are taken as periods")
     elif column.unit and column.unit != every:
         reading.note(converted(column, "lead", str(every)))
-        leads = [periods_of(number * factor_of("lead", column.unit, str(every))) for number in numbers]
+        leads = [periods_of(number * conversion("lead", column.unit, str(every))[0]) for number in numbers]
     places = reading.places([reading.said(reading.text("lead", row), row, "lead")
                              for row, its in zip(reading.used, leads) for _ in its])
     return LeadTimes(tuple(lead for its in leads for lead in its), places, *reading.finish(), None)

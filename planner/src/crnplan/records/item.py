@@ -13,7 +13,7 @@ from ..formats import MOST_DEMAND, MOST_LEAD
 from ..money import MOST_DECIMALS
 from ..remarks import Remark
 from .cells import UNPRINTABLE, AmountReader, Cell, CellFault, Unreadable, fault
-from .columns import DAYS, UNITS, factor_of, periods_of
+from .columns import DAYS, UNITS, conversion, periods_of
 from .sources import Column
 
 # The roles with amounts by table, and those with money, whose decimals say what the smallest unit is.
@@ -97,7 +97,7 @@ def leads_of(cell: Cell, unit: str, every: str) -> list[int]:
         if is_periods and number.denominator > 1:
             raise Unreadable("no lead time", cell)
         is_whole = is_periods or number == 0
-        leads += [int(number)] if is_whole else periods_of(number * factor_of("lead", own, every))
+        leads += [int(number)] if is_whole else periods_of(number * conversion("lead", own, every)[0])
     for lead in leads:
         if not 1 <= lead <= MOST_LEAD:
             raise Unreadable("lead range", lead=lead, most=MOST_LEAD)
@@ -109,7 +109,7 @@ class Masters:
 
     def __init__(self, amounts: Mapping[str, AmountReader], columns: Mapping[str, Column], every: str) -> None:
         units = {role: column.unit for role, column in columns.items() if column.unit}
-        self.factors = {role: factor_of(role, unit, every) for role, unit in units.items()
+        self.factors = {role: conversion(role, unit, every)[0] for role, unit in units.items()
                         if role not in ("lead", "fill")}
         self.share = units["holding"] if units.get("holding") in ("share", "percent") else ""
         number = {role: reader.number for role, reader in amounts.items()}

@@ -17,7 +17,7 @@ from ..remarks import Remark
 from .catalogued import Reject
 from .cells import (EVERY, TOTAL, UNPRINTABLE, Cell, CellFault, Unreadable, fault, named_lines, on_one_line, period_name,
                     period_of, text_of)
-from .columns import ROLES, factor_of, unit_fault
+from .columns import ROLES, conversion, unit_fault
 from .item import AMOUNTS, MONEY, Item, Masters
 from .observed import Day, Numbers, ends_of, record_of, summed
 from .rows import Flags, Rows, far_above
@@ -197,7 +197,7 @@ class Reader:
 
     def _amount(self, role: str) -> Callable[[Cell], int]:
         """Returns what reads the amounts of movements in items."""
-        factor = int(factor_of(role, self.rows["demand"].sheet.columns[role].unit, self.words.every))
+        factor = int(conversion(role, self.rows["demand"].sheet.columns[role].unit, self.words.every)[0])
 
         def read(cell: Cell) -> int:
             if role == "returned" and cell == "":

@@ -16,7 +16,7 @@ from ..files import faults_of, new_file
 from ..formats import MOST_WEIGHT
 from ..table import DataTable, text, whole
 from .cells import MOST_NAMED, TOTAL, Cell, Unreadable, named_lines, other_reading, said, shown, text_of
-from .columns import DAYS, NO_ROW, bare_name, converted, factor_of, plain_name, stated_columns
+from .columns import DAYS, NO_ROW, bare_name, conversion, converted, plain_name, stated_columns
 from .observed import Day
 from .rows import DATES, TIMES_NEXT, Rows, far_above
 from .sources import Column, Sheet
@@ -177,7 +177,7 @@ class Reading:
             number = reader.whole(cell, if_empty)
             if least is not None and number < least:
                 raise Unreadable(code, cell)
-            return number * int(factor_of(role, packs, ""))
+            return number * int(conversion(role, packs, "")[0])
         return self.read(role, amount)
 
     def take(self, good: Sequence[bool]) -> None:
