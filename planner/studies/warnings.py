@@ -107,7 +107,7 @@ def histories(draw: Callable[[], Whole]) -> Iterator[list[int]]:
 def p_values(numbers: list[int]) -> dict[str, float]:
     """Returns the p value of each test."""
     seasons, _ = seasons_of(None, 1, len(numbers), YEAR)
-    kinds = statistics_of({it.name: np.array(it.parts) for it in seasons})
+    kinds = statistics_of({it.name: it.part_of for it in seasons})
     return {name: p_value(its) for name, its in Orders(numbers).statistics(kinds).items()}
 
 

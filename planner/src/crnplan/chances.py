@@ -18,8 +18,7 @@ DEMANDS = np.arange(MOST_DEMAND + 1)  # all that a scenario can have
 
 def scaled(chances: Floats) -> Floats:
     """Returns chances with a sum of 1."""
-    law: Floats = chances / chances.sum()
-    return law
+    return np.asarray(chances / chances.sum())
 
 
 def cut(chances: Floats) -> Floats:

@@ -11,7 +11,7 @@ import pytest
 from scipy import stats
 
 from crnplan.chances import Floats
-from crnplan.demand import grid
+from crnplan.demand import learning as grid
 from crnplan.law import Law
 
 ERRATIC = [0, 3, 1, 9, 0, 0, 2, 5, 14, 1, 0, 4, 2, 2, 7, 0, 1, 3, 21, 0, 6, 1]

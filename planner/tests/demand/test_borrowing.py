@@ -18,12 +18,11 @@ from scipy import special, stats
 
 import crnplan as crn
 from crnplan.chances import Floats
-from crnplan.demand import grid, learning
+from crnplan.demand import learning, learning as grid
 from crnplan.demand.borrowing import Borrowed, Posterior, borrowed_laws, law_of
 from crnplan.demand.fitted import FittedLaw, notes_of
 from crnplan.demand.fitting import fit_demand, share_of
-from crnplan.demand.grid import Cells, chunks_of, marginal
-from crnplan.demand.learning import Learned, Prior, learn
+from crnplan.demand.learning import Cells, Learned, Prior, chunks_of, learn, marginal
 from crnplan.demand.posterior import allowed_laws
 from crnplan.demand.sample import Sample
 from crnplan.errors import Refused, RefusedFaults
@@ -97,7 +96,7 @@ def test_many_histories_in_chunks(monkeypatch: pytest.MonkeyPatch, mixed: dict[s
     """Likelihoods and steps are the same however many histories are computed with at once."""
     samples = [Sample.of(it) for it in mixed.values()]
     whole = chunks_of(samples)
-    monkeypatch.setattr("crnplan.demand.grid.CHUNK", 7)
+    monkeypatch.setattr("crnplan.demand.learning.CHUNK", 7)
     parts = chunks_of(samples)
     assert (len(whole), len(parts)) == (1, 19)
     prior = ONE_STEP(whole, grid.FLAT, grid.FLAT)
@@ -122,7 +121,7 @@ def test_posterior_on_few_cells(seed: int, numbers: list[int]) -> None:
     found = Posterior.of(Sample.of(numbers), prior)
     below = np.cumsum(law)[:len(found.predictive)] / weights.sum()
     assert np.allclose(np.cumsum(found.predictive), below, rtol=0, atol=2e-7)
-    assert found.log10_bayes == pytest.approx(math.log10(weights.sum() / likelihoods.mean()))
+    assert found.bayes == pytest.approx(weights.sum() / likelihoods.mean())
 
 
 def test_known_law_is_learned(known: Prior) -> None:

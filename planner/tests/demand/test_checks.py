@@ -18,8 +18,9 @@ from scipy import optimize, stats
 import crnplan as crn
 from crnplan.demand.checks import (STUDIED, Check, Checks, Loss, Season, check_history, loss_of, losses, outliers_of,
                                    remarks_of, rosner_bound, seasons_of)
-from crnplan.demand.permutation import (Orders, Tilted, autocorrelation_seen, bound_of, drawn_orders, least_seen,
-                                        p_value, season_seen, statistics_of, trend_seen)
+from crnplan.demand.permutation import (Orders, autocorrelation_seen, bound_of, drawn_orders, least_seen, p_value,
+                                        season_seen, statistics_of, tilted, trend_seen)
+from crnplan.demand.sample import Sample
 from crnplan.errors import Refused, spelt
 from crnplan.records.cells import period_of
 from crnplan.remarks import Remark
@@ -146,8 +147,8 @@ def test_quarters() -> None:
     assert "times the mean from October to December, " in said(checks.warnings)[0]
     months, = seasons(36, date(2023, 3, 1), "month")
     weeks, = seasons(120, date(2024, 1, 1), "week")
-    assert months.parts[:11] == (0, 1, 1, 1, 2, 2, 2, 3, 3, 3, 0)
-    assert weeks.parts[12:14] == (0, 1) and weeks.parts[51:53] == (3, 0)
+    assert months.part_of[:11].tolist() == [0, 1, 1, 1, 2, 2, 2, 3, 3, 3, 0]
+    assert weeks.part_of[12:14].tolist() == [0, 1] and weeks.part_of[51:53].tolist() == [3, 0]
 
 
 def test_weekdays() -> None:
@@ -159,7 +160,7 @@ def test_weekdays() -> None:
     assert said(checks.unknown)[-1] == "a season is tested from 730 days on" and named(checks, "weekday").p < 0.002
     weekday, season = seasons(800, date(2024, 1, 1), "day")
     assert (weekday.name, weekday.length, season.name, season.length) == ("weekday", 7, "season", 365)
-    assert season.parts[:92] == (0,) * 91 + (1,) and weekday.parts[:8] == (0, 1, 2, 3, 4, 5, 6, 0)
+    assert season.part_of[:92].tolist() == [0] * 91 + [1] and weekday.part_of[:8].tolist() == [0, 1, 2, 3, 4, 5, 6, 0]
     short, untested = seasons_of("day", period_of(date(2024, 1, 1), "day"), 12, None)
     assert not short and said(untested)[0] == "weekdays are tested from 14 days on"
 
@@ -309,7 +310,7 @@ def test_any_history(numbers: list[int], season: int | None) -> None:
     assert not checks.tests or len(checks.tests) == 3 + (season is not None and 2 * season <= len(numbers))
 
 
-def tilted(numbers: Sequence[int], mean: float) -> Any:
+def tilted_to(numbers: Sequence[int], mean: float) -> Any:
     """Returns the chances of distinct numbers, tilted to a mean that is found by its equation."""
     values, counts = np.unique(numbers, return_counts=True)
 
@@ -326,11 +327,11 @@ def test_power(kind: str, size: float, numbers: list[int]) -> None:
     """The chance that an effect is seen is the share of drawn histories whose own p value is at most the level."""
     count, parts = len(numbers), np.arange(104) % 52 // 13
     orders, kinds, level = Orders(numbers), statistics_of({"season": parts}), 0.0125
-    law, bound = Tilted(orders), bound_of(orders.statistics({kind: kinds[kind]})[kind], level)
+    law, bound = tilted(Sample.of(numbers)), bound_of(orders.statistics({kind: kinds[kind]})[kind], level)
     stated = trend_seen(law, count, bound, size) if kind == "trend" else season_seen(law, count, 52, 4, bound, size)
     effect = np.linspace(-1, 1, count) if kind == "trend" else np.sin(2 * np.pi * (np.arange(count) + 0.5) / 52)
     factors, places = np.unique(np.round(1 + size * effect, 3), return_inverse=True)
-    below = np.cumsum([tilted(numbers, it * np.mean(numbers)) for it in factors], axis=1)[places]
+    below = np.cumsum([tilted_to(numbers, it * np.mean(numbers)) for it in factors], axis=1)[places]
     random, seen = np.random.default_rng(5), []
     for _ in range(250):
         drawn = np.unique(numbers)[np.minimum((random.random((count, 1)) > below).sum(axis=1), below.shape[1] - 1)]
@@ -343,8 +344,8 @@ def test_seasons_that_are_all_of_a_history(numbers: list[int], season: int) -> N
     """With two sizes, the largest seasons leave nothing to vary within a part. They are seen if any season is."""
     test = named(check_history(numbers, season=season), "season")
     assert test.least_seen == math.inf or test.least_seen <= 1
-    seen = season_seen(Tilted(Orders(numbers)), len(numbers), season, season, len(numbers) - 1.5, 1.0)
-    assert seen == 1 and season_seen(Tilted(Orders(numbers)), len(numbers), season, season, math.inf, 1.0) == 0
+    seen = season_seen(tilted(Sample.of(numbers)), len(numbers), season, season, len(numbers) - 1.5, 1.0)
+    assert seen == 1 and season_seen(tilted(Sample.of(numbers)), len(numbers), season, season, math.inf, 1.0) == 0
 
 
 def test_power_of_autocorrelation() -> None:

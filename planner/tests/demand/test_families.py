@@ -2,7 +2,6 @@
 from __future__ import annotations
 
 import math
-import statistics
 from collections.abc import Callable, Sequence
 
 import numpy as np
@@ -245,13 +244,12 @@ def test_beta_negative_binomial(size: float, periods: int, total: int, most_mean
 @given(st.lists(st.integers(0, 9), min_size=8, max_size=8).filter(any),
        st.integers(2, 9).flatmap(lambda size: st.lists(
            st.lists(st.integers(0, 7), min_size=size, max_size=size), min_size=1, max_size=4)))
-def test_distances_and_variances_by_definition(weights: list[int], histories: list[list[int]]) -> None:
-    """Both are those of sums over all cells, and of the standard library."""
+def test_distances_by_definition(weights: list[int], histories: list[list[int]]) -> None:
+    """They are sums over all cells."""
     chances, rows, cells = np.array(weights) / sum(weights), np.sort(histories), np.arange(8)
     shares = [(row[:, None] <= cells).mean(axis=0) for row in rows]
     expected = [len(rows[0]) * float(chances @ (share - np.cumsum(chances))**2) for share in shares]
     assert guard.distances(rows, chances) == pytest.approx(expected, abs=1e-12)
-    assert guard.variances_of(rows) == pytest.approx([statistics.variance(row) for row in rows.tolist()], rel=1e-15)
 
 
 def test_guard() -> None:

@@ -6,6 +6,7 @@ has the law that this prior and its own history say (Robbins, An empirical Bayes
 """
 from __future__ import annotations
 
+import math
 from collections.abc import Iterable
 from dataclasses import dataclass, replace
 from functools import cached_property
@@ -20,8 +21,8 @@ from ..records.observed import Observed
 from ..remarks import Remark
 from .fitted import Borrowed, Diagnostics, FittedLaw
 from .fitting import boxes_of, cap_of, family_law, share_of
-from .grid import FLAT, MOST_SIZE, SHARES, SIZE_CELLS, share_likelihoods, size_laws, size_likelihoods
-from .learning import NONE, Prior, is_outside
+from .learning import (FLAT, MOST_SIZE, NONE, SHARES, SIZE_CELLS, Prior, is_outside, share_likelihoods, size_laws,
+                       size_likelihoods)
 from .posterior import AllowedLaws, allowed_laws, law_of_chances, random_of, round_history, stratified
 from .sample import Sample, shares_of
 
@@ -29,7 +30,6 @@ FAMILY = "borrowed"
 LEVEL = 0.05  # Each share of the guard is above it, else the law of the single item is taken.
 ROWS = 4  # of uniform numbers for a drawn law; the last one chooses its part
 LEAST_CHANCE = 1e-12  # of a cell that counts in a predictive law
-ALIKE = 0.5  # beforehand, the chance that an item is one of those that the prior was learned from
 
 
 @dataclass(frozen=True, eq=False)
@@ -48,22 +48,12 @@ class Posterior:
         """Computes the likelihoods of a history."""
         return cls(packs, prior, share_likelihoods([packs])[0], size_likelihoods([packs])[0])
 
-    def likelihood(self, prior: Floats) -> float:
-        """Returns the likelihood of the history under a prior, but for a factor that all priors share."""
-        return float(self.shares.mean(axis=1) @ prior @ self.sizes.mean(axis=1))
-
-    @property
-    def log10_bayes(self) -> float:
-        """Returns the log10 of the Bayes factor (Kass and Raftery, Bayes factors, 1995, section 2) for the prior
-        against the flat one."""
-        return float(np.log10(self.likelihood(self.prior) / self.likelihood(FLAT)))
-
-    @property
-    def alike(self) -> float:
-        """Returns the chance that the item is one of those that the prior was learned from, and not of the flat prior
-        (Berger and Berliner, Robust Bayes and empirical Bayes analysis with epsilon-contaminated priors, 1986)."""
-        learned, flat = ALIKE * self.likelihood(self.prior), (1 - ALIKE) * self.likelihood(FLAT)
-        return learned / (learned + flat)
+    @cached_property
+    def bayes(self) -> float:
+        """Returns the Bayes factor (Kass and Raftery, Bayes factors, 1995, section 2) for the prior against the flat
+        one."""
+        shares, sizes = self.shares.mean(axis=1), self.sizes.mean(axis=1)
+        return float(shares @ self.prior @ sizes / (shares @ FLAT @ sizes))
 
     @cached_property
     def predictive(self) -> Floats:
@@ -104,8 +94,7 @@ class Posterior:
 def places(weights: Floats, uniform: Floats) -> Whole:
     """Draws a place in each row of weights by a uniform number."""
     below = np.cumsum(weights, axis=1)
-    drawn: Whole = (below[:, :-1] <= uniform[:, None] * below[:, -1:]).sum(axis=1)
-    return drawn
+    return np.asarray((below[:, :-1] <= uniform[:, None] * below[:, -1:]).sum(axis=1))
 
 
 def why_alone(prior: Prior, sample: Sample, box: int) -> Remark | None:
@@ -125,23 +114,24 @@ def looked_at(prior: Prior, sample: Sample, item_class: str | None,
               box: int) -> tuple[Borrowed, list[tuple[float, Posterior]]]:
     """Returns what is known of an item, and the parts of its law; none if the law of the item alone is to be taken.
 
-    The parts, by the learned prior and by the flat one, have the weights that they are likely with after the history.
-    Under the flat prior, demands are at most as large as in `fit_demand`. An item with no or one demand has no such
-    part.
+    The parts, by the learned prior and by the flat one, have the weights that they are likely with after the history,
+    from even odds (Berger and Berliner, Robust Bayes and empirical Bayes analysis with epsilon-contaminated priors,
+    1986). Under the flat prior, demands are at most as large as in `fit_demand`. An item with no or one demand has no
+    such part.
     """
     name, learned = prior.of_item(item_class, sample.pack)
     known, packs = Borrowed(sample.demands, name, why_alone(prior, sample, box)), sample.packs
     if known.alone or not learned:
         return known, []
     posterior = Posterior.of(packs, learned.chances)
-    known = replace(known, log10_bayes=posterior.log10_bayes)
+    known = replace(known, log10_bayes=math.log10(posterior.bayes))
     if known.few:
         return replace(known, share=posterior.share), [(1.0, posterior)]
     guard = shares_of(packs, posterior.predictive)
     known = replace(known, guard=guard)
     if min(guard) <= LEVEL:
         return replace(known, alone=Remark("unlike histories")), []
-    alike, flat = posterior.alike, replace(posterior, prior=FLAT, most=cap_of(packs))
+    alike, flat = posterior.bayes / (1 + posterior.bayes), replace(posterior, prior=FLAT, most=cap_of(packs))
     return replace(known, share=alike * posterior.share), [(alike, posterior), (1 - alike, flat)]
 
 

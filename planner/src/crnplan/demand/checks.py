@@ -1,14 +1,11 @@
-"""Checks whether a history is what a table takes it for: many independent periods of one law.
-
-What is found is said in codes with facts; words are made of them where they are shown.
-"""
+"""Checks whether a history is what a table takes it for: many independent periods of one law."""
 from __future__ import annotations
 
 import datetime
 import functools
 import math
 import tomllib
-from collections.abc import Callable, Iterable, Iterator, Sequence
+from collections.abc import Callable, Iterable, Iterator, Mapping, Sequence
 from dataclasses import dataclass, field, replace
 from functools import cached_property, partial
 from pathlib import Path
@@ -17,7 +14,7 @@ from typing import TYPE_CHECKING, NamedTuple
 import numpy as np
 from scipy import special
 
-from ..chances import Floats
+from ..chances import Floats, Whole
 from ..errors import Refused
 from ..money import Number, whole
 from ..records.cells import first_day, period_name
@@ -25,8 +22,8 @@ from ..records.observed import History, Observed
 from ..remarks import Remark, Value
 from ..words import advised, sentence
 from .fitted import numbers_of
-from .permutation import (Orders, Tilted, autocorrelation_seen, autocorrelations, bound_of, centred, least_seen,
-                          p_value, places_of, season_seen, squares_of, statistics_of, steps, trend, trend_seen)
+from .permutation import (Orders, autocorrelation_seen, autocorrelations, bound_of, centred, least_seen, p_value,
+                          places_of, season_seen, shift, statistics_of, steps, tilted, trend, trend_seen)
 from .sample import Sample
 
 if TYPE_CHECKING:
@@ -41,7 +38,8 @@ NO_DEMAND = 0.05
 # Demands far above all others: the chance to find one where there is none, how many are looked for, and among how many.
 OUTLIERS, MOST_OUTLIERS, LEAST_DEMANDS = 0.01, 3, 10
 # The seasons of dated periods: their names, with how many periods each has.
-CALENDAR = {"day": {"weekday": 7, "season": 365}, "week": {"season": 52}, "month": {"season": 12}}
+CALENDAR: dict[str | None, dict[str, int]] = {
+    None: {}, "day": {"weekday": 7, "season": 365}, "week": {"season": 52}, "month": {"season": 12}}
 YEARS = 2  # of a season, before it is tested
 MOST_PARTS, PARTS = 7, 4  # A longer season is divided into so many parts.
 # The laws of demand of the study planner/studies/dependence.py, with their coefficients of variation.
@@ -49,61 +47,56 @@ STUDIED = {"steady": 0.316, "erratic": 1.0}
 Effect = tuple[float, dict[str, Value]]  # its size, and the facts for its words
 
 
-@dataclass(frozen=True)
-class Season:
-    """A season of a history: its name, how many periods it has, the part of each period, and of each part its first and
-    its last weekday, quarter or place in the season, from 1 on. `unit` says which of these."""
+class Season(NamedTuple):
+    """A season of a history: its name, how many periods it has, the part of each period, how many parts there are, and
+    of what: weekdays, quarters or places in the season."""
 
     name: str
     length: int
-    parts: tuple[int, ...]
-    ends: tuple[tuple[int, int], ...]
+    part_of: Whole
+    parts: int
     unit: str
+
+    def ends(self, part: int) -> tuple[int, int]:
+        """Returns the first and the last weekday, quarter or place of a part, from 1 on."""
+        length = self.length if self.unit == "place" else self.parts
+        return -(-part * length // self.parts) + 1, -(-(part + 1) * length // self.parts)
 
 
 @functools.lru_cache(256)
-def _by_calendar(name: str, length: int, every: str, first: int, size: int) -> Season:
-    """Returns a season of the calendar. A week belongs to the quarter of its Thursday."""
+def season_of(name: str, length: int, every: str | None, first: int, size: int) -> Season:
+    """Returns a season of the calendar; without dates one that begins with the first period. A week belongs to the
+    quarter of its Thursday."""
+    if every is None:
+        parts = length if length <= MOST_PARTS else PARTS
+        return Season(name, length, np.arange(size) % length * parts // length, parts, "place")
     middle = datetime.timedelta(3 if every == "week" else 0)
     days = [first_day(first + place, every) + middle for place in range(size)]
-    parts = [day.weekday() if name == "weekday" else (day.month - 1) // 3 for day in days]
-    ends = ((part, part) for part in range(1, 8 if name == "weekday" else 5))
-    return Season(name, length, tuple(parts), tuple(ends), "weekday" if name == "weekday" else "quarter")
+    if name == "weekday":
+        return Season(name, length, np.array([day.weekday() for day in days]), 7, name)
+    return Season(name, length, np.array([(day.month - 1) // 3 for day in days]), 4, "quarter")
 
 
 def seasons_of(every: str | None, first: int, size: int, length: int | None) -> tuple[list[Season], list[Remark]]:
-    """Returns the seasons that so many periods are tested for, from the number of the first one on, and remarks on
-    those for which they are too few.
-
-    `every` is day, week or month, or None without dates. A season of a named length takes the place of those of the
-    calendar, and begins with the first period. Raises Refused for one of less than 2 periods.
-    """
+    """Returns the seasons that so many periods are tested for, and remarks on those for which they are too few. One of
+    a named length takes the place of those of the calendar. Raises Refused for one of less than 2 periods."""
     if length is not None and length < 2:
         raise Refused(f"a season of {length} periods is none; say 2 or more")
-    if length is None and every is None:
-        return [], [Remark("season untested without dates")]
-    lengths = CALENDAR[every] if length is None and every else {"season": length or 0}
+    lengths = CALENDAR[every] if length is None else {"season": length}
     short = [Remark("season untested", {"season": name, "periods": YEARS * own, "unit": every or "period"})
              for name, own in lengths.items() if size < YEARS * own]
-    if every and length is None:
-        named = lengths.items()
-        return [_by_calendar(name, own, every, first, size) for name, own in named if size >= YEARS * own], short
-    if length is None or short:
-        return [], short
-    count = length if length <= MOST_PARTS else PARTS
-    parts = [place * count // length for place in range(length)]
-    ends = tuple((parts.index(part) + 1, length - parts[::-1].index(part)) for part in range(count))
-    return [Season("season", length, tuple(parts[place % length] for place in range(size)), ends, "place")], short
+    return [season_of(name, own, None if length else every, first, size) for name, own in lengths.items()
+            if size >= YEARS * own], short if lengths else [Remark("season untested without dates")]
 
 
 @dataclass(frozen=True)
 class Check:
     """A test of a history: its p value, the size of what it found, the facts of that, and what it would have seen.
 
-    The size of an autocorrelation is that of neighbours. That of a trend is half of the mean's change over the record,
-    as a share of the mean. That of a shift is the mean after it over that before, less 1. That of a season is its
-    amplitude, as a share of the mean. `least_seen` is the least size that is seen in 8 of 10 such histories: infinity
-    if there is none, None if it is not computed.
+    The size is the autocorrelation of neighbours; half of the mean's change over the record, as a share of the mean, of
+    a trend; the mean after it over that before, less 1, of a shift; and the amplitude, as a share of the mean, of a
+    season. `least_seen` is the least size that is seen in 8 of 10 such histories: infinity if there is none, None if it
+    is not computed.
     """
 
     name: str
@@ -115,11 +108,9 @@ class Check:
 
 @dataclass(frozen=True)
 class Facts:
-    """What is checked: numbers, the period of each, and the seasons that they are many enough for.
-
-    `every` is day, week or month, or None without dates, and `first` the number of the first period. `taken` names the
-    seasons whose differences between parts are taken out of `rows`, which keeps the mean.
-    """
+    """What is checked: numbers, the seasons that they are many enough for, the number of the first period, and `every`
+    (day, week or month, None without dates). The differences between parts of the seasons that are `taken` out are not
+    in `rows`, which keep the mean."""
 
     numbers: Sequence[int]
     seasons: Sequence[Season]
@@ -137,60 +128,48 @@ class Facts:
         numbers = np.array(self.numbers, dtype=float)
         mean = numbers.mean()
         for season in (season for season in self.seasons if season.name in self.taken):
-            parts = np.array(season.parts)
-            numbers += mean - (np.bincount(parts, numbers) / np.maximum(np.bincount(parts), 1))[parts]
+            numbers += mean - _means(season, numbers)[season.part_of]
         return np.round(numbers[None], 9)
-
-    @cached_property
-    def mean(self) -> float:
-        return float(self.rows.mean())
-
-    @cached_property
-    def squares(self) -> float:
-        """Returns the sum of the squared distances from the mean."""
-        return float(squares_of(centred(self.rows))[0])
-
-    @cached_property
-    def step(self) -> tuple[int, float]:
-        """Returns the place of the first period after the step that explains most, and the sum of squares that it
-        explains."""
-        explained = steps(centred(self.rows))[0]
-        best = int(np.argmax(explained))
-        return int(places_of(len(self.numbers))[best]), float(explained[best])
 
     def autocorrelation(self) -> Effect:
         """Returns the autocorrelation of neighbours. The facts have the largest one too, if it is of another lag."""
         by_lag = autocorrelations(centred(self.rows))[:, 0]
-        largest = int(np.argmax(np.abs(by_lag)))
-        return float(by_lag[0]), {"at_1": float(by_lag[0]), "lag": largest + 1, "at_lag": float(by_lag[largest])}
+        lag, at_1 = int(np.argmax(np.abs(by_lag))), float(by_lag[0])
+        return at_1, {"at_1": at_1, "lag": lag + 1, "at_lag": float(by_lag[lag])}
 
     def trend(self) -> Effect:
         """Returns half of the rise along the straight line through a history, as a share of the mean. The facts have
         how much the mean of the last third is above that of the first; None if the first third has no demand."""
         numbers, time = self.rows[0], centred(np.arange(len(self.numbers), dtype=float))
         third = len(numbers) // 3
-        first, last = float(numbers[:third].mean()), float(numbers[-third:].mean())
         rise = float(time @ numbers / (time @ time) * time[-1])
-        return rise / self.mean, {"change": last / first - 1 if first > 0 else None}
+        return rise / float(numbers.mean()), {"change": _change(numbers[:third], numbers[-third:])}
 
     def shift(self) -> Effect:
         """Returns the mean after the step that explains most over the mean before it, less 1."""
-        numbers, place = self.rows[0], self.step[0]
-        before, after = float(numbers[:place].mean()), float(numbers[place:].mean())
+        place = int(places_of(len(self.numbers))[np.argmax(steps(centred(self.rows)))])
+        change = _change(self.rows[0, :place], self.rows[0, place:])
         since = first_day(self.first + place, self.every).isoformat() if self.every else None
-        change = after / before - 1 if before > 0 else None
         return math.inf if change is None else change, {"change": change, "name": self.name(place), "since": since}
 
     def season(self, season: Season) -> Effect:
         """Returns the amplitude of a sine whose means over the parts of a season vary as those of the history."""
-        parts = np.array(season.parts)
-        means = {part: float(self.rows[0][parts == part].mean()) / self.mean for part in np.unique(parts).tolist()}
-        width = math.pi / len(means)
-        averaged = math.sin(width) / width if season.length > len(season.ends) else 1.0  # a sine within a part
-        most, least = max(means, key=means.__getitem__), min(means, key=means.__getitem__)
-        ends = zip(("most_first", "most_last", "least_first", "least_last"), (*season.ends[most], *season.ends[least]))
-        return math.sqrt(2 * np.var([*means.values()])) / averaged, {
-            "most": means[most], "least": means[least], **dict(ends), "unit": season.unit, "length": season.length}
+        means = _means(season, self.rows[0]) / self.rows.mean()
+        width = math.pi / season.parts
+        averaged = math.sin(width) / width if season.length > season.parts else 1.0  # a sine within a part
+        most, least = int(means.argmax()), int(means.argmin())
+        ends = zip(("most_first", "most_last", "least_first", "least_last"), season.ends(most) + season.ends(least))
+        return math.sqrt(2 * means.var()) / averaged, {"most": float(means[most]), "least": float(means[least]),
+                                                       **dict(ends), "unit": season.unit, "length": season.length}
+
+
+def _means(season: Season, numbers: Floats) -> Floats:
+    return np.bincount(season.part_of, numbers) / np.bincount(season.part_of)
+
+
+def _change(before: Floats, after: Floats) -> float | None:
+    """Returns how much a mean is above another, as a share; None if that is 0."""
+    return float(after.mean() / before.mean()) - 1 if before.any() else None
 
 
 def tests_of(facts: Facts, in_full: bool = True) -> tuple[Check, ...]:
@@ -201,8 +180,7 @@ def tests_of(facts: Facts, in_full: bool = True) -> tuple[Check, ...]:
     """
     if len(facts.numbers) < LEAST_PERIODS or len({*facts.numbers}) == 1:
         return ()
-    orders = Orders(facts.numbers)
-    kinds = statistics_of({season.name: np.array(season.parts) for season in facts.seasons})
+    orders, kinds = Orders(facts.numbers), statistics_of({season.name: season.part_of for season in facts.seasons})
     level = FALSE_ALARMS / len(kinds)
     if not in_full and not orders.seen(kinds, level):
         return ()
@@ -214,24 +192,27 @@ def tests_of(facts: Facts, in_full: bool = True) -> tuple[Check, ...]:
         p_values |= {name: p_value(drawn) for name, drawn in left.items()}
     effects = {"autocorrelation": facts.autocorrelation(), "trend": rest.trend(), "shift": rest.shift(),
                **{season.name: facts.season(season) for season in facts.seasons}}
-    least: dict[str, float] = {}
-    if in_full:
-        law, count = Tilted(orders), len(facts.numbers)
-        bounds = {name: bound_of(drawn, level) for name, drawn in statistics.items()}
-        seen: dict[str, Callable[[float], float]] = {
-            "autocorrelation": partial(autocorrelation_seen, count, level),
-            "trend": partial(trend_seen, law, count, bounds["trend"]),
-            **{season.name: partial(season_seen, law, count, season.length, len(season.ends), bounds[season.name])
-               for season in facts.seasons}}
-        least = {name: least_seen(chance) for name, chance in seen.items()}
+    least = _least_seen(facts, {name: bound_of(drawn, level) for name, drawn in statistics.items()}, level) \
+        if in_full else {}
     return tuple(Check(name, p_values[name], *effects[name], least.get(name)) for name in kinds)
+
+
+def _least_seen(facts: Facts, bounds: Mapping[str, float], level: float) -> dict[str, float]:
+    """Returns what the tests of a history would have seen, but for a shift."""
+    scores, count = tilted(Sample.of(facts.numbers)), len(facts.numbers)
+    seen: dict[str, Callable[[float], float]] = {
+        "autocorrelation": partial(autocorrelation_seen, count, level),
+        "trend": partial(trend_seen, scores, count, bounds["trend"]),
+        **{season.name: partial(season_seen, scores, count, season.length, season.parts, bounds[season.name])
+           for season in facts.seasons}}
+    return {name: least_seen(chance) for name, chance in seen.items()}
 
 
 @dataclass(frozen=True)
 class Checks:
     """What is known of a history beside its table: tests of its order, warnings, notes, and what stays unknown.
 
-    Each test warns if its p value is at most `level`: 5% over the number of tests. So an independent history of one law
+    Each test warns if its p value is at most `level`, 5% over the number of tests, so an independent history of one law
     has a false alarm with a chance of at most 5% (Dunn, Multiple comparisons among means, 1961).
     """
 
@@ -288,13 +269,12 @@ def check_history(observed: Observed | Iterable[Number], *, season: int | None =
 def remarks_of(numbers: Sequence[int], every: str | None = None, first: int = 1,
                season: int | None = None) -> tuple[Remark, ...]:
     """Returns the warnings and the notes of `check_history` on whole numbers, which takes a few milliseconds. `every`
-    is day, week or month, None without dates, and `first` the number of the first period (`records.dates`)."""
+    and `first` are those of `History`."""
     checks = _checked(numbers, every, first, season, False)
     return *checks.warnings, *checks.notes
 
 
 def _checked(numbers: Sequence[int], every: str | None, first: int, season: int | None, in_full: bool) -> Checks:
-    """Returns the checks of a history; `in_full` as in `tests_of`."""
     seasons, untested = seasons_of(every, first, len(numbers), season)
     facts = Facts(numbers, seasons, every, first)
     checks = Checks(len(numbers), sum(number > 0 for number in numbers), tests_of(facts, in_full))
@@ -312,9 +292,8 @@ def _warnings(facts: Facts, checks: Checks) -> Iterator[Remark]:
     explains more is named."""
     kinds = {test.name: test for test in checks.tests if test.name in checks.warned}
     if {*LEVELS} <= {*kinds}:
-        rest = replace(facts, taken=tuple(kinds))
-        is_step = rest.step[1] / rest.squares > float(trend(rest.rows, centred(rest.rows))[0])
-        del kinds["trend" if is_step else "shift"]
+        far = centred(replace(facts, taken=tuple(kinds)).rows)
+        del kinds["trend" if shift(far, far)[0] > trend(far, far)[0] else "shift"]
     lengths = {season.name: season.length for season in facts.seasons}
     for name in (*LEVELS, "season", "weekday", "autocorrelation"):
         if name not in kinds:
@@ -322,7 +301,7 @@ def _warnings(facts: Facts, checks: Checks) -> Iterator[Remark]:
         test, is_beside, lost = kinds[name], len(kinds) > 1, dict[str, Value](study=None)
         # Of an autocorrelation beside other warnings, or below 0, it is not known what is lost by who does not heed it.
         if name != "autocorrelation" or not (is_beside or test.size < 0):
-            variation = math.sqrt(facts.squares / len(facts.numbers)) / facts.mean
+            variation = float(np.std(facts.numbers) / np.mean(facts.numbers))
             kind = "season" if name in lengths else name
             lost = loss_of(kind, test.size, variation, lengths.get(name, 0))._asdict()
         yield Remark(name, {"p": test.p, **test.facts, "beside": int(is_beside), **lost})
@@ -358,8 +337,7 @@ def loss_of(kind: str, size: float, variation: float, length: int = 0) -> Loss:
 
 
 def _notes(facts: Facts) -> Iterator[Remark]:
-    """Yields notes on packs, few demands, a long time without one, demands far above all others, and one that decides
-    the result."""
+    """Yields what `check_history` says beside the tests."""
     numbers, demands = facts.numbers, sorted((number for number in facts.numbers if number), reverse=True)
     if not demands:
         yield Remark("no demand")
@@ -381,7 +359,8 @@ def _notes(facts: Facts) -> Iterator[Remark]:
         return
     if far := len(outliers_of(demands, pack)):
         yield Remark("far demands", {"next": demands[far], **_largest(facts, far)})
-    share = (demands[0] - facts.mean)**2 / max(facts.squares, 1)
+    squares = centred(np.array(numbers, dtype=float))**2
+    share = float(squares[np.argmax(numbers)] / max(squares.sum(), 1))
     if share > DECISIVE:
         yield Remark("decisive demand", {"share": share, **_largest(facts, 1)})
 

@@ -21,9 +21,9 @@ from .sample import Shares
 
 QUANTILES = (0.95, 0.99, 0.999)
 LEAST_WEIGHT = 0.005  # of a family that is named
-# How much dearer than the best policy the chosen one is after so many lead times, in percent, if the demand is known:
-# the least and the most of the cases of the study planner/studies/laws_leads.py.
-DOUBT = {5: (2.3, 4.4), 10: (1.0, 3.0), 20: (0.5, 1.9)}
+# By which share the chosen policy is dearer than the best one after so many lead times, in percent, if the demand is
+# known: the least and the most of the cases of the study planner/studies/laws_leads.py.
+DOUBT = {"least_5": 2.3, "most_5": 4.4, "least_10": 1.0, "most_10": 3.0, "least_20": 0.5, "most_20": 1.9}
 
 
 @dataclass(frozen=True)
@@ -38,26 +38,23 @@ class Figures:
     @classmethod
     def of(cls, law: Law, *, is_sample: bool = False) -> Figures:
         """Computes the figures of a law. A sample has its unbiased variance."""
-        shares, below, size = np.array(law.weights) / law.size, np.cumsum(law.weights), law.size
-        mean = float(shares @ law.values)
-        places = np.searchsorted(below, [np.ceil(share * below[-1] - 1e-6) for share in QUANTILES])
-        quantiles = {share: law.values[place] for share, place in zip(QUANTILES, places)}
-        variance: float | None = float(shares @ (np.array(law.values) - mean)**2)
+        values, weights, size = np.array(law.values), np.array(law.weights), law.size
+        mean = float(weights / size @ values)
+        places = np.searchsorted(np.cumsum(weights), [np.ceil(share * size - 1e-6) for share in QUANTILES])
+        variance: float | None = float(weights / size @ (values - mean)**2)
         if is_sample:
-            exact = sum(value**2 * count for value, count in zip(law.values, law.weights)) - law.mean**2 * size
-            variance = float(exact / (size - 1)) if size > 1 else None
-        return cls(mean, variance, law.values[-1], quantiles)
+            variance = float((weights @ values**2 - law.mean**2 * size) / (size - 1)) if size > 1 else None
+        return cls(mean, variance, law.values[-1], dict(zip(QUANTILES, values[places].tolist())))
 
 
 @dataclass(frozen=True)
 class Borrowed:
     """What an item has learned from others.
 
-    `demands` are the periods with demand, `prior` is the name of the class whose prior it has, or "all". `alone` says
-    why the law of the item's own history is taken; None if the borrowed law is. `share` is that of what was learned in
-    the law; the rest is from its own history. `guard` has the shares of drawn histories, None with no or one demand;
-    `log10_bayes` is the log10 of the Bayes factor for the learned prior against the flat one. Both are None if nothing
-    was learned for such an item.
+    It has so many periods with `demands`, and the `prior` of a class, or that of "all". `alone` says why the law of its
+    own history is taken; None if the borrowed law is. `share` is the part of that which was learned; the rest is from
+    its own history. `guard` has the shares of drawn histories, None with no or one demand; `log10_bayes` is of the
+    Bayes factor for the learned prior against the flat one. Both are None if nothing was learned for such an item.
     """
 
     demands: int
@@ -69,13 +66,12 @@ class Borrowed:
 
     @property
     def unlike(self) -> bool:
-        """Returns whether the history is less likely under the learned prior than under the flat one: the item is
-        unlike the catalogue. Then at most half of its law is from what was learned."""
+        """Returns whether the flat prior makes the history likelier. Then at most half of the law was learned."""
         return self.log10_bayes is not None and self.log10_bayes < 0
 
     @property
     def few(self) -> bool:
-        """Returns whether the history has no or one demand: the law is then all but that of the catalogue."""
+        """Returns whether the history has no or one demand, so the law is all but that of the catalogue."""
         return self.demands < LEAST_DEMANDS
 
 
@@ -186,8 +182,7 @@ def fit_remarks(law: FittedLaw) -> Iterator[Remark]:
     if law.is_of_leads:
         if fit.side:
             yield Remark("blurred lead times", {"observed": fit.seen.size, "side": fit.side})
-        yield Remark("few lead times", {f"{end}_{count}": value for count, ends in DOUBT.items()
-                                        for end, value in zip(("least", "most"), ends)})
+        yield Remark("few lead times", DOUBT)
         return
     if fit.borrowed:
         yield from _of_borrowed(fit.borrowed)

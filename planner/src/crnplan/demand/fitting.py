@@ -151,7 +151,7 @@ def leads_of(observed: Observed | Iterable[Number]) -> list[int]:
     """Returns lead times in periods. Raises RefusedFaults with the place of each that is not from 1 to 32."""
     above = f"is above {MOST_LEAD}; take longer periods (weeks for days, months for weeks), for demands too"
     below = "is below 1; write 1 if the order is there for the next period's demand"
-    return numbers_of(observed, "lead time", lambda lead, most: above if lead > MOST_LEAD else below if lead < 1 else "")
+    return numbers_of(observed, "lead time", lambda it, most: above if it > MOST_LEAD else below if it < 1 else "")
 
 
 def sides_of(counts: Floats) -> Floats:

@@ -1,25 +1,55 @@
-"""Learns from the histories of a catalogue which laws of demand there are, and keeps that as a value and as a text."""
+"""Learns from the histories of a catalogue which laws of demand there are: a prior over laws on a grid.
+
+A period has demand with a chance, the share. A demand has the size 1 + N, where N is a negative binomial number of mean
+m and variance m + m^2 / k. A cell of the grid is an interval of the share's logit, one of the logarithm of m, and a
+value of k, the dispersion. Within a cell all points are as likely, so that an item with a long history is not rounded
+to the middle of a cell. Cells of m and k are counted together: all dispersions of the first m, then of the second, and
+so on. The likelihood of a history is the product of one of the share and one of the law of sizes.
+
+The prior that makes the histories most likely is a mixture of few points (Kiefer and Wolfowitz, Consistency of the
+maximum likelihood estimator in the presence of infinitely many incidental parameters, 1956; Laird, Nonparametric
+maximum likelihood estimation of a mixing distribution, 1978); on a grid it is found by EM (Koenker and Mizera, Convex
+optimization, shape constraints, compound decisions, and empirical Bayes rules, 2014). It follows the histories too
+closely, so after each step a part of each cell goes to its neighbours (Silverman, Jones, Wilson and Nychka, A smoothed
+EM approach to indirect estimation problems, 1990).
+"""
 from __future__ import annotations
 
 import json
+import math
 from collections import defaultdict
 from collections.abc import Iterable, Mapping, Sequence
 from dataclasses import asdict, dataclass, field
-from functools import cached_property
-from typing import Any
+from functools import cache, cached_property
+from typing import Any, NamedTuple
 
 import numpy as np
+from scipy import special
 
-from ..chances import Floats, Whole
+from ..chances import DEMANDS, Floats, Whole, blurred
 from ..errors import Fault, Refused, RefusedFaults
 from ..formats import MOST_DEMAND
 from ..records.item import BORROW
 from ..records.observed import Observed
+from .families import ways
 from .fitted import numbers_of
 from .fitting import below_0
-from .grid import FLAT, MOST_SIZE, chunks_of, estimated, group_of, marginal
 from .sample import Sample
 
+LOGITS = (-5.5, 6.5)  # of the share: from 0.4% to 99.8% of periods
+MEANS = (0.05, 100.0)  # of m
+DISPERSIONS = np.array([0.4, 0.7, 1.0, 1.6, 3.0, 6.0, 15.0, 60.0])
+SHARE_CELLS, MEAN_CELLS = 24, 24
+SIZE_CELLS = MEAN_CELLS * len(DISPERSIONS)
+SHARE_POINTS, MEAN_POINTS = 10, 8  # in a cell
+SHAPE = (SHARE_CELLS, MEAN_CELLS, len(DISPERSIONS))
+FLAT: Floats = np.full((SHARE_CELLS, SIZE_CELLS), 1 / (SHARE_CELLS * SIZE_CELLS))
+MOST_SIZE = 1 + MEANS[1]  # the greatest mean size of a demand
+LEAST_TAIL = 1e-9  # what is cut off the law of a size
+CHUNK = 250  # histories that are computed with at once: as many as a processor's cache has room for
+LEAST_LIKELIHOOD = 1e-100  # Products of smaller ones are denormal numbers, which are slow.
+STEPS = 100
+BLUR = 0.05  # the part of a cell that goes to each neighbour along each axis
 VERSION = 2  # of the text; another grid is another version
 UNITS = 2**40  # of a chance of 1: the last bits of a sum, which differ by machine, are rounded off
 KIND = "prior of crnplan"
@@ -35,13 +65,130 @@ Histories = Mapping[str, Numbers] | Iterable[Numbers]
 Classes = Mapping[str, str | None] | Iterable[str | None]
 
 
+def points(low: float, high: float, cells: int, within: int) -> Floats:
+    """Returns points in equal steps, a row for each cell: the middles of equal parts of the cells."""
+    places = np.arange(cells * within).reshape(cells, within) + 0.5
+    return low + (high - low) * places / (cells * within)
+
+
+SHARES: Floats = special.expit(points(*LOGITS, SHARE_CELLS, SHARE_POINTS))
+# The mean of a size less 1 at each point of the cells of sizes, and the dispersion of these cells.
+SIZE_MEANS: Floats = np.repeat(np.exp(points(math.log(MEANS[0]), math.log(MEANS[1]), MEAN_CELLS, MEAN_POINTS)),
+                               len(DISPERSIONS), axis=0)
+SIZE_DISPERSIONS: Floats = np.tile(DISPERSIONS, MEAN_CELLS)[:, None]
+# The logarithm of the chance of N = n is rises(n) + STARTS + n * SLOPES.
+STARTS: Floats = SIZE_DISPERSIONS * np.log(SIZE_DISPERSIONS / (SIZE_DISPERSIONS + SIZE_MEANS))
+SLOPES: Floats = np.log(SIZE_MEANS / (SIZE_DISPERSIONS + SIZE_MEANS))
+
+
+@cache
+def rises() -> Floats:
+    """Returns of the logarithm of each number's chance, in rows, what depends on the dispersion alone, in columns."""
+    return ways(DEMANDS[:, None], DISPERSIONS)
+
+
+@cache
+def size_laws() -> tuple[Floats, ...]:
+    """Returns the laws of sizes: for each cell of sizes a row for each point, with the chances of 1, 2 and so on."""
+    chances = SIZE_DISPERSIONS / (SIZE_DISPERSIONS + SIZE_MEANS)
+    widths = np.ceil(special.nbdtrik(1 - LEAST_TAIL, SIZE_DISPERSIONS, chances)).max(axis=1).astype(int) + 1
+    laws = []
+    for cell, width in enumerate(np.minimum(widths, MOST_DEMAND)):
+        logarithms = rises()[:width, cell % len(DISPERSIONS)] + np.outer(SLOPES[cell], DEMANDS[:width])
+        laws.append(special.softmax(logarithms, axis=1))
+    return tuple(laws)
+
+
+def _scaled(logarithms: Floats) -> Floats:
+    """Returns likelihoods of which the greatest of each history is 1. All but impossible points have 0."""
+    likelihoods = np.exp(logarithms - logarithms.max(axis=(1, 2), keepdims=True))
+    return np.where(likelihoods < LEAST_LIKELIHOOD, 0.0, likelihoods)
+
+
+def _columns(counts: Iterable[tuple[int, int]]) -> Floats:
+    """Returns two columns with an entry for each history, to be computed with cells and points."""
+    return np.array([*counts], dtype=float).T[:, :, None, None]
+
+
+def share_likelihoods(samples: Sequence[Sample]) -> Floats:
+    """Returns the likelihoods of the share: histories, cells, points."""
+    demands, zeros = _columns((sample.demands, sample.zeros) for sample in samples)
+    return _scaled(demands * np.log(SHARES) + zeros * np.log1p(-SHARES))
+
+
+def size_likelihoods(samples: Sequence[Sample]) -> Floats:
+    """Returns the likelihoods of the law of sizes: histories, cells, points."""
+    sizes = [sample.excess for sample in samples]
+    demands, excess = _columns((its.size, its.total) for its in sizes)
+    risen = np.tile(np.array([its.counts @ rises()[its.values] for its in sizes]), (1, MEAN_CELLS))[:, :, None]
+    return _scaled(risen + demands * STARTS + excess * SLOPES)
+
+
+class Cells(NamedTuple):
+    """Likelihoods of cells, the means over their points: `sizes` has a row for each history, `shares` one for each group
+    of those with as many periods and demands, whose likelihoods of the share are the same. `starts` has the row of
+    `sizes` that each group starts at, `groups` the group of each history."""
+
+    shares: Floats
+    sizes: Floats
+    starts: Whole
+    groups: Whole
+
+    @classmethod
+    def of(cls, samples: Sequence[Sample]) -> Cells:
+        """Computes the likelihoods of histories, of which those of a group stand together."""
+        starts, groups = np.unique([group_of(sample) for sample in samples], axis=0, return_index=True,
+                                   return_inverse=True)[1:]
+        shares = share_likelihoods([samples[start] for start in starts])
+        return cls(shares.mean(axis=2), size_likelihoods(samples).mean(axis=2), starts, groups.ravel())
+
+    def marginal(self, prior: Floats) -> Floats:
+        """Returns the likelihood of each history under a prior (cells of the share, cells of sizes).
+
+        A product of matrices would have other last bits with each library of linear algebra, and with some is slower.
+        """
+        rows = np.einsum("ij,jk->ik", self.shares, prior)
+        return np.asarray(np.einsum("ij,ij->i", rows[self.groups], self.sizes))
+
+
+def group_of(sample: Sample) -> tuple[int, int]:
+    """Returns the periods of a history, and those with demand."""
+    return sample.size, sample.demands
+
+
+def chunks_of(samples: Iterable[Sample]) -> list[Cells]:
+    """Computes the likelihoods of histories by group, and within a group in their order."""
+    every = sorted(samples, key=group_of)
+    return [Cells.of(every[start:start + CHUNK]) for start in range(0, len(every), CHUNK)]
+
+
+def marginal(chunks: Iterable[Cells], prior: Floats) -> Floats:
+    """Returns the likelihood of each history under a prior (cells of the share, cells of sizes)."""
+    return np.concatenate([cells.marginal(prior) for cells in chunks])
+
+
+def estimated(chunks: Sequence[Cells], start: Floats, pull: Floats, *, steps: int = STEPS,
+              blur: float = BLUR) -> Floats:
+    """Returns the prior after so many steps, each the mean of the posterior laws of all histories, blurred. `pull` is a
+    prior times the number of items that it counts for. No cell that has some of it gets the chance 0."""
+    prior = start
+    for _ in range(steps):
+        expected = pull.copy()
+        for cells in chunks:
+            likely = np.add.reduceat(cells.sizes / cells.marginal(prior)[:, None], cells.starts)
+            expected += prior * np.einsum("ij,ik->jk", cells.shares, likely)
+        shaped = (expected / expected.sum()).reshape(SHAPE)
+        for axis in range(len(SHAPE)):
+            shaped = blurred(shaped, blur, axis)
+        prior = shaped.reshape(start.shape)
+    return prior
+
+
 @dataclass(frozen=True, eq=False)
 class Learned:
-    """A prior on the grid (cells of the share, cells of sizes), in whole units of 2^-40.
-
-    `items` are those of the catalogue or class that are within the grid, `sampled` those that it was estimated on.
-    `gain` is the mean log10 of their Bayes factors for it against the flat prior.
-    """
+    """A prior on the grid (cells of the share, cells of sizes), in whole units of 2^-40. It has so many `items` of the
+    catalogue or class within the grid, was estimated on those `sampled`, and `gain` is the mean log10 of their Bayes
+    factors for it against the flat prior."""
 
     items: int
     sampled: int
@@ -71,10 +218,10 @@ class Learned:
 class Prior:
     """What a catalogue says of the laws of demand of its items. Processes may share it: as a text, or pickled.
 
-    `borrow` is "all", "class" or "none": each item learns from the whole catalogue, from its class, or from nothing.
-    `outside` is how many items were left out, since their sizes are larger than those of the grid. `whole` is the prior
-    of the catalogue (None with "none"), `classes` has those of the classes, in the order of their names. `packs` is the
-    prior of all items in packs, counted in packs; None if there are too few of them.
+    Each item learns from the whole catalogue, from its class, or from nothing (`borrow`: "all", "class" or "none").
+    `outside` counts the items that were left out, since their sizes are larger than those of the grid. `whole` is the
+    prior of the catalogue (None with "none"), `classes` has those of classes in the order of their names, and `packs`
+    is that of all items in packs, counted in packs (None if there are too few of them).
     """
 
     borrow: str
@@ -105,18 +252,17 @@ class Prior:
         """Returns what `text` gave. Raises Refused if it is no such text; `name` says where it stands."""
         try:
             tree = json.loads(text)
-            kind, version = tree["kind"], tree["version"]
-        except (ValueError, TypeError, LookupError):
+            kind, version = tree.pop("kind"), tree.pop("version")
+        except (ValueError, TypeError, LookupError, AttributeError):
             raise Refused(f"{name}: this is no {KIND}", "learn one from the catalogue") from None
         if (kind, version) != (KIND, VERSION):
             raise Refused(f"{name}: this is a {kind} of version {version}, not {VERSION}", "learn it anew")
         try:
             if tree["borrow"] not in BORROW or (tree["borrow"] == NONE) is bool(tree["whole"]):
                 raise ValueError("something is learned unless nothing is borrowed")
-            classes = {name: Learned.from_tree(learned) for name, learned in tree["classes"].items()}
-            whole, packs = (Learned.from_tree(tree[part]) if tree[part] else None for part in ("whole", "packs"))
-            seed, items, outside = (int(tree[part]) for part in ("seed", "items", "outside"))
-            return cls(tree["borrow"], seed, items, outside, whole, classes, packs)
+            tree["classes"] = {name: Learned.from_tree(learned) for name, learned in tree["classes"].items()}
+            tree |= {part: tree[part] and Learned.from_tree(tree[part]) for part in ("whole", "packs")}
+            return cls(**tree)
         except (ValueError, TypeError, LookupError, AttributeError, OverflowError):
             raise Refused(f"{name}: the {KIND} is damaged", "learn it anew") from None
 
@@ -157,8 +303,7 @@ def classes_of(items: Sequence[tuple[str, Any]], histories: Histories, classes: 
 def learned(samples: Sequence[Sample], seed: int, above: Floats | None = None) -> Learned:
     """Estimates the prior of a catalogue, or of a class from that of the catalogue, `above`. It does not depend on the
     order of histories; of more than 3,000 so many are drawn at random."""
-    every = sorted(samples, key=lambda sample: (*group_of(sample), sample.values.astype(">i8").tobytes(),
-                                                sample.counts.astype(">i8").tobytes()))
+    every = sorted(samples, key=lambda sample: (*group_of(sample), sample.values.tolist(), sample.counts.tolist()))
     if len(every) > MOST_ITEMS:
         places = np.random.default_rng(seed).choice(len(every), MOST_ITEMS, replace=False)
         every = [every[place] for place in np.sort(places)]
@@ -203,7 +348,10 @@ def learn(histories: Histories, classes: Classes | None = None, borrow: str = "a
     within = [sample for sample in samples if not is_outside(sample)]
     outside = len(samples) - len(within)
     if len(within) < least:
-        raise Refused(few_items(len(within), outside, least))
+        left_out = f" ({outside:,} more have larger sizes than can be learned from)" if outside else ""
+        remedy = (f"ask for it with least={len(within)}, or fit each alone with borrow=\"none\""
+                  if len(within) >= LEAST_ON_REQUEST else "fit each item alone, with borrow=\"none\"")
+        raise Refused(f"there are {len(within)} items to learn from{left_out}, and it takes {least}", remedy)
     whole = learned(within, seed)
     groups: defaultdict[str, list[Sample]] = defaultdict(list)
     for sample, name in zip(samples, names):
@@ -213,11 +361,3 @@ def learn(histories: Histories, classes: Classes | None = None, borrow: str = "a
     packs = [sample.packs for sample in samples if sample.pack > 1 and not is_outside(sample.packs)]
     of_packs = learned(packs, seed, whole.chances) if len(packs) >= LEAST_ON_REQUEST else None
     return Prior(borrow, seed, len(items), outside, whole, by_class, of_packs)
-
-
-def few_items(items: int, outside: int, least: int) -> str:
-    """Returns a message about a small catalogue."""
-    left_out = f" ({outside:,} more have larger sizes than can be learned from)" if outside else ""
-    remedy = (f"ask for it with least={items}, or fit each alone with borrow=\"none\"" if items >= LEAST_ON_REQUEST
-              else "fit each item alone, with borrow=\"none\"")
-    return f"there are {items} items to learn from{left_out}, and it takes {least}; {remedy}"

@@ -1,19 +1,19 @@
 """Tests by permutations whether the order of a history matters, and computes what the tests would have seen.
 
 If periods are independent and of one law, all orders of a history are equally likely. So the share of drawn orders
-whose statistic is at least that of the history, which counts among them, is a p value. It holds whatever the law, with
-ties and zeros (Good, Permutation, Parametric, and Bootstrap Tests of Hypotheses, third edition, 2005, chapter 3;
-Davison and Hinkley, Bootstrap Methods and their Application, 1997, section 4.3).
+whose statistic is at least that of the history, which counts among them, is a p value: whatever the law, with ties and
+zeros (Good, Permutation, Parametric, and Bootstrap Tests of Hypotheses, third edition, 2005, chapter 3; Davison and
+Hinkley, Bootstrap Methods and their Application, 1997, section 4.3).
 
-The statistics take arrays with a history in each row: the distances of its numbers, or of their ranks, from the mean
-of the row. They return one number for each row, which is 0 if all numbers of the row are equal.
+Statistics take arrays with a history in each row: the distances of its numbers, and of their ranks, from the mean of
+the row. They return one number for each row, which is 0 if all numbers of the row are equal.
 
-A test that is silent on a noisy history says little. So each test has the least effect that it sees in 8 of 10 such
-histories. It is a large-sample approximation; the study planner/studies/warnings.py measures how often an effect of
-that size is seen. All figures are rounded and unproved.
+The least effect that a test sees in 8 of 10 such histories is a large-sample approximation; the study
+planner/studies/warnings.py measures how often it is seen. All figures are rounded and unproved.
 """
 from __future__ import annotations
 
+import bisect
 import functools
 import math
 from collections.abc import Callable, Iterator, Mapping, Sequence
@@ -22,8 +22,11 @@ import numpy as np
 from scipy import special
 
 from ..chances import Floats, Whole
+from .sample import Sample
 
 Statistic = Callable[[Floats, Floats], Floats]  # of the numbers' distances from their mean, and of their ranks'
+# The mean and the variance of a number's rank for each factor of the mean, and the variance of all ranks.
+Scores = Callable[[Floats], tuple[Floats, Floats, float]]
 
 SEED = 1
 TIMES = 1199  # orders; with the history there are 1,200, of which 5% over 2, 3, 4 or 5 tests is a whole number
@@ -44,33 +47,27 @@ def centred(rows: Floats) -> Floats:
     return np.asarray(rows - rows.mean(axis=-1, keepdims=True))
 
 
-def squares_of(far: Floats) -> Floats:
-    """Returns the sum of the squares of each row."""
-    return np.asarray(np.einsum("ij,ij->i", far, far))
-
-
-def shares(parts: Floats, wholes: Floats) -> Floats:
-    """Returns parts over wholes; 0 where a whole is 0."""
-    return np.divide(parts, wholes, out=np.zeros_like(parts), where=wholes > 0)
+def shares(parts: Floats, far: Floats) -> Floats:
+    """Returns parts over the sum of the squares of each row; 0 if that is 0."""
+    squares = np.einsum("ij,ij->i", far, far)
+    return np.divide(parts, squares, out=np.zeros_like(parts), where=squares > 0)
 
 
 def autocorrelations(far: Floats) -> Floats:
     """Returns the autocorrelations at the lags 1, 2 and so on, a row for each lag."""
-    squares = squares_of(far)
-    return np.stack([shares(np.einsum("ij,ij->i", far[:, lag:], far[:, :-lag]), squares)
-                     for lag in range(1, min(LAGS, far.shape[1] - 1) + 1)])
+    return shares(np.stack([np.einsum("ij,ij->i", far[:, lag:], far[:, :-lag]) for lag in range(1, LAGS + 1)]), far)
 
 
 def ljung_box(far: Floats, ranks: Floats) -> Floats:
     """Returns the statistic of Ljung and Box (On a measure of lack of fit in time series models, 1978, section 1)."""
-    size, rows = far.shape[1], autocorrelations(far)
-    return np.asarray(size * (size + 2) / (size - 1 - np.arange(len(rows))) @ rows**2)
+    size = far.shape[1]
+    return np.asarray(size * (size + 2) / (size - 1 - np.arange(LAGS)) @ autocorrelations(far)**2)
 
 
 def trend(far: Floats, ranks: Floats) -> Floats:
     """Returns the square of Spearman's rank correlation with time (Lehmann, Nonparametrics, 1975, chapter 7)."""
     time = centred(np.arange(ranks.shape[1], dtype=float))
-    return shares((ranks @ time)**2, squares_of(ranks) * (time @ time))
+    return shares((ranks @ time)**2 / (time @ time), ranks)
 
 
 def places_of(size: int) -> Whole:
@@ -92,15 +89,14 @@ def steps(far: Floats) -> Floats:
 def shift(far: Floats, ranks: Floats) -> Floats:
     """Returns the greatest share of the squares that one step explains. It orders histories as the largest
     standardised difference of means (Hawkins, Testing a sequence of observations for a shift in location, 1977)."""
-    return shares(steps(far).max(axis=1), squares_of(far))
+    return shares(steps(far).max(axis=1), far)
 
 
 def kruskal(parts: Whole, far: Floats, ranks: Floats) -> Floats:
     """Returns the statistic of Kruskal and Wallis (Use of ranks in one-criterion variance analysis, 1952), with ties.
     `parts` has the part of the year of each period."""
     member = (parts[:, None] == np.unique(parts)).astype(float)
-    between = (ranks @ member)**2 @ (1 / member.sum(axis=0))
-    return (far.shape[1] - 1) * shares(between, squares_of(ranks))
+    return (far.shape[1] - 1) * shares((ranks @ member)**2 @ (1 / member.sum(axis=0)), ranks)
 
 
 def statistics_of(seasons: Mapping[str, Whole]) -> dict[str, Statistic]:
@@ -117,9 +113,8 @@ class Drawn:
 
     def orders(self, start: int, end: int) -> Whole:
         """Returns some of them, in rows. They are drawn as they are needed, always the same."""
-        missing = end - len(self.rows)
-        if missing > 0:
-            places = np.tile(np.arange(self.rows.shape[1]), (missing, 1))
+        if end > len(self.rows):
+            places = np.tile(np.arange(self.rows.shape[1]), (end - len(self.rows), 1))
             self.rows = np.vstack([self.rows, self.random.permuted(places, axis=1)])
         return self.rows[start:end]
 
@@ -131,7 +126,6 @@ class Orders:
     """A history and drawn orders of it."""
 
     def __init__(self, numbers: Sequence[int] | Floats) -> None:
-        """Counts the numbers of the history."""
         self.values, self.codes, self.counts = np.unique(numbers, return_inverse=True, return_counts=True)
         ranks = np.cumsum(self.counts) - self.counts / 2 - len(numbers) / 2
         self.far, self.ranks = (self.values - np.mean(numbers))[self.codes], ranks[self.codes]
@@ -184,60 +178,52 @@ def bound_of(statistics: Floats, level: float) -> float:
     return float(np.sort(statistics[1:])[-allowed]) if allowed else math.inf
 
 
-class Tilted:
-    """The law of a history with other means: the chance of a value is tilted by a factor e^(rate * value) (Davison and
-    Hinkley, Bootstrap Methods and their Application, 1997, section 4.4). That keeps Poisson and negative binomial laws
-    in their families, and moves both the share of periods with demand and the sizes."""
+def tilted(sample: Sample) -> Scores:
+    """Returns the function that gives scores of the law of a history with other means: shares of the periods, from
+    their mean, if as many periods have each factor. A mean stays within the values. The history has two values or more.
 
-    def __init__(self, orders: Orders) -> None:
-        """Finds the means of many rates. The history has two values or more."""
-        self.values, self.logarithms = orders.values.astype(float), np.log(orders.counts)
-        size = len(orders.codes)
-        self.mean = float(self.values @ orders.counts / size)
-        deviation = math.sqrt(float((self.values - self.mean)**2 @ orders.counts / size))
-        self.rates = np.sinh(np.linspace(-8, 8, 401)) / deviation
-        self.means = self._chances(self.rates) @ self.values
+    The chance of a value is tilted by a factor e^(rate * value) (Davison and Hinkley, Bootstrap Methods and their
+    Application, 1997, section 4.4). That keeps Poisson and negative binomial laws in their families, and moves both the
+    share of periods with demand and the sizes.
+    """
+    def chances(rates: Floats) -> Floats:
+        powers = np.log(sample.counts) + rates[:, None] * sample.values
+        return np.asarray(special.softmax(powers, axis=1))
 
-    def _chances(self, rates: Floats) -> Floats:
-        """Returns the chances of the values, a row for each rate."""
-        powers = self.logarithms + rates[:, None] * self.values
-        chances = np.exp(powers - powers.max(axis=1, keepdims=True))
-        return np.asarray(chances / chances.sum(axis=1, keepdims=True))
+    rates = np.sinh(np.linspace(-8, 8, 401)) / math.sqrt(sample.squares / sample.size)
+    means_of_rates = chances(rates) @ sample.values
 
-    def scores(self, factors: Floats) -> tuple[Floats, Floats, float]:
-        """Returns the mean and the variance of a number's rank for each factor of the mean, which stays within the
-        values, and the variance of all ranks: shares of the periods, from their mean. As many periods have each
-        factor."""
-        chances = self._chances(np.interp(factors * self.mean, self.means, self.rates))
-        pooled = chances.mean(axis=0)
+    def scores(factors: Floats) -> tuple[Floats, Floats, float]:
+        law = chances(np.interp(factors * sample.mean, means_of_rates, rates))
+        pooled = law.mean(axis=0)
         ranks = np.cumsum(pooled) - pooled / 2 - 0.5
-        means = chances @ ranks
-        return means, chances @ ranks**2 - means**2, float(pooled @ ranks**2)
+        means = law @ ranks
+        return means, law @ ranks**2 - means**2, float(pooled @ ranks**2)
+    return scores
 
 
-def trend_seen(law: Tilted, periods: int, bound: float, size: float) -> float:
+def trend_seen(scores: Scores, periods: int, bound: float, size: float) -> float:
     """Returns the chance that the square of Spearman's rho is above a bound, if the mean rises steadily from 1 - `size`
     times that of the history to 1 + `size` times. Rho is a sum over periods, and so about normal (Lehmann,
     Nonparametrics, 1975, chapter 7)."""
     time = centred(np.arange(BLOCKS) + 0.5) * 2 / BLOCKS
-    means, variances, variance = law.scores(1 + size * time)
+    means, variances, variance = scores(1 + size * time)
     whole = math.sqrt(time @ time * BLOCKS * variance)
-    mean, deviation = time @ means / whole, math.sqrt(time**2 @ variances * BLOCKS / periods) / whole
-    return float(special.ndtr((mean - math.sqrt(bound)) / deviation))
+    deviation = math.sqrt(time**2 @ variances * BLOCKS / periods)
+    return float(special.ndtr((time @ means - math.sqrt(bound) * whole) / deviation))
 
 
-def season_seen(law: Tilted, periods: int, length: int, parts: int, bound: float, size: float) -> float:
+def season_seen(scores: Scores, periods: int, length: int, parts: int, bound: float, size: float) -> float:
     """Returns the chance that Kruskal and Wallis's statistic is above a bound, if the mean goes up and down as a sine
     by `size` times that of the history, once in `length` periods, which make equal parts. The statistic has about a
     noncentral chi-squared law (Lehmann, Nonparametrics, 1975, appendix)."""
     blocks = parts * min(BLOCKS_OF_PART, max(1, length // parts))
-    means, _, variance = law.scores(1 + size * np.sin(2 * math.pi * (np.arange(blocks) + 0.5) / blocks))
-    of_parts = means.reshape(parts, -1).mean(axis=1)
-    within = variance - float(of_parts @ of_parts) / parts
+    means, _, variance = scores(1 + size * np.sin(2 * math.pi * (np.arange(blocks) + 0.5) / blocks))
+    between = float((means.reshape(parts, -1).mean(axis=1)**2).mean())
+    within = variance - between
     if within <= ROUNDING * variance:  # All that varies is between the parts, so no order has a larger statistic.
         return float(bound < periods - 1)
-    apart = periods * float(of_parts @ of_parts) / parts / within
-    return float(1 - special.chndtr(bound * variance / within, parts - 1, apart))
+    return float(1 - special.chndtr(bound * variance / within, parts - 1, periods * between / within))
 
 
 def autocorrelation_seen(periods: int, level: float, size: float) -> float:
@@ -250,8 +236,4 @@ def autocorrelation_seen(periods: int, level: float, size: float) -> float:
 
 def least_seen(seen: Callable[[float], float]) -> float:
     """Returns the least size of an effect with a chance of 80% to be seen, to 5%; infinity if there is none."""
-    low, high = -1, len(SIZES)
-    while high - low > 1:
-        middle = (low + high) // 2
-        low, high = (low, middle) if seen(SIZES[middle]) >= SEEN else (middle, high)
-    return SIZES[high] if high < len(SIZES) else math.inf
+    return [*SIZES, math.inf][bisect.bisect_left(SIZES, True, key=lambda size: seen(size) >= SEEN)]

@@ -1,9 +1,8 @@
 """Draws the laws of demand and of lead times that a history allows.
 
-A history leaves a doubt about its law. Each law here is a draw from what is known after the history: a mixture of
-Dirichlet processes round the families of `families` (Antoniak, Mixtures of Dirichlet processes with applications to
-Bayesian nonparametric problems, 1974). So a law is that of a family, or as unlike it as the history is. Drawn are, one
-after the other,
+Each law is a draw from what is known after the history: a mixture of Dirichlet processes round the families of
+`families` (Antoniak, Mixtures of Dirichlet processes with applications to Bayesian nonparametric problems, 1974). So a
+law is that of a family, or as unlike it as the history is. Drawn are, one after the other,
 
 - the family, and for how many periods it counts beside the history (the concentration), by their likelihood;
 - the parameters of the family, with the priors of its predictive law;
@@ -49,10 +48,8 @@ DEMANDS_OF_END, LEAST_END = 30_000, 1.5
 
 @dataclass(frozen=True)
 class AllowedLaws:
-    """Laws that a history allows: how many each family gave, and the laws, whose whole weights add up to 65,536.
-
-    The name "history" among the families stands for the Bayesian bootstrap.
-    """
+    """Laws that a history allows, whose weights add up to 65,536, and how many each family gave; "history" stands for
+    the Bayesian bootstrap."""
 
     families: Mapping[str, int]
     laws: tuple[Law, ...]
@@ -67,9 +64,8 @@ def stratified(random: np.random.Generator, rows: int, times: int) -> Floats:
 
 def round_history(base: Floats, sample: Sample, share: float, random: np.random.Generator,
                   counted: float = 1.0) -> Floats:
-    """Draws a law from a Dirichlet process round a law that has seen a sample. Its mean has this share of the law and
-    the rest of the sample: with 0 it is the Bayesian bootstrap, with 1 the law itself. Each number counts as `counted`
-    numbers."""
+    """Draws a law from a Dirichlet process round a law that has seen a sample: in the mean this share of the law and
+    the rest of the sample, so with 0 the Bayesian bootstrap. Each number counts as `counted` numbers."""
     if share == 1:
         return base
     periods = sample.size * share / (1 - share)

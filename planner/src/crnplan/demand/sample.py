@@ -20,7 +20,7 @@ from ..chances import Floats, Whole
 # A pack is recognised after so many demands above 0, if they all have its divisor by luck with a chance of 2^-8.
 PACKED, PACK_BITS = 3, 8.0
 TIMES, SEED = 199, 1  # of drawn histories
-ROUNDING = 1e-9  # Histories with the same counts are as far, however their sums are rounded.
+ROUNDING = 1e-9  # Histories with the same counts vary as much and are as far, however their sums are rounded.
 
 
 @dataclass(frozen=True, eq=False)
@@ -92,8 +92,7 @@ class Sample:
     @property
     def law(self) -> Floats:
         """Returns the shares of 0, 1, 2 and so on."""
-        shares: Floats = np.bincount(self.values, self.counts) / self.size
-        return shares
+        return np.asarray(np.bincount(self.values, self.counts) / self.size)
 
 
 class Shares(NamedTuple):
@@ -124,8 +123,7 @@ def distances(histories: Whole, chances: Floats) -> Floats:
     size, below = histories.shape[1], np.cumsum(chances)
     tails, means = (np.cumsum((chances * below**power)[::-1])[::-1] for power in (0, 1))
     weights = (2 * np.arange(size) + 1) / size
-    far: Floats = size * float(chances @ below**2) + tails[histories] @ weights - 2 * means[histories].sum(axis=1)
-    return far
+    return np.asarray(size * (chances @ below**2) + tails[histories] @ weights - 2 * means[histories].sum(axis=1))
 
 
 @functools.lru_cache(maxsize=8)
@@ -134,21 +132,13 @@ def uniforms(size: int) -> Floats:
     return np.sort(np.random.default_rng(SEED).random((TIMES, size)), axis=1)
 
 
-def variances_of(histories: Whole) -> Floats:
-    """Returns the unbiased variance of each row, without rounding before the last division."""
-    size = histories.shape[1]
-    sums, squares = histories.sum(axis=1), np.einsum("ij,ij->i", histories, histories)
-    variances: Floats = (size * squares - sums**2) / (size * (size - 1))
-    return variances
-
-
 def shares_of(sample: Sample, chances: Floats) -> Shares:
     """Returns the shares of a sample under a law. The same sample and law have the same shares."""
     law = np.zeros(max(len(chances), sample.most + 1))
     law[:len(chances)] = chances / chances.sum()
     below = np.cumsum(law)
     drawn = np.minimum(np.searchsorted(below, uniforms(sample.size), side="right"), len(chances) - 1)
-    variances = variances_of(drawn)
+    variances = drawn.var(axis=1, ddof=1)
     far = distances(np.vstack([drawn, np.repeat(sample.values, sample.counts)]), law)
 
     alike = (variances >= sample.variance * (1 - ROUNDING), variances <= sample.variance * (1 + ROUNDING),
