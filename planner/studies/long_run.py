@@ -24,7 +24,7 @@ import click
 import numpy as np
 from scipy.special import ndtr
 
-from crnplan.decide.intervals import t_quantile
+from crnplan.decide.verdicts import t_quantile
 from crnplan.crnsim.long_run import keys_of, long_run_of
 from crnplan.crnsim.program import find_program
 from crnplan.errors import CrnplanError, Refused

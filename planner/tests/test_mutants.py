@@ -27,7 +27,7 @@ CHANGES = {
     2: {"3", "4"}, 4: {"6"}, 6: {"given", "not given and len(given) <= most", "len(given) < most"}, 7: {"pass"},
     8: {"1"}, 9: {"pass", "given[0]", "1", "3.5"}, 10: {"pass", "given", "print(total, sorted(given))"},
     11: {"total or given[0]", "1"}}
-KEYS = "planner/tests/crnsim/test_keys.py"
+KEYS = "planner/tests/decide/test_keys.py"
 
 
 def test_mutants_of_a_file() -> None:
@@ -42,20 +42,20 @@ def test_mutants_of_a_file() -> None:
 
 def test_mutants_by_seed() -> None:
     """The same seed gives the same mutants, of lines that are asked for."""
-    lines = [("crnsim/keys.py", line) for line in range(20, 54)]
+    lines = [("decide/keys.py", line) for line in range(40, 72)]
     found = chosen(3, 5, lines)
     assert found == chosen(3, 5, lines) != chosen(3, 6, lines) and {(it.file, it.line) for it in found} <= {*lines}
 
 
 def test_outcomes(program: Path) -> None:
     """A bug is seen by a test that meets it, a change that is none is not, and without tests nothing is."""
-    text = (SOURCE / "crnsim/keys.py").read_bytes()
+    text = (SOURCE / "decide/keys.py").read_bytes()
     start = text.index(b"return ")
-    bug = Mutant("crnsim/keys.py", 1 + text[:start].count(b"\n"), start, start + len(b"return"), "assert not")
+    bug = Mutant("decide/keys.py", 1 + text[:start].count(b"\n"), start, start + len(b"return"), "assert not")
     same = bug._replace(new="return")
     assert [outcome_of(bug, [KEYS], program), outcome_of(same, [KEYS], program), outcome_of(bug, [], program)] == [
         KILLED, SURVIVED, NO_TEST]
-    assert line_of(bug, KILLED) == f"killed: crnsim/keys.py:{bug.line}: return -> assert not"
+    assert line_of(bug, KILLED) == f"killed: decide/keys.py:{bug.line}: return -> assert not"
 
 
 def test_lines_that_are_not_run(tmp_path: Path) -> None:

@@ -19,7 +19,7 @@ from hypothesis import given
 from hypothesis import strategies as st
 
 from crnplan import formats
-from crnplan.toml import writing
+from crnplan.toml import scenarios
 from crnplan.toml.scenarios import faults_of
 from crnplan.errors import ProgramError, Refused, ScenarioError
 from crnplan.demand.fitting import fit_demand
@@ -217,7 +217,7 @@ def test_comments_with_other_policies_and_tables() -> None:
 
 def test_comments_that_cannot_be_kept(monkeypatch: pytest.MonkeyPatch) -> None:
     """Keeps the comments at the top alone if a text with the others would not have the tree."""
-    monkeypatch.setattr(writing, "_merged_text", lambda source, tree: source)
+    monkeypatch.setattr(scenarios, "_merged_text", lambda source, tree: source)
     changed = Scenario.parse(COMMENTED).changed(initial=61)
     text = changed.toml()
     assert tomllib.loads(text) == changed.tree and text.startswith("# A spare part.\n") and text.count("#") == 1

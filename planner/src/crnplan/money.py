@@ -1,5 +1,4 @@
-"""Makes whole numbers of what stands in tables and notebooks, and scales amounts of money to the program's whole
-numbers."""
+"""Makes whole numbers of what stands in tables and notebooks, and scales money to the program's whole numbers."""
 from __future__ import annotations
 
 from collections.abc import Mapping
@@ -42,8 +41,7 @@ def whole(value: Any, name: str) -> int:
 
 
 def _beyond(amounts: Mapping[str, Fraction], scale: Fraction) -> str:
-    """Returns the name of the first amount that is not whole, or above the program's range, with a scale; empty if none
-    is."""
+    """Returns the name of the first amount that a scale leaves in parts or above the program's range; empty if none."""
     most = {name: formats.limits("costs", name)[1] for name in amounts}
     return next((name for name, amount in amounts.items()
                  if (amount * scale).denominator > 1 or amount * scale > most[name]), "")

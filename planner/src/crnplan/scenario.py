@@ -18,9 +18,8 @@ from typing import TYPE_CHECKING, Any
 
 from . import formats
 from .toml.documents import check_size, read_bytes, text_of_document
-from .toml.scenarios import checked_tree, error_of, read_scenario
+from .toml.scenarios import checked_tree, error_of, plain_text, read_scenario, toml_text
 from .toml.texts import shown
-from .toml.writing import toml_text
 from .errors import Refused
 from .law import Law
 from .money import Amount, Number, scaled_costs, whole
@@ -175,8 +174,9 @@ class Scenario:
 
     def toml(self) -> str:
         """Returns the scenario as the program reads it: with the comments of its source, if it has one."""
-        head = "" if self.scale == 1 else f"# Costs: {self.scale} for one unit of money\n\n"
-        return toml_text(self.tree, self.source) if self.source is not None else head + toml_text(self.tree)
+        if self.source is not None:
+            return toml_text(self.tree, self.source)
+        return f"# Costs: {self.scale} for one unit of money\n\n" * (self.scale != 1) + plain_text(self.tree)
 
     def suggest(self) -> Suggestions:
         """Returns suggested policies with exact long-run figures, today's first: policy, s, S (items), cost (money a

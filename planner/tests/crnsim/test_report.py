@@ -3,17 +3,17 @@ from __future__ import annotations
 
 import re
 from fractions import Fraction
-from itertools import combinations
 from pathlib import Path
 
 import pytest
 from hypothesis import given
 from hypothesis import strategies as st
 
-from crnplan.crnsim.report import Report, Row, all_totals, counting, pooled, read_rows, report_text
+from crnplan.crnsim.report import Report, Row, counting, pooled, read_rows, report_text
 from crnplan.errors import ProgramError, Refused
 from crnplan.formats import COSTS
 from crnplan.scenario import Scenario
+from planner.tests.decide.answers import rows_of_costs
 
 HEADER = "policy,s,S,total,per_period,diff_total,diff_mean,diff_var,cov"
 BASE, OTHER = "A,20,40,222,111/2,0,0/1,0/1,5/3", "B,60,80,200,50/1,-22,-11/2,7/2,-1/9"
@@ -71,37 +71,16 @@ def test_counts_of_the_worked_periods(program: Path, two_policies: str) -> None:
     """Counts orders, items ordered, held and owed. B orders 21 items in period 1 and holds 59, 57, 76 and 72 items."""
     scenario = Scenario.parse(two_policies)
     held = [59 + 57 + 55 + 51, 59 + 57 + 76 + 72]
-    assert all_totals(program, (counting(scenario, cost) for cost in COSTS)) == [[0, 1], [0, 21], held, [0, 0]]
-    assert all_totals(program, [scenario]) == [[222, 296]]
+    runs = [scenario, *(counting(scenario, cost) for cost in COSTS)]
+    totals = [[row.total for row in run.run(program=program).rows] for run in runs]
+    assert totals == [[222, 296], [0, 1], [0, 21], held, [0, 0]]
 
 
-def test_no_report(two_policies: str) -> None:
-    """Refuses a program that writes no report of the scenario."""
-    with pytest.raises(ProgramError, match="true: what it writes is no report of the scenario; name crnsim with"):
-        all_totals(Path("/bin/true"), [Scenario.parse(two_policies)])
-
-
-def pairs_sum(first: list[int], second: list[int]) -> int:
-    """Returns the sum over pairs of replications that docs/FORMATS.md uses."""
-    return sum((first[i] - first[j]) * (second[i] - second[j]) for i, j in combinations(range(len(first)), 2))
-
-
-def report_of(costs: list[list[int]], periods: int) -> list[Row]:
-    """Returns the report of policies by their costs in each replication."""
-    count, rows = len(costs[0]), []
-    for place, own in enumerate(costs):
-        differences = [a - b for a, b in zip(own, costs[0])]
-        rows.append(Row(f"p{place}", place, place + 1, sum(own), Fraction(sum(own), count * periods), sum(differences),
-                        Fraction(sum(differences), count),
-                        Fraction(pairs_sum(differences, differences), count**2 * (count - 1)),
-                        Fraction(pairs_sum(own, costs[0]), count * (count - 1))))
-    return rows
-
-
-@given(st.data(), st.integers(2, 4), st.integers(1, 4), st.integers(1, 3), st.integers(1, 1024))
+@given(st.data(), st.integers(1, 4), st.integers(2, 4), st.integers(1, 3), st.integers(1, 1024))
 def test_pool_is_the_report_of_all(data: st.DataObject, count: int, keys: int, policies: int, periods: int) -> None:
     """Compares the pool of random reports with the report of all their replications."""
     costs = st.lists(st.integers(0, 2 * 10**11 * 1024), min_size=count * keys, max_size=count * keys)
-    drawn = [data.draw(costs) for _ in range(policies)]
-    parts = [report_of([its[first:first + count] for its in drawn], periods) for first in range(0, count * keys, count)]
-    assert pooled(parts, count, periods) == report_of(drawn, periods)
+    drawn = {f"p{place}": data.draw(costs) for place in range(policies)}
+    parts = [rows_of_costs({name: own[first:first + count] for name, own in drawn.items()}, periods)
+             for first in range(0, count * keys, count)]
+    assert pooled(parts, count, periods) == rows_of_costs(drawn, periods)

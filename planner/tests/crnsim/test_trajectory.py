@@ -61,29 +61,18 @@ def check(program: Path, scenario: Scenario) -> None:
 
 
 def test_example_of_the_page(crnplan: Command, program: Path, top: Path) -> None:
-    """Compares both policies with the example, in the order asked for."""
-    told = crnplan("trajectory", top / "examples/two_policies.toml", "B", "A", "--csv", "--program", program)
-    assert (told.status, told.errors) == (0, "")
-    assert list(rows_of(told.output).items()) == [("B", ON_PAGE["B"]), ("A", ON_PAGE["A"])]
-
-
-def test_table(crnplan: Command, program: Path, top: Path) -> None:
-    """The table has its columns in line."""
-    told = crnplan("trajectory", top / "examples/two_policies.toml", "B", "--periods", "2", "--program", program)
-    assert told == (0, "policy  period  ordered  net_demand  stock  position\n"
-                       "B            0        0           1     59        59\n"
-                       "B            1       21           2     57        78\n", "")
-
-
-def test_json(crnplan: Command, program: Path, top: Path) -> None:
-    """The JSON has a record for each period."""
-    told = crnplan("trajectory", top / "examples/two_policies.toml", "B", "--json", "--program", program)
-    assert [tuple(it.values())[2:] for it in json.loads(told.output)] == ON_PAGE["B"]
+    """Compares both policies with the example, in the order asked for, in each form."""
+    words = ["trajectory", top / "examples/two_policies.toml", "B", "A", "--program", program]
+    table, text, data = (crnplan(*words, *form) for form in (["--csv"], ["--periods", "2"], ["--json"]))
+    assert (table.status, table.errors) == (0, "")
+    assert list(rows_of(table.output).items()) == [("B", ON_PAGE["B"]), ("A", ON_PAGE["A"])]
+    assert [tuple(row.values())[2:] for row in json.loads(data.output)] == ON_PAGE["B"] + ON_PAGE["A"]
+    lines = table.output.splitlines()
+    assert [line.split() for line in text.output.splitlines()] == [lines[at].split(",") for at in (0, 1, 2, 5, 6)]
 
 
 @pytest.mark.parametrize("name", ["two_policies", "spare_part", "mail_order", "case/scenario"])
 def test_examples_are_as_simulated(name: str, program: Path, top: Path) -> None:
-    """Compares all periods and policies of an example."""
     check(program, Scenario.read(top / f"examples/{name}.toml"))
 
 
@@ -112,7 +101,6 @@ def trees(draw: st.DrawFn) -> dict[str, Any]:
 @given(trees())
 @settings(max_examples=40)
 def test_random_scenarios_are_as_simulated(program: Path, tree: dict[str, Any]) -> None:
-    """Compares all periods of scenarios at random, packed and apart."""
     check(program, Scenario.of_tree(tree))
 
 
@@ -135,25 +123,17 @@ def test_packed_up_to_the_greatest_cost(level: int, runs: int, program: Path, to
     assert counted == [4, 4 * runs]
 
 
-def test_demand_beyond_a_million_items(program: Path, top: Path) -> None:
-    """A run whose demand comes to more than any stock is counted all the same."""
-    tree = tomllib.loads((top / "examples/two_policies.toml").read_text())
-    tree |= {"periods": 120, "demand": {"values": [9997, 9998, 9999, 10000], "weights": [1, 2, 2, 1]}}
-    scenario = Scenario.of_tree(tree)
-    check(program, scenario)
-    assert sum(demand for demand, _, _ in draws_of(scenario, scenario.key, 120)) > 1_000_000
-
-
 def test_longest_run(program: Path, top: Path) -> None:
-    """1,024 periods are the most that a scenario has, and take the most replications that the net demand can need."""
+    """1,024 periods are the most that a scenario has, and take the most replications that the net demand can need. It
+    comes to more than any stock."""
     tree = tomllib.loads((top / "examples/two_policies.toml").read_text())
-    check(program, Scenario.of_tree(tree | {"periods": 1024, "policy": tree["policy"][:1]}))
+    demand = {"values": [9997, 9998, 9999, 10000], "weights": [1, 2, 2, 1]}
+    check(program, Scenario.of_tree(tree | {"periods": 1024, "policy": tree["policy"][:1], "demand": demand}))
 
 
 @pytest.mark.parametrize("words, part", REFUSED, ids=[words for words, _ in REFUSED])
 def test_refused_in_one_line(crnplan: Command, words: str, part: str, program: Path, top: Path,
                              monkeypatch: pytest.MonkeyPatch) -> None:
-    """A word that cannot be used is refused in one line, with nothing on standard output."""
     monkeypatch.chdir(top / "examples")
     monkeypatch.setenv("CRNSIM", str(program))
     status, output, errors = crnplan("trajectory", *words.split())
@@ -175,22 +155,17 @@ def test_no_matplotlib(crnplan: Command, program: Path, top: Path, tmp_path: Pat
 
 
 def test_pictures(crnplan: Command, program: Path, top: Path, tmp_path: Path) -> None:
-    """A picture is a PNG, or an SVG with its texts; drawn again it has the same bytes."""
+    """A picture is a PNG, or an SVG with its texts; drawn again it has the same bytes, also beside a table."""
     words = ["trajectory", top / "examples/spare_part.toml", "today", "both", "--periods", "40", "--program", program,
              "--out"]
-    for name in ("stock.png", "stock.svg", "again.svg"):
+    for name in ("stock.png", "stock.svg"):
         assert crnplan(*words, tmp_path / name) == (0, "", "")
+    table = crnplan(*words, tmp_path / "again.svg", "--csv").output
+    assert {name: len(periods) for name, periods in rows_of(table).items()} == {"today": 40, "both": 40}
     assert (tmp_path / "stock.png").read_bytes().startswith(b"\x89PNG\r\n\x1a\n")
     assert (tmp_path / "stock.svg").read_bytes() == (tmp_path / "again.svg").read_bytes()
     svg = xml.etree.ElementTree.parse(tmp_path / "stock.svg")
     assert TEXTS <= {it.text for it in svg.iter("{http://www.w3.org/2000/svg}text")}
-
-
-def test_picture_and_table(crnplan: Command, program: Path, top: Path, tmp_path: Path) -> None:
-    """--out and --csv make both."""
-    words = ["trajectory", top / "examples/two_policies.toml", "A", "--csv", "--program", program]
-    told = crnplan(*words, "--out", tmp_path / "a.svg")
-    assert rows_of(told.output) == {"A": ON_PAGE["A"]} and (tmp_path / "a.svg").exists()
 
 
 @pytest.mark.serial

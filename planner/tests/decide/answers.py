@@ -1,11 +1,15 @@
-"""Fixtures that run crnplan's commands in a folder with the examples, and changes of the examples."""
+"""Fixtures that run crnplan's commands in a folder with the examples, changes of the examples, and made reports."""
 from __future__ import annotations
 
 import subprocess
+from collections.abc import Mapping, Sequence
+from fractions import Fraction
+from itertools import combinations
 from pathlib import Path
 
 import pytest
 
+from crnplan.crnsim.report import Row
 from planner.tests.conftest import Command
 
 
@@ -39,3 +43,23 @@ def priced(path: Path, unit: int) -> str:
 def report_of(program: Path, text: str, *words: str) -> str:
     """Returns what the program writes about a scenario."""
     return subprocess.run([program, *words], input=text, capture_output=True, text=True, check=True).stdout
+
+
+def pairs_sum(first: Sequence[int], second: Sequence[int]) -> int:
+    """Returns the sum over pairs of replications by which docs/FORMATS.md defines variances and covariances."""
+    return sum((first[i] - first[j]) * (second[i] - second[j]) for i, j in combinations(range(len(first)), 2))
+
+
+def rows_of_costs(costs: Mapping[str, Sequence[int]], periods: int) -> list[Row]:
+    """Returns the report of the costs of each policy in each replication, the first policy as the base."""
+    base = next(iter(costs.values()))
+    count, rows = len(base), []
+    for place, (name, own) in enumerate(costs.items()):
+        differences = [a - b for a, b in zip(own, base)]
+        variance = covariance = None
+        if count > 1:
+            variance = Fraction(pairs_sum(differences, differences), count**2 * (count - 1))
+            covariance = Fraction(pairs_sum(own, base), count * (count - 1))
+        rows.append(Row(name, place, place + 2, sum(own), Fraction(sum(own), count * periods), sum(differences),
+                        Fraction(sum(differences), count), variance, covariance))
+    return rows

@@ -15,8 +15,7 @@ import pytest
 import crnplan as crn
 from crnplan import formats
 from planner.tests.conftest import Command
-from planner.tests.decide.answers import changed, priced, report_of
-from planner.tests.decide.test_decide import pairs_sum
+from planner.tests.decide.answers import changed, pairs_sum, priced, report_of
 
 KEYS = ["00000000000000a1", "00000000000000a2"]
 COLUMNS = ("total", "per_period", "diff_total", "diff_mean", "diff_var", "cov")

@@ -12,7 +12,6 @@ import statistics
 import tomllib
 from collections.abc import Callable, Mapping, Sequence
 from fractions import Fraction
-from itertools import combinations
 from pathlib import Path
 
 import pytest
@@ -20,13 +19,12 @@ from hypothesis import assume, given
 from hypothesis import strategies as st
 from scipy import stats
 
-from crnplan.crnsim.report import Row
-from crnplan.decide.intervals import check_replications, own_variance, t_quantile, with_intervals
+from crnplan.decide.verdicts import check_replications, own_variance, t_quantile, with_intervals
 from crnplan.errors import Refused
 from crnplan.scenario import Scenario
 from crnplan.theory.run_effects import end_effects
 from planner.tests.conftest import Command
-from planner.tests.decide.answers import changed, priced, report_of
+from planner.tests.decide.answers import changed, priced, report_of, rows_of_costs
 
 HERE = Path(__file__).parent
 CASES = tomllib.loads((HERE / "decisions.toml").read_text("utf-8"))
@@ -175,26 +173,6 @@ def test_warns_without_a_number(room: Path, write_priced: Callable[[str, str], N
                                       "[10, 11, 12, 13, 14, 16]"))
     shown = crnplan("decide", "more_back.csv", "--scenario", "more_back.toml")
     assert shown.status == 0 and "is not known here.\n" in shown.output
-
-
-def pairs_sum(first: Sequence[int], second: Sequence[int]) -> int:
-    """Returns the sum over pairs of replications by which variances and covariances are defined."""
-    return sum((first[i] - first[j]) * (second[i] - second[j]) for i, j in combinations(range(len(first)), 2))
-
-
-def rows_of_costs(costs: Costs, periods: int) -> list[Row]:
-    """Returns the rows of the report of these costs, the first policy as the base. All policies are (1, 2)."""
-    base = next(iter(costs.values()))
-    count, rows = len(base), []
-    for name, own in costs.items():
-        differences = [a - b for a, b in zip(own, base)]
-        variance = covariance = None
-        if count > 1:
-            variance = Fraction(pairs_sum(differences, differences), count**2 * (count - 1))
-            covariance = Fraction(pairs_sum(own, base), count * (count - 1))
-        rows.append(Row(name, 1, 2, sum(own), Fraction(sum(own), count * periods), sum(differences),
-                        Fraction(sum(differences), count), variance, covariance))
-    return rows
 
 
 def costs(replications: st.SearchStrategy[int], least: int = 0) -> st.SearchStrategy[Costs]:

@@ -16,7 +16,7 @@ import pytest
 
 import crnplan as crn
 from crnplan.decide.doubt import HELD, Doubt, doubt
-from crnplan.decide.intervals import t_quantile
+from crnplan.decide.verdicts import t_quantile
 from crnplan.demand.posterior import AllowedLaws, allowed_laws, allowed_leads
 from crnplan.errors import Refused, ScenarioError
 from crnplan.law import Law

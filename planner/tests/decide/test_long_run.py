@@ -13,11 +13,10 @@ import pytest
 from scipy import stats
 
 from crnplan.decide import long_run
-from crnplan.decide.intervals import Compared
 from crnplan.decide.keys import check_long_run
 from crnplan.decide.long_run import corrected_decision, long_run_decision, start_warning
 from crnplan.decide.sensitivity import sensitivity
-from crnplan.decide.verdicts import Decision
+from crnplan.decide.verdicts import Compared, Decision
 from crnplan.crnsim.long_run import LongRunReport
 from crnplan.crnsim.report import Row
 from crnplan.errors import Refused

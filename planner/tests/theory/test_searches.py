@@ -8,7 +8,7 @@ import pytest
 from hypothesis import example, given, settings
 from hypothesis import strategies as st
 
-from crnplan.decide.sensitivity import Case, found_of
+from crnplan.decide.sensitivity import Case, move_of
 from crnplan.scenario import Costs, Scenario
 from crnplan.theory import long_run, one_lead
 from crnplan.theory.lattice import NoTheory, shape_of, theory_on
@@ -175,4 +175,4 @@ def test_no_policy_within_the_range(monkeypatch: pytest.MonkeyPatch) -> None:
     assert isinstance(theory, one_lead.OneLead) and theory.best_with_level(14, 0.98) == NO_POLICY
     assert Promises(scenario, theory, 0, [scenario.demand], [], [0.98]).cheapest(NO_POLICY, 0.98) == NO_POLICY
     with pytest.raises(NoTheory, match="no best policy within the ranges of s and S"):
-        found_of(Case("as it is", scenario, None), (0, 5))
+        move_of(Case("as it is", scenario, None), (0, 5))

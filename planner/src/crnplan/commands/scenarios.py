@@ -124,8 +124,7 @@ def decide(report: str, path: str | None, is_sweep: bool, replications: int | No
     scenario = None if path is None else Scenario.read(path)
     if scenario is not None and replications not in (None, scenario.replications):
         raise Refused(f"{path}: it has {scenario.replications} replications, not {replications}")
-    from ..decide.intervals import check_policies, read_report
-    from ..decide.verdicts import decided
+    from ..decide.verdicts import check_policies, decided, read_report
     count = scenario.replications if scenario else replications
     assert count is not None
     rows = read_report(report, count)

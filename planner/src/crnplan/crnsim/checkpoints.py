@@ -1,7 +1,7 @@
 """Writes checkpoints: the state of a run between two blocks. docs/FORMATS.md defines the text.
 
-A checkpoint need not come from the program. It may give each policy another state, and `resume` continues from there.
-What the program computes from it is exact and proved; this module is not.
+A checkpoint may give each policy another state, and `resume` continues from there. What the program computes from it is
+exact and proved; this module is not.
 """
 from __future__ import annotations
 
@@ -23,11 +23,8 @@ MOST_STOCK = formats.MOST_ITEMS
 
 @dataclass(frozen=True)
 class State:
-    """The state of a policy between two blocks.
-
-    `stock` is in items, `cost` that of the current replication so far. `due` has the items that arrive, by period of
-    the replication; `costs` the cost of each replication that is done.
-    """
+    """The state of a policy between two blocks: its stock, the cost of the current replication so far, the items that
+    arrive, by period of the replication, and the cost of each replication that is done."""
 
     stock: int
     cost: int = 0
@@ -67,10 +64,8 @@ def replication_costs(text: str) -> list[int]:
 
 
 def resume_all(program: Path, runs: Iterable[tuple[str, str]]) -> list[str]:
-    """Continues runs, several at a time, and returns their reports in order.
-
-    Each run is the text of a scenario and that of its checkpoint. Raises ProgramError if one fails.
-    """
+    """Continues runs, each the text of a scenario and that of its checkpoint, several at a time, and returns their
+    reports in order. Raises ProgramError."""
     with tempfile.TemporaryDirectory(prefix="crnplan-") as folder:
         resumed = []
         for number, (scenario, checkpoint) in enumerate(runs):

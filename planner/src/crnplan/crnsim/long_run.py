@@ -17,7 +17,7 @@ long run it adds unit times the mean net demand to every policy.
 """
 from __future__ import annotations
 
-from collections.abc import Sequence
+from collections.abc import Iterator, Mapping, Sequence
 from dataclasses import dataclass, replace
 from fractions import Fraction
 from pathlib import Path
@@ -27,22 +27,21 @@ import numpy as np
 import numpy.typing as npt
 
 from .. import formats
-from ..toml.scenarios import checked_tree
-from ..toml.writing import plain_text
-from ..errors import ProgramError, Refused, argument
+from ..toml.scenarios import checked_tree, plain_text
+from ..errors import Refused, argument
 from ..law import Law
 from ..scenario import Costs, Scenario, key_words
 from ..table import DataTable, Result, exact
 from .checkpoints import MOST_STOCK, PERIODS_OF_BLOCK, State, checkpoint_text, resume_all
-from .keys import Key
 from .program import find_program
-from .report import COLUMNS as REPORT_COLUMNS, Row, pooled_row, rows_of
+from .report import COLUMNS as REPORT_COLUMNS, Row, joined, parts_of, pooled, rows_of
 
 if TYPE_CHECKING:
     from ..decide.verdicts import Decision
 
 Words = npt.NDArray[np.uint64]
 Whole = npt.NDArray[np.int64]
+Key = tuple[str, ...]
 
 KEYS = 48
 MOST_KEYS = formats.MOST_REPLICATIONS
@@ -67,8 +66,7 @@ LOW_HALF = np.uint64(2**32 - 1)
 
 
 class Settled(NamedTuple):
-    """What our own periods lead to, by key and policy: stocks, what arrives in the next periods (first axis), and the
-    orders that were placed."""
+    """What our own periods lead to, by key and policy: stocks, what arrives in the next periods (first axis), orders."""
 
     stocks: Whole
     due: Whole
@@ -77,11 +75,8 @@ class Settled(NamedTuple):
 
 @dataclass(frozen=True)
 class LongRunReport(Result):
-    """Exact costs of the long run. `costs` has a row for each key, with a cost for each policy, over `periods` periods.
-
-    `orders` has the orders of each policy in the counted periods of all keys; None if there are many. `scenario` is the
-    one that was asked for, and its first policy the base.
-    """
+    """Exact costs of the long run of a scenario, whose first policy is the base: by key those of each policy over so
+    many periods. `orders` has the orders of each policy in the counted periods of all keys; None if there are many."""
 
     scenario: Scenario
     costs: tuple[tuple[int, ...], ...]
@@ -101,14 +96,10 @@ class LongRunReport(Result):
     @property
     def rows(self) -> list[Row]:
         """Returns the rows of a report on so many replications of so many periods, in exact figures."""
-        base, *_ = columns = [*zip(*self.costs)]
-        rows = []
-        for policy, costs in zip(self.scenario.policies, columns):
-            squares = sum((cost - other)**2 for cost, other in zip(costs, base))
-            products = sum(cost * other for cost, other in zip(costs, base))
-            sums = self.keys, sum(costs), sum(base), Fraction(squares), Fraction(products)
-            rows.append(pooled_row(policy, sums, self.periods))
-        return rows
+        reports = [[Row(policy.name, policy.s, policy.S, cost, Fraction(cost, self.periods), cost - base,
+                        Fraction(cost - base), None, None) for policy, cost in zip(self.scenario.policies, (base, *others))]
+                   for base, *others in self.costs]
+        return pooled(reports, 1, self.periods)
 
     @property
     def table(self) -> DataTable:
@@ -118,8 +109,8 @@ class LongRunReport(Result):
                                 (it.diff_var or Fraction(0)) / square] for it in self.rows], index="policy")
 
     def decide(self, level: float = 0.95) -> Decision:
-        """Returns all policies by rank, the cheapest first, with paired-t intervals of a period, verdicts, and the
-        figures of theory beside. `level` is above 0, below 1."""
+        """Returns all policies, the cheapest first, with paired-t intervals of a period at a level above 0 and below 1,
+        verdicts, and the figures of theory beside."""
         from ..decide.long_run import long_run_decision
         return long_run_decision(self, level)
 
@@ -167,17 +158,13 @@ def places_of(words: Words, count: int) -> Whole:
 
 
 def drawn(words: Words, table: Law) -> Whole:
-    """Returns what each word draws from a table, as the program does: a place in the list that has each value as often
-    as its weight says."""
+    """Returns what each word draws, as the program does: from a list with each value as often as its weight says."""
     ends = np.cumsum(table.weights)
     return np.array(table.values, np.int64)[np.searchsorted(ends, places_of(words, int(ends[-1])), side="right")]
 
 
 def settled(scenario: Scenario, keys: Words) -> Settled:
-    """Runs our own periods, as docs/FORMATS.md, "What happens in a period", has them.
-
-    Each policy starts at a position that is even over s to S, by one number of the key.
-    """
+    """Runs our own periods, as docs/FORMATS.md has them, from a position even over s to S by one number of the key."""
     laws = [scenario.demand, scenario.lead, scenario.returns or Law((0,), (1,))]
     demand, lead, back = (drawn(stream_words(keys, OWN_PERIODS // PERIODS_OF_BLOCK, stream), law)
                           for stream, law in zip(OWN_STREAMS, laws))
@@ -210,49 +197,25 @@ def first_block(scenario: Scenario) -> int:
     return max(1, -(lowest // (PERIODS_OF_BLOCK * formats.MOST_DEMAND)))
 
 
-class _Runs:
-    """The runs of a scenario under its keys, each from its own states."""
+def _states_of(own: Settled, first: int) -> Iterator[list[State]]:
+    """Yields the states of all policies for each key, whose next period is the first one."""
+    for stocks, due in zip(own.stocks, np.moveaxis(own.due, 0, 2)):
+        yield [State(int(stock), due={first + int(age): int(amounts[age]) for age in np.flatnonzero(amounts)})
+               for stock, amounts in zip(stocks, due)]
 
-    def __init__(self, scenario: Scenario, keys: int, program: Path) -> None:
-        """Runs our own periods. `scenario` is the one that was asked for."""
-        self.program, self.block = program, first_block(scenario)
-        self.keys = keys_of(scenario.key, keys)
-        costs = replace(scenario.costs, unit=0)
-        self.scenario = replace(scenario, periods=formats.MOST_PERIODS, replications=1, initial=0, costs=costs,
-                                ring=formats.RING_SIZES[-1], source=None)
-        self.settled = settled(scenario, words_of_keys(self.keys))
-        room = MOST_STOCK + (self.block * PERIODS_OF_BLOCK * formats.MOST_DEMAND if scenario.returns else 0)
-        if max(self.settled.stocks.max(), (self.settled.stocks + self.settled.due.sum(axis=0)).max()) > room:
-            raise Refused(f"the stock rises above {room:,} items by what comes back, which no checkpoint may have; "
-                          "count in larger units, as boxes")
 
-    @property
-    def periods(self) -> int:
-        """Returns how many periods of each key are counted."""
-        return self.scenario.periods - self.block * PERIODS_OF_BLOCK
-
-    def totals(self, costs: Costs) -> list[tuple[int, ...]]:
-        """Returns the cost of each policy in the counted periods of each key."""
-        count, most = len(self.scenario.policies), formats.POLICIES[1] - 1
-        parts = [[0, *range(first, min(first + most, count))] for first in range(1, max(count, 2), most)]
-        by_key = [*zip(*(self._part(costs, part) for part in parts))]
-        if any(totals[0] != first[0] for first, *others in by_key for totals in others):
-            raise ProgramError(f"{self.program}: the base has not the same cost in all runs; name crnsim with "
-                               f"{argument('program')}")
-        return [(first[0], *(total for totals in (first, *others) for total in totals[1:]))
-                for first, *others in by_key]
-
-    def _part(self, costs: Costs, part: Sequence[int]) -> list[list[int]]:
-        """Returns the cost of some policies in the counted periods of each key."""
-        asked = replace(self.scenario.with_policies(self.scenario.policies[place] for place in part), costs=costs)
-        runs, period = [], self.block * PERIODS_OF_BLOCK
-        for key, stocks, due in zip(self.keys, self.settled.stocks, np.moveaxis(self.settled.due, 0, 2)):
-            own = replace(asked, key=key)
-            states = [State(int(stocks[place]), due={period + int(age): int(due[place, age])
-                                                     for age in np.flatnonzero(due[place])}) for place in part]
-            runs.append((plain_text(own.tree), checkpoint_text(own, self.block, states)))
-        reports = resume_all(self.program, runs)
-        return [[row.total for row in rows_of(asked.policies, text, str(self.program))] for text in reports]
+def _totals(program: Path, scenario: Scenario, block: int, states: Mapping[Key, Sequence[State]]
+            ) -> tuple[tuple[int, ...], ...]:
+    """Continues a run under each key from the states of its policies, and returns the cost of each from then on."""
+    runs = []
+    for key, its in states.items():
+        own = dict(zip(scenario.policies, its, strict=True))
+        runs += [(part, [own[policy] for policy in part.policies]) for part in parts_of(replace(scenario, key=key))]
+    texts = resume_all(program, ((plain_text(part.tree), checkpoint_text(part, block, its)) for part, its in runs))
+    reports = [rows_of(part, text, program) for (part, _), text in zip(runs, texts)]
+    count = len(reports) // len(states)
+    return tuple(tuple(row.total for row in joined(reports[first:first + count], program))
+                 for first in range(0, len(reports), count))
 
 
 def long_run_of(scenario: Scenario, keys: int = KEYS, program: str | Path | None = None) -> LongRunReport:
@@ -263,8 +226,16 @@ def long_run_of(scenario: Scenario, keys: int = KEYS, program: str | Path | None
     if scenario.demand.mean <= (scenario.returns.mean if scenario.returns else 0):
         raise Refused("there is no long run: on average as much comes back as is asked for, so that nothing is "
                       "ordered; look at the tables demand and returns")
-    runs = _Runs(scenario, keys, find_program(program))
-    own = runs.settled.orders.sum(axis=0)
-    is_few = own.min() < FEW_ORDERS
-    orders = map(sum, zip(*runs.totals(COUNT_ORDERS))) if is_few else [None] * len(own)
-    return LongRunReport(scenario, tuple(runs.totals(runs.scenario.costs)), runs.periods, tuple(orders))
+    found, block, words = find_program(program), first_block(scenario), keys_of(scenario.key, keys)
+    own, first = settled(scenario, words_of_keys(words)), block * PERIODS_OF_BLOCK
+    room = MOST_STOCK + (first * formats.MOST_DEMAND if scenario.returns else 0)
+    if max(own.stocks.max(), (own.stocks + own.due.sum(axis=0)).max()) > room:
+        raise Refused(f"the stock rises above {room:,} items by what comes back, which no checkpoint may have; "
+                      "count in larger units, as boxes")
+    asked = replace(scenario, periods=formats.MOST_PERIODS, replications=1, initial=0, ring=formats.RING_SIZES[-1],
+                    costs=replace(scenario.costs, unit=0), source=None)
+    states, orders = dict(zip(words, _states_of(own, first))), own.orders.sum(axis=0)
+    counted: Sequence[int | None] = [None] * len(orders)
+    if orders.min() < FEW_ORDERS:
+        counted = [sum(column) for column in zip(*_totals(found, replace(asked, costs=COUNT_ORDERS), block, states))]
+    return LongRunReport(scenario, _totals(found, asked, block, states), asked.periods - first, tuple(counted))

@@ -15,8 +15,7 @@ from ..errors import ProgramError, ProgramFailed, argument
 from ..formats import STATUSES, status_of
 
 VARIABLE = "CRNSIM"
-# Runs at a time. A run itself uses several processors.
-JOBS = 4
+JOBS = 4  # runs at a time: a run itself uses several processors
 # Statuses with which no input is to blame.
 FAILURES = {STATUSES[line] for line in ("reading", "writing", "thread", "gate", "memory")}
 
@@ -34,8 +33,7 @@ def program_and_reason(named: str | Path | None = None) -> tuple[Path, str]:
     """Returns the absolute path of the program, and how it was found.
 
     It is the first of these that there is: the named one; that of the variable CRNSIM; the repository's build, if the
-    package stands in the repository; crnsim on PATH. Raises ProgramError if there is none, or if the named one is
-    missing.
+    package stands in the repository; crnsim on PATH. Raises ProgramError.
     """
     if named is not None:
         return _named(named, argument("program")), "named"
@@ -64,10 +62,7 @@ def program_for(named: str | Path | None, cluster: str | None) -> str:
 
 
 def run_program(program: Path, text: str, *words: str) -> str:
-    """Runs the program with words on a text, and returns its standard output.
-
-    Raises ProgramError with the program's line if its status is not 0.
-    """
+    """Runs the program with words on a text, and returns its standard output. Raises ProgramError with its line."""
     try:
         ran = subprocess.run([program, *words], input=text.encode(), capture_output=True)
     except OSError as fault:
@@ -86,16 +81,11 @@ def run_all(program: Path, runs: Iterable[tuple[str, ...]], jobs: int = JOBS) ->
     given = list(runs)
     if len(given) == 1:  # as for most items of a catalogue: threads would take longer than the run
         return [run_program(program, *given[0])]
-    with ThreadPoolExecutor(jobs) as pool:
-        running = [pool.submit(run_program, program, *run) for run in given]
-        try:
-            return [run.result() for run in running]
-        finally:
-            pool.shutdown(wait=True, cancel_futures=True)
+    with ThreadPoolExecutor(jobs) as pool:  # whose map begins no more runs when one has failed
+        return list(pool.map(lambda run: run_program(program, *run), given))
 
 
 def writes_known_report(program: Path) -> bool:
-    """Runs the program on a small scenario, and returns whether it writes the known report. Raises ProgramError if it
-    fails."""
+    """Returns whether the program writes the known report on a small scenario. Raises ProgramError if it fails."""
     scenario, report = (Path(__file__).with_name(f"example.{end}").read_text("utf-8") for end in ("toml", "csv"))
     return run_program(program, scenario) == report

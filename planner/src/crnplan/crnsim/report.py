@@ -1,19 +1,17 @@
-"""Reads a report of crnsim without rounding: whole numbers are int, fractions are `fractions.Fraction`.
+"""Reads a report of crnsim without rounding. This module is not proved; crnsim's figures are.
 
-Reports of one scenario under several keys are pooled into the report of all their replications. The replications of
-different keys are independent, and each report has the exact sums of its own R replications. With differences
-d = a - b, D the sum of d, V the variance of their mean, A and B the sums of a and b, and C their covariance:
+Reports of one scenario under several keys, which are independent, are pooled into the report of all replications: each
+has the exact sums of its own R replications. With differences d = a - b, D the sum of d, V the variance of their mean,
+A and B the sums of a and b, and C their covariance:
 
     sum of d^2 = V R (R - 1) + D^2 / R        sum of a b = C (R - 1) + A B / R
 
 These sums are added over all keys. With n replications in all, the pooled variance of the mean is (sum of d^2 - D^2 /
 n) / (n (n - 1)), and the pooled covariance (sum of a b - A B / n) / (n - 1). So an interval from it has n - 1 degrees
-of freedom. All is computed in fractions, without rounding.
+of freedom.
 
 Costs do not steer orders. So a run with one cost at 1 and the others at 0 counts orders (`setup`), items ordered
 (`unit`), items in stock at the ends of periods (`holding`) or items owed (`backlog`).
-
-This module is not proved; crnsim's figures are.
 """
 from __future__ import annotations
 
@@ -28,9 +26,8 @@ from pathlib import Path
 from typing import TYPE_CHECKING, Any
 
 from .. import formats
-from ..toml.scenarios import checked_tree, name_faults
+from ..toml.scenarios import checked_tree, name_faults, plain_text
 from ..toml.texts import shown
-from ..toml.writing import plain_text
 from ..errors import Fault, ProgramError, Refused, argument
 from ..scenario import Costs, Policy, Scenario
 from ..table import DataTable, Json, Result, exact, text, whole
@@ -52,9 +49,6 @@ COLUMNS = (
     exact("diff_var", "squared money", "variance of that mean"),
     exact("cov", "squared money", "covariance of both costs"))
 NO_COSTS = Costs(0, 0, 0, 0)
-# Sums over replications: their number, the costs of a policy, those of the base, the squares of the differences, and
-# the products of both costs.
-Sums = tuple[int, int, int, Fraction, Fraction]
 # Columns whose cell may be `-`, which stands for no figure.
 MAY_LACK = ("diff_var", "cov")
 
@@ -63,9 +57,8 @@ MAY_LACK = ("diff_var", "cov")
 class Row:
     """A row of a report: a policy (s and S in items), and its exact costs in the scenario's money.
 
-    `per_period` is its mean cost per period. `diff_total` and `diff_mean` are its cost less that of the first policy,
-    in all and by replication. `diff_var` is the variance of that mean, `cov` the covariance of both costs; with one
-    replication, and if they are not known, they are None. docs/FORMATS.md defines all of them.
+    Differences are from the costs of the first policy, as docs/FORMATS.md defines them. `diff_var` and `cov` are None
+    with one replication, and if they are not known.
     """
 
     policy: str
@@ -128,8 +121,7 @@ def _value(name: str, cell: str, place: str, line: int) -> Any:
 def read_rows(text: str, place: str = "") -> list[Row]:
     """Returns the rows of a report, in its order. `place` names the report in an error.
 
-    Raises Refused if a line is none of a report, or if the first policy is not the base. Whether the figures are of so
-    many replications is not checked here.
+    Raises Refused if a line is none of a report, or if the first policy is not the base.
     """
     rows = [Row(**{name: _value(name, cell, place, line) for name, cell in zip(HEADER, cells)})
             for line, cells in enumerate(_lines(text, place), 2)]
@@ -138,42 +130,33 @@ def read_rows(text: str, place: str = "") -> list[Row]:
     return rows
 
 
-def rows_of(policies: Sequence[Policy], text: str, program: str) -> list[Row]:
-    """Returns the rows of the report on these policies. Raises ProgramError if the program's output is no such
-    report."""
+def rows_of(scenario: Scenario, text: str, program: str | Path) -> list[Row]:
+    """Returns the rows of the report on a scenario. Raises ProgramError if the program's output is no such report."""
     try:
-        rows = read_rows(text, program)
+        rows = read_rows(text, str(program))
     except Refused:
         rows = []
-    if [(it.policy, it.s, it.S) for it in rows] != [(it.name, it.s, it.S) for it in policies]:
+    if [(row.policy, row.s, row.S) for row in rows] != [(own.name, own.s, own.S) for own in scenario.policies]:
         raise ProgramError(f"{program}: what it writes is no report of the scenario; name crnsim with "
                            f"{argument('program')}")
     return rows
 
 
-def pooled_row(policy: Policy, sums: Sums, periods: int) -> Row:
-    """Returns the row of a policy from its sums over replications of so many periods."""
-    count, total, base, squares, products = sums
-    difference = total - base
-    variance = (squares - Fraction(difference**2, count)) / (count * (count - 1))
-    covariance = (products - Fraction(total * base, count)) / (count - 1)
-    return Row(policy.name, policy.s, policy.S, total, Fraction(total, count * periods), difference,
-               Fraction(difference, count), variance, covariance)
-
-
 def pooled(reports: Sequence[Sequence[Row]], replications: int, periods: int) -> list[Row]:
-    """Returns the rows of all replications. Each of the reports has the same policies and so many replications, at
-    least 2."""
-    rows = []
+    """Returns the rows of all replications. Each of the reports has the same policies and so many replications."""
+    rows, count, own = list[Row](), replications * len(reports), replications
+    base = sum(report[0].total for report in reports)
     for column in zip(*reports, strict=True):
-        sums = replications * len(reports), 0, 0, Fraction(0), Fraction(0)
+        squares = products = Fraction(0)
         for row, report in zip(column, reports):
-            assert row.diff_var is not None and row.cov is not None
-            count, base = replications, report[0].total
-            squares = row.diff_var * count * (count - 1) + Fraction(row.diff_total**2, count)
-            products = row.cov * (count - 1) + Fraction(row.total * base, count)
-            sums = sums[0], sums[1] + row.total, sums[2] + base, sums[3] + squares, sums[4] + products
-        rows.append(pooled_row(Policy(column[0].policy, column[0].s, column[0].S), sums, periods))
+            squares += (row.diff_var or 0) * own * (own - 1) + Fraction(row.diff_total**2, own)
+            products += (row.cov or 0) * (own - 1) + Fraction(row.total * report[0].total, own)
+        total = sum(row.total for row in column)
+        difference = total - base
+        variance = (squares - Fraction(difference**2, count)) / (count * (count - 1))
+        covariance = (products - Fraction(total * base, count)) / (count - 1)
+        rows.append(Row(column[0].policy, column[0].s, column[0].S, total, Fraction(total, count * periods), difference,
+                        Fraction(difference, count), variance, covariance))
     return rows
 
 
@@ -182,15 +165,21 @@ def counting(scenario: Scenario, cost: str) -> Scenario:
     return dataclasses.replace(scenario, costs=dataclasses.replace(NO_COSTS, **{cost: 1}))
 
 
-def all_totals(program: Path, scenarios: Iterable[Scenario]) -> list[list[int]]:
-    """Returns the total of each policy of each scenario, in order, from several runs at a time.
+def parts_of(scenario: Scenario) -> list[Scenario]:
+    """Returns a scenario for each run of any number of policies: at most 16 in a run, with the base in each."""
+    base, *others = scenario.policies
+    most = formats.POLICIES[1] - 1
+    return [scenario.with_policies([base, *others[start:start + most]])
+            for start in range(0, max(1, len(others)), most)]
 
-    Raises ProgramError if a run writes no report of its scenario.
-    """
-    asked = list(scenarios)
-    reports = run_all(program, ((plain_text(scenario.tree),) for scenario in asked))
-    return [[row.total for row in rows_of(scenario.policies, report, str(program))]
-            for scenario, report in zip(asked, reports)]
+
+def joined(reports: Sequence[Sequence[Row]], program: str | Path) -> list[Row]:
+    """Returns the rows of all reports, the base once. Raises ProgramError if it has not the same row in all."""
+    base = reports[0][0]
+    if any(rows[0] != base for rows in reports):
+        raise ProgramError(f"{program}: the base has not the same row in all reports; name crnsim with "
+                           f"{argument('program')}")
+    return [base, *(row for rows in reports for row in rows[1:])]
 
 
 @dataclass(frozen=True)
@@ -227,20 +216,12 @@ class Report(Result):
 
 
 def report_of(scenario: Scenario, program: str | Path | None = None) -> Report:
-    """Runs a scenario, whose first policy is the base, on any number of policies: at most 16 in a run, with the base in
-    each.
+    """Runs a scenario, whose first policy is the base, on any number of policies.
 
     Raises ScenarioError with all faults, and ProgramError.
     """
     checked_tree(scenario.tree, any_number=True)
-    base, *others = scenario.policies
-    most = formats.POLICIES[1] - 1
-    starts = range(0, max(1, len(others)), most)
-    parts = [scenario.with_policies([base, *others[start:start + most]]) for start in starts]
-    found = find_program(program)
-    texts = run_all(found, [(plain_text(it.tree),) for it in parts])
-    reports = [rows_of(part.policies, text, str(found)) for part, text in zip(parts, texts)]
-    if any(rows[0] != reports[0][0] for rows in reports):
-        raise ProgramError(f"{found}: the base has not the same row in all reports; name crnsim with "
-                           f"{argument('program')}")
-    return Report((reports[0][0], *(row for rows in reports for row in rows[1:])), scenario)
+    found, parts = find_program(program), parts_of(scenario)
+    texts = run_all(found, [(plain_text(part.tree),) for part in parts])
+    rows = joined([rows_of(part, text, found) for part, text in zip(parts, texts)], found)
+    return Report(tuple(rows), scenario)

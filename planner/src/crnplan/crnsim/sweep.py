@@ -14,14 +14,11 @@ from ..money import Number, whole
 from ..remarks import Remark
 from ..scenario import Policy, Scenario
 from ..stored import Store, digest_of
-from ..toml.scenarios import checked_tree
-from ..toml.writing import plain_text
+from ..toml.scenarios import checked_tree, plain_text
 from .program import program_for, run_program
-from .report import Report, Row, rows_of
+from .report import Report, Row, joined, parts_of, rows_of
 
 REPORTS = "sweep.sqlite"
-# Each scenario of a sweep has the base, which leaves room for one policy less.
-GRID_POLICIES = formats.POLICIES[1] - 1
 
 
 @dataclass(frozen=True)
@@ -39,10 +36,7 @@ def numbers_of(name: str, first: int, last: int, step: int) -> range:
 
 
 def grid_of(scenario: Scenario, points: Iterable[Number], levels: Iterable[Number]) -> list[Policy]:
-    """Returns the pairs of the grid with s <= S, without the base's own pair.
-
-    Raises Refused if there is none or if a name would come twice, and ScenarioError if a level is out of range.
-    """
+    """Returns the pairs of the grid with s <= S, without the base's own. Raises Refused, also as a ScenarioError."""
     base, rising = scenario.policies[0], [whole(level, "S") for level in levels]
     grid = [Policy.of_levels(point, level) for point in (whole(it, "s") for it in points) for level in rising
             if point <= level and (point, level) != (base.s, base.S)]
@@ -54,35 +48,18 @@ def grid_of(scenario: Scenario, points: Iterable[Number], levels: Iterable[Numbe
     return grid
 
 
-def parts_of(scenario: Scenario, grid: Sequence[Policy]) -> list[Scenario]:
-    """Returns the scenarios of a sweep: each has the base and up to 15 pairs, and all else as the given one."""
-    return [scenario.with_policies([scenario.policies[0], *grid[first:first + GRID_POLICIES]])
-            for first in range(0, len(grid), GRID_POLICIES)]
-
-
-def joined(reports: Sequence[Sequence[Row]]) -> tuple[Row, ...]:
-    """Returns the rows of all reports: the base, and then the grid by `diff_total`, the cheapest first.
-
-    Pairs of equal cost stay in the order of the grid. Raises Refused if two reports have not the same base.
-    """
-    base = reports[0][0]
-    if any(rows[0] != base for rows in reports):
-        raise Refused("the base has not the same row in all reports")
-    return base, *sorted((row for rows in reports for row in rows[1:]), key=lambda row: row.diff_total)
-
-
 def run_parts(parts: Sequence[Scenario], program: str) -> list[Kept | Remark]:
     """Runs the program on scenarios, and returns the reports. Raises ProgramError."""
-    reports = [Kept(run_program(Path(program), plain_text(part.tree))) for part in parts]
-    for part, kept in zip(parts, reports):
-        rows_of(part.policies, kept.report, program)
-    return [*reports]
+    reports = [run_program(Path(program), plain_text(part.tree)) for part in parts]
+    for part, report in zip(parts, reports):
+        rows_of(part, report, program)
+    return [*map(Kept, reports)]
 
 
-def kept_rows(part: Scenario, kept: Kept | Remark) -> list[Row]:
+def kept_rows(part: Scenario, kept: Kept | Remark, program: str) -> list[Row]:
     """Returns the rows of a report that is kept."""
     assert isinstance(kept, Kept)
-    return rows_of(part.policies, kept.report, "")
+    return rows_of(part, kept.report, program)
 
 
 def sweep(scenario: Scenario, s: Iterable[Number], S: Iterable[Number], *, jobs: int | None = None,
@@ -98,7 +75,8 @@ def sweep(scenario: Scenario, s: Iterable[Number], S: Iterable[Number], *, jobs:
     is out of range, ProgramError if a run fails, and Failed.
     """
     path = program_for(program, cluster)
-    parts = {f"{number:05}": part for number, part in enumerate(parts_of(scenario, grid_of(scenario, s, S)))}
+    asked = scenario.with_policies([scenario.policies[0], *grid_of(scenario, s, S)])
+    parts = {f"{number:05}": part for number, part in enumerate(parts_of(asked))}
     digest = program_digest(path, cluster)
     with contextlib.nullcontext() if out is None else own_folder(Path(out), "sweep") as folder:
         place = folder.store(REPORTS) if folder else Path(":memory:")
@@ -106,5 +84,6 @@ def sweep(scenario: Scenario, s: Iterable[Number], S: Iterable[Number], *, jobs:
             work = Work(reports, {name: digest_of(plain_text(part.tree), digest) for name, part in parts.items()})
             work.finish(run_parts, parts.__getitem__, path, workers=workers_of(jobs, cluster, path),
                         shown=progress, unit="scenarios", batch=1)
-            rows = joined([kept_rows(part, reports.answer(name)) for name, part in parts.items()])
-    return Report(rows, scenario.with_policies(Policy(row.policy, row.s, row.S) for row in rows))
+            base, *rows = joined([kept_rows(part, reports.answer(name), path) for name, part in parts.items()], path)
+    ranked = base, *sorted(rows, key=lambda row: row.diff_total)
+    return Report(ranked, scenario.with_policies(Policy(row.policy, row.s, row.S) for row in ranked))

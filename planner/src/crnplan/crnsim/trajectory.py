@@ -1,8 +1,7 @@
 """Counts stock, inventory position and orders of replication 0, period by period.
 
-The figures are exact and come from the program; this module is not proved. Costs do not steer orders, so a run with
-chosen costs counts what they are paid for, and the difference of the totals of t + 1 and t periods is what period t has
-counted.
+The figures are exact and come from the program; this module is not proved. A run with chosen costs counts what they are
+paid for, and the difference of the totals of t + 1 and t periods is what period t has counted.
 
 - **Packed.** With `unit` = 1 and `holding` = c, one run counts c times the stock plus the items ordered. Both can be
   told apart if fewer than c items are ordered and the stock is at least 0. So all levels and the initial stock are
@@ -28,8 +27,7 @@ from .checkpoints import PERIODS_OF_BLOCK, replication_costs
 from .program import find_program, run_all
 from .report import read_rows
 
-# Runs at a time: each is short, so that starting it takes most of its time.
-JOBS = 8
+JOBS = 8  # runs at a time: each is short, so that starting it takes most of its time
 MOST_DRAWN = 208
 MOST_POLICIES = 8
 AMPLE = Policy("ample", 0, 0)
@@ -94,12 +92,12 @@ def _texts(scenario: Scenario, costs: Costs, periods: Iterable[int], replication
         yield text.replace("\nperiods = 1\n", f"\nperiods = {last}\n")
 
 
-def _totals(program: Path, scenario: Scenario, costs: Sequence[Costs], periods: int) -> Iterator[list[list[int]]]:
-    """Yields, for each of the costs, the totals of 1, 2, .. periods of each policy."""
+def _counts(program: Path, scenario: Scenario, costs: Sequence[Costs], periods: int) -> Iterator[list[list[int]]]:
+    """Yields, for each of the costs, what each period counts of each policy."""
     runs = ((text,) for its in costs for text in _texts(scenario, its, range(1, periods + 1)))
     totals = [[row.total for row in read_rows(report, str(program))] for report in run_all(program, runs, JOBS)]
     for first in range(0, len(totals), periods):
-        yield [list(it) for it in zip(*totals[first:first + periods])]
+        yield [steps_of(column) for column in zip(*totals[first:first + periods])]
 
 
 def _packed(program: Path, scenario: Scenario, periods: int) -> list[tuple[list[int], list[int]]] | None:
@@ -117,15 +115,14 @@ def _packed(program: Path, scenario: Scenario, periods: int) -> list[tuple[list[
     most = max(raised.initial, *(policy.S for policy in raised.policies))
     if scale > formats.limits("costs", "holding")[1] or most > formats.MOST_ITEMS:
         return None
-    totals, = _totals(program, raised, [Costs(0, 1, scale, 0)], periods)
-    return [([it % scale for it in steps], [it // scale - more for it in steps]) for steps in map(steps_of, totals)]
+    counts, = _counts(program, raised, [Costs(0, 1, scale, 0)], periods)
+    return [([step % scale for step in steps], [step // scale - more for step in steps]) for steps in counts]
 
 
 def _apart(program: Path, scenario: Scenario, periods: int) -> list[tuple[list[int], list[int]]]:
     """Returns what each policy orders and has in stock in each period, from counts apart."""
-    ordered, held, owed = ([steps_of(it) for it in totals] for totals in _totals(program, scenario, APART, periods))
-    return [(orders, [more - less for more, less in zip(surplus, lacking)])
-            for orders, surplus, lacking in zip(ordered, held, owed)]
+    return [(orders, [more - less for more, less in zip(held, owed)])
+            for orders, held, owed in zip(*_counts(program, scenario, APART, periods))]
 
 
 def net_demands(scenario: Scenario, periods: int, program: Path) -> list[int]:
@@ -139,10 +136,8 @@ def net_demands(scenario: Scenario, periods: int, program: Path) -> list[int]:
 
 
 def trajectories(scenario: Scenario, periods: int, *, program: str | Path | None = None) -> list[list[Period]]:
-    """Returns the first periods of each policy of a scenario in replication 0.
-
-    Replication 0 keeps its random numbers if the number of periods changes; the others do not, so they cannot be shown.
-    Raises Refused if the scenario has fewer periods, and ProgramError if the program cannot be run.
+    """Returns the first periods of each policy of a scenario in replication 0, which alone keeps its random numbers if
+    the number of periods changes. Raises Refused if the scenario has fewer periods, and ProgramError.
     """
     path, periods = find_program(program), shown_periods(scenario, periods, False)
     net = net_demands(scenario, periods, path)

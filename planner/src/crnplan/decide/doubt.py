@@ -3,7 +3,7 @@
 Each policy's long run is computed under laws that the history allows. The mean cost over these laws is the cost to
 promise, since it includes the doubt about the law. The regret of a policy under a law is its cost over that of the best
 of the policies, less 1. Through crnsim the same laws are scenarios with one key, for the coming periods. How often such
-statements hold was measured: planner/studies/README.md, "Doubt". What theory computes is rounded and unproved.
+statements hold was measured: planner/studies/README.md, "Doubt". Theory's figures are rounded and unproved.
 """
 from __future__ import annotations
 
@@ -24,8 +24,7 @@ from ..money import Number
 from ..scenario import Policies, policies_of, Policy, Scenario
 from ..table import Cell, DataTable, Json, Result, number
 from ..words import sentence
-from .intervals import own_variance
-from .verdicts import POLICY, horizon_of
+from .verdicts import POLICY, horizon_of, own_variance
 
 if TYPE_CHECKING:
     from ..demand.posterior import AllowedLaws
@@ -60,7 +59,7 @@ class Doubt(Result):
     """The figures of policies under the laws that a history allows. `lead` is None if lead times are the scenario's.
 
     `demand` has all laws that were drawn; `figures` may have fewer, if some have no long run. `spreads` has the columns
-    of runs by crnsim, with a figure for each policy; none without runs.
+    of runs by crnsim, if there are any.
     """
 
     scenario: Scenario
@@ -71,30 +70,32 @@ class Doubt(Result):
     figures: LawFigures
     spreads: Mapping[str, Floats] = field(default_factory=dict)
 
+    def _regrets(self, least: Floats) -> Floats:
+        """Returns the regret of each policy (column) under each law (row), whose best policy costs so little."""
+        regrets: Floats = (self.figures.cost / least[:, None] - 1).clip(min=0.0)
+        return regrets
+
     @cached_property
     def regrets(self) -> Floats:
-        """Returns the regret of each policy (column) under each law (row) against the best of the policies."""
-        cost = self.figures.cost
-        regrets: Floats = cost / cost.min(axis=1, keepdims=True) - 1
-        return regrets
+        """Returns the regrets against the best of the policies under each law."""
+        return self._regrets(self.figures.cost.min(axis=1))
 
     @cached_property
     def own_regrets(self) -> Floats:
         """Returns the regrets against the best of all policies under each law; nan if it was not looked for."""
-        regrets: Floats = (self.figures.cost / self.figures.least[:, None] - 1).clip(min=0.0)
-        return regrets
+        return self._regrets(self.figures.least)
 
     @cached_property
     def columns(self) -> dict[str, Floats]:
         """Returns the columns of the table with a figure for each policy."""
         import numpy as np
-        regrets, own, fill = self.regrets, self.own_regrets, self.figures.fill
-        columns = {"cost": self.figures.cost.mean(axis=0), "regret": regrets.mean(axis=0),
-                   "regret_90": np.quantile(regrets, MOST, axis=0), "within": (regrets <= self.within).mean(axis=0),
-                   "is_best": (1 + regrets <= TIE).mean(axis=0)}
-        if not np.isnan(own).any():
-            columns |= {"own_regret": own.mean(axis=0), "own_regret_90": np.quantile(own, MOST, axis=0),
-                        "own_within": (own <= self.within).mean(axis=0)}
+        columns, fill = {"cost": self.figures.cost.mean(axis=0)}, self.figures.fill
+        for name, regrets in (("", self.regrets), ("own_", self.own_regrets)):
+            if not np.isnan(regrets).any():
+                columns |= {f"{name}regret": regrets.mean(axis=0),
+                            f"{name}regret_90": np.quantile(regrets, MOST, axis=0),
+                            f"{name}within": (regrets <= self.within).mean(axis=0)}
+        columns["is_best"] = (1 + self.regrets <= TIE).mean(axis=0)
         return columns | {"fill": fill.mean(axis=0), "fill_10": np.quantile(fill, 1 - MOST, axis=0), **self.spreads}
 
     @cached_property
@@ -110,11 +111,11 @@ class Doubt(Result):
     @property
     def table(self) -> DataTable:
         """Returns the figures indexed by `policy`, the cheapest first."""
-        columns = [column for column in COLUMNS if column in POLICY or column.name in self.columns]
+        columns = [column for column in COLUMNS[3:] if column.name in self.columns]
         rows: list[list[Cell]] = [
-            [self.policies[place].name, self.policies[place].s, self.policies[place].S,
-             *(float(figures[place]) for figures in self.columns.values())] for place in self.order]
-        return DataTable(columns, rows, index="policy")
+            [*dataclasses.astuple(self.policies[place]), *(float(self.columns[column.name][place]) for column in columns)]
+            for place in self.order]
+        return DataTable([*POLICY, *columns], rows, index="policy")
 
     @property
     def tree(self) -> dict[str, Json]:
@@ -127,22 +128,20 @@ class Doubt(Result):
     @property
     def sentence(self) -> str:
         """Returns one sentence on the cheapest policy."""
-        best, columns = self.order[0], self.columns
-        among = f"the best of these {len(self.policies)} policies" if len(self.policies) > 1 else "the best of all"
-        share = columns["within" if len(self.policies) > 1 else "own_within"][best]
-        return (f"{self.policies[best].name} is within {100 * self.within:g}% of {among} under {share:.0%} of the laws "
-                "that this history allows.")
+        best, count = self.order[0], len(self.policies)
+        name, among = ("within", f"these {count} policies") if count > 1 else ("own_within", "all")
+        return (f"{self.policies[best].name} is within {100 * self.within:g}% of the best of {among} under "
+                f"{self.columns[name][best]:.0%} of the laws that this history allows.")
 
     @property
     def bounds(self) -> str:
         """Returns what is said of the cheapest policy with a stated chance."""
         best, columns = self.order[0], self.columns
         name, among = ("own_regret_90", "all policies") if "own_regret" in columns else ("regret_90", "these")
-        regret, fill = columns[name][best], columns["fill_10"][best]
-        (least, most), (least_fill, most_fill) = HELD["regret"], HELD["fill"]
-        return (f"Under {MOST:.0%} of the laws it costs at most {regret:.1%} more than the best of {among}, and under "
-                f"{MOST:.0%} its fill rate is at least {fill:.1%}. In a study with known laws such a bound held in "
-                f"{least} to {most}% of cases for the cost, and in {least_fill} to {most_fill}% for the fill rate.")
+        held, held_fill = ("{} to {}%".format(*HELD[of]) for of in ("regret", "fill"))
+        return (f"Under {MOST:.0%} of the laws it costs at most {columns[name][best]:.1%} more than the best of {among}, "
+                f"and under {MOST:.0%} its fill rate is at least {columns['fill_10'][best]:.1%}. In a study with known "
+                f"laws such a bound held in {held} of cases for the cost, and in {held_fill} for the fill rate.")
 
     @property
     def remarks(self) -> list[str]:
@@ -185,9 +184,7 @@ class Doubt(Result):
 
 
 def _spreads_of(scenario: Scenario, laws: Iterable[tuple[Law, Law]], program: str | Path | None) -> dict[str, Floats]:
-    """Runs crnsim on a scenario with each law of demand and of lead times, all with the scenario's key. Returns by
-    policy the mean cost of a period, its standard deviation over the laws, and that of the cost of one replication;
-    nan with a single replication."""
+    """Runs a scenario under each law of demand and of lead times, with one key, and returns the columns of runs."""
     import numpy as np
     costs, variances = [], []
     for demand, lead in laws:

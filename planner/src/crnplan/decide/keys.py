@@ -2,33 +2,65 @@
 
 The best policy was picked because it did well on the histories of the scenario's own key, so it is judged on others.
 All replications of all keys are pooled. A report says the sums of the differences and of their squares exactly, so the
-intervals are the paired-t intervals of N times R differences, with N R - 1 degrees of freedom.
-
-This is not proved; crnsim's figures are, and decimals are rounded.
+intervals are the paired-t intervals of N times R differences, with N R - 1 degrees of freedom. Decimals are rounded.
 """
 from __future__ import annotations
 
 import contextlib
 import dataclasses
 import functools
+import secrets
 from collections.abc import Sequence
 from dataclasses import dataclass
 from pathlib import Path
 
 from .. import formats
-from ..crnsim.keys import MOST_KEYS, Key, keys_of
 from ..crnsim.report import pooled, report_text
 from ..errors import Refused, argument
 from ..files import own_folder
 from ..scenario import Scenario
 from ..table import DataTable, Json, Result
-from ..toml.writing import plain_text
-from .intervals import check_replications, checked_level, with_intervals, with_verdict
-from .verdicts import Decision, horizon_of
+from ..toml.scenarios import plain_text
+from .verdicts import MOST_KEYS, Decision, check_replications, checked_level, horizon_of, with_intervals, with_verdict
 
+Key = tuple[str, ...]
 LEAST_REPLICATIONS = 2
 POOLED = "pooled.csv"
 KEPT = (POOLED, *(f"key_{number}.{end}" for number in range(1, MOST_KEYS + 1) for end in ("toml", "csv")))
+
+
+def key_of(words: Sequence[str], own: Key) -> Key:
+    """Returns the key that words name: four words, or one that replaces the first of the scenario's own."""
+    wrong = next((word for word in words if not formats.WORD.fullmatch(word)), None)
+    if wrong is not None:
+        raise Refused(f"{argument('keys')}: {wrong!r} is not {formats.DIGITS_OF_WORD} digits of 0-9a-f (in lower case)")
+    if len(words) not in (1, formats.WORDS_OF_KEY):
+        raise Refused(f"{argument('keys')}: there are {len(words)} words; give four, or one that replaces the first of "
+                      "the scenario")
+    return (*words, *own[len(words):])
+
+
+def keys_of(given: Sequence[Sequence[str]], count: int | None, own: Key) -> list[Key]:
+    """Returns the keys of a check: those that are given, and drawn ones up to `count`, by default one.
+
+    All differ, also from the scenario's own. Raises Refused.
+    """
+    keys = [key_of(words, own) for words in given]
+    least = max(1, len(keys))
+    count = least if count is None else count
+    if not least <= count <= MOST_KEYS:
+        raise Refused(f"{argument('count', str(count))}: there can be {least} to {MOST_KEYS} keys here")
+    if own in keys:
+        raise Refused(f"{argument('keys', ' '.join(own))} is the scenario's own key, with the same histories again; "
+                      "give another one, or none to draw one")
+    for place, key in enumerate(keys):
+        if key in keys[:place]:
+            raise Refused(f"{argument('keys', ' '.join(key))} is given twice, with the same histories again; give "
+                          "another one")
+    while len(keys) < count:
+        drawn = tuple(secrets.token_hex(formats.DIGITS_OF_WORD // 2) for _ in range(formats.WORDS_OF_KEY))
+        keys += [drawn] if drawn not in [own, *keys] else []
+    return keys
 
 
 @dataclass(frozen=True)
@@ -120,7 +152,7 @@ def check_keys(scenario: Scenario, best: str, *, keys: Sequence[Sequence[str]] =
         if folder and len(reports) > 1:
             folder.write(POOLED, report_text(rows))
     total = replications * len(reports)
-    ranked = tuple(with_intervals(rows, total, level))
+    ranked = with_intervals(rows, total, level)
     return Check(best, tuple(all_keys), Decision(ranked, best, total, level, horizon_of(scenario), most=len(rows)))
 
 

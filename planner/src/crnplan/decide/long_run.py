@@ -11,7 +11,7 @@ difference is the same in all. Theory and all decimals are rounded and unproved;
 from __future__ import annotations
 
 import math
-from collections.abc import Iterable, Sequence
+from collections.abc import Iterable, Iterator, Sequence
 from dataclasses import replace
 from typing import NamedTuple
 
@@ -23,8 +23,8 @@ from ..scenario import Policy, Scenario
 from ..table import names_of
 from ..theory.lattice import NoTheory
 from ..theory.run_effects import StartBias, end_effects, start_bias, theory_of
-from .intervals import FEWEST_ORDERS, Compared, Estimate, compared, estimates_of, t_quantile
-from .verdicts import MOST_ROWS, Decision, decided, horizon_of
+from .verdicts import (FEWEST_ORDERS, MOST_ROWS, Decision, Estimate, decided, estimates_of, horizon_of, ranked,
+                       t_quantile)
 
 # In standard errors of a difference. Measured: with smaller effects 94% of uncorrected 95% intervals hold.
 MOST_EFFECT = 0.25
@@ -33,25 +33,22 @@ CHANCE_OF_ALARM = 0.001
 LONG_RUN = Remark("long run")
 
 
-def _ranked(rows: Sequence[Row], estimates: Sequence[Estimate], level: float, replications: int,
-            theory: Sequence[float] | None, effects: Sequence[float | None] | None = None) -> tuple[Compared, ...]:
-    """Returns the policies of a report in the long run, the cheapest first."""
+def _decision(rows: Sequence[Row], estimates: Sequence[Estimate], replications: int, level: float,
+              theory: Sequence[Sequence[float | None]], sources: tuple[Remark, Remark], warnings: Iterable[Remark]
+              ) -> Decision:
+    """Returns a decision of the long run. `theory` has its figures of each policy, `sources` of what costs are."""
     base = estimates[0].cost
     percents = [100 * own.difference / base if base else None for own in estimates]
-    ranked = compared(rows, estimates, percents, level, replications)
-    if theory is not None:
-        ranked = [replace(row, theory_cost=cost, theory_diff=cost - theory[0]) for row, cost in zip(ranked, theory)]
-    if effects is not None:
-        ranked = [replace(row, effect=effect) for row, effect in zip(ranked, effects)]
-    return tuple(sorted(ranked, key=lambda row: row.diff))
+    policies = ranked(rows, estimates, percents, level, replications, theory)
+    return Decision(policies, rows[0].policy, replications, level, LONG_RUN, *sources,
+                    (*_without_interval(estimates), *warnings))
 
 
-def _without_interval(estimates: Sequence[Estimate]) -> Iterable[Remark]:
+def _without_interval(estimates: Sequence[Estimate]) -> Iterator[Remark]:
     """Yields what must be said of policies without an interval."""
-    base, *others = [(own.policy, own.error, math.inf if own.orders is None else own.orders) for own in estimates]
-    lacking = [(policy, min(orders, base[2])) for policy, error, orders in others if error is None]
-    few = [policy for policy, orders in lacking if orders < FEWEST_ORDERS]
-    same = [policy for policy, orders in lacking if orders >= FEWEST_ORDERS]
+    lacking = [(own.policy, min(own.orders, estimates[0].orders) < FEWEST_ORDERS)
+               for own in estimates[1:] if own.error is None]
+    few, same = ([policy for policy, is_rare in lacking if is_rare == asked] for asked in (True, False))
     if few:
         yield Remark("few orders", {"policies": names_of(few, MOST_ROWS), "least": FEWEST_ORDERS})
     if same:
@@ -70,25 +67,25 @@ def _disagreeing(estimates: Sequence[Estimate], theory: Sequence[float], replica
 
 def long_run_decision(report: LongRunReport, level: float = 0.95) -> Decision:
     """Compares the policies of runs from own starts, with theory's figures beside. `level` is above 0, below 1."""
-    estimates = estimates_of(report.rows, report.keys, report.periods, [0.0] * len(report.orders), report.orders)
-    warnings, costs = [*_without_interval(estimates)], None
+    rows, orders = report.rows, [math.inf if count is None else count for count in report.orders]
+    estimates = estimates_of(rows, report.keys, report.periods, [0.0] * len(rows), orders)
+    costs, off = list[float](), list[str]()
     try:
         theory = theory_of(report.scenario)
-        costs = [theory.figures(policy.s, policy.S).cost for policy in report.scenario.policies]
+        costs = [theory.figures(row.s, row.S).cost for row in rows]
         source = Remark("exact theory" if theory.exact else "rounded theory", {"step": theory.step})
         off = _disagreeing(estimates, costs, report.keys) if theory.exact else []
-        warnings += [Remark("far from theory", {"policies": names_of(off, MOST_ROWS)})] if off else []
     except NoTheory as fault:
         source = Remark("no theory", {"reason": str(fault)})
     runs = Remark("own starts", {"periods": report.periods, "keys": report.keys})
-    return Decision(_ranked(report.rows, estimates, level, report.keys, costs), report.rows[0].policy, report.keys,
-                    level, LONG_RUN, runs, source, tuple(warnings))
+    warnings = [Remark("far from theory", {"policies": names_of(off, MOST_ROWS)})] * bool(off)
+    return _decision(rows, estimates, report.keys, level, [(cost, cost - costs[0]) for cost in costs], (runs, source),
+                     warnings)
 
 
 class _Start(NamedTuple):
-    """What the start adds to the costs of a report's policies: to a period of each, and to its difference from the
-    first one in standard errors (None if that has none); and the policies for which that is too much for intervals
-    of the long run."""
+    """What the start adds to a period of each policy, and in standard errors to its difference from the first one, if
+    that has any; and the policies for which that is too much for intervals of the long run."""
 
     bias: StartBias
     shifts: list[float]
@@ -109,10 +106,7 @@ def _start_of(rows: Sequence[Row], scenario: Scenario) -> _Start:
 
 
 def end_warning(scenario: Scenario, rows: Sequence[Row]) -> list[Remark]:
-    """Returns the warning that `unit` charges what is left at the end, for a report's rows in its order.
-
-    There is none if `unit` is 0 or nothing is compared. Its figures are long-run means, rounded.
-    """
+    """Returns the warning that `unit` charges what is left at the end, if policies are compared: in long-run means."""
     unit, base = scenario.costs.unit, rows[0].policy
     if unit == 0 or len(rows) < 2:
         return []
@@ -128,12 +122,8 @@ def end_warning(scenario: Scenario, rows: Sequence[Row]) -> list[Remark]:
 
 
 def start_warning(rows: Sequence[Row], scenario: Scenario) -> list[Remark]:
-    """Returns the warning that a report on the coming periods says little of the long run, for its rows in any number,
-    the base first.
-
-    There is none if the start counts for no difference, or if theory is not exact and so cannot tell. `unit` is left
-    out, since `end_warning` is about that.
-    """
+    """Returns the warning that a report on the coming periods says little of the long run, if theory tells so exactly.
+    `unit` is left out, since `end_warning` is about that."""
     if scenario.replications < 2 or len(rows) < 2:
         return []
     try:
@@ -148,7 +138,7 @@ def start_warning(rows: Sequence[Row], scenario: Scenario) -> list[Remark]:
 
 def coming_decision(given: Sequence[Row], scenario: Scenario, level: float = 0.95) -> Decision:
     """Compares the policies of a report on the coming periods of a scenario. Warnings say what the end and the start of
-    a replication do to the verdicts: to those of policies that are listed."""
+    a replication do to the verdicts on the listed ones."""
     decision = decided(given, scenario.replications, level)
     listed = {row.policy for row in decision.listed}
     shown = [row for row in given if row.policy in listed]
@@ -167,11 +157,9 @@ def corrected_decision(rows: Sequence[Row], scenario: Scenario, level: float = 0
     bias = start.bias
     orders = [bias.theory.figures(row.s, row.S).orders * periods * replications for row in rows]
     estimates = estimates_of(rows, replications, periods, start.shifts, orders)
-    warnings = [*_without_interval(estimates)]
-    if start.strong:
-        warnings.append(Remark("strong start", {"policies": names_of(start.strong, MOST_ROWS), "most": MOST_EFFECT}))
+    theory = [(cost, cost - bias.costs[0], effect) for cost, effect in zip(bias.costs, start.effects)]
     runs = Remark("common start", {"initial": scenario.initial, "periods": periods})
     code = "exact theory" if bias.on_lattice else "start beside the lattice"
     source = Remark(code if bias.theory.exact else "rounded bias", {"step": bias.theory.step})
-    return Decision(_ranked(rows, estimates, level, replications, bias.costs, start.effects), rows[0].policy,
-                    replications, level, LONG_RUN, runs, source, tuple(warnings))
+    strong = Remark("strong start", {"policies": names_of(start.strong, MOST_ROWS), "most": MOST_EFFECT})
+    return _decision(rows, estimates, replications, level, theory, (runs, source), [strong] * bool(start.strong))

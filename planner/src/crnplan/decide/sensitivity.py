@@ -1,11 +1,9 @@
 """Says how much each policy of a scenario may cost too much if the scenario is not quite right, and how the best moves.
 
 Each case changes one thing. `sensitivity` asks crnsim what the policies cost in the scenario itself (`base`), with
-demand 10% up and down, with every lead time one period longer, and with the cost `backlog` halved and doubled. All else
-stays as it is, the key too. Costs with another `backlog` follow exactly from the items owed, which one run counts.
-`moves_of` asks theory which policy is best in the long run of each case, and what it costs to keep the chosen one.
-
-This is not proved; crnsim's figures are. Theory's figures and all decimals are rounded.
+demand 10% up and down, with every lead time one period longer, and with the cost `backlog` halved and doubled. Costs
+with another `backlog` follow exactly from the items owed, which one run counts. `moves_of` asks theory which policy is
+best in the long run of each case, and what it costs to keep the chosen one; its figures are rounded and unproved.
 """
 from __future__ import annotations
 
@@ -17,11 +15,10 @@ from dataclasses import dataclass
 from fractions import Fraction
 from functools import cached_property
 from pathlib import Path
-from typing import TYPE_CHECKING, NamedTuple
+from typing import NamedTuple
 
 from .. import formats
-from ..crnsim.program import find_program
-from ..crnsim.report import all_totals, counting
+from ..crnsim.report import counting
 from ..errors import Refused
 from ..law import Law
 from ..remarks import Remark
@@ -29,9 +26,6 @@ from ..scenario import Costs, Policy, Scenario
 from ..table import Cell, Column, DataTable, Json, Result, aligned, number, text, whole
 from ..words import sentence
 from .verdicts import POLICY, horizon_of
-
-if TYPE_CHECKING:
-    from ..theory.long_run import Figures
 
 CHANGES = [("demand_up", 11, "demand 10% up"), ("demand_down", 9, "demand 10% down")]
 AS_IT_IS = "as it is"
@@ -48,18 +42,16 @@ Levels = tuple[int, int]
 
 
 class Loss(NamedTuple):
-    """The regrets of a policy in all cases, in order, and the greatest of them with the name of its case."""
+    """The regrets of a policy in all cases, in order, and last the greatest of them, with the name of its case."""
 
     policy: Policy
     regrets: tuple[Regret, ...]
-    greatest: Regret
     worst: str
 
 
 @dataclass(frozen=True)
 class Sensitivity(Result):
-    """What each policy may cost too much. `costs` has by case the exact cost a period of each policy. `remarks` are on
-    cases that are not exact or left out."""
+    """What each policy may cost too much: the exact cost a period of each policy by case, and remarks on cases."""
 
     policies: tuple[Policy, ...]
     costs: Mapping[str, Sequence[Fraction]]
@@ -68,15 +60,14 @@ class Sensitivity(Result):
 
     @cached_property
     def losses(self) -> list[Loss]:
-        """Returns the regrets of each policy: its cost less that of the case's cheapest policy. The policy with the
-        least greatest regret comes first."""
+        """Returns the regrets of each policy against the cheapest one of each case, the least greatest regret first."""
         losses = list[Loss]()
         for place, policy in enumerate(self.policies):
             above = [(costs[place] - min(costs), min(costs)) for costs in self.costs.values()]
-            regrets = tuple((more, 100 * more / least if least else None) for more, least in above)
+            regrets = [(more, 100 * more / least if least else None) for more, least in above]
             greatest, worst = max(zip(regrets, self.costs), key=lambda pair: pair[0][0])
-            losses.append(Loss(policy, regrets, greatest, worst))
-        return sorted(losses, key=lambda loss: loss.greatest[0])
+            losses.append(Loss(policy, (*regrets, greatest), worst))
+        return sorted(losses, key=lambda loss: loss.regrets[-1][0])
 
     @property
     def cheapest(self) -> list[tuple[str, str, Fraction]]:
@@ -88,20 +79,17 @@ class Sensitivity(Result):
     def table(self) -> DataTable:
         """Returns the regret of each policy in each case, indexed by `policy`, the least greatest regret first."""
         rows: list[list[Cell]] = [
-            [loss.policy.name, loss.policy.s, loss.policy.S, *(None if figure is None else float(figure) for regret in (
-                *loss.regrets, loss.greatest) for figure in regret), loss.worst] for loss in self.losses]
+            [*dataclasses.astuple(loss.policy), *(None if figure is None else float(figure) for regret in loss.regrets
+                                                  for figure in regret), loss.worst] for loss in self.losses]
         return DataTable(columns_of([*self.costs]), rows, index="policy")
 
     @property
     def text(self) -> str:
         """Returns the table, the cheapest policy of each case, and the notes. The first line is the horizon."""
-        def cell(regret: Regret) -> str:
-            """Returns a regret as text."""
-            money, percent = regret
-            return f"{float(money):.3f}" + ("" if percent is None else f" ({float(percent):.2f}%)")
         heading = ["policy", "s", "S", *self.costs, "greatest", "in"]
-        cells = [[loss.policy.name, str(loss.policy.s), str(loss.policy.S), *map(cell, (*loss.regrets, loss.greatest)),
-                  loss.worst] for loss in self.losses]
+        cells = [[*map(str, dataclasses.astuple(loss.policy)),
+                  *(f"{float(money):.3f}" + ("" if percent is None else f" ({float(percent):.2f}%)")
+                    for money, percent in loss.regrets), loss.worst] for loss in self.losses]
         table = [[case, name, f"{float(cost):.3f}"] for case, name, cost in self.cheapest]
         return (f"The {sentence(self.horizon)}\n\n" + aligned([heading, *cells], (0, len(heading) - 1))
                 + "\nregret: cost per period above the cheapest policy of the case\n\n"
@@ -132,7 +120,7 @@ def changed_demand(demand: Law, tenths: int) -> Law:
     """Returns the demands of which each is multiplied by so many tenths.
 
     If that is not whole, it becomes the whole numbers below and above, with the weight shared so that the mean is
-    right. If the weights come to more than 65,536, they are scaled to that and rounded so that their sum stays right.
+    right. Weights that come to more than 65,536 are scaled to that and rounded so that their sum stays right.
     """
     counts: Counter[int] = Counter()
     for value, weight in zip(demand.values, demand.weights):
@@ -151,26 +139,20 @@ def changed_demand(demand: Law, tenths: int) -> Law:
 
 
 def law_cases(scenario: Scenario, notes: list[Remark]) -> Iterator[tuple[str, Scenario]]:
-    """Yields the cases with another demand, and with longer lead times. What cannot be done exactly or at all goes to
-    the notes."""
-    def is_over(case: str, what: str, law: Law, most: int) -> bool:
-        """Returns whether a value of a law is out of range, and notes that."""
-        value = law.values[-1]
-        if value > most:
-            notes.append(Remark("case out of range", {"case": case, "what": what, "value": value, "most": most}))
-        return value > most
-
-    for name, tenths, words in CHANGES:
-        demand = changed_demand(scenario.demand, tenths)
-        if is_over(words, "demand", demand, formats.MOST_DEMAND):
-            continue
-        before, after = scenario.demand.mean, demand.mean
-        if after != before * tenths / 10:
-            notes.append(Remark("rounded weights", {"case": words, "change": float(after / before) - 1}))
-        yield name, dataclasses.replace(scenario, demand=demand)
+    """Yields the cases with another law. What cannot be done exactly, or at all, goes to the notes."""
     lead = Law.of({value + 1: weight for value, weight in zip(scenario.lead.values, scenario.lead.weights)})
-    if not is_over("lead time plus 1", "lead time", lead, formats.MOST_LEAD):
-        yield "lead_plus_1", dataclasses.replace(scenario, lead=lead)
+    cases = [(name, words, "demand", changed_demand(scenario.demand, tenths), scenario.demand.mean * tenths / 10)
+             for name, tenths, words in CHANGES]
+    for name, words, key, law, mean in (*cases, ("lead_plus_1", "lead time plus 1", "lead", lead, lead.mean)):
+        value, most = law.values[-1], formats.limits(key, "values")[1]
+        if value > most:
+            what = "demand" if key == "demand" else "lead time"
+            notes.append(Remark("case out of range", {"case": words, "what": what, "value": value, "most": most}))
+            continue
+        if law.mean != mean:
+            change = float(law.mean / scenario.demand.mean) - 1
+            notes.append(Remark("rounded weights", {"case": words, "change": change}))
+        yield name, dataclasses.replace(scenario, **{key: law})
 
 
 def sensitivity(scenario: Scenario, *, long_run: bool = False, program: str | Path | None = None) -> Sensitivity:
@@ -183,11 +165,8 @@ def sensitivity(scenario: Scenario, *, long_run: bool = False, program: str | Pa
     notes: list[Remark] = []
     cases = {"base": scenario, **dict(law_cases(scenario, notes))}
     asked = [*cases.values(), counting(scenario, "backlog")]
-    if long_run:
-        runs = [[row.per_period for row in case.long_run(program=program).rows] for case in asked]
-    else:
-        runs = [[Fraction(total, case.periods * case.replications) for total in totals]
-                for case, totals in zip(asked, all_totals(find_program(program), asked))]
+    reports = [case.long_run(program=program).rows if long_run else case.run(program=program).rows for case in asked]
+    runs = [[row.per_period for row in rows] for rows in reports]
     costs, rate = dict(zip(cases, runs)), scenario.costs.backlog
     for name, change in (("backlog_half", Fraction(-rate, 2)), ("backlog_double", Fraction(rate))):
         costs[name] = [cost + change * items for cost, items in zip(runs[0], runs[-1])]
@@ -207,20 +186,8 @@ class Case(NamedTuple):
     times: int = 1
 
 
-class Found(NamedTuple):
-    """The best policy of a case, with its figures, and those of the policy that is kept."""
-
-    best: Levels
-    figures: Figures
-    kept: Figures
-
-
-@dataclass(frozen=True)
-class Move:
-    """What is best in a case, and what keeping the chosen policy amounts to there.
-
-    Costs are of a period, in the scenario's money; `fill` is the share of demand met at once.
-    """
+class Move(NamedTuple):
+    """What is best in a case, and what keeping the chosen policy amounts to there, as the columns `MOVES` have it."""
 
     words: str
     s: int
@@ -228,12 +195,14 @@ class Move:
     cost: float
     fill: float
     kept_cost: float
+    kept_more: float
     kept_fill: float
 
-    @property
-    def kept_more(self) -> float:
-        """Returns by which share of the best cost keeping the policy costs more; nan if the best costs nothing."""
-        return self.kept_cost / self.cost - 1 if self.cost else math.nan
+    @classmethod
+    def of(cls, case: Case, best: Levels, cost: float, fill: float, kept_cost: float, kept_fill: float) -> Move:
+        """Makes the move of a case from the levels of its best policy, and costs as the case has them."""
+        more = kept_cost / cost - 1 if cost else math.nan
+        return cls(case.words, *best, cost / case.times, fill, kept_cost / case.times, more, kept_fill)
 
 
 @dataclass(frozen=True)
@@ -247,8 +216,7 @@ class Moves(Result):
     @property
     def table(self) -> DataTable:
         """Returns the cases."""
-        return DataTable(MOVES, [[move.words, move.s, move.S, move.cost, move.fill, move.kept_cost, move.kept_more,
-                                  move.kept_fill] for move in self.moves])
+        return DataTable(MOVES, self.moves)
 
     @property
     def notes(self) -> str:
@@ -285,30 +253,28 @@ def cases_of(scenario: Scenario, fill: float | None, notes: list[Remark]) -> Ite
         yield Case(words[name], changed, fill)
 
 
-def found_of(case: Case, kept: Levels) -> Found:
-    """Returns the best policy of a case with a backlog cost. Raises NoTheory."""
+def move_of(case: Case, kept: Levels) -> Move:
+    """Returns the move of a case with a backlog cost, by theory. Raises NoTheory."""
     from ..theory.lattice import NoTheory, theories_of
     theory, _ = theories_of(case.scenario, kept[1] - kept[0])
     best = theory.best()
     if best.cost == math.inf:
         raise NoTheory("there is no best policy within the ranges of s and S")
-    return Found((best.point, best.level), theory.figures(best.point, best.level), theory.figures(*kept))
+    levels = best.point, best.level
+    return Move.of(case, levels, *theory.figures(*levels)[:2], *theory.figures(*kept)[:2])
 
 
 def moves_of(scenario: Scenario, name: str, kept: Levels, *, fill: float | None = None,
-             find: Callable[[Case, Levels], Found] = found_of) -> Moves:
+             find: Callable[[Case, Levels], Move] = move_of) -> Moves:
     """Returns how the best policy moves, and what it costs to keep a policy of this name and levels.
 
-    `fill` is the share of demand that is to be met at once, if one is wanted. `find` finds the best policy of a case;
-    if it raises Refused, the case is left out with a note.
+    `fill` is the share of demand that is to be met at once, if one is wanted. `find` returns the move of a case; if it
+    raises Refused, the case is left out with a note.
     """
     notes, moves = list[Remark](), list[Move]()
     for case in cases_of(scenario, fill, notes):
         try:
-            found = find(case, kept)
+            moves.append(find(case, kept))
         except Refused as fault:
             notes.append(Remark("case refused", {"case": case.words, "reason": str(fault)}))
-            continue
-        moves.append(Move(case.words, *found.best, found.figures.cost / case.times, found.figures.fill,
-                          found.kept.cost / case.times, found.kept.fill))
     return Moves(name, tuple(moves), tuple(notes))

@@ -10,7 +10,7 @@ from pathlib import Path
 
 from ..crnsim.trajectory import Period
 from ..decide.doubt import WITHIN
-from ..decide.intervals import Compared as ComparedRow
+from ..decide.verdicts import Compared as ComparedRow
 from ..decide.sensitivity import Moves
 from ..decide_words import exactness
 from ..demand import EMPIRICAL

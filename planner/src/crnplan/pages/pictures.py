@@ -18,8 +18,7 @@ from ..chances import Floats
 from ..crnsim.trajectory import Period
 from ..curve.exchange import Point
 from ..decide.doubt import MOST, Doubt
-from ..decide.intervals import Compared
-from ..decide.verdicts import Decision
+from ..decide.verdicts import Compared, Decision
 from ..errors import Refused
 from ..scenario import Policy
 

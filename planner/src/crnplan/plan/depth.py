@@ -14,7 +14,7 @@ from functools import cached_property
 from ..crnsim.report import report_of
 from ..crnsim.trajectory import Period, trajectories
 from ..decide.doubt import WITHIN, Doubt
-from ..decide.intervals import Compared as ComparedRow, Estimate, verdict_of, with_intervals
+from ..decide.verdicts import Compared as ComparedRow, Estimate, verdict_of, with_intervals
 from ..demand.fitted import FittedLaw
 from ..demand.posterior import AllowedLaws
 from ..errors import Refused
@@ -22,13 +22,13 @@ from ..formats import MOST_ITEMS, POLICIES
 from ..law import Law
 from ..scenario import Policy, Scenario
 from ..theory.lattice import NoTheory
-from ..theory.long_run import Candidate, Figures as TheoryFigures, LongRun
+from ..theory.long_run import Candidate, LongRun
 from ..theory.many_laws import CONFIDENCE, Promises, figures_of_laws
 from ..theory.suggestions import FILLS, Chosen, add_fills, chosen_policies
 from ..words import sentence
 from .answer import ALONE, CHOSEN, THEORY, TODAY, Answer, Figures
 from .one import LAWS, Sample, allowed_by, choice_of, figures_of, interval, quantile, sample_of
-from ..decide.sensitivity import Case, Found, Moves, moves_of
+from ..decide.sensitivity import Case, Move, Moves, moves_of
 from .question import Levels, Question
 
 MOST_PERIODS = 104  # of a trajectory
@@ -188,16 +188,15 @@ class Depth:
         """Returns how the best policy moves, and what it costs to keep the chosen one, in money."""
         fill = self.question.item.fill
         return moves_of(self.scenario, self.chosen, self.levels[CHOSEN], fill=None if fill is None else float(fill),
-                        find=self._found)
+                        find=self._move)
 
-    def _found(self, case: Case, kept: Levels) -> Found:
-        """Returns the best policy of a case, without a confidence in its fill rate. Raises Refused."""
+    def _move(self, case: Case, kept: Levels) -> Move:
+        """Returns the move of a case, without a confidence in the fill rate of its best policy. Raises Refused."""
         asked, box = self._asked(case), self.question.item.box
         theory = asked.theory()
-        best = choice_of(theory, asked).levels
-        figures = (TheoryFigures(policy.cost, policy.fill, policy.short, policy.stock, policy.orders)
-                   for policy in (figures_of(asked, theory, levels) for levels in (best, kept)))
-        return Found((best[0] * box, best[1] * box), *figures)
+        levels = choice_of(theory, asked).levels
+        best, own = (figures_of(asked, theory, of_policy) for of_policy in (levels, kept))
+        return Move.of(case, (levels[0] * box, levels[1] * box), best.cost, best.fill, own.cost, own.fill)
 
     def _asked(self, case: Case) -> Question:
         question, costs = self.question, dataclasses.asdict(case.scenario.costs)
@@ -229,4 +228,4 @@ class Depth:
         scenario = dataclasses.replace(self.scenario, periods=periods, replications=replications, initial=self._stock(),
                                        costs=costs)
         rows = report_of(scenario, self.program).rows
-        return Coming(scenario, tuple(with_intervals(rows, replications, self.question.settings.level)))
+        return Coming(scenario, with_intervals(rows, replications, self.question.settings.level))

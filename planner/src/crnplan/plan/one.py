@@ -20,7 +20,7 @@ from typing import NamedTuple, TypeVar
 import numpy as np
 
 from ..crnsim.report import Report, report_of
-from ..decide.intervals import Estimate as PolicyEstimate, estimates_of, t_quantile
+from ..decide.verdicts import Estimate as PolicyEstimate, estimates_of, t_quantile
 from ..demand.borrowing import borrowed_laws
 from ..demand.learning import Prior
 from ..demand.checks import remarks_of as checked

@@ -22,7 +22,7 @@ from ..remarks import Remark
 from ..scenario import BY_ITS_LAWS, Policy, Scenario
 from ..table import Cell, DataTable, Json, Result, number, text, whole
 from ..toml.documents import read_document
-from ..toml.writing import head_of, plain_text
+from ..toml.scenarios import head_of, plain_text
 from ..words import sentence
 from .lattice import theories_of
 from .long_run import Candidate, Figures, LongRun

@@ -10,19 +10,18 @@ import re
 import sys
 import tomllib
 from bisect import bisect_right
+from collections.abc import Callable, Iterator
+from operator import itemgetter
 from pathlib import Path as FilePath
 from typing import Any, NamedTuple
 
 from ..errors import Fault, Refused
 from ..formats import MOST_BYTES, MOST_LEVELS
-from .texts import TEXT, TooDeep, older_text, shown, usual_cause
+from .texts import TOKEN, TooDeep, older_text, shown, usual_cause
 
 MARK = b"\xef\xbb\xbf"
 BYTE_ORDER_MARKS = (b"\xff\xfe", b"\xfe\xff")
-BLANK = r"(?:\s|#[^\n]*)*"
-KEY_PART = r"[ \t]*(?:[A-Za-z0-9_-]+|\"(?:\\.|[^\"\\\n])*\"|'[^'\n]*')[ \t]*"
-KEY = rf"{KEY_PART}(?:\.{KEY_PART})*"
-SCALAR = rf"(?s:{TEXT})|[^,\]}}#\n]+"
+OWN = r'"\u0000"'  # a key that stands for its table
 DOCUMENT = "the document"
 
 Tree = dict[str, Any]
@@ -33,8 +32,7 @@ Place = tuple[int, int]  # a line and a column, each counted from 1; 0 if it is 
 
 class TreeFault(NamedTuple):
     """A fault of a document: the number of its rule (of a scenario, as in docs/FORMATS.md), its path, what is wrong,
-    what to do, and how many others like it are in the same list; then its place, 0 if that is not known, and where that
-    is in words."""
+    what to do, and how many others like it are in the same list; then its place, 0 if not known, and that in words."""
 
     rule: int
     path: Path
@@ -109,14 +107,6 @@ def _unread(text: str, older: str, fault: tomllib.TOMLDecodeError) -> TreeFault:
     return _no_document(message, usual_cause(text, offset, message), text, offset, "" if place else ", the end")
 
 
-def _huge_integers(value: Any) -> list[int]:
-    """Returns the integers beyond 64 bits anywhere in a tree."""
-    if isinstance(value, (dict, list)):
-        parts = value.values() if isinstance(value, dict) else value
-        return [huge for part in parts for huge in _huge_integers(part)]
-    return [value] if type(value) is int and not -2**63 <= value < 2**63 else []
-
-
 def _huge_fault(text: str, huge: int) -> TreeFault:
     """Returns fault 1 of an integer beyond 64 bits: no TOML document has one, though Python's reader takes it."""
     spelt = None
@@ -127,8 +117,7 @@ def _huge_fault(text: str, huge: int) -> TreeFault:
 
 
 def read_bytes(path: str | FilePath) -> bytes:
-    """Returns the bytes of a file, or of standard input if the path is `-`. Raises Refused if crnsim would not read
-    them."""
+    """Returns the bytes of a file, or for `-` of standard input. Raises Refused if crnsim would not read them."""
     try:
         if str(path) == "-":
             return check_size(sys.stdin.buffer.read(MOST_BYTES + 1), "")
@@ -158,7 +147,8 @@ def read_document(data: bytes) -> tuple[Tree, list[TreeFault]]:
         text = text_of_document(data)
         older = older_text(text)
         tree = tomllib.loads(older, parse_float=SpeltFloat)
-        return tree, [_huge_fault(text, huge) for huge in _huge_integers(tree)]
+        return tree, [_huge_fault(text, value) for _, value in parts_of(tree)
+                      if type(value) is int and not -2**63 <= value < 2**63]
     except UnicodeDecodeError as fault:
         return {}, [_undecoded(data, fault)]
     except tomllib.TOMLDecodeError as fault:
@@ -172,112 +162,71 @@ def read_document(data: bytes) -> tuple[Tree, list[TreeFault]]:
         return {}, [_no_document("an integer is beyond 64 bits", "write a number within its range")]
 
 
-class Unscanned(Exception):
-    """The scan meets a spelling that it does not know."""
-
-
-class Scan:
-    """A scan of a document that tomllib has read. It reads no values but texts in keys.
-
-    `offsets` has the first place of each path, and `counts` how many tables each list of tables has so far.
-    """
-
-    def __init__(self, text: str) -> None:
-        """Scans a text with line feeds alone. Raises Unscanned."""
-        self.text, self.at = text, 0
-        self.offsets: dict[Path, int] = {}
-        self.counts: dict[Path, int] = {}
-        table: Path = ()
-        while first := self.next():
-            if first == "[":
-                table = self.header()
-            else:
-                self.pair(table)
-
-    def take(self, pattern: str) -> str:
-        """Goes past what a pattern matches here, and returns it. Raises Unscanned if that is nothing."""
-        match = re.compile(pattern).match(self.text, self.at)
-        if match is None:
-            raise Unscanned
-        self.at = match.end()
-        return match[0]
-
-    def next(self) -> str:
-        """Goes past blanks, line ends and comments; returns the rest's first character, or the empty text."""
-        self.take(BLANK)
-        return self.text[self.at:self.at + 1]
-
-    def key(self) -> list[str]:
-        """Goes past a key, and returns its parts."""
-        table: Any = tomllib.loads(f"{older_text(self.take(KEY))} = 0")
-        parts: list[str] = []
-        while isinstance(table, dict):
-            ((name, table),) = table.items()
-            parts.append(name)
-        return parts
-
-    def under(self, path: Path, parts: list[str], offset: int) -> Path:
-        """Returns the path of a key below another; each table on the way is the last one of its list."""
-        for part in parts:
-            path += (part,)
-            self.offsets.setdefault(path, offset)
-            if path in self.counts:
-                path += (self.counts[path],)
-        return path
-
-    def header(self) -> Path:
-        """Goes past the header of a table, and returns the path of that."""
-        offset, opening, parts = self.at, self.take(r"\[\[?"), self.key()
-        self.take(r"\]" * len(opening))
-        if opening == "[":
-            return self.under((), parts, offset)
-        path: Path = (*self.under((), parts[:-1], offset), parts[-1])
-        self.offsets.setdefault(path, offset)
-        self.counts[path] = self.counts.get(path, 0) + 1
-        path += (self.counts[path],)
-        self.offsets.setdefault(path, offset)
-        return path
-
-    def pair(self, path: Path) -> None:
-        """Goes past a key with its value below a path."""
-        offset = self.at
-        inner = self.under(path, self.key(), offset)
-        self.take("=")
-        self.value(inner, self.next())
-
-    def value(self, path: Path, first: str) -> None:
-        """Goes past a value with this first character, and notes the places of what stands in it."""
-        if first not in ("[", "{"):
-            self.take(SCALAR)
-            return
-        self.at += 1
-        end, entry = "]" if first == "[" else "}", 0
-        while (inner := self.next()) != end:
-            if first == "{":
-                self.pair(path)
-            else:
-                entry += 1
-                self.offsets.setdefault((*path, entry), self.at)
-                self.value((*path, entry), inner)
-            if self.next() != end:
-                self.take(",")
-        self.at += 1
-
-
-def paths_of(value: Any, path: Path = ()) -> set[Path]:
-    """Returns the paths of all that stands in a table or a list."""
+def parts_of(value: Any, path: Path = ()) -> Iterator[tuple[Path, Any]]:
+    """Yields each path of a tree with what stands there."""
+    yield path, value
     parts = value.items() if isinstance(value, dict) else enumerate(value, 1) if isinstance(value, list) else ()
-    return {inner for name, part in parts for inner in ((*path, name), *paths_of(part, (*path, name)))}
+    for name, part in parts:
+        yield from parts_of(part, (*path, name))
+
+
+def marked_text(text: str) -> str:
+    """Returns a document that tomllib has read with marks in place of its values: the offset of each entry of a list,
+    and of the key of any other value. Lists end with their own mark, and tables have it at the key OWN, as texts."""
+    marked, opened, state, start = list[str](), list[str](), "line", 0
+    for match in TOKEN.finditer(f"{text}\n"):
+        token = match[0]
+        if token[0] == "#" or token.isspace() and (opened or token != "\n"):
+            continue
+        if state == "line" or state == "value" and marked[-1] != "=":
+            start = match.start()
+        if token == "\n":
+            marked.append(f'\n{OWN} = "{start}"\n' if state == "header" else token)
+            state = "line"
+        elif token in ("]", "}") and opened:
+            closing, state = opened.pop(), "end"
+            marked.append(closing + "," * bool(opened))
+        elif token == "," and opened:
+            state = "value" if opened[-1].endswith("]") else "line"
+        elif state == "value" and token in ("[", "{"):
+            opened.append(f'"{start}"]' if token == "[" else f'{OWN} = "{start}"}}')
+            marked.append(token)
+            state = "value" if token == "[" else "line"
+        elif state == "value":
+            marked.append(f"{start}" + "," * bool(opened))
+            state = "end"
+        elif state != "end":
+            marked.append(token)
+            if state == "line":
+                state = "header" if token == "[" and not opened else "key"
+            elif state == "key" and token == "=":
+                state = "value"
+    return "".join(marked)
 
 
 def places_of(text: str, tree: Any) -> dict[Path, Place]:
-    """Returns the place of each path of a document. If the scan meets other paths than the tree has, it returns
-    nothing: none is better than a wrong one."""
+    """Returns the place of each path of a document, where it first stands. If these would not be the paths of the tree,
+    it returns nothing: none is better than a wrong one."""
     try:
-        offsets = Scan(text).offsets
-    except (Unscanned, tomllib.TOMLDecodeError):
+        marked = tomllib.loads(older_text(marked_text(text)))
+    except tomllib.TOMLDecodeError:
         return {}
-    starts = [0, *(match.end() for match in re.finditer("\n", text))]
-    lines = {path: bisect_right(starts, offset) for path, offset in offsets.items()}
-    places = {path: (line, offsets[path] - starts[line - 1] + 1) for path, line in lines.items()}
-    return places if places.keys() == paths_of(tree) else {}
+    marks = sorted(((int(mark), path[:-1] if isinstance(mark, str) else path)
+                    for path, mark in parts_of(marked) if isinstance(mark, (int, str))), key=itemgetter(0))
+    starts, places = [0, *(match.end() for match in re.finditer("\n", text))], dict[Path, Place]()
+    for offset, path in marks:
+        line = bisect_right(starts, offset)
+        for length in range(1, len(path) + 1):
+            places.setdefault(path[:length], (line, offset - starts[line - 1] + 1))
+    return places if places.keys() == {path for path, _ in parts_of(tree) if path} else {}
+
+
+def read_judged(data: bytes, judge: Callable[[Tree], list[TreeFault]]) -> tuple[Tree, list[TreeFault]]:
+    """Returns the tree of a document, and with their places its faults 1, or else those that a judge finds in it."""
+    tree, faults = read_document(data)
+    if faults:
+        return tree, faults
+    faults = judge(tree)
+    places = places_of(text_of_document(data), tree) if faults else {}
+    return tree, [fault._replace(line=line, column=column)
+                  for fault in faults for line, column in [places.get(fault.path, (0, 0))]]

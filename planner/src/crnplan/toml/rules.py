@@ -7,8 +7,7 @@ from __future__ import annotations
 
 import datetime
 import re
-from collections import Counter
-from collections.abc import Callable, Container, Hashable, Iterable, Mapping, Sequence
+from collections.abc import Callable, Container, Hashable, Iterable, Mapping
 from dataclasses import dataclass, field
 from difflib import get_close_matches
 from pathlib import Path as FilePath
@@ -17,7 +16,7 @@ from typing import Any
 from .. import formats
 from ..errors import Fault, RefusedFaults
 from ..table import names_of
-from .documents import DOCUMENT, Path, Tree, TreeFault, places_of, read_bytes, read_document, text_of_document
+from .documents import DOCUMENT, Path, Tree, TreeFault, read_bytes, read_judged
 from .texts import odd_advice, shown
 
 # A check of a value at a path: it returns its faults.
@@ -98,12 +97,12 @@ def wrong_kind(path: Path, value: Any, wanted: str) -> list[TreeFault]:
     return [TreeFault(KIND, path, f"{shown(value)} is {kind}; {wanted} should stand here", advice)]
 
 
-def once_each(faults: Sequence[TreeFault], kinds: Iterable[Hashable]) -> list[TreeFault]:
-    """Returns the first fault of each kind in a list, with how many others there are. `kinds` has the kind of each."""
-    each = list(zip(faults, kinds, strict=True))
-    counts = Counter(kind for _, kind in each)
-    firsts = {kind: fault for fault, kind in reversed(each)}
-    return [firsts[kind]._replace(more=count - 1) for kind, count in counts.items()]
+def once_each(faults: Iterable[tuple[Hashable, TreeFault]]) -> list[TreeFault]:
+    """Returns the first fault of each kind in a list, with how many others there are."""
+    by_kind = dict[Hashable, list[TreeFault]]()
+    for kind, fault in faults:
+        by_kind.setdefault(kind, []).append(fault)
+    return [first._replace(more=len(others)) for first, *others in by_kind.values()]
 
 
 def number(least: int, most: int) -> Check:
@@ -130,9 +129,8 @@ def numbers(least: int, most: int) -> Check:
             return wrong_kind(path, value, "a list of whole numbers")
         if not value:
             return [TreeFault(RANGE, path, "the list is empty", "write at least one number")]
-        faults = [(fault, entry < least if type(entry) is int else kind_of(entry))
-                  for place, entry in enumerate(value, 1) for fault in one((*path, place), entry)]
-        return once_each([fault for fault, _ in faults], [kind for _, kind in faults])
+        return once_each((entry < least if type(entry) is int else kind_of(entry), fault)
+                         for place, entry in enumerate(value, 1) for fault in one((*path, place), entry))
     return check
 
 
@@ -199,11 +197,11 @@ class Judge:
         self.rules, self.says_both, self.tables = rules, says_both, (newest or rules).keys
         homes: dict[str, list[str]] = {}
         for name, rule in self.tables.items():
-            if isinstance(rule, Key):
-                homes[name] = [f"{DOCUMENT}, above its first table"]
-            else:
-                for key in rule.keys:
-                    homes.setdefault(key, []).append(f"[[{name}]]" if rule.is_list else f"[{name}]")
+            keys, home = [name], f"{DOCUMENT}, above its first table"
+            if isinstance(rule, Table):
+                keys, home = [*rule.keys], f"[[{name}]]" if rule.is_list else f"[{name}]"
+            for key in keys:
+                homes.setdefault(key, []).append(home)
         self.homes = {key: " or ".join(filter(None, [", ".join(tables[:-1]), tables[-1]]))
                       for key, tables in homes.items()}
 
@@ -223,8 +221,7 @@ class Judge:
         return odd_advice(key) or (f"write {close}" if close else f"remove it{others}")
 
     def _of_table(self, path: Path, table: Any, rules: Table) -> list[TreeFault]:
-        """Returns the faults of a table: keys that should not be there, keys that are missing, values, and what stands
-        beside each other."""
+        """Returns the faults of a table: unknown and missing keys, values, and what stands beside each other."""
         if not isinstance(table, dict):
             return wrong_kind(path, table, "a table")
         unknown = [] if rules.other else [key for key in table if key not in rules.keys]
@@ -282,14 +279,10 @@ def read_tables(path: str | FilePath, rules: Table) -> Tree:
 
     Raises Refused if it can't be read, and RefusedFaults with all that is wrong with it, by line.
     """
-    data = read_bytes(path)
-    tree, unread = read_document(data)
-    faults = [Fault(f"this is no TOML document: {fault.reason}", str(path), fault.line, fault.column)
-              for fault in unread]
-    troubles = [] if unread else Judge(rules).faults(tree)
-    places = places_of(text_of_document(data), tree) if troubles else {}
-    faults += [Fault(f"{_place_text(fault.path, rules)}: {fault.what}; {fault.advice}", str(path),
-                     *places.get(fault.path, (0, 0))) for fault in troubles]
+    tree, faults = read_judged(read_bytes(path), Judge(rules).faults)
     if faults:
-        raise RefusedFaults(sorted(faults, key=lambda fault: (fault.line, fault.column)))
+        words = (f"this is no TOML document: {fault.reason}" if fault.rule == 1 else
+                 f"{_place_text(fault.path, rules)}: {fault.what}; {fault.advice}" for fault in faults)
+        raise RefusedFaults(sorted((Fault(what, str(path), fault.line, fault.column)
+                                    for what, fault in zip(words, faults)), key=lambda fault: (fault.line, fault.column)))
     return tree

@@ -1,17 +1,22 @@
-"""Reads scenarios, and finds all their faults: the keys of the tables, and what stands beside each other.
+"""Reads scenarios, finds all their faults, in the tables and beside each other, and writes scenarios.
 
 Which scenarios crnsim takes, and which number it reports, is proved of the program; this module is not.
 """
 from __future__ import annotations
 
+import contextlib
+import itertools
+import json
+import re
+import tomllib
 from collections.abc import Container, Mapping
 from typing import Any, TypeGuard
 
 from .. import formats
 from ..errors import ScenarioError
-from .documents import DOCUMENT, Path, Tree, TreeFault, places_of, read_document, text_of_document
+from .documents import DOCUMENT, Path, Tree, TreeFault, read_judged
 from .rules import RANGE, Check, Judge, Key, Table, number, numbers, once_each, wrong_kind
-from .texts import odd_advice, shown
+from .texts import odd_advice, older_text, shown
 
 VERSION, LENGTHS, ORDER, SUM, LEVELS, NAME, RING, COUNT = (
     formats.RULES[name] for name in ("Version", "Lengths", "Order", "WeightSum", "Levels", "Name", "RingSize",
@@ -19,6 +24,8 @@ VERSION, LENGTHS, ORDER, SUM, LEVELS, NAME, RING, COUNT = (
 LONGEST_NAME = 20
 # So many faults are in the text of an error. Its `faults` has all.
 MOST_SHOWN = 20
+# Comment lines behind an empty line at the end of a text. They are about the table that followed.
+COMMENT_AT_END = re.compile(r"\n\n(#[^\n]*\n)+\Z")
 
 
 def _word_faults(path: Path, word: Any) -> list[TreeFault]:
@@ -39,7 +46,7 @@ def _key_faults(path: Path, value: Any) -> list[TreeFault]:
     count = [] if len(value) == formats.WORDS_OF_KEY else [
         TreeFault(RANGE, path, f"there are {len(value)} texts, not 4", "write four, each of 16 digits")]
     faults = [fault for place, word in enumerate(value, 1) for fault in _word_faults((*path, place), word)]
-    return count + once_each(faults, [fault.advice if fault.rule == RANGE else fault.rule for fault in faults])
+    return count + once_each((fault.advice if fault.rule == RANGE else fault.rule, fault) for fault in faults)
 
 
 def _ring_faults(path: Path, value: Any) -> list[TreeFault]:
@@ -75,10 +82,10 @@ def _draws_faults(path: Path, table: Mapping[str, Any], _good: Container[str]) -
         faults.append(TreeFault(LENGTHS, path, f"there are {len(values)} values and {len(weights)} weights",
                                 "write one weight for each value"))
     if _are_whole(values):
-        falls = [TreeFault(ORDER, (*path, "values", entry), f"{shown(high)} is not above the {shown(low)} before it",
-                           "write each value once, rising, with its weight")
-                 for entry, (low, high) in enumerate(zip(values, values[1:]), 2) if low >= high]
-        faults += once_each(falls, [ORDER] * len(falls))
+        faults += once_each((ORDER, TreeFault(
+            ORDER, (*path, "values", entry), f"{shown(high)} is not above the {shown(low)} before it",
+            "write each value once, rising, with its weight"))
+            for entry, (low, high) in enumerate(itertools.pairwise(values), 2) if low >= high)
     least, most = formats.WEIGHT_SUMS
     if _are_whole(weights) and not least <= sum(weights) <= most:
         advice = "divide all weights by the same number" if sum(weights) > 0 else "give some value a weight above 0"
@@ -180,14 +187,7 @@ def faults_of(tree: dict[str, Any]) -> list[TreeFault]:
 
 def read_scenario(data: bytes) -> tuple[Tree, list[TreeFault]]:
     """Returns the tree of a scenario's bytes, and all its faults, the least number first."""
-    tree, faults = read_document(data)
-    if faults:
-        return tree, faults
-    faults = faults_of(tree)
-    places = places_of(text_of_document(data), tree) if faults else {}
-    nowhere = 0, 0
-    return tree, [fault._replace(line=line, column=column)
-                  for fault in faults for line, column in [places.get(fault.path, nowhere)]]
+    return read_judged(data, faults_of)
 
 
 def error_of(faults: list[TreeFault], file: str = "") -> ScenarioError:
@@ -206,3 +206,62 @@ def checked_tree(tree: Tree, any_number: bool = False) -> Tree:
     if faults:
         raise error_of(faults)
     return tree
+
+
+def plain_text(tree: Tree) -> str:
+    """Returns a tree without comments: the keys of the document, its tables, its policies."""
+    tables = [(f"\n[{name}]\n", table) for name, table in tree.items() if isinstance(table, dict)]
+    tables += [("\n[[policy]]\n", policy) for policy in tree["policy"]]
+    document = {key: value for key, value in tree.items() if key != "policy" and not isinstance(value, dict)}
+    # JSON spells whole numbers, texts and lists of such as TOML does.
+    return "".join(heading + "".join(f"{key} = {json.dumps(value, ensure_ascii=False)}\n" for key, value in table.items())
+                   for heading, table in [("", document), *tables])
+
+
+def head_of(source: str) -> str:
+    """Returns the comment lines at the top of a text."""
+    return "".join(itertools.takewhile(lambda line: line.startswith("#"), source.splitlines(keepends=True)))
+
+
+def _merge(old: Any, tree: Tree) -> None:
+    """Changes the table of a document to what a tree has. What is equal keeps its spelling and its comments."""
+    for key in [key for key in old if key not in tree]:
+        del old[key]
+    for key, value in tree.items():
+        if isinstance(value, dict) and isinstance(old.get(key), dict):
+            _merge(old[key], value)
+        elif key not in old or old[key] != value:
+            old[key] = value
+
+
+def _merged_text(source: str, tree: Tree) -> str:
+    """Returns the text of a tree with the spelling and the comments of a source, as far as both agree.
+
+    Policies keep theirs only if all names and their order are the same.
+    """
+    import tomlkit
+    document: Any = tomlkit.parse(source)
+    others = {key: value for key, value in tree.items() if key != "policy"}
+    if [policy["name"] for policy in document["policy"]] == [policy["name"] for policy in tree["policy"]]:
+        for table, policy in zip(document["policy"], tree["policy"]):
+            _merge(table, policy)
+        _merge(document, {**others, "policy": document["policy"]})
+        return str(document.as_string())
+    del document["policy"]
+    document = tomlkit.parse(COMMENT_AT_END.sub("\n", f"{document.as_string().rstrip()}\n"))
+    _merge(document, others)
+    return str(document.as_string()) + plain_text({"policy": tree["policy"]})
+
+
+def toml_text(tree: Tree, source: str) -> str:
+    """Returns a tree as TOML, with the comments of the source, which is the text of a scenario; with those at its top
+    alone if they cannot be kept at their places."""
+    older = older_text(source)
+    if tomllib.loads(older) == tree:
+        return source
+    from tomlkit.exceptions import TOMLKitError
+    with contextlib.suppress(TOMLKitError, tomllib.TOMLDecodeError):
+        text = _merged_text(older, tree)
+        if tomllib.loads(text) == tree:
+            return text
+    return head_of(source) + plain_text(tree)

@@ -148,8 +148,7 @@ def _habit_in(code: str) -> str:
 
 
 def usual_cause(text: str, offset: int, message: str) -> str:
-    """Returns what a text that is no document at an offset usually comes from, and what to do. `message` is that of
-    Python's reader."""
+    """Returns what a text usually comes from that is no document at an offset, by the message of Python's reader."""
     start, end = text.rfind("\n", 0, offset) + 1, text.find("\n", offset)
     line = text[start:end if end >= 0 else len(text)]
     if "\0" in line:

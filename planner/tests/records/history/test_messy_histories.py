@@ -11,7 +11,7 @@ from typing import Any
 
 import pytest
 
-from crnplan.decide.intervals import with_verdict
+from crnplan.decide.verdicts import with_verdict
 from crnplan.decide.keys import Check, check_keys
 from crnplan.scenario import Scenario
 from crnplan.theory.suggestions import suggestions_of

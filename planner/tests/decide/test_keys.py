@@ -5,7 +5,7 @@ import re
 
 import pytest
 
-from crnplan.crnsim.keys import keys_of
+from crnplan.decide.keys import keys_of
 
 OWN = ("5eed000000000001", *["0000000000000000"] * 3)
 ONE = ["00000000000000a1"]
