@@ -8,9 +8,8 @@ dearer orders too, of which fewer are then bought, and for dearer stock.
 """
 from __future__ import annotations
 
-from collections.abc import Iterable, Sequence
+from collections.abc import Iterator, Sequence
 from dataclasses import dataclass
-from typing import NamedTuple
 
 import numpy as np
 import numpy.typing as npt
@@ -77,49 +76,30 @@ def vertices(owner: Whole, cost: Floats, unmet: Floats, kept: Whole) -> Whole:
         kept = kept[is_vertex]
 
 
-class Best(NamedTuple):
-    """Gaps with their best levels for each cost of stock and each price: arrays of that shape, a row for each gap."""
-
-    gaps: Whole
-    level: Whole
-    stock: Floats
-    unmet: Floats
-
-
 class Policies:
     """The best policies of an item, gap by gap, for each of `STOCK` and each of the prices, in the units of theory.
 
-    Of a gap these are vertices of the hull of all its levels. Of all gaps the best is taken.
+    Of a gap these are vertices of the hull of all its levels. Of all gaps the best is taken. `known` has by gap the
+    best levels with their stock and unmet demand: arrays of that shape.
     """
 
     def __init__(self, theory: LongRun, holding: float, value: float) -> None:
-        """Takes the theory of an item, what it costs to hold a unit, and a unit's price. Looks at a grid of gaps."""
-        self.theory, self.holding, self.value = theory, holding, value
-        none = np.zeros((0, len(STOCK), len(PRICES)))
-        self.known = Best(np.zeros(0, int), none.astype(int), none, none)
-        self.look_at(gap_grid(theory.most))
+        """Takes the theory of an item, what it costs to hold a unit, and a unit's price."""
+        self.theory, self.holding, self.value, self.known = theory, holding, value, dict[int, Floats]()
 
-    def look_at(self, gaps: Iterable[int]) -> None:
-        """Computes the best levels of gaps. Those are left out with which S is out of its range."""
-        new = {*gaps} - {*self.known.gaps.tolist()}
-        for some in self.theory.parts(sorted(gap for gap in new if self.theory.items(gap) <= MOST_ITEMS)):
-            joined = [np.concatenate(arrays) for arrays in zip(self.known, self.best_of(some))]
-            order = np.argsort(joined[0])
-            self.known = Best(*(array[order] for array in joined))
-
-    def best_of(self, gaps: Whole) -> Best:
-        """Returns rising gaps with their best levels."""
+    def best_of(self, gaps: Whole) -> Iterator[Floats]:
+        """Yields what is known of each of some rising gaps."""
         means = Means(self.theory, gaps)
         levels = self.theory.step * np.arange(means.top)
         stock, unmet = means.of_all_levels(STOCK_LEFT), np.maximum(means.of_all_levels(UNMET), 0)
         owner, place = np.nonzero(self.may_be_best(gaps, levels, stock, unmet))
-        stock, unmet = stock[owner, place], unmet[owner, place]
-        kept = vertices(owner, stock, unmet, np.arange(len(owner)))
-        prices = slopes(owner[kept], stock[kept], unmet[kept]) * (self.holding / self.value)
-        ends, asked = np.searchsorted(owner[kept], np.arange(len(gaps) + 1)), PRICES / np.array(STOCK)[:, None]
-        best = np.stack([kept[first + np.searchsorted(prices[first:end - 1], asked)]
-                         for first, end in zip(ends, ends[1:])])
-        return Best(gaps, levels[place[best]], stock[best], unmet[best])
+        figures = np.array([levels[place], stock[owner, place], unmet[owner, place]])
+        kept = vertices(owner, figures[1], figures[2], np.arange(len(owner)))
+        owner, figures = owner[kept], figures[:, kept]
+        prices = slopes(owner, figures[1], figures[2]) * (self.holding / self.value)
+        ends, asked = np.searchsorted(owner, np.arange(len(gaps) + 1)), PRICES / np.array(STOCK)[:, None]
+        for first, end in zip(ends, ends[1:]):
+            yield figures[:, first + np.searchsorted(prices[first:end - 1], asked)]
 
     def may_be_best(self, gaps: Whole, levels: Whole, stock: Floats, unmet: Floats) -> npt.NDArray[np.bool_]:
         """Returns for each gap which levels may be best for a price: the least, and those that meet more demand than
@@ -132,30 +112,31 @@ class Policies:
         is_best: npt.NDArray[np.bool_] = is_allowed & ((levels == least) | np.pad(is_better, ((0, 0), (1, 0))))
         return is_best
 
-    def best_places(self, costs: Sequence[tuple[float, float]]) -> Whole:
-        """Returns the place of the best gap for each cost of orders and of stock in the order of `VARIANTS`, and for
-        each price."""
-        orders, places = self.orders()[:, None], []
+    def best(self, costs: Sequence[tuple[float, float]]) -> tuple[Whole, Whole, Floats]:
+        """Returns the gaps that are known, the place of the best of them for each cost of orders and of stock, in the
+        order of `VARIANTS`, and each price; and of these the levels, stock, unmet demand and orders."""
+        gaps, places, figures = np.array(sorted(self.known)), [], []
+        known = np.array([self.known[gap] for gap in gaps.tolist()])
+        orders = 1 / (self.theory.span * np.cumsum(self.theory.lows_of(int(gaps[-1]))))[gaps]
         for (order, holding), (_, times) in zip(costs, VARIANTS):
-            stock, unmet = (array[:, STOCK.index(times)] for array in (self.known.stock, self.known.unmet))
-            places.append((order * orders + holding * stock + PRICES * self.value * unmet).argmin(axis=0))
-        return np.array(places)
+            level, stock, unmet = np.moveaxis(known[:, :, STOCK.index(times)], 1, 0)
+            best = (order * orders[:, None] + holding * stock + PRICES * self.value * unmet).argmin(axis=0)
+            places.append(best)
+            figures.append([*(table[best, np.arange(len(PRICES))] for table in (level, stock, unmet)), orders[best]])
+        return gaps, np.array(places), np.array(figures)
 
-    def orders(self) -> Floats:
-        """Returns the orders of a period for each gap."""
-        gaps = self.known.gaps
-        orders: Floats = 1 / (self.theory.span * np.cumsum(self.theory.lows_of(int(gaps[-1]))))[gaps]
-        return orders
-
-    def search(self, costs: Sequence[tuple[float, float]]) -> Whole:
-        """Returns what `best_places` does, of gaps that are looked at ever finer beside the best."""
-        while True:
-            gaps, best = self.known.gaps, self.best_places(costs)
-            places = np.unique(best)
-            below, above = gaps[np.maximum(places - 1, 0)], gaps[np.minimum(places + 1, len(gaps) - 1)]
-            self.look_at([*((below + gaps[places]) // 2).tolist(), *((gaps[places] + above + 1) // 2).tolist()])
-            if len(self.known.gaps) == len(gaps):
-                return best
+    def search(self, costs: Sequence[tuple[float, float]]) -> tuple[Whole, Floats]:
+        """Returns the best gaps, with what `best` has of them: of a grid, and then ever finer beside the best. Gaps are
+        left out with which S is out of its range."""
+        beside = gap_grid(self.theory.most)
+        while new := {gap for gap in beside if self.theory.items(gap) <= MOST_ITEMS} - self.known.keys():
+            for some in self.theory.parts(sorted(new)):
+                self.known.update(zip(some.tolist(), self.best_of(some)))
+            gaps, places, figures = self.best(costs)
+            best = np.unique(places)
+            below, above = gaps[np.maximum(best - 1, 0)], gaps[np.minimum(best + 1, len(gaps) - 1)]
+            beside = [*((below + gaps[best]) // 2).tolist(), *((gaps[best] + above + 1) // 2).tolist()]
+        return gaps[places], figures
 
 
 def variants_of(setup: float, holding: float, demand: float) -> list[tuple[float, float]]:
@@ -185,23 +166,16 @@ def candidates_of(question: Question) -> Candidates:
     item, demand = question.item, float(question.demand.table.mean)
     setup, holding = (question.money(question.rates[name]) for name in ("setup", "holding"))
     assert item.price is not None
-    policies = Policies(question.theory(), holding, float(item.price) * item.box)
+    theory, box = question.theory(), item.box
+    gaps, figures = Policies(theory, holding, float(item.price) * box).search(variants_of(setup, holding, demand))
     rows: list[tuple[float, ...]] = []
-    for variant, places in enumerate(policies.search(variants_of(setup, holding, demand))):
-        rows += rows_of(policies, variant, places, item.box)
-    return Candidates(demand * item.box, setup, holding / item.box, tuple(rows))
-
-
-def rows_of(policies: Policies, variant: int, places: Whole, box: int) -> list[tuple[float, ...]]:
-    """Returns the rows of `Candidates` for a variant, from the places of the best gap for each price."""
-    prices, known = np.arange(len(PRICES)), policies.known
-    levels, stock, unmet = (array[places, STOCK.index(VARIANTS[variant][1]), prices] for array in known[1:])
-    gaps, orders = known.gaps[places], policies.orders()[places]
-    is_new = np.append(True, (np.diff(gaps) != 0) | (np.diff(levels) != 0))
-    points = levels - policies.theory.items(gaps)
-    figures = ([float(f"{figure:.{DIGITS}g}") for figure in row] for row in zip(stock * box, unmet * box, orders))
-    whole = zip(prices.tolist(), (points * box).tolist(), (levels * box).tolist())
-    return [(variant, *row, *more) for new, row, more in zip(is_new, whole, figures) if new]
+    for variant, (gap, (level, stock, unmet, orders)) in enumerate(zip(gaps, figures)):
+        is_new = np.append(True, (np.diff(gap) != 0) | (np.diff(level) != 0))
+        levels = np.array([level - theory.items(gap), level], int).T * box
+        for place in np.flatnonzero(is_new).tolist():
+            some = (stock[place] * box, unmet[place] * box, orders[place])
+            rows.append((variant, place, *levels[place].tolist(), *(float(f"{it:.{DIGITS}g}") for it in some)))
+    return Candidates(demand * box, setup, holding / box, tuple(rows))
 
 
 def candidates_batch(batch: Sequence[Item], settings: Settings, prior: Prior) -> list[Candidates | Remark]:

@@ -113,11 +113,10 @@ def added_up(folder: PlannedFolder, kept: Store[Candidates], names: Iterable[str
     """Returns what is kept of some items beside those that are left out. Raises Refused if no item can be on the
     curve."""
     # Of today's and of the chosen policies: the value of the stock, the demand that is not met, orders and costs.
-    sums, shown, asked = np.zeros((2, 4)), list[tuple[str, int, int]](), 0.0
+    sums, shown = np.zeros((2, 4)), list[tuple[str, int, int]]()
 
     def on_curve() -> Iterator[tuple[str, float, Candidates]]:
         """Yields names with prices and candidates as they are added up."""
-        nonlocal asked
         for name in names:
             item, answer, candidates = folder.read.item(name), folder.store.answer(name), kept.answer(name)
             if isinstance(candidates, Remark):
@@ -125,9 +124,7 @@ def added_up(folder: PlannedFolder, kept: Store[Candidates], names: Iterable[str
                 continue
             assert item is not None and item.price is not None and isinstance(answer, Answer)
             price, setup, holding = float(item.price), candidates.setup, candidates.holding
-            demand = price * candidates.demand
-            asked += demand
-            sums[...] += [(price * policy.stock, demand * (1 - policy.fill), policy.orders,
+            sums[...] += [(price * policy.stock, price * candidates.demand * (1 - policy.fill), policy.orders,
                            setup * policy.orders + holding * policy.stock) for policy in (answer.today, answer.chosen)]
             shown.append((item.description, *item.levels))
             yield name, price, candidates
@@ -139,7 +136,7 @@ def added_up(folder: PlannedFolder, kept: Store[Candidates], names: Iterable[str
             why, what = f"{len(left_out):,} items are left out; the first, {name}: {sentence(remark)}", advice(remark)
         raise Refused(f"{folder.path}: no item can be on the curve: {why}", what)
     items = Items.of(itertools.chain([first], rest))
-    points = {policy: Point(value, 1 - unmet / asked, orders, cost)
+    points = {policy: Point(value, 1 - unmet / items.asked, orders, cost)
               for policy, (value, unmet, orders, cost) in zip((TODAY, CHOSEN), sums.tolist())}
     return Gathered(folder, items, points, shown, sorted(left_out, key=lambda pair: pair[0]), new)
 
@@ -155,8 +152,7 @@ def stocks_by_run(question: Question, asked: Iterable[Levels], program: str | Pa
     """Returns the mean stock of each policy, whose levels are in items, in each run. All meet the same demands; each
     run starts from a state of its own. Raises ProgramError."""
     box, levels = question.item.box, list(dict.fromkeys(asked))
-    policies = [Policy(f"policy{number}", round(point / box), round(level / box))
-                for number, (point, level) in enumerate(levels)]
+    policies = [Policy.of_levels(round(point / box), round(level / box)) for point, level in levels]
     report = long_run_of(counting(question.scenario(0).with_policies(policies), "holding"), KEYS, program)
     return dict(zip(levels, np.array(report.costs, float).T * box / report.periods))
 
@@ -180,13 +176,13 @@ def confirmed(gathered: Gathered, choices: Mapping[str, Choice], said: Mapping[s
             runs = price * counted[levels]
             sums[name] += value, runs.mean(), runs.var(ddof=1) / KEYS
     lines = [f"crnsim: the stock of {len(sample):,} of {len(items.names):,} items, taken at random, is worth"]
-    wide, far = max(map(len, said.values())), list[str]()
+    wide, shares = max(map(len, said.values())), dict[str, float]()
     for name, (theory, run, variance) in sums.items():
-        share = run / theory - 1 if theory else 0.0
-        far += [said[name]] if abs(share) > CLOSE else []
+        shares[said[name]] = share = run / theory - 1 if theory else 0.0
         lines.append(f"{said[name].ljust(wide)}  {run:,.2f} by runs (standard error {math.sqrt(variance):,.2f}), "
                      f"{theory:,.2f} by theory ({share:+.2%})")
-    return [*lines, f"More than {CLOSE:.0%} apart, so look at these items: {', '.join(far)}."] if far else lines
+    far = ", ".join(words for words, share in shares.items() if abs(share) > CLOSE)
+    return [*lines, f"More than {CLOSE:.0%} apart, so look at these items: {far}."] if far else lines
 
 
 @dataclass(frozen=True)
@@ -222,10 +218,9 @@ class Drawn(Result):
         folder, left = self.gathered.folder, self.gathered.left_out
         money, every = min(folder.decimals, 2), folder.every
         rows = [["", "stock value", "met at once", f"orders a {every}", f"setup and holding a {every}",
-                 "above the best"]]
-        for name, (point, gap) in self.points.items():
-            rows.append([self.said[name], f"{point.value:,.{money}f}", f"{point.fill:.2%}", f"{point.orders:,.4g}",
-                         f"{point.cost:,.{money}f}", gap_text(gap)])
+                 "above the best"],
+                *([self.said[name], f"{point.value:,.{money}f}", f"{point.fill:.2%}", f"{point.orders:,.4g}",
+                   f"{point.cost:,.{money}f}", gap_text(gap)] for name, (point, gap) in self.points.items())]
         lines = [f"{len(self.gathered.items.names):,} items are on the curve"]
         if left:
             lines[0] += f"; {len(left):,} are left out, as {left[0][0]}: {sentence(left[0][1])} ({LEFT_OUT} names all)"
@@ -247,13 +242,12 @@ class Drawn(Result):
 
     @property
     def policy_table(self) -> DataTable:
-        """Returns the policy of each item, with its figures of a period."""
-        items = self.gathered.items
-        rows: Iterator[list[Cell]] = (
-            [items.names[place], *self.gathered.shown[place], int(items.point[row]), int(items.level[row]),
-             float(items.value[row]), 1 - float(items.unmet[row]) / float(items.demand[place]),
-             float(items.orders[row]), float(items.cost[row])] for place, row in enumerate(self.rows.tolist()))
-        return DataTable(POLICY_COLUMNS, rows, self.gathered.folder.decimals, "")
+        items, rows = self.gathered.items, self.rows
+        columns = (column.tolist() for column in (items.point[rows], items.level[rows], items.value[rows],
+                                                  1 - items.unmet[rows] / items.demand, items.orders[rows],
+                                                  items.cost[rows]))
+        cells = ([name, *shown, *row] for name, shown, *row in zip(items.names, self.gathered.shown, *columns))
+        return DataTable(POLICY_COLUMNS, cells, self.gathered.folder.decimals, "")
 
     @property
     def left_out(self) -> DataTable:
