@@ -6,7 +6,7 @@ from pathlib import Path
 
 import pytest
 
-from .machine import Machine, Ran, write_script
+from .machine import Machine, Ran, changed, write_script
 
 # The fake Python of .venv knows its part by its words, and says what the file of that part has: a status and a text.
 PYTHON = r"""
@@ -26,14 +26,16 @@ exit "$status"
 """
 PART = 'part={}; echo "$part: $*" >>"$LOG"' + SAYS
 # What each part says if all is well, and how it counts.
-WELL = {"setup": "tools/setup: all is there", "types": "Success: no issues found in 40 source files",
-        "sources": "........\n8 passed in 1.20s", "proofs": "proved\n20 passed, 0 failed",
+WELL = {"setup": "tools/setup: all is there", "sources": "........\n8 passed in 1.20s",
+        "proofs": "proved\n20 passed, 0 failed", "types": "Success: no issues found in 40 source files",
         "rounds": "4 passed, 0 failed (1 judged, 3 kept)",
         "suites": "....\ntests/program: 300 cases\n100 passed, 3 deselected, 1 warning in 61.20s (0:01:01)",
         "lines": "0 lines of crnplan are not run by any test; 0 faults",
         "serial": "3 passed, 100 deselected in 2.10s"}
-PASSED = 1 + 1 + 8 + 20 + 4 + 100 + 1 + 3
+PASSED = 1 + 8 + 20 + 1 + 4 + 100 + 1 + 3
 PARTS = list(WELL)
+# What runs beside the part before or behind it.
+BESIDE = ("types", "rounds")
 
 
 @pytest.fixture
@@ -65,7 +67,7 @@ def test_counts_of_all_parts_are_summed(machine: Machine) -> None:
     ran = gate(machine)
     assert (last(ran), ran.stderr) == ((0, f"{PASSED} passed, 0 failed"), "")
     began = [it.split(":")[0] for it in machine.logged()]
-    assert [it for it in began if it != "rounds"] == [it for it in PARTS if it != "rounds"]
+    assert [it for it in began if it not in BESIDE] == [it for it in PARTS if it not in BESIDE]
 
 
 def test_output_and_times_of_each_part_are_shown(machine: Machine) -> None:
@@ -74,10 +76,12 @@ def test_output_and_times_of_each_part_are_shown(machine: Machine) -> None:
     assert re.findall(r"^(\w+) +[\d.]+ +[\d.]+$", shown, re.MULTILINE) == PARTS
 
 
-def test_suites_run_beside_the_rounds_and_the_rest_after_them(machine: Machine) -> None:
+def test_types_run_beside_the_proofs_and_the_suites_beside_the_rounds(machine: Machine) -> None:
+    changed(machine.top / ".venv" / "bin" / "python", "part=types", "part=types; sleep 0.5")
     write_script(machine.top / "tools" / "rounds.py", "sleep 0.5\n" + PART.format("rounds"))
     gate(machine)
-    assert [it.split(":")[0] for it in machine.logged()][-4:] == ["suites", "lines", "rounds", "serial"]
+    began = [it.split(":")[0] for it in machine.logged()]
+    assert began == ["setup", "sources", "proofs", "types", "suites", "lines", "rounds", "serial"]
 
 
 def test_tests_run_once_each(machine: Machine) -> None:
