@@ -34,7 +34,7 @@ from crnplan.chances import Floats
 from crnplan.demand.fitting import fit_demand
 from crnplan.demand.posterior import allowed_laws
 from crnplan.law import Law
-from crnplan.theory.lattice_law import room_for
+from crnplan.theory.walk import room_for
 from planner.studies.laws import COVERS, GROUPS, LAWS, LEADS, PERIODS, SETTINGS, Choice, LongRuns, Truth
 from planner.studies.page import markdown
 

@@ -31,8 +31,7 @@ from scipy import stats
 from crnplan.chances import Floats
 from crnplan.demand.fitted import FittedLaw
 from crnplan.demand.fitting import fit_demand
-from crnplan.theory.walk import renewal_sequence
-from crnplan.theory.lattice_law import LatticeLaw, power_of
+from crnplan.theory.walk import LatticeLaw, power_of, renewal_sequence
 from planner.studies.page import markdown
 
 PERIODS = (26, 52, 104, 208)

@@ -7,7 +7,7 @@ from hypothesis import given, settings
 from hypothesis import strategies as st
 
 from crnplan.chances import Floats
-from crnplan.theory.lattice_law import NOTHING, LatticeLaw
+from crnplan.theory.walk import NOTHING, LatticeLaw
 from crnplan.theory.reviews import Start, falling, reciprocal, review_sums
 
 WEIGHTS = st.lists(st.integers(0, 9), min_size=1, max_size=9).filter(any)

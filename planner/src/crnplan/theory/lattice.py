@@ -17,11 +17,10 @@ from ..errors import Refused
 from ..formats import MOST_ITEMS
 from ..law import Law
 from ..scenario import Scenario
-from .lattice_law import LatticeLaw, sum_of
 from .long_run import LongRun, gap_grid
 from .one_lead import OneLead
 from .shortfalls import work_of
-from .walk import DIGITS, decay_of, net_tables
+from .walk import DIGITS, LatticeLaw, decay_of, net_tables, sum_of
 
 # Tables of this size are searched in at most half a second: gaps with one lead time, and work for late orders with
 # several, by `work_of`.
@@ -134,11 +133,8 @@ def blur(scenario: Scenario, step: int) -> float:
 def finest(base: int, largest: float, excess: Callable[[int], float],
            growth: Callable[[float], float] = lambda excess: GROWTH) -> int | None:
     """Returns the finest step, a multiple of the base, of a lattice whose tables are small enough; None if it had fewer
-    than `LEAST_CELLS` in the largest number.
-
-    `excess` says how many times too large the tables of a step are: at most 1 if they are small enough. `growth` says
-    by how much the next step is coarser.
-    """
+    than `LEAST_CELLS` in the largest number. `excess` says how many times too large the tables of a step are, and
+    `growth` by how much the next step is then coarser."""
     times = 1
     while (size := excess(base * times)) > 1:
         times = max(times + 1, int(times * growth(size)))
@@ -148,10 +144,8 @@ def finest(base: int, largest: float, excess: Callable[[int], float],
 
 
 def lattice_of(scenario: Scenario, shape: Shape, widest: int, most_gaps: int = MOST_GAPS) -> tuple[int, bool]:
-    """Returns the step of the lattice, and whether it is exact. With one lead time it has at most so many gaps.
-
-    If it is not exact, some coarser steps are looked at too: the one that adds the least variance is taken.
-    """
+    """Returns the step of the lattice, and whether it is exact. With one lead time it has at most so many gaps. If it
+    is not exact, that of some coarser steps is taken that adds the least variance."""
     base = shape.base
     least = finest(base, max(shape.high, shape.order),
                    lambda step: 1 if shape.is_small(step, widest, most_gaps) else math.inf)

@@ -26,9 +26,8 @@ from scipy import fft
 from ..chances import Floats, Whole
 from ..formats import MOST_ITEMS
 from ..scenario import Scenario
-from .lattice_law import LatticeLaw, Surplus, power_of, room_for, sum_of
 from .shortfalls import lateness, renewed, transforms_of, work_of
-from .walk import Walk
+from .walk import LatticeLaw, Surplus, Walk, power_of, room_for, sum_of
 
 Places = TypeVar("Places", int, Whole)
 
@@ -83,10 +82,8 @@ class GapLevels(NamedTuple):
 
 
 class Means:
-    """Means of the figures of `LongRun.figures_from`, with a level for each of some rising gaps, in cells.
-
-    Levels are at most `top`: with the one below it, nothing is ever owed.
-    """
+    """Means of the figures of `LongRun.figures_from`, with a level for each of some rising gaps, in cells. Levels are
+    at most `top`: with the one below it, nothing is ever owed."""
 
     def __init__(self, theory: LongRun, gaps: Whole) -> None:
         """Computes for each gap the chances of how far a low is below S, and the figures of all levels of lows."""
@@ -139,8 +136,8 @@ def gap_grid(most: int) -> list[int]:
 def search(policies_of: Callable[[Sequence[int]], Iterable[Candidate]], most: int) -> Candidate:
     """Returns the cheapest policy over the gaps up to the most: on a grid of gaps, and then ever finer beside the best.
 
-    Costs may have several valleys over the gaps, so beyond the grid's first gaps a better one can be missed. By how
-    much is measured by `planner.studies.search`. Of costs that are equal but for rounding the first is taken.
+    Costs may have several valleys over the gaps, so beyond the grid's first gaps a better one can be missed:
+    `planner.studies.search` measures by how much. Of costs that are equal but for rounding the first is taken.
     """
     grid = gap_grid(most)
     known = dict(zip(grid, policies_of(grid)))

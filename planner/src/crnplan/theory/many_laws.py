@@ -1,10 +1,8 @@
-"""Computes policies under many laws of demand and of lead times, fast: on lattices that are coarser than those of a
-search. Figures are rounded and unproved.
+"""Computes policies under many laws of demand and of lead times, on lattices that are coarser than those of a search.
 
 `figures_of_laws` compares the same policies under each law. `Promises` finds policies that keep a fill rate under most
-laws that a history allows. A policy with 98% fill by one law has less if customers ask for more than that law says, and
-a short history allows many laws. So S is raised until the share of demand is met under enough of them. Costs are those
-of the scenario's own law, by which the share is met too.
+laws that a history allows: S is raised until the share of demand is met under enough of them. Costs are those of the
+scenario's own law, by which the share is met too.
 
 For each gap S - s the laws are ranked by the least S that meets the share. The S of a promise is that of the law at the
 confidence's place in this order: no smaller one keeps the promise with this gap. The gap is the cheapest of a few
@@ -26,9 +24,8 @@ from ..errors import Refused
 from ..law import Law
 from ..scenario import Policy, Scenario
 from .lattice import NoTheory, Shape, finest, shape_of, theory_on
-from .lattice_law import room_for
 from .long_run import NO_POLICY, Candidate, LongRun, place_of_least
-from .walk import Walk
+from .walk import Walk, room_for
 
 DEVIATIONS = 8  # of the net demand of the lead time, which have room
 # What a law may take: cells, times what each takes (a constant, for each period of the lead time, for each pair of
@@ -51,9 +48,9 @@ class LawFigures:
     """The long run of policies under laws: a row for each law, a column for each policy.
 
     `cost` is that of a period, without `unit`; `fill` the share of demand met at once; `least` the cost of each law's
-    own best policy, nan if that takes too long. `laws` are the places of the laws that have a long run: with returns, a
-    law may have too little demand. The figures of the law with the coarsest lattice are counted in steps of `step`
-    items. `error` bounds the relative error of the costs, about; it is None if they are exact but for rounding.
+    own best policy, nan if that takes too long. `laws` are the places of the laws that have a long run. The coarsest
+    lattice has steps of `step` items. `error` bounds the relative error of the costs, about; it is None if they are
+    exact but for rounding.
     """
 
     laws: tuple[int, ...]
@@ -92,8 +89,7 @@ def run_of(scenario: Scenario, shape: Shape, widest: int) -> LongRun | None:
 
 
 def least_cost(theory: LongRun, most: int) -> float:
-    """Returns the cost of the best policy with a gap up to the most, as a search finds it that gets finer round the
-    best gap."""
+    """Returns the least cost with a gap up to the most, by a search that gets finer round the best gap."""
     low, high, least = 0, most, math.inf
     for count in GAPS:
         shares = np.linspace(0, 1, count)**(2 if high == most else 1)
@@ -142,8 +138,8 @@ def figures_of_laws(scenario: Scenario, laws: Sequence[tuple[Law, Law]],
 class Promises:
     """Policies of a scenario that meet shares of demand at once under enough of some laws, and by its own.
 
-    `lacking` is how many of the laws have no long run, and so keep no promise. Fill rates are counted in steps of
-    `step` items; they are exact but for rounding if `exact` says so.
+    `lacking` laws have no long run, and so keep no promise. Fill rates are counted in steps of `step` items, exact but
+    for rounding if `exact` says so.
     """
 
     def __init__(self, scenario: Scenario, theory: LongRun, gap: int, laws: Sequence[Law], leads: Sequence[Law],

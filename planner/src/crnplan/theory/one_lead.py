@@ -25,8 +25,8 @@ import numpy.typing as npt
 
 from ..chances import Floats, Whole
 from ..formats import MOST_ITEMS
-from .lattice_law import convolved
 from .long_run import CLOSE, FEW, NO_POLICY, Candidate, GapLevels, LongRun, gap_grid, least_levels, place_of_least
+from .walk import convolved
 
 EVEN = 1e-10  # Chances that differ by no more than this share are taken as the same by a search, not for figures.
 
@@ -57,10 +57,8 @@ class Lows:
         return tuple((self.table[:, level - gap + 2:level + 3] @ self.turned[-gap - 1:]).tolist())
 
     def walked(self, first: int, most: int, floor_of: Callable[[int], int]) -> GapLevels:
-        """Returns for each gap up to the most the least level from a floor on that is enough, if the table has it.
-
-        That level does not fall from one gap to the next. Gaps whose last place is no low are left out.
-        """
+        """Returns for each gap up to the most the least level from a floor on that is enough, if the table has it: it
+        does not fall from one gap to the next. Gaps whose last place is no low are left out."""
         total, floor, rows = float(self.counts[first]), min(floor_of(first), self.last), []
         level = floor + bisect_left(range(floor, self.last), True,
                                     key=lambda level: bool(self.is_enough(self.at(first, level), total)))
@@ -116,10 +114,7 @@ class OneLead(LongRun):
         return max(0, int(levels[cheap[0]]) - self.step + 1) if len(cheap) else 0
 
     def places_of(self, lows: Lows, known: Candidate) -> GapLevels:
-        """Returns the best level of each gap that may cost no more than a known policy: a multiple of a cell.
-
-        The least of these gaps is the first one whose orders alone cost no more.
-        """
+        """Returns the best level, in cells, of each gap that may cost no more than a known policy."""
         most = len(lows.counts) - 1
         first = self.first_gap(known.cost, most)
         gaps = np.arange(max(first, lows.even), most + 1)
@@ -146,10 +141,7 @@ class OneLead(LongRun):
         return min(best, self.best_with_level(MOST_ITEMS, share)) if is_cut else best
 
     def least_of(self, stock_sums: Floats, is_allowed: npt.NDArray[np.bool_]) -> tuple[float, int]:
-        """Returns the least cost, and its gap, from the sums of the costs of stock over the lows of each gap.
-
-        Gaps that are not allowed are left out.
-        """
+        """Returns the least cost, and its gap, from the costs of stock summed over the lows of each allowed gap."""
         costs = (self.setup / self.span + stock_sums) / np.cumsum(self.lows_of(len(stock_sums) - 1))
         costs = np.where(is_allowed, costs, np.inf)
         gap = place_of_least(costs)

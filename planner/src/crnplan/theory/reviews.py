@@ -18,7 +18,7 @@ import numpy as np
 from scipy import fft
 
 from ..chances import Floats
-from .lattice_law import LatticeLaw, convolved, room_for
+from .walk import LatticeLaw, convolved, room_for
 
 LEAST_CHANCE = 1e-16  # Transforms round chances by about as much.
 LEAST_MASS = 1e-14  # Laws are left out whose chance to be within the width is less.
@@ -44,10 +44,8 @@ class Reviews(NamedTuple):
 
 
 def reciprocal(series: Floats, count: int) -> Floats:
-    """Returns the first `count` coefficients of 1 / series, by Newton's iteration.
-
-    Source: Knuth, The Art of Computer Programming, volume 2, section 4.7.
-    """
+    """Returns the first `count` coefficients of 1 / series, by Newton's iteration (Knuth, The Art of Computer
+    Programming, volume 2, section 4.7)."""
     inverse = np.array([1 / series[0]])
     while len(inverse) < count:
         size = min(2 * len(inverse), count)
@@ -58,11 +56,8 @@ def reciprocal(series: Floats, count: int) -> Floats:
 
 
 def review_sums(net: LatticeLaw, width: int, count: int) -> Floats:
-    """Returns the laws of the net demand of 0, 1, .. reviews up to the width, in cells, a row each: those of less than
-    `count` reviews, or of as many as are within the width with some chance.
-
-    The net demand of a review is never below 0, and not always 0.
-    """
+    """Returns the laws of the net demand of 0, 1, .. reviews up to the width, in cells, a row each: of less than
+    `count`, or of as many as are within the width with some chance. Net demands are never below 0, and not always 0."""
     size = width + 1
     room, rows = room_for(2 * size - 1), np.eye(1, size)
     law = net.between(0, max(net.high, width))[:size]  # of as many reviews as there are rows
@@ -76,9 +71,7 @@ def review_sums(net: LatticeLaw, width: int, count: int) -> Floats:
 
 def falling(sums: Floats, start: Start, gap: int, periods: int, counted: int) -> Reviews:
     """Returns the reviews of so many periods if nothing comes back, of which the first `counted` matter for the stock.
-
-    `sums` are the laws of `review_sums` up to the most that can be asked for between the start and an order.
-    """
+    `sums` are the laws of `review_sums` up to the most that can be asked for between the start and an order."""
     def within(width: int) -> Floats:
         """Returns the chances that 0, 1, .. reviews take at most so many cells."""
         return np.pad(sums[:, :max(width + 1, 0)].sum(axis=1), (0, periods - len(sums)))

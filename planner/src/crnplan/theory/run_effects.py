@@ -1,8 +1,8 @@
 """Computes what the start and the end of a run add to its expected cost, beside the same periods of the long run.
 
 A run starts with the stock `initial` and nothing on order. The expected cost of its periods less that of as many of the
-long run is the bias of the start. It is exact on the lattice of the theory. A start between two cells is shared by
-both. The bias has three parts:
+long run is the bias of the start, exact on the lattice of the theory. A start between two cells is shared by both. The
+bias has three parts:
 
 - The position after each review gives the expected orders (`reviews.py`).
 - It gives the expected costs of stock and backlog too. Let l be the shortest and L the longest lead time. In the first
@@ -15,8 +15,6 @@ both. The bias has three parts:
 The end adds to the cost too: `unit` is also paid for items that are left when a replication ends. The items ordered are
 the net demand and what the position has risen by, so the unit costs of two policies differ by `unit` times the
 difference of their final positions. `end_effects` replaces these by means over the long run.
-
-The figures are rounded and unproved.
 """
 from __future__ import annotations
 
@@ -32,10 +30,10 @@ from scipy import fft
 from ..chances import Floats, Whole
 from ..scenario import Policy, Scenario
 from .lattice import MOST_GAPS, NoTheory, lattice_of, shape_of, theory_on
-from .lattice_law import NOTHING, LatticeLaw, Surplus, power_of, room_for, sum_of
 from .long_run import LongRun
 from .reviews import Reviews, Start, falling, moving, review_sums
 from .shortfalls import renewed, transforms_of
+from .walk import NOTHING, LatticeLaw, Surplus, power_of, room_for, sum_of
 
 if TYPE_CHECKING:
     from ..crnsim.report import Row
@@ -46,9 +44,9 @@ MOST_SUMS = 2_000_000  # cells of the laws of all reviews at once: more would ta
 
 
 def theory_of(scenario: Scenario, most_gaps: int = MOST_GAPS) -> LongRun:
-    """Returns the theory of a scenario, fine enough for its own policies. Costs of 0 are taken too.
+    """Returns the theory of a scenario, fine enough for its own policies, also with costs of 0. With one lead time the
+    lattice has at most so many gaps.
 
-    With one lead time the lattice has at most so many gaps.
     Raises NoTheory if there is no long run, or if the numbers of the scenario are too far apart.
     """
     costs, gaps = scenario.costs, [policy.S - policy.s for policy in scenario.policies]
@@ -80,9 +78,7 @@ def difference(left: LatticeLaw, right: LatticeLaw) -> LatticeLaw:
 
 
 class Runs:
-    """Runs of a scenario's policies from their common start.
-
-    `counted` is the number of reviews whose orders all arrive within the run.
+    """Runs of a scenario's policies from their common start. The orders of `counted` reviews all arrive within a run.
     """
 
     def __init__(self, theory: LongRun, scenario: Scenario) -> None:
@@ -182,10 +178,8 @@ def start_bias(scenario: Scenario) -> StartBias:
 
 
 def end_effects(scenario: Scenario, policies: Sequence[Policy | Row]) -> list[float] | None:
-    """Returns what `unit` adds per replication to each policy's cost by its final stock, less that of the first one.
-
-    None if there is no long-run mean, or if its tables are too large.
-    """
+    """Returns what `unit` adds per replication to each policy's cost by its final stock, less that of the first one;
+    None if there is no long-run mean, or if its tables are too large."""
     try:
         theory = theory_of(scenario.with_policies(Policy.of_levels(policy.s, policy.S) for policy in policies))
     except NoTheory:

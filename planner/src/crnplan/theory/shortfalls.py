@@ -30,7 +30,7 @@ import numpy.typing as npt
 from scipy import fft
 
 from ..chances import Floats, Whole
-from .lattice_law import LatticeLaw
+from .walk import LatticeLaw
 
 Transforms = npt.NDArray[np.complex128]
 
@@ -48,9 +48,9 @@ def renewed(begun: Transforms, gaps: Whole, net: LatticeLaw, late: Floats, room:
     """Solves the renewal equations: returns the transforms of shortfalls 1, 2, .. reviews after some laws of the
     position's depth below S.
 
-    `begun` has a table for each of these laws, with the transform of it for each gap; the first one is that just after
-    an order. The last table is followed to the end alone, after as many reviews as an order may be late; all others
-    are to the review before. In the room, `above` cells below 0 stand at the end.
+    `begun` has a table for each of these laws, with its transform for each gap, the first one just after an order. The
+    last table alone is followed to the end, after as many reviews as an order may be late, all others to the review
+    before. In the room, `above` cells below 0 stand at the end.
     """
     depths = np.arange(room)
     is_waiting = (depths <= gaps[:, None]) | (depths >= room - above)

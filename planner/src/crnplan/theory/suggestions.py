@@ -57,11 +57,9 @@ class Depths:
         self.rises = min(nets) < 0
 
     def last(self, gap: int) -> int:
-        """Returns the greatest depth up to a gap that can occur.
-
-        From the product of the least and the greatest fall on, in units of the divisor, each number is a sum of falls
-        (Schur's bound: Brauer, On a problem of partitions, 1942).
-        """
+        """Returns the greatest depth up to a gap that can occur. From the product of the least and the greatest fall
+        on, in units of the divisor, each number is a sum of falls (Schur's bound: Brauer, On a problem of partitions,
+        1942)."""
         if self.rises or gap * self.divisor >= self.falls[0] * self.falls[-1]:
             return gap - gap % self.divisor
         depths, all_up_to = 1, (1 << gap + 1) - 1  # a bit for each depth
@@ -73,10 +71,8 @@ class Depths:
         return depths.bit_length() - 1
 
     def behaviour(self, point: int, level: int) -> tuple[int, int]:
-        """Returns a pair that two policies share if they behave alike from their first order on, and only then.
-
-        Until then they may differ, if a run starts from a stock that is no depth below S.
-        """
+        """Returns a pair that two policies share if they behave alike from their first order on, and only then. Before
+        it they may differ, if a run starts from a stock that is no depth below S."""
         return self.last(level - point), level
 
 
@@ -212,9 +208,7 @@ class Suggestions(Result):
 
     def toml(self, *, initial: bool = False, unit_zero: bool = False) -> str:
         """Returns the scenario with the suggested policies as TOML, each with its reasons and its cost as a comment.
-
-        The comment at the top stays. `initial` writes the proposed start, `unit_zero` an item cost of 0.
-        """
+        The comment at the top stays. `initial` writes the proposed start, `unit_zero` an item cost of 0."""
         source = self.scenario.toml()
         tree, _ = read_document(source.encode())
         tree["policy"] = []

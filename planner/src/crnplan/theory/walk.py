@@ -1,4 +1,6 @@
-"""Describes how the inventory position of a scenario moves in the long run.
+"""Describes how the inventory position of a scenario moves in the long run, with laws of whole numbers on a lattice.
+
+A law is counted in cells of `step` items, levels of stock in items.
 
 Counted down from S, the position after a review is a random walk that starts anew with each order. Without returns, how
 often it visits each place is a renewal sequence (Veinott and Wagner, Computing optimal (s,S) inventory policies, 1965).
@@ -9,18 +11,131 @@ volume II, chapters XII and XVIII).
 from __future__ import annotations
 
 import math
+from dataclasses import dataclass
+from functools import cached_property
 
 import numpy as np
 
-from ..chances import Floats
+from ..chances import Floats, Whole
 from ..law import Law
 from ..scenario import Scenario
-from .lattice_law import LatticeLaw, sum_of
 
+LEAST_CHANCE = 1e-17
+MOST_PRODUCTS = 50_000  # of a direct convolution; a transform is faster for more
 DIGITS = 36  # e^-36 is below the rounding of a number.
 # Chances that differ by no more than this share are equal but for rounding. They are compared once in so many places.
 EQUAL = 1e-13
 LOOK_EVERY = 64
+
+
+@dataclass(frozen=True, eq=False)
+class LatticeLaw:
+    """The chances of the cells low, low + 1, and so on. `mean` and `variance` are counted in cells."""
+
+    low: int
+    chances: Floats
+
+    @classmethod
+    def scaled(cls, low: int, chances: Floats) -> LatticeLaw:
+        """Returns the law with these chances, cut where its ends are all but impossible, and scaled to a sum of 1."""
+        chances = np.maximum(chances, 0)
+        kept = np.flatnonzero(chances > LEAST_CHANCE * chances.sum())
+        chances = chances[kept[0]:kept[-1] + 1]
+        return cls(int(low + kept[0]), chances / chances.sum())
+
+    @classmethod
+    def of(cls, table: Law, step: int) -> LatticeLaw:
+        """Returns the law of a table. A value between two cells is shared by both, such that the mean stays."""
+        chances = np.zeros(max(table.values) // step + 2)
+        for value, weight in zip(table.values, table.weights):
+            cell, rest = divmod(value, step)
+            chances[cell] += weight * (step - rest) / step
+            chances[cell + 1] += weight * rest / step
+        return cls.scaled(0, chances)
+
+    @property
+    def high(self) -> int:
+        return self.low + len(self.chances) - 1
+
+    @property
+    def cells(self) -> Whole:
+        return self.low + np.arange(len(self.chances))
+
+    @cached_property
+    def mean(self) -> float:
+        return float(self.chances @ self.cells)
+
+    @property
+    def variance(self) -> float:
+        return float(self.chances @ (self.cells - self.mean)**2)
+
+    def between(self, low: int, high: int) -> Floats:
+        """Returns the chances of the cells from low to high, among which all of the law are."""
+        return np.pad(self.chances, (self.low - low, high - self.high))
+
+    @property
+    def reflected(self) -> LatticeLaw:
+        """Returns the law of the number with the other sign."""
+        return LatticeLaw(-self.high, self.chances[::-1])
+
+
+NOTHING = LatticeLaw(0, np.ones(1))
+
+
+def room_for(size: int) -> int:
+    """Returns the least power of two, or 3 or 5 times one, that is at least `size`: a transform of it is fast.
+
+    `scipy.fft.next_fast_len` allows more sizes, but these round differently, which can change the order of equal costs.
+    """
+    return min(odd << max(0, (-(-size // odd) - 1).bit_length()) for odd in (1, 3, 5))
+
+
+def convolved(left: Floats, right: Floats) -> Floats:
+    """Returns the coefficients of the product of two polynomials."""
+    size = len(left) + len(right) - 1
+    if len(left) * len(right) <= MOST_PRODUCTS:
+        return np.convolve(left, right)
+    room = room_for(size)
+    return np.fft.irfft(np.fft.rfft(left, room) * np.fft.rfft(right, room), room)[:size]
+
+
+def sum_of(left: LatticeLaw, right: LatticeLaw) -> LatticeLaw:
+    """Returns the law of the sum of two independent numbers."""
+    return LatticeLaw.scaled(left.low + right.low, convolved(left.chances, right.chances))
+
+
+def power_of(law: LatticeLaw, count: int) -> LatticeLaw:
+    """Returns the law of the sum of `count` independent numbers of one law."""
+    total = NOTHING
+    while count:
+        if count & 1:
+            total = sum_of(total, law)
+        law, count = (sum_of(law, law), count >> 1) if count > 1 else (law, 0)
+    return total
+
+
+class Surplus:
+    """What is expected to be left of a level, and to be lacking, if a random amount is taken from it."""
+
+    def __init__(self, law: LatticeLaw, step: int) -> None:
+        """Sums up the law of the amount, so that each level takes one look."""
+        self.law, self.step, self.mean = law, step, law.mean * step
+        self.below = np.concatenate([[0], np.cumsum(law.chances)])
+        self.taken = np.concatenate([[0], np.cumsum(law.chances * law.cells)]) * step
+
+    def place(self, level: Whole) -> Whole:
+        """Returns how many cells of the law are at most a level."""
+        return np.minimum(np.maximum(level // self.step - self.law.low + 1, 0), len(self.law.chances))
+
+    def left(self, level: Whole) -> Floats:
+        """Returns the expected surplus of a level over the amount, in items."""
+        place = self.place(level)
+        surplus: Floats = level * self.below[place] - self.taken[place]
+        return surplus
+
+    def lacking(self, level: Whole) -> Floats:
+        """Returns the expected surplus of the amount over a level, in items."""
+        return self.left(level) - level + self.mean
 
 
 def net_tables(scenario: Scenario) -> tuple[Law, Law]:
@@ -76,9 +191,7 @@ def factors_of(net: LatticeLaw) -> tuple[Floats, Floats]:
 
 def renewal_sequence(lows: Floats, falls: Floats, count: int) -> Floats:
     """Returns the chances that each of the first `count` places is a low of the walk. `lows` are the first of them.
-
-    Each chance is a mean of as many chances before it as a fall has cells. So once these are equal, all others are.
-    """
+    Each is a mean of as many chances before it as a fall has cells. So once these are equal, all others are."""
     longer, reach = np.zeros(count), len(falls) - 1
     longer[:len(lows)] = lows
     turned = falls[:0:-1]
@@ -93,10 +206,8 @@ def renewal_sequence(lows: Floats, falls: Floats, count: int) -> Floats:
 
 
 class Walk:
-    """The inventory position on a lattice of `step` items.
-
-    A gap is S - s in cells: an order is placed if the position is more than the gap below S.
-    """
+    """The inventory position on a lattice of `step` items. A gap is S - s in cells: an order is placed if the position
+    is more than the gap below S."""
 
     def __init__(self, scenario: Scenario, step: int, exact: bool) -> None:
         """Makes the laws of the position. `exact` says that all demands and returns lie on the lattice."""
@@ -132,10 +243,8 @@ class Walk:
         return (level - point) // self.step
 
     def gaps_of(self, point: int, level: int) -> list[tuple[int, float]]:
-        """Returns the gap of a policy with the share 1.
-
-        If the lattice is not exact, these are the two gaps beside the policy with their shares.
-        """
+        """Returns the gap of a policy with the share 1, or the two gaps beside it with their shares if the lattice is
+        not exact."""
         gap = self.gap_of(point, level)
         share = 0.0 if self.exact else (level - point - (self.step - 1) / 2) / self.step - gap
         if abs(share) * self.step <= 0.5 or gap + share < 0:

@@ -7,9 +7,8 @@ from hypothesis import given, settings
 from hypothesis import strategies as st
 
 from crnplan.law import Law
-from crnplan.theory.lattice_law import (MOST_PRODUCTS, NOTHING, LatticeLaw, Surplus, convolved, power_of, room_for,
-                                        sum_of)
-from crnplan.theory.walk import factors_of, renewal_sequence
+from crnplan.theory.walk import (MOST_PRODUCTS, NOTHING, LatticeLaw, Surplus, convolved, factors_of, power_of,
+                                 renewal_sequence, room_for, sum_of)
 
 from planner.tests.theory.scenarios import table
 
